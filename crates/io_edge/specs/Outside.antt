@@ -2,9 +2,9 @@
 use Rattle.std.specs.Prelude.{◌≡◌, ℕ, ◌<◌, ◌≤◌, ◌^◌, ◌-◌, ◌++◌, ◌⊎◌, List, [], ◌∷◌, length, take, drop, Option, Some, None, Result, Ok, Err, IfSome, IfOk, OnErr, if◌then◌else◌}
 use Rattle.std.specs.Str.{bytes_eq}
 
--- The count rose in a call: it is greater than before, or it stands at its last value.
+-- The count rose in a call: it is greater than before, or it stands at its last value, 2^64 - 1.
 abbrev pub Rose : ℕ → ℕ → Type 0
-Rose before after = (before < after) ⊎ (after ≡ 2 ^ 64 - 1)
+Rose before after = (before < after) ⊎ (2 ^ 64 - 1 ≤ after)
 
 -- A file that is kept in memory.
 pub record File : Type 0 where

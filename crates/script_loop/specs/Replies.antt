@@ -1,0 +1,54 @@
+-- What a machine that answers line by line writes for a script.
+use Rattle.std.specs.Prelude.{◌≡◌, ℕ, ◌^◌, ◌<◌, List, [], ◌∷◌, ◌++◌, length, Option, Some}
+use Rattle.script_loop.specs.Lines.{whole_lines, all_lines}
+
+-- A machine: its reply to a line, and the machine after it.
+pub record Machine (M : Type 0) : Type 0 where
+  pub reply : M → List ℕ → List ℕ
+  pub next : M → List ℕ → M
+
+-- the replies to the lines, in turn
+abbrev pub replies : {M : Type 0} → Machine M → M → List (List ℕ) → List ℕ
+replies machine m [] = []
+replies machine m (line ∷ lines) = machine.reply m line ++ replies machine (machine.next m line) lines
+
+-- the machine after the lines
+abbrev pub after : {M : Type 0} → Machine M → M → List (List ℕ) → M
+after machine m [] = m
+after machine m (line ∷ lines) = after machine (machine.next m line) lines
+
+-- The script was read to its end, and the replies to all its lines were written.
+pub record Answered {M : Type 0} (machine : Machine M) (m : M) (script taken : List ℕ) (rest output : Option (List ℕ)) : Type 0 where
+  pub short : length script < 2 ^ 40
+  pub ended : rest ≡ Some []
+  pub written : output ≡ Some (taken ++ replies machine m (all_lines script))
+
+-- Some bytes of the script were read, and the replies to the lines whose LF is among them were written.
+pub record AnsweredRead {M : Type 0} (machine : Machine M) (m : M) (script taken : List ℕ) (rest output : Option (List ℕ)) : Type 0 where
+  pub read : List ℕ
+  pub left : List ℕ
+  pub split : script ≡ read ++ left
+  pub stands : rest ≡ Some left
+  pub written : output ≡ Some (taken ++ replies machine m (whole_lines [] read))
+
+-- So many bytes of the script were read.
+pub record ReadBytes (count : ℕ) (script : List ℕ) (rest : Option (List ℕ)) : Type 0 where
+  pub read : List ℕ
+  pub left : List ℕ
+  pub split : script ≡ read ++ left
+  pub stands : rest ≡ Some left
+  pub many : length read ≡ count
+
+-- A prefix of the bytes was written.
+pub record WrotePrefix (bytes taken : List ℕ) (output : Option (List ℕ)) : Type 0 where
+  pub sent : List ℕ
+  pub unsent : List ℕ
+  pub split : bytes ≡ sent ++ unsent
+  pub written : output ≡ Some (taken ++ sent)
+
+-- The replies to the first lines were written, each whole.
+pub record WroteLines {M : Type 0} (machine : Machine M) (m : M) (lines : List (List ℕ)) (taken : List ℕ) (output : Option (List ℕ)) : Type 0 where
+  pub answered : List (List ℕ)
+  pub unanswered : List (List ℕ)
+  pub split : lines ≡ answered ++ unanswered
+  pub written : output ≡ Some (taken ++ replies machine m answered)
