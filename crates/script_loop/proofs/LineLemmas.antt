@@ -1,7 +1,9 @@
 -- Lines and replies of texts that are put together.
-use Rattle.std.proofs.Common.{◌≡◌, ℕ, ◌==◌, ◌++◌, List, [], ◌∷◌, Bool, true, false, cond, if◌then◌else◌, append_assoc, sym, ◌∙◌, ap, refl}
+use Rattle.std.proofs.Common.{◌≡◌, ℕ, ◌==◌, ◌+◌, ◌<◌, ◌++◌, List, [], ◌∷◌, length, take, drop, slice_index_or, Option, Some, true, false, if◌then◌else◌, append_assoc, append-nil, add-one, sym, ◌∙◌, ap, refl}
+use Rattle.std.proofs.Math.Seq.{take-suc}
+use Rattle.std.proofs.lemmas.List.{take-append-drop}
 use Rattle.script_loop.specs.Lines.{whole_lines, last_part}
-use Rattle.script_loop.specs.Replies.{Machine, replies, after}
+use Rattle.script_loop.specs.Replies.{Machine, replies, after, WrotePrefix, WroteLines}
 
 pub last_part-append : (part xs ys : List ℕ) → last_part part (xs ++ ys) ≡ last_part (last_part part xs) ys
 last_part-append part [] ys = refl
@@ -27,3 +29,90 @@ replies-append machine m [] ys = refl
 replies-append machine m (x ∷ xs) ys =
     ap (λ rest. machine.reply m x ++ rest) (replies-append machine (machine.next m x) xs ys)
     ∙ sym (append_assoc (machine.reply m x) (replies machine (machine.next m x) xs) (replies machine (after machine (machine.next m x) xs) ys))
+
+-- one byte more of a block
+pub one_more : (block : List ℕ) (i b : ℕ) → i < length block → b ≡ slice_index_or block i 0 → take (i + 1) block ≡ take i block ++ b ∷ []
+one_more block i b within is = rw (add-one, take-suc block i 0 within, ← is) refl
+
+-- the part behind one byte more
+pub part_more : (part pending block : List ℕ) (i b : ℕ) → i < length block → b ≡ slice_index_or block i 0 → pending ≡ last_part part (take i block) →
+    last_part pending (b ∷ []) ≡ last_part part (take (i + 1) block)
+part_more part pending block i b within is from =
+    ap (λ p. last_part p (b ∷ [])) from ∙ sym (last_part-append part (take i block) (b ∷ [])) ∙ ap (last_part part) (sym (one_more block i b within is))
+
+-- the lines with one byte more
+pub lines_more : (part pending block : List ℕ) (i b : ℕ) → i < length block → b ≡ slice_index_or block i 0 → pending ≡ last_part part (take i block) →
+    whole_lines part (take i block) ++ whole_lines pending (b ∷ []) ≡ whole_lines part (take (i + 1) block)
+lines_more part pending block i b within is from =
+    ap (λ p. whole_lines part (take i block) ++ whole_lines p (b ∷ [])) from ∙ sym (whole_lines-append part (take i block) (b ∷ [])) ∙ ap (whole_lines part) (sym (one_more block i b within is))
+
+-- the block up to a byte, the byte, and the rest
+pub around : (block : List ℕ) (i b : ℕ) → i < length block → b ≡ slice_index_or block i 0 → block ≡ (take i block ++ b ∷ []) ++ drop (i + 1) block
+around block i b within is = sym (take-append-drop (i + 1) block) ∙ ap (λ xs. xs ++ drop (i + 1) block) (one_more block i b within is)
+
+-- the lines of a block, where the lines of its front and of the byte behind it are known
+pub lines_around : (part pending block : List ℕ) (i b : ℕ) → i < length block → b ≡ slice_index_or block i 0 →
+    pending ≡ last_part part (take i block) →
+    whole_lines part block ≡ (whole_lines part (take i block) ++ whole_lines pending (b ∷ [])) ++ whole_lines (last_part pending (b ∷ [])) (drop (i + 1) block)
+lines_around part pending block i b within is from =
+    ap (whole_lines part) (around block i b within is)
+    ∙ whole_lines-append part (take i block ++ b ∷ []) (drop (i + 1) block)
+    ∙ ap (λ ls. ls ++ whole_lines (last_part part (take i block ++ b ∷ [])) (drop (i + 1) block)) (whole_lines-append part (take i block) (b ∷ []))
+    ∙ ap (λ p. (whole_lines part (take i block) ++ whole_lines (last_part part (take i block)) (b ∷ [])) ++ whole_lines p (drop (i + 1) block)) (last_part-append part (take i block) (b ∷ []))
+    ∙ ap (λ p. (whole_lines part (take i block) ++ whole_lines p (b ∷ [])) ++ whole_lines (last_part p (b ∷ [])) (drop (i + 1) block)) (sym from)
+
+regroup : {X : Type 0} (a b c d : List X) → (a ++ (b ++ c)) ++ d ≡ (a ++ b) ++ (c ++ d)
+regroup a b c d = simp append_assoc
+
+-- a prefix of the replies to some lines, behind the replies to those before
+pub prefix_behind : {M : Type 0} (machine : Machine M) (first m : M) (before lines rest all : List (List ℕ)) (taken : List ℕ) (output : Option (List ℕ)) →
+    m ≡ after machine first before → all ≡ (before ++ lines) ++ rest →
+    WrotePrefix (replies machine m lines) (taken ++ replies machine first before) output →
+    WrotePrefix (replies machine first all) taken output
+prefix_behind machine first m before lines rest all taken output is split wrote = record {
+  sent = replies machine first before ++ wrote.sent;
+  unsent = wrote.unsent ++ replies machine (after machine first (before ++ lines)) rest;
+  split =
+    ap (replies machine first) split
+    ∙ replies-append machine first (before ++ lines) rest
+    ∙ ap (λ xs. xs ++ replies machine (after machine first (before ++ lines)) rest)
+      (replies-append machine first before lines
+       ∙ ap (λ k. replies machine first before ++ replies machine k lines) (sym is)
+       ∙ ap (λ xs. replies machine first before ++ xs) wrote.split)
+    ∙ regroup (replies machine first before) wrote.sent wrote.unsent (replies machine (after machine first (before ++ lines)) rest);
+  written = wrote.written ∙ ap Some (append_assoc taken (replies machine first before) wrote.sent)
+}
+
+-- whole replies to some lines, behind the replies to those before
+pub lines_behind : {M : Type 0} (machine : Machine M) (first m : M) (before lines rest all : List (List ℕ)) (taken : List ℕ) (output : Option (List ℕ)) →
+    m ≡ after machine first before → all ≡ (before ++ lines) ++ rest →
+    WroteLines machine m lines (taken ++ replies machine first before) output →
+    WroteLines machine first all taken output
+lines_behind machine first m before lines rest all taken output is split wrote = record {
+  answered = before ++ wrote.answered;
+  unanswered = wrote.unanswered ++ rest;
+  split = split ∙ ap (λ ls. (before ++ ls) ++ rest) wrote.split ∙ regroup before wrote.answered wrote.unanswered rest;
+  written = wrote.written
+    ∙ ap Some (append_assoc taken (replies machine first before) (replies machine m wrote.answered)
+      ∙ ap (λ k. taken ++ (replies machine first before ++ replies machine k wrote.answered)) is
+      ∙ ap (λ xs. taken ++ xs) (sym (replies-append machine first before wrote.answered)))
+}
+
+-- all replies to some lines, behind the replies to those before
+pub replies_behind : {M : Type 0} (machine : Machine M) (first m : M) (before lines : List (List ℕ)) (taken : List ℕ) →
+    m ≡ after machine first before →
+    (taken ++ replies machine first before) ++ replies machine m lines ≡ taken ++ replies machine first (before ++ lines)
+replies_behind machine first m before lines taken is =
+    append_assoc taken (replies machine first before) (replies machine m lines)
+    ∙ ap (λ k. taken ++ (replies machine first before ++ replies machine k lines)) is
+    ∙ ap (λ xs. taken ++ xs) (sym (replies-append machine first before lines))
+
+-- the machine behind some lines, behind those before
+pub after_behind : {M : Type 0} (machine : Machine M) (first m next : M) (before lines : List (List ℕ)) →
+    m ≡ after machine first before → next ≡ after machine m lines → next ≡ after machine first (before ++ lines)
+after_behind machine first m next before lines is goes = goes ∙ ap (λ k. after machine k lines) is ∙ sym (after-append machine first before lines)
+
+-- no reply was written
+pub wrote_no_line : {M : Type 0} (machine : Machine M) (m : M) (lines : List (List ℕ)) (taken : List ℕ) (output : Option (List ℕ)) →
+    output ≡ Some taken → WroteLines machine m lines taken output
+wrote_no_line machine m lines taken output is = record { answered = []; unanswered = lines; split = refl; written = is ∙ ap Some (sym (append-nil taken)) }
