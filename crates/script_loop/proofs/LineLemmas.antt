@@ -1,5 +1,5 @@
 -- Lines and replies of texts that are put together.
-use Rattle.std.proofs.Common.{◌≡◌, ℕ, ◌==◌, ◌+◌, ◌<◌, ◌++◌, List, [], ◌∷◌, length, take, drop, slice_index_or, Option, Some, true, false, if◌then◌else◌, append_assoc, append-nil, add-one, sym, ◌∙◌, ap, refl}
+use Rattle.std.proofs.Common.{◌≡◌, ℕ, ◌==◌, ◌+◌, ◌<◌, ◌++◌, List, [], ◌∷◌, length, take, drop, slice_index_or, Option, Some, Result, Ok, Err, OnOk, true, false, if◌then◌else◌, append_assoc, append-nil, add-one, sym, ◌∙◌, ap, refl}
 use Rattle.std.proofs.Math.Seq.{take-suc}
 use Rattle.std.proofs.lemmas.List.{take-append-drop}
 use Rattle.script_loop.specs.Lines.{whole_lines, last_part}
@@ -73,14 +73,14 @@ prefix_behind machine first m before lines rest all taken output is split wrote 
   sent = replies machine first before ++ wrote.sent;
   unsent = wrote.unsent ++ replies machine (after machine first (before ++ lines)) rest;
   split =
-    ap (replies machine first) split
-    ∙ replies-append machine first (before ++ lines) rest
-    ∙ ap (λ xs. xs ++ replies machine (after machine first (before ++ lines)) rest)
+      ap (replies machine first) split
+      ∙ replies-append machine first (before ++ lines) rest
+      ∙ ap (λ xs. xs ++ replies machine (after machine first (before ++ lines)) rest)
       (replies-append machine first before lines
-       ∙ ap (λ k. replies machine first before ++ replies machine k lines) (sym is)
-       ∙ ap (λ xs. replies machine first before ++ xs) wrote.split)
-    ∙ regroup (replies machine first before) wrote.sent wrote.unsent (replies machine (after machine first (before ++ lines)) rest);
-  written = wrote.written ∙ ap Some (append_assoc taken (replies machine first before) wrote.sent)
+      ∙ ap (λ k. replies machine first before ++ replies machine k lines) (sym is)
+      ∙ ap (λ xs. replies machine first before ++ xs) wrote.split)
+      ∙ regroup (replies machine first before) wrote.sent wrote.unsent (replies machine (after machine first (before ++ lines)) rest);
+  written = wrote.written ∙ ap Some (append_assoc taken (replies machine first before) wrote.sent);
 }
 
 -- whole replies to some lines, behind the replies to those before
@@ -93,9 +93,9 @@ lines_behind machine first m before lines rest all taken output is split wrote =
   unanswered = wrote.unanswered ++ rest;
   split = split ∙ ap (λ ls. (before ++ ls) ++ rest) wrote.split ∙ regroup before wrote.answered wrote.unanswered rest;
   written = wrote.written
-    ∙ ap Some (append_assoc taken (replies machine first before) (replies machine m wrote.answered)
+      ∙ ap Some (append_assoc taken (replies machine first before) (replies machine m wrote.answered)
       ∙ ap (λ k. taken ++ (replies machine first before ++ replies machine k wrote.answered)) is
-      ∙ ap (λ xs. taken ++ xs) (sym (replies-append machine first before wrote.answered)))
+      ∙ ap (λ xs. taken ++ xs) (sym (replies-append machine first before wrote.answered)));
 }
 
 -- all replies to some lines, behind the replies to those before
@@ -116,3 +116,8 @@ after_behind machine first m next before lines is goes = goes ∙ ap (λ k. afte
 pub wrote_no_line : {M : Type 0} (machine : Machine M) (m : M) (lines : List (List ℕ)) (taken : List ℕ) (output : Option (List ℕ)) →
     output ≡ Some taken → WroteLines machine m lines taken output
 wrote_no_line machine m lines taken output is = record { answered = []; unanswered = lines; split = refl; written = is ∙ ap Some (sym (append-nil taken)) }
+
+-- what follows from a fact that holds on success
+pub on_ok : {T E P Q : Type 0} (r : Result T E) → OnOk r Q → (Q → P) → OnOk r P
+on_ok (Ok x) holds goes = goes holds
+on_ok (Err e) holds goes = tt

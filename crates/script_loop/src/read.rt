@@ -123,3 +123,73 @@ fn answer_block<A: Answerer, O: Sink>(
     }
     Ok(())
 }
+
+/// Answers what came behind the last LF, if it has a byte.
+fn answer_rest<A: Answerer, O: Sink>(
+    alloc: Global,
+    answerer: &mut A,
+    pending: &[u8],
+    out: &mut O,
+) -> Result<(), Stop>
+    ensures written { OnOk result ((taken : List ℕ) → O.told out.old ≡ Some taken
+        → O.told out.new ≡ Some (taken ++ replies A.machine answerer.old (last_line pending.now))) }
+    ensures prefix { IsErrOf result Stop.Sink → (taken : List ℕ) → O.told out.old ≡ Some taken
+        → WrotePrefix (replies A.machine answerer.old (last_line pending.now)) taken (O.told out.new) }
+    ensures failed { IsErrOf result Stop.Sink → Rose (O.faults out.old) (O.faults out.new) }
+    ensures lines { IsErrOf result Stop.Memory → (taken : List ℕ) → O.told out.old ≡ Some taken
+        → WroteLines A.machine answerer.old (last_line pending.now) taken (O.told out.new) }
+    ensures causes { IfErr result (λ e. (e ≡ Stop.Sink) ⊎ (e ≡ Stop.Memory)) }
+    ensures never_falls { O.faults out.old ≤ O.faults out.new }
+{
+    match pending {
+        [] => Ok(()),
+        line => answer_line(alloc, answerer, line, out),
+    }
+}
+
+/// Answers each line of the script as soon as its end is read, and a last line without LF at the
+/// end of the script. Reads at most 2^40 bytes.
+///
+/// What was written when it stops short: at [`Stop::Script`] and [`Stop::Long`] the replies to the
+/// lines whose LF was read, at [`Stop::Sink`] a prefix of the replies, at [`Stop::Memory`] a prefix
+/// of them in whole lines.
+pub fn answer_script<A: Answerer, I: Source, O: Sink>(
+    alloc: Global,
+    answerer: &mut A,
+    script: &mut I,
+    out: &mut O,
+) -> Result<(), Stop>
+    ensures answered { OnOk result ((text taken : List ℕ) → I.told script.old ≡ Some text → O.told out.old ≡ Some taken
+        → Answered A.machine answerer.old text taken (I.told script.new) (O.told out.new)) }
+    ensures script_failed { IsErrOf result Stop.Script → Rose (I.faults script.old) (I.faults script.new) }
+    ensures script_lines { IsErrOf result Stop.Script → (text taken : List ℕ) → I.told script.old ≡ Some text → O.told out.old ≡ Some taken
+        → AnsweredRead A.machine answerer.old text taken (I.told script.new) (O.told out.new) }
+    ensures sink_failed { IsErrOf result Stop.Sink → Rose (O.faults out.old) (O.faults out.new) }
+    ensures sink_prefix { IsErrOf result Stop.Sink → (text taken : List ℕ) → I.told script.old ≡ Some text → O.told out.old ≡ Some taken
+        → WrotePrefix (replies A.machine answerer.old (all_lines text)) taken (O.told out.new) }
+    ensures memory_lines { IsErrOf result Stop.Memory → (text taken : List ℕ) → I.told script.old ≡ Some text → O.told out.old ≡ Some taken
+        → WroteLines A.machine answerer.old (all_lines text) taken (O.told out.new) }
+    ensures long { IsErrOf result Stop.Long → (text : List ℕ) → I.told script.old ≡ Some text → ReadBytes (2 ^ 40) text (I.told script.new) }
+    ensures long_lines { IsErrOf result Stop.Long → (text taken : List ℕ) → I.told script.old ≡ Some text → O.told out.old ≡ Some taken
+        → AnsweredRead A.machine answerer.old text taken (I.told script.new) (O.told out.new) }
+    ensures script_never_falls { I.faults script.old ≤ I.faults script.new }
+    ensures sink_never_falls { O.faults out.old ≤ O.faults out.new }
+{
+    let mut pending = Vec::new(alloc);
+    let mut block = [0u8; BLOCK];
+    let mut total = 0;
+    while total < MOST_READ {
+        match read_block(script, &mut block, MOST_READ - total) {
+            Err(Failed) => return Err(Stop::Script),
+            Ok(0) => return answer_rest(alloc, answerer, pending.as_slice(), out),
+            Ok(count) => {
+                total += count as u64;
+                match answer_block(alloc, answerer, &mut pending, &block[..count], out) {
+                    Ok(()) => {}
+                    Err(stop) => return Err(stop),
+                }
+            }
+        }
+    }
+    Err(Stop::Long)
+}

@@ -11,9 +11,9 @@ returns-in-Err-clause-prefix g c = λ sink taken told.
     let i = c.loop-byte.byte-index in
     let b = slice_index_or block i 0 in
     prefix_behind g.A.Answerer.machine c.args.answerer.now c.loop-byte.answerer (whole_lines part (take i block)) (whole_lines c.loop-byte.pending.items (b ∷ []))
-        (whole_lines (last_part c.loop-byte.pending.items (b ∷ [])) (drop (i + 1) block)) (whole_lines part block) taken _
-        c.loop-byte.invariant.next (lines_around part c.loop-byte.pending.items block i b c.loop-byte-test.true refl c.loop-byte.invariant.pending)
-        ((c.in-Err.ensures {u = tt}).prefix sink (taken ++ replies g.A.Answerer.machine c.args.answerer.now (whole_lines part (take i block))) (c.loop-byte.invariant.written taken told))
+    (whole_lines (last_part c.loop-byte.pending.items (b ∷ [])) (drop (i + 1) block)) (whole_lines part block) taken _
+    c.loop-byte.invariant.next (lines_around part c.loop-byte.pending.items block i b c.loop-byte-test.true refl c.loop-byte.invariant.pending)
+    ((c.in-Err.ensures {u = tt}).prefix sink (taken ++ replies g.A.Answerer.machine c.args.answerer.now (whole_lines part (take i block))) (c.loop-byte.invariant.written taken told))
 
 pub returns-in-Err-clause-lines : goal.returns-in-Err-clause-lines
 returns-in-Err-clause-lines g c = λ memory taken told.
@@ -22,9 +22,9 @@ returns-in-Err-clause-lines g c = λ memory taken told.
     let i = c.loop-byte.byte-index in
     let b = slice_index_or block i 0 in
     lines_behind g.A.Answerer.machine c.args.answerer.now c.loop-byte.answerer (whole_lines part (take i block)) (whole_lines c.loop-byte.pending.items (b ∷ []))
-        (whole_lines (last_part c.loop-byte.pending.items (b ∷ [])) (drop (i + 1) block)) (whole_lines part block) taken _
-        c.loop-byte.invariant.next (lines_around part c.loop-byte.pending.items block i b c.loop-byte-test.true refl c.loop-byte.invariant.pending)
-        ((c.in-Err.ensures {u = tt}).lines memory (taken ++ replies g.A.Answerer.machine c.args.answerer.now (whole_lines part (take i block))) (c.loop-byte.invariant.written taken told))
+    (whole_lines (last_part c.loop-byte.pending.items (b ∷ [])) (drop (i + 1) block)) (whole_lines part block) taken _
+    c.loop-byte.invariant.next (lines_around part c.loop-byte.pending.items block i b c.loop-byte-test.true refl c.loop-byte.invariant.pending)
+    ((c.in-Err.ensures {u = tt}).lines memory (taken ++ replies g.A.Answerer.machine c.args.answerer.now (whole_lines part (take i block))) (c.loop-byte.invariant.written taken told))
 
 pub loop-byte-preserved : goal.loop-byte-preserved
 loop-byte-preserved g c =
@@ -37,9 +37,9 @@ loop-byte-preserved g c =
     record {
       pending = call.pending ∙ part_more part c.loop-byte.pending.items block i b c.loop-byte-test.true refl c.loop-byte.invariant.pending;
       next = after_behind g.A.Answerer.machine c.args.answerer.now c.loop-byte.answerer _ (whole_lines part (take i block)) (whole_lines c.loop-byte.pending.items (b ∷ [])) c.loop-byte.invariant.next call.next
-        ∙ ap (after g.A.Answerer.machine c.args.answerer.now) lines;
+          ∙ ap (after g.A.Answerer.machine c.args.answerer.now) lines;
       rises = omega arith;
       written = λ taken told. call.written (taken ++ replies g.A.Answerer.machine c.args.answerer.now (whole_lines part (take i block))) (c.loop-byte.invariant.written taken told)
-        ∙ ap Some (replies_behind g.A.Answerer.machine c.args.answerer.now c.loop-byte.answerer (whole_lines part (take i block)) (whole_lines c.loop-byte.pending.items (b ∷ [])) taken c.loop-byte.invariant.next
-          ∙ ap (λ ls. taken ++ replies g.A.Answerer.machine c.args.answerer.now ls) lines)
+          ∙ ap Some (replies_behind g.A.Answerer.machine c.args.answerer.now c.loop-byte.answerer (whole_lines part (take i block)) (whole_lines c.loop-byte.pending.items (b ∷ [])) taken c.loop-byte.invariant.next
+          ∙ ap (λ ls. taken ++ replies g.A.Answerer.machine c.args.answerer.now ls) lines);
     }

@@ -10,5 +10,5 @@ invariant-loop-byte g l = record {
   next : l.answerer ≡ after g.A.Answerer.machine l.initial.answerer (whole_lines l.initial.pending.items (take l.byte-index l.block));
   rises : g.O.Sink.faults l.initial.out ≤ g.O.Sink.faults l.out;
   written : (taken : List ℕ) → g.O.Sink.told l.initial.out ≡ Some taken →
-    g.O.Sink.told l.out ≡ Some (taken ++ replies g.A.Answerer.machine l.initial.answerer (whole_lines l.initial.pending.items (take l.byte-index l.block)))
+      g.O.Sink.told l.out ≡ Some (taken ++ replies g.A.Answerer.machine l.initial.answerer (whole_lines l.initial.pending.items (take l.byte-index l.block)));
 }
