@@ -1,0 +1,9 @@
+pub mod Plain
+pub mod Lexing
+pub mod Grammar
+pub mod Reading
+pub mod Runs
+pub mod Domain
+pub mod Interval
+pub mod Text
+pub mod Claims

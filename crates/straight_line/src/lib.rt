@@ -1,0 +1,56 @@
+//! The straight-line language: its programs, their runs, and interval states that cover the runs.
+//!
+//! A source is `proc main() {`, declarations `var x: int;`, assignments `x = c;` and `}`.
+//! [`read_program`] reads a source, [`state_after`] gives the state after a statement, and
+//! [`state_text`] prints it. `IsProgram` of `specs/Grammar.antt` says which texts are programs,
+//! `Reach` of `specs/Runs.antt` what a run reaches, and `state_after` of `specs/Interval.antt`
+//! which state is the answer.
+//!
+//! Reading and printing take time linear in their text, an answer takes time linear in the
+//! program. Each keeps its result alone.
+#![tactic(auto)]
+
+ghost use Rattle.std.specs.Prelude.{◌≡◌, ℕ, ℤ, List};
+ghost use Rattle.straight_line.specs.Claims.{IsExact};
+ghost use Rattle.straight_line.specs.Domain.{Operations, Laws, IsSound};
+ghost use Rattle.straight_line.specs.Plain.{PlainProgram};
+
+mod answer;
+mod error;
+mod parse;
+mod print;
+mod state;
+mod token;
+mod tree;
+
+pub use answer::state_after;
+pub use error::{Memory, ReadError};
+pub use parse::read_program;
+pub use print::state_text;
+pub use state::{Range, State};
+pub use tree::{Assignment, Program};
+
+/// `program_of` finds exactly the program that a text is.
+pub fn reading_is_exact()
+    ensures exact { (text : List ℕ) (p : PlainProgram) → IsExact text p }
+{}
+
+/// A domain: operations on states, and what a state says of the values of the variables.
+pub trait Domain {
+    /// What a state is.
+    type State: Drop;
+
+    /// The operations.
+    ghost operations: { Operations Self.State };
+
+    /// What a state says of the values.
+    ghost covers: { Self.State → List ℤ → Type 0 };
+
+    /// The laws.
+    ghost laws: { Laws operations covers };
+}
+
+/// The answers of a domain cover every configuration that a run reaches.
+pub fn answers_are_sound<D: Domain>()
+    ensures sound { IsSound D.operations D.covers }
+{}
