@@ -7,3 +7,4 @@ pub mod Domain
 pub mod Interval
 pub mod Text
 pub mod Claims
+pub mod IntervalLaws

@@ -18,20 +18,19 @@ Gives view (Ok x) read = read ≡ Some (view x)
 Gives view (Err e.Refused) read = read ≡ None
 Gives view (Err e.Memory) read = Unit {0}
 
--- the tokens of a text that has no more than so many
-abbrev mutual
-  pub tokens_within : ℕ → List ℕ → Option (List Token)
-  tokens_within most [] = Some []
-  tokens_within zero (b ∷ text) = None
-  tokens_within (suc most) (b ∷ text) = tokens_behind most (b ∷ text) (front_of (b ∷ text))
+-- the tokens of a text with this at its front, where `read` gives those of a text behind it
+abbrev pub tokens_behind : Front → List ℕ → (List ℕ → Option (List Token)) → Option (List Token)
+tokens_behind (f.Skip n) text read = read (drop n text)
+tokens_behind (f.Takes n token) text read = option_map (λ tokens. token ∷ tokens) (read (drop n text))
+tokens_behind f.Bad text read = None
 
-  -- the tokens of a text with this at its front
-  pub tokens_behind : ℕ → List ℕ → Front → Option (List Token)
-  tokens_behind most text (f.Skip n) = tokens_within most (drop n text)
-  tokens_behind most text (f.Takes n token) = option_map (λ tokens. token ∷ tokens) (tokens_within most (drop n text))
-  tokens_behind most text f.Bad = None
+-- the tokens of a text, in so many steps at most
+abbrev pub tokens_within : ℕ → List ℕ → Option (List Token)
+tokens_within most [] = Some []
+tokens_within zero (b ∷ text) = None
+tokens_within (suc most) (b ∷ text) = tokens_behind (front_of (b ∷ text)) (b ∷ text) (tokens_within most)
 
--- each token has a byte at least
+-- each step passes a byte at least
 unfoldable pub tokens_of : List ℕ → Option (List Token)
 tokens_of text = tokens_within (length text) text
 

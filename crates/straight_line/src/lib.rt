@@ -13,7 +13,9 @@
 ghost use Rattle.std.specs.Prelude.{◌≡◌, ℕ, ℤ, List};
 ghost use Rattle.straight_line.specs.Claims.{IsExact};
 ghost use Rattle.straight_line.specs.Domain.{Operations, Laws, IsSound};
+ghost use Rattle.straight_line.specs.Interval.{intervals, Holds};
 ghost use Rattle.straight_line.specs.Plain.{PlainProgram};
+ghost use Rattle.straight_line.specs.IntervalLaws.{interval_laws};
 
 mod answer;
 mod error;
@@ -54,3 +56,16 @@ pub trait Domain {
 pub fn answers_are_sound<D: Domain>()
     ensures sound { IsSound D.operations D.covers }
 {}
+
+/// The domain of intervals.
+pub struct Intervals;
+
+impl Domain for Intervals {
+    type State = State;
+
+    ghost operations = { intervals };
+
+    ghost covers = { Holds };
+
+    ghost laws = { interval_laws };
+}

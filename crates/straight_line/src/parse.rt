@@ -20,6 +20,7 @@ const MOST_ASSIGNMENTS: usize = 10_000;
 ///
 /// Fails with [`ReadError::Refused`] only where the text is no program, and with
 /// [`ReadError::Memory`] only for want of memory.
+#[tactic(auto, unfolding(crate::specs::Reading::program_of))]
 pub fn read_program(alloc: Global, text: &[u8]) -> Result<Program, ReadError>
     // What is read is the program of the text.
     ensures accepted { IfOk result (λ p. program_of text.now ≡ Some p) }
@@ -30,6 +31,7 @@ pub fn read_program(alloc: Global, text: &[u8]) -> Result<Program, ReadError>
     procedure(alloc, &tokens)
 }
 
+#[tactic(auto, unfolding(crate::specs::Reading::procedure_at))]
 fn procedure(alloc: Global, tokens: &[Token]) -> Result<Program, ReadError>
     ensures read { Gives (λ p. p) result (procedure_at tokens.now) }
 {
@@ -79,6 +81,7 @@ fn declarations(alloc: Global, tokens: &[Token]) -> Result<(Vec<Name>, &[Token])
     Ok((names, rest))
 }
 
+#[tactic(auto, unfolding(crate::specs::Reading::declaration_at))]
 fn declaration(tokens: &[Token]) -> Option<(&Name, &[Token])>
     ensures read { declaration_at tokens.now ≡ option_map (λ d. (d.0.now, d.1.now)) result }
 {
@@ -114,6 +117,7 @@ fn assignments(
     }
 }
 
+#[tactic(auto, unfolding(crate::specs::Reading::assignment_at))]
 fn assignment<'a>(names: &[Name], tokens: &'a [Token]) -> Option<(Assignment, &'a [Token])>
     ensures read { assignment_at names.now tokens.now ≡ option_map (λ d. (d.0, d.1.now)) result }
 {

@@ -12,6 +12,7 @@ use std::alloc::{AllocError, Global};
 /// space between. The ends of `i64` are `min` and `max`. Without variables the text is `any`.
 ///
 /// Fails only for want of memory.
+#[tactic(auto, unfolding(crate::specs::Text::text_of))]
 pub fn state_text(alloc: Global, program: &Program, state: &State) -> Result<Vec<u8>, Memory>
     // The bytes are those of the definition.
     ensures text { IfOk result (λ v. v.items ≡ text_of program.now state.now) }
@@ -32,6 +33,7 @@ pub fn state_text(alloc: Global, program: &Program, state: &State) -> Result<Vec
     Ok(text)
 }
 
+#[tactic(auto, unfolding(crate::specs::Text::slot_text))]
 fn put_slot(text: &mut Vec<u8>, name: &Name, range: Range) -> Result<(), AllocError>
     ensures { OnOk result (text.new.items ≡ text.old.items ++ slot_text name.now range) }
 {
@@ -43,6 +45,7 @@ fn put_slot(text: &mut Vec<u8>, name: &Name, range: Range) -> Result<(), AllocEr
     text.extend_from_slice(b"]")
 }
 
+#[tactic(auto, unfolding(crate::specs::Text::end_text))]
 fn put_end(text: &mut Vec<u8>, end: i64) -> Result<(), AllocError>
     ensures { OnOk result (text.new.items ≡ text.old.items ++ end_text end) }
 {

@@ -9,6 +9,9 @@ use crate::error::ReadError;
 use crate::tree::Name;
 use std::alloc::{AllocError, Global};
 
+/// The most bytes of a name.
+const MOST_NAME_BYTES: usize = 32;
+
 /// A token. A mark is named by what it does.
 #[derive(Drop)]
 pub(crate) enum Token {
@@ -57,6 +60,7 @@ pub(crate) fn tokens(alloc: Global, text: &[u8]) -> Result<Vec<Token>, ReadError
     Ok(found)
 }
 
+#[tactic(auto, unfolding(crate::specs::Lexing::front_of))]
 fn front_at(alloc: Global, text: &[u8]) -> Result<Front, AllocError>
     ensures is { IfOk result (λ f. f ≡ front_of text.now) }
     ensures bounded { IfOk result (IsBounded (length text.now)) }
@@ -91,6 +95,7 @@ fn taken(n: usize, token: Option<Token>) -> Front
     }
 }
 
+#[tactic(auto, unfolding(crate::specs::Lexing::word_token))]
 fn word_token(alloc: Global, word: &[u8]) -> Result<Option<Token>, AllocError>
     ensures { IfOk result (λ o. o ≡ word_token word.now) }
 {
@@ -103,7 +108,7 @@ fn word_token(alloc: Global, word: &[u8]) -> Result<Option<Token>, AllocError>
     if is(word, b"int") {
         return Ok(Some(Token::Int));
     }
-    if is_unused(word) || word.len() > 32 {
+    if is_unused(word) || word.len() > MOST_NAME_BYTES {
         return Ok(None);
     }
     let bytes = Vec::from_slice(alloc, word)?;
@@ -137,6 +142,7 @@ fn is_unused(word: &[u8]) -> bool
         || is(word, b"break")
 }
 
+#[tactic(auto, unfolding(crate::specs::Lexing::number_token))]
 fn number_token(digits: &[u8]) -> Option<Token>
     ensures { result ≡ number_token digits.now }
 {
@@ -151,6 +157,7 @@ fn number_token(digits: &[u8]) -> Option<Token>
     Some(Token::Number(value))
 }
 
+#[tactic(auto, unfolding(crate::specs::Lexing::mark_token))]
 fn mark_token(b: u8) -> Option<Token>
     ensures { result ≡ mark_token b }
 {
