@@ -1,7 +1,7 @@
 -- The program of a text, as a function.
-use Rattle.std.specs.Prelude.{ℕ, zero, suc, Bool, true, false, not, ◌&&◌, ◌≡◌, nat_le, ℤ, Result, Ok, Err, List, [], ◌∷◌, length, drop, Option, Some, None, codes, position, option_and_then, option_map, if◌then◌else◌}
+use Rattle.std.specs.Prelude.{ℕ, zero, suc, Bool, true, false, not, ◌&&◌, ◌≡◌, nat_le, ℤ, Result, Ok, Err, List, [], ◌∷◌, length, drop, Option, Some, None, codes, option_and_then, option_map, if◌then◌else◌}
 use Rattle.std.specs.Str.{bytes_eq}
-use Rattle.std.specs.List.{list_any}
+use Rattle.std.specs.List.{list_any, position_from}
 use Rattle.straight_line.specs.declared.token.Token.{Token}
 use Rattle.straight_line.specs.declared.token.Token.TheVariants as t
 use Rattle.straight_line.specs.declared.token.Front.{Front}
@@ -49,7 +49,7 @@ declarations_at tokens = ([], tokens)
 
 -- the place of a name
 abbrev pub slot_of : List (List ℕ) → List ℕ → Option ℕ
-slot_of names x = position (λ name. bytes_eq name x) names
+slot_of names x = position_from (λ name. bytes_eq name x) 0 names
 
 abbrev pub placed : Option ℕ → ℤ → List Token → Option (Assignment × List Token)
 placed None c rest = None
@@ -63,6 +63,11 @@ assignment_at names tokens = None
 abbrev pub assigned : Option ℕ → ℤ → Option (List Assignment) → Option (List Assignment)
 assigned None c rest = None
 assigned (Some slot) c rest = option_map (λ body. record { slot = slot; value = c } ∷ body) rest
+
+-- the closing brace and nothing more
+unfoldable pub is_closing : List Token → Bool
+is_closing (t.End ∷ []) = true
+is_closing tokens = false
 
 -- the assignments up to the last token, which is the brace
 unfoldable pub body_at : List (List ℕ) → List Token → Option (List Assignment)

@@ -13,6 +13,7 @@ use std::alloc::{AllocError, Global};
 /// Statements are numbered from 1. The time is linear in the program.
 ///
 /// Fails only for want of memory.
+#[tactic(auto, unfolding(crate::specs::Interval::state_after))]
 pub fn state_after(
     alloc: Global,
     program: &Program,
@@ -41,8 +42,8 @@ fn initial(alloc: Global, variables: usize) -> Result<Vec<Range>, AllocError>
     Ok(vec![in alloc; ZERO; variables]?)
 }
 
-fn assign(ranges: &mut [Range], assignment: Assignment)
-    ensures { ranges.new ≡ slice_set ranges.old assignment.slot (single assignment.value) }
+fn assign(ranges: &mut Vec<Range>, assignment: Assignment)
+    ensures { ranges.new.items ≡ slice_set ranges.old.items assignment.slot (single assignment.value) }
 {
     let value = assignment.value;
     if assignment.slot < ranges.len() {

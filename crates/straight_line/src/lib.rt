@@ -10,10 +10,11 @@
 //! program. Each keeps its result alone.
 #![tactic(auto)]
 
-ghost use Rattle.std.specs.Prelude.{◌≡◌, ℕ, ℤ, List};
-ghost use Rattle.straight_line.specs.Claims.{IsExact};
+ghost use Rattle.std.specs.Prelude.{◌≡◌, ℕ, ℤ, List, Some};
+ghost use Rattle.straight_line.specs.Claims.{CoversRuns, IsExact};
 ghost use Rattle.straight_line.specs.Domain.{Operations, Laws, IsSound};
-ghost use Rattle.straight_line.specs.Interval.{intervals, Holds};
+ghost use Rattle.straight_line.specs.Interval.{intervals, Holds, state_after};
+ghost use Rattle.straight_line.specs.declared.state.Range.{Range as PlainRange};
 ghost use Rattle.straight_line.specs.Plain.{PlainProgram};
 ghost use Rattle.straight_line.specs.IntervalLaws.{interval_laws};
 
@@ -69,3 +70,8 @@ impl Domain for Intervals {
 
     ghost laws = { interval_laws };
 }
+
+/// The states of the intervals cover every configuration that a run reaches.
+pub fn states_cover_runs()
+    ensures sound { (p : PlainProgram) (n : ℕ) (s : List PlainRange) → state_after p n ≡ Some s → CoversRuns p n s }
+{}

@@ -1,9 +1,10 @@
 //! Programs from texts.
 ghost use Rattle.std.specs.Prelude.{◌≡◌, ◌<◌, List, ℕ, length, IfOk, IfErr, Some, None, option_map};
 ghost use Rattle.std.specs.Str.{bytes_eq};
+ghost use Rattle.std.specs.List.{list_any};
 ghost use Rattle.straight_line.specs.Grammar.{IsProgram};
 ghost use Rattle.straight_line.specs.Plain.{PlainProgram};
-ghost use Rattle.straight_line.specs.Reading.{Gives, program_of, procedure_at, block_at, declarations_at, declaration_at, assignment_at, body_at, slot_of, are_different};
+ghost use Rattle.straight_line.specs.Reading.{Gives, program_of, procedure_at, block_at, declarations_at, declaration_at, assignment_at, body_at, slot_of, are_different, is_closing};
 
 use crate::error::ReadError;
 use crate::token::{Token, tokens};
@@ -111,9 +112,20 @@ fn assignments(
         body.push(next)?;
         rest = more;
     }
-    match rest {
-        [Token::End] => Ok(body),
-        _ => Err(ReadError::Refused),
+    if is_closing(rest) {
+        Ok(body)
+    } else {
+        Err(ReadError::Refused)
+    }
+}
+
+#[tactic(auto, unfolding(crate::specs::Reading::is_closing))]
+fn is_closing(tokens: &[Token]) -> bool
+    ensures { result ≡ is_closing tokens.now }
+{
+    match tokens {
+        [Token::End] => true,
+        _ => false,
     }
 }
 
@@ -148,8 +160,12 @@ fn are_different(names: &[Name]) -> bool
 {
     match names {
         [] => true,
-        [name, rest @ ..] => {
-            !rest.iter().any(|other| other.is(&name.bytes)) && are_different(rest)
-        }
+        [name, rest @ ..] => !stands_in(rest, &name.bytes) && are_different(rest),
     }
+}
+
+fn stands_in(names: &[Name], bytes: &[u8]) -> bool
+    ensures { result ≡ list_any (λ name. bytes_eq name bytes.now) names.now }
+{
+    names.iter().any(|name| name.is(bytes))
 }

@@ -42,7 +42,8 @@ fn put_slot(text: &mut Vec<u8>, name: &Name, range: Range) -> Result<(), AllocEr
     put_end(text, range.lo)?;
     text.extend_from_slice(b",")?;
     put_end(text, range.hi)?;
-    text.extend_from_slice(b"]")
+    text.extend_from_slice(b"]")?;
+    Ok(())
 }
 
 #[tactic(auto, unfolding(crate::specs::Text::end_text))]

@@ -12,6 +12,9 @@ use std::alloc::{AllocError, Global};
 /// The most bytes of a name.
 const MOST_NAME_BYTES: usize = 32;
 
+/// The greatest number.
+const GREATEST: u64 = 9_223_372_036_854_775_807;
+
 /// A token. A mark is named by what it does.
 #[derive(Drop)]
 pub(crate) enum Token {
@@ -146,15 +149,15 @@ fn is_unused(word: &[u8]) -> bool
 fn number_token(digits: &[u8]) -> Option<Token>
     ensures { result ≡ number_token digits.now }
 {
-    let mut value: i64 = 0;
+    let mut value: u64 = 0;
     for digit in digits {
-        let digit = i64::from(digit.saturating_sub(b'0'));
-        if value > (i64::MAX - digit) / 10 {
+        let digit = u64::from(digit.saturating_sub(b'0'));
+        if value > (GREATEST - digit) / 10 {
             return None;
         }
         value = value * 10 + digit;
     }
-    Some(Token::Number(value))
+    Some(Token::Number(value as i64))
 }
 
 #[tactic(auto, unfolding(crate::specs::Lexing::mark_token))]
