@@ -1,11 +1,13 @@
 -- The tokens of a text, one step at a time, and as a relation.
-use Rattle.std.proofs.Common.{◌≡◌, ℕ, zero, suc, ◌+◌, ◌-◌, ◌*◌, ◌≤◌, ◌<◌, Bool, true, false, cond, List, [], ◌∷◌, ◌++◌, length, drop, take, refl, sym, ap, subst, ◌∙◌, arith, append_assoc, length-drop}
-use Rattle.std.specs.Prelude.{Option, Some, None, option_map}
+use Rattle.std.proofs.Common.{◌≡◌, ℕ, zero, suc, ◌+◌, ◌-◌, ◌*◌, ◌≤◌, ◌<◌, Bool, true, false, cond, List, [], ◌∷◌, ◌++◌, length, drop, take, refl, sym, ap, subst, ◌∙◌, arith, append_assoc, length-drop, get_or, add-one, drop-cons, ◌/◌}
+use Rattle.std.proofs.lemmas.Bool.Decides.{nat_tests}
+use Rattle.straight_line.specs.declared.token.Token.TheVariants as t
+use Rattle.std.specs.Prelude.{Option, Some, None, option_map, nat_le, pos}
 use Rattle.std.proofs.lemmas.List.{append-nil, drop-drop, take_all, nil_from_length}
 use Rattle.straight_line.specs.declared.token.Token.{Token}
 use Rattle.straight_line.specs.declared.token.Front.{Front}
 use Rattle.straight_line.specs.declared.token.Front.TheVariants as f
-use Rattle.straight_line.specs.Lexing.{front_of, taken, taking, run, is_word, is_letter, is_digit, is_blank, in_line, begins_comment, word_token, number_token, mark_token, value_on, IsTokens, done, skip, word, IsBounded}
+use Rattle.straight_line.specs.Lexing.{front_of, taken, taking, run, is_word, is_letter, is_digit, is_blank, in_line, begins_comment, word_token, number_token, mark_token, value_on, greatest, IsTokens, done, skip, word, IsBounded}
 use Rattle.straight_line.specs.Reading.{tokens_of, tokens_within, tokens_behind}
 use Rattle.straight_line.proofs.Options.{none_is_some, some_is, map_some}
 
@@ -17,6 +19,16 @@ run_within is (b ∷ bs) = elim (is b) as (λ v. cond v (suc (run is bs)) 0 ≤ 
 pub value_grows : (so_far : ℕ) (ds : List ℕ) → so_far ≤ value_on so_far ds
 value_grows so_far [] = omega arith
 value_grows so_far (d ∷ ds) = omega (arith, value_grows (so_far * 10 + (d - 48)) ds)
+
+-- one digit more is too much
+pub too_great : (ds : List ℕ) (i value digit : ℕ) → i < length ds → value_on value (drop i ds) ≡ value_on 0 ds → digit ≡ get_or ds i 0 - 48 → (greatest - digit) / 10 < value → number_token ds ≡ None
+unfolding number_token
+too_great ds i value digit within so_far is great =
+    let split : drop i ds ≡ get_or ds i 0 ∷ drop (i + 1) ds = rw (add-one, drop-cons ds i 0) refl in
+    let all : value_on 0 ds ≡ value_on (value * 10 + (get_or ds i 0 - 48)) (drop (i + 1) ds) = sym so_far ∙ ap (value_on value) split in
+    let more : greatest < value_on 0 ds = omega (arith, value_grows (value * 10 + (get_or ds i 0 - 48)) (drop (i + 1) ds)) in
+    let no : nat_le (value_on 0 ds) greatest ≡ false = grind (arith, nat_tests) in
+    ap (λ b. cond b (Some (t.Number (pos (value_on 0 ds)))) None) no
 
 taken_bounded : (n most : ℕ) (o : Option Token) → 1 ≤ n → n ≤ most → IsBounded most (taken n o)
 taken_bounded n most None some within = tt

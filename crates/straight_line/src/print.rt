@@ -25,15 +25,22 @@ pub fn state_text(alloc: Global, program: &Program, state: &State) -> Result<Vec
         if slot >= state.ranges.len() {
             break;
         }
-        if slot > 0 {
-            text.push(b' ')?;
-        }
+        put_space(&mut text, slot)?;
         put_slot(&mut text, name, state.ranges[slot])?;
     }
     Ok(text)
 }
 
-#[tactic(auto, unfolding(crate::specs::Text::slot_text))]
+fn put_space(text: &mut Vec<u8>, slot: usize) -> Result<(), AllocError>
+    ensures { OnOk result (text.new.items ≡ text.old.items ++ space_at slot) }
+{
+    if slot > 0 {
+        text.push(b' ')?;
+    }
+    Ok(())
+}
+
+#[tactic(auto, unfolding(crate::specs::Text::slot_text), using(crate::proofs::Written::slot_joined))]
 fn put_slot(text: &mut Vec<u8>, name: &Name, range: Range) -> Result<(), AllocError>
     ensures { OnOk result (text.new.items ≡ text.old.items ++ slot_text name.now range) }
 {
