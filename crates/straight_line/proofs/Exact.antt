@@ -1,5 +1,5 @@
 -- The function finds exactly the program that a text is.
-use Rattle.std.proofs.Common.{◌≡◌, ℕ, zero, suc, ◌+◌, ◌-◌, ◌≤◌, ◌<◌, Bool, true, false, cond, not, ◌&&◌, ◌||◌, List, [], ◌∷◌, ◌++◌, length, refl, sym, ap, subst, ◌∙◌, arith, append_assoc}
+use Rattle.std.proofs.Common.{◌≡◌, ℕ, zero, suc, ◌+◌, ◌≤◌, Bool, true, false, cond, not, ◌&&◌, ◌||◌, List, [], ◌∷◌, ◌++◌, length, refl, sym, ap, subst, ◌∙◌, arith, append_assoc}
 use Rattle.std.specs.Prelude.{ℤ, Option, Some, None, option_map, option_and_then, slice_get, nat_le, codes}
 use Rattle.std.specs.Str.{bytes_eq}
 use Rattle.std.specs.List.{list_any, position_from}
@@ -133,10 +133,11 @@ body_found : (names : List (List ℕ)) (tokens : List Token) (body : List Assign
 unfolding body_at
 body_found names (t.Name x ∷ t.Equals ∷ t.Number c ∷ t.Semicolon ∷ rest) body e =
     let a = assigned_some (slot_of names x) c (body_at names rest) body e in
-    let r = body_found names rest a.1 a.3 in
-    (t.Name x ∷ t.Equals ∷ t.Number c ∷ t.Semicolon ∷ r.0,
-     subst (IsBody names (t.Name x ∷ t.Equals ∷ t.Number c ∷ t.Semicolon ∷ r.0)) a.4 (then (assignment (slot_found names x a.0 a.2)) r.1),
-     ap (λ ts. t.Name x ∷ t.Equals ∷ t.Number c ∷ t.Semicolon ∷ ts) r.2)
+    let r = body_found names rest a.1 a.3 in (
+      t.Name x ∷ t.Equals ∷ t.Number c ∷ t.Semicolon ∷ r.0,
+      subst (IsBody names (t.Name x ∷ t.Equals ∷ t.Number c ∷ t.Semicolon ∷ r.0)) a.4 (then (assignment (slot_found names x a.0 a.2)) r.1),
+      ap (λ ts. t.Name x ∷ t.Equals ∷ t.Number c ∷ t.Semicolon ∷ ts) r.2,
+    )
 body_found names (t.End ∷ []) body e = ([], subst (IsBody names []) (some_is e) ends, refl)
 body_found names tokens body e = absurd (none_is_some e)
 

@@ -7,7 +7,7 @@ use Rattle.std.proofs.lemmas.List.{append-nil, drop-drop, take_all, nil_from_len
 use Rattle.straight_line.specs.declared.token.Token.{Token}
 use Rattle.straight_line.specs.declared.token.Front.{Front}
 use Rattle.straight_line.specs.declared.token.Front.TheVariants as f
-use Rattle.straight_line.specs.Lexing.{front_of, taken, taking, run, is_word, is_letter, is_digit, is_blank, in_line, begins_comment, word_token, number_token, mark_token, value_on, greatest, IsTokens, done, skip, word, IsBounded}
+use Rattle.straight_line.specs.Lexing.{front_of, taken, run, is_word, is_letter, is_digit, is_blank, in_line, begins_comment, word_token, number_token, mark_token, value_on, greatest, IsTokens, done, skip, word, IsBounded}
 use Rattle.straight_line.specs.Reading.{tokens_of, tokens_within, tokens_behind}
 use Rattle.straight_line.proofs.Options.{none_is_some, some_is, map_some}
 

@@ -1,11 +1,11 @@
 -- The answers of a domain cover every configuration that a run reaches, by the domain's laws.
-use Rattle.std.proofs.Common.{◌≡◌, ℕ, ◌+◌, ◌≤◌, ◌<◌, Bool, true, false, cond, List, [], ◌∷◌, length, refl, sym, ap, subst, ◌∙◌, arith, eq-eqb}
-use Rattle.std.specs.Prelude.{ℤ, Option, Some, None, nat_eq, pos, replicate}
+use Rattle.std.proofs.Common.{◌≡◌, ℕ, ◌+◌, ◌≤◌, true, false, cond, List, [], ◌∷◌, length, refl, sym, ap, subst, ◌∙◌, arith, eq-eqb}
+use Rattle.std.specs.Prelude.{ℤ, Some, nat_eq}
 use Rattle.std.proofs.lemmas.Bool.Decides.{nat_tests}
 use Rattle.straight_line.specs.declared.tree.Assignment.{Assignment}
 use Rattle.straight_line.specs.declared.state.Range.{Range}
 use Rattle.straight_line.specs.Plain.{PlainProgram}
-use Rattle.straight_line.specs.Runs.{Item, Do, Done, Ret, Config, work_of, start, step, step_work, Comes, first, next, Location, Before, After, End, location_of, Reach, effect}
+use Rattle.straight_line.specs.Runs.{Item, Done, Ret, Config, work_of, start, step_work, Comes, first, next, Before, After, location_of, effect}
 use Rattle.straight_line.specs.Domain.{Operations, Laws, state_behind, answer, IsSound}
 use Rattle.straight_line.specs.Interval.{intervals, Holds, state_after}
 use Rattle.straight_line.specs.IntervalLaws.{interval_laws}

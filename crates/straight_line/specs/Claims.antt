@@ -1,11 +1,11 @@
 -- What is claimed of the definitions.
-use Rattle.std.specs.Prelude.{◌≡◌, ℕ, ◌↔◌, List, Option, Some, None}
+use Rattle.std.specs.Prelude.{◌≡◌, ℕ, List, Some}
 use Rattle.straight_line.specs.declared.state.Range.{Range}
 use Rattle.straight_line.specs.Plain.{PlainProgram}
 use Rattle.straight_line.specs.Grammar.{IsProgram}
 use Rattle.straight_line.specs.Reading.{program_of}
 use Rattle.straight_line.specs.Runs.{Config, Reach}
-use Rattle.straight_line.specs.Interval.{state_after, covers}
+use Rattle.straight_line.specs.Interval.{covers}
 
 -- the function finds exactly the program that the text is
 pub record IsExact (text : List ℕ) (p : PlainProgram) : Type 0 where

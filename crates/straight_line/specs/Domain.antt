@@ -1,5 +1,5 @@
 -- A domain: its operations, their laws, and the answer that it gives.
-use Rattle.std.specs.Prelude.{◌≡◌, ℕ, ◌+◌, ℤ, pos, Bool, nat_eq, List, [], ◌∷◌, length, replicate, Option, Some, None, if◌then◌else◌}
+use Rattle.std.specs.Prelude.{◌≡◌, ℕ, ◌+◌, ℤ, pos, nat_eq, List, [], ◌∷◌, length, replicate, Option, Some, None, if◌then◌else◌}
 use Rattle.straight_line.specs.declared.tree.Assignment.{Assignment}
 use Rattle.straight_line.specs.Plain.{PlainProgram}
 use Rattle.straight_line.specs.Runs.{Config, effect, Reach}

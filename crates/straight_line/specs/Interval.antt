@@ -1,7 +1,6 @@
 -- Intervals (Cousot and Cousot, 1977): a range for each variable.
-use Rattle.std.specs.Prelude.{◌≡◌, ℕ, ℤ, pos, ◌≤ℤ◌, List, [], ◌∷◌, slice_set, replicate, Option}
+use Rattle.std.specs.Prelude.{ℕ, ℤ, pos, ◌≤ℤ◌, List, [], ◌∷◌, slice_set, replicate, Option}
 use Rattle.straight_line.specs.declared.state.Range.{Range}
-use Rattle.straight_line.specs.declared.tree.Assignment.{Assignment}
 use Rattle.straight_line.specs.Plain.{PlainProgram}
 use Rattle.straight_line.specs.Runs.{Config}
 use Rattle.straight_line.specs.Domain.{Operations, answer}

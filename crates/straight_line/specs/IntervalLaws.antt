@@ -1,5 +1,5 @@
 -- The laws of the intervals.
-use Rattle.std.proofs.Common.{◌≡◌, ℕ, zero, suc, List, [], ◌∷◌, arith}
+use Rattle.std.proofs.Common.{ℕ, zero, suc, List, [], ◌∷◌, arith}
 use Rattle.std.specs.Prelude.{ℤ, pos, ◌≤ℤ◌, slice_set, replicate}
 use Rattle.std.proofs.lemmas.Int.{ints}
 use Rattle.straight_line.specs.declared.state.Range.{Range}

@@ -75,3 +75,82 @@ impl Domain for Intervals {
 pub fn states_cover_runs()
     ensures sound { (p : PlainProgram) (n : ℕ) (s : List PlainRange) → state_after p n ≡ Some s → CoversRuns p n s }
 {}
+
+#[cfg(test)]
+mod tests {
+    use super::*;
+    use std::test::Fail;
+
+    /// The text of the state after the statement, `refused`, or `none` where there is no state.
+    fn shown(rt: &HostRuntime, text: &[u8], statement: u32) -> Result<Vec<u8>, Fail> {
+        let alloc = rt.alloc();
+        let program = match read_program(alloc, text) {
+            Ok(program) => program,
+            Err(ReadError::Refused) => return Ok(Vec::from_slice(alloc, b"refused")?),
+            Err(ReadError::Memory) => return Err(Fail::from(Memory)),
+        };
+        match state_after(alloc, &program, statement)? {
+            Some(state) => Ok(state_text(alloc, &program, &state)?),
+            None => Ok(Vec::from_slice(alloc, b"none")?),
+        }
+    }
+
+    #[test]
+    fn texts(rt: HostRuntime) -> Result<(), Fail> {
+        let table: [(&str, u32, &str); 20] = [
+            ("proc main() { var x: int; x = 3; }", 1, "x=[3,3]"),
+            ("proc main() { var x: int; x = 3; }", 0, "none"),
+            ("proc main() { var x: int; x = 3; }", 2, "none"),
+            (
+                "proc main() { var a: int; var b: int; b = 9223372036854775807; a = 07; }",
+                1,
+                "a=[0,0] b=[max,max]",
+            ),
+            (
+                "proc main() { var a: int; var b: int; b = 9223372036854775807; a = 07; }",
+                2,
+                "a=[7,7] b=[max,max]",
+            ),
+            (
+                "//a}\n\tproc main(){var main:int;main=0;}\r\n// the end",
+                1,
+                "main=[0,0]",
+            ),
+            ("proc main(){}", 1, "none"),
+            ("", 1, "refused"),
+            ("proc main() {", 1, "refused"),
+            ("proc main() { } }", 1, "refused"),
+            ("proc start() { }", 1, "refused"),
+            ("proc main() { x = 3; }", 1, "refused"),
+            (
+                "proc main() { var x: int; x = 3; var y: int; }",
+                1,
+                "refused",
+            ),
+            ("proc main() { var x: int; var x: int; }", 1, "refused"),
+            ("proc main() { var while: int; }", 1, "refused"),
+            (
+                "proc main() { var x: int; x = 9223372036854775808; }",
+                1,
+                "refused",
+            ),
+            ("proc main() { var x: int; x = y; }", 1, "refused"),
+            ("proc main() { var x: int; x = -3; }", 1, "refused"),
+            (
+                "proc main() { var a2345678901234567890123456789012: int; a2345678901234567890123456789012 = 1; }",
+                1,
+                "a2345678901234567890123456789012=[1,1]",
+            ),
+            (
+                "proc main() { var a23456789012345678901234567890123: int; }",
+                1,
+                "refused",
+            ),
+        ];
+        for (text, statement, want) in table {
+            let found = shown(&rt, text.as_bytes(), statement)?;
+            assert_eq!(rt; found.as_slice(), want.as_bytes(), "at {text}");
+        }
+        Ok(())
+    }
+}

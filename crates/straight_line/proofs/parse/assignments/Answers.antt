@@ -1,7 +1,4 @@
-use Rattle.std.proofs.Common.{◌≡◌, ◌<◌, List, ◌++◌, ◌∷◌, [], length, sym, ap, subst, ◌∙◌}
-use Rattle.std.specs.Prelude.{ℕ, Some}
-use Rattle.straight_line.specs.declared.tree.Assignment.{Assignment}
-use Rattle.straight_line.specs.Reading.{assignment_at}
+use Rattle.std.proofs.Common.{sym, subst, ◌∙◌}
 use Rattle.straight_line.proofs.Readers.{HasBody, one_assigned, all_assigned, not_assigned, assigned_there}
 use Rattle.straight_line.proofs.parse.assignments.Goals as goal
 

@@ -1,6 +1,4 @@
-use Rattle.std.proofs.Common.{◌≡◌, ◌<◌, List, ◌++◌, ◌∷◌, [], length, sym, ap, subst, ◌∙◌}
-use Rattle.std.specs.Prelude.{ℕ, Some}
-use Rattle.straight_line.specs.Reading.{declaration_at}
+use Rattle.std.proofs.Common.{◌≡◌, ◌++◌, ◌∷◌, [], sym, ap, subst, ◌∙◌}
 use Rattle.straight_line.proofs.Readers.{HasRead, one_more, no_more, fewer}
 use Rattle.straight_line.proofs.parse.declarations.Goals as goal
 

@@ -1,4 +1,4 @@
-use Rattle.std.proofs.Common.{◌≡◌, ap, sym, ◌∙◌, ◌-◌}
+use Rattle.std.proofs.Common.{sym, ◌∙◌}
 use Rattle.straight_line.proofs.Lexed.{too_great}
 use Rattle.straight_line.proofs.token.number_token.Goals as goal
 

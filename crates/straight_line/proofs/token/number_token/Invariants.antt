@@ -1,4 +1,4 @@
-use Rattle.std.proofs.Common.{◌≡◌, ◌≤◌, ℕ, drop}
+use Rattle.std.proofs.Common.{◌≡◌, ◌≤◌, drop}
 use Rattle.straight_line.specs.Lexing.{value_on, greatest}
 use Rattle.straight_line.proofs.token.number_token.Given as goal
 

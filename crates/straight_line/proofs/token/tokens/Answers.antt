@@ -1,4 +1,4 @@
-use Rattle.std.proofs.Common.{◌≡◌, ◌≤◌, ◌+◌, ◌-◌, take, List, ◌++◌, ◌∷◌, [], length, drop, sym, ap, subst, ◌∙◌, arith, length-drop}
+use Rattle.std.proofs.Common.{◌≡◌, ◌+◌, ◌-◌, take, length, drop, sym, ap, subst, ◌∙◌, arith, length-drop}
 use Rattle.straight_line.specs.declared.token.Front.TheVariants as f
 use Rattle.straight_line.specs.Lexing.{front_of, IsBounded}
 use Rattle.straight_line.proofs.Lexed.{HasFound, skips, takes, refuses, all_found, slice_from}
