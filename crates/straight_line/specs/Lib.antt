@@ -1,0 +1,10 @@
+pub mod Plain
+pub mod Lexing
+pub mod Grammar
+pub mod Reading
+pub mod Runs
+pub mod Domain
+pub mod Interval
+pub mod Text
+pub mod Claims
+pub mod IntervalLaws
