@@ -1,10 +1,9 @@
 -- Where the reading of a script stands.
-use Rattle.std.proofs.Common.{◌≡◌, ℕ, ◌+◌, ◌-◌, ◌<◌, ◌≤◌, ◌^◌, ◌++◌, List, [], ◌∷◌, length, take, drop, Option, Some, IfSome, Result, Ok, append_assoc, append-nil, sym, ◌∙◌, ap, refl, arith}
+use Rattle.std.proofs.Common.{◌≡◌, ℕ, ◌+◌, ◌<◌, ◌≤◌, ◌^◌, ◌++◌, List, [], length, take, drop, Option, Some, IfSome, append_assoc, append-nil, sym, ◌∙◌, ap, refl, arith}
 use Rattle.std.proofs.Math.Seq.{take-add}
-use Rattle.std.proofs.lemmas.List.{take-append-drop, take_all, drop-drop, length-drop, length-take-le}
-use Rattle.io_edge.specs.Outside.{HandsOut}
+use Rattle.std.proofs.lemmas.List.{take-append-drop, drop-drop, length-drop, length-take-le}
 use Rattle.script_loop.specs.Lines.{whole_lines, last_part, last_line, all_lines}
-use Rattle.script_loop.specs.Replies.{Machine, replies, after, Answered, AnsweredRead, ReadBytes, WrotePrefix, WroteLines}
+use Rattle.script_loop.specs.Replies.{Machine, replies, after, ReadToEnd, AnsweredRead, ReadBytes, WrotePrefix, WroteLines}
 use Rattle.script_loop.proofs.LineLemmas.{whole_lines-append, last_part-append, prefix_behind, lines_behind, replies_behind, after_behind}
 
 -- So many bytes of the script are read, and their lines are answered.
@@ -114,23 +113,28 @@ lines_of_end text total rest pending stands ends =
     let whole = whole_read text total rest pending stands ends in
     ap (λ t. whole_lines [] t ++ last_line (last_part [] t)) (sym whole) ∙ ap (λ p. whole_lines [] (take total text) ++ last_line p) (sym stands.part)
 
--- all is answered
-pub all_answered : {M : Type 0} (machine : Machine M) (first m : M) (text taken : List ℕ) (total : ℕ) (rest rest' output : Option (List ℕ)) (pending : List ℕ) (n : ℕ) (block : List ℕ) →
+-- the script is read to its end
+pub read_to_end : {M : Type 0} {machine : Machine M} {first m : M} (text : List ℕ) (total : ℕ) (rest rest' : Option (List ℕ)) (pending : List ℕ) (n : ℕ) (block : List ℕ) →
     Stands machine first text total rest pending m → IfSome rest (λ left. left ≡ []) →
     IfSome rest (λ left. (n ≤ length left) × (take n block ≡ take n left) × (rest' ≡ Some (drop n left))) → n ≡ 0 →
-    total < 2 ^ 40 →
-    output ≡ Some ((taken ++ replies machine first (whole_lines [] (take total text))) ++ replies machine m (last_line pending)) →
-    Answered machine first text taken rest' output
-all_answered machine first m text taken total rest rest' output pending n block stands ends hands none few is =
+    total < 2 ^ 40 → ReadToEnd text rest'
+read_to_end text total rest rest' pending n block stands ends hands none few =
     let facts : (n ≤ length (drop total text)) × (take n block ≡ take n (drop total text)) × (rest' ≡ Some (drop n (drop total text))) = rw stands.left at hands in
     let nothing : drop total text ≡ [] = rw stands.left at ends in
     let past : length (drop total text) ≡ 0 = ap length nothing in
     record {
       short = omega (arith, length-drop total text, stands.within, past);
       ended = facts.2 ∙ ap (λ k. Some (drop k (drop total text))) none ∙ ap Some nothing;
-      written = is ∙ ap Some (replies_behind machine first m (whole_lines [] (take total text)) (last_line pending) taken stands.next
-          ∙ ap (λ ls. taken ++ replies machine first ls) (sym (lines_of_end text total rest pending stands ends)));
     }
+
+-- all is answered
+pub all_answered : {M : Type 0} (machine : Machine M) (first m : M) (text taken : List ℕ) (total : ℕ) (rest output : Option (List ℕ)) (pending : List ℕ) →
+    Stands machine first text total rest pending m → IfSome rest (λ left. left ≡ []) →
+    output ≡ Some ((taken ++ replies machine first (whole_lines [] (take total text))) ++ replies machine m (last_line pending)) →
+    output ≡ Some (taken ++ replies machine first (all_lines text))
+all_answered machine first m text taken total rest output pending stands ends is =
+    is ∙ ap Some (replies_behind machine first m (whole_lines [] (take total text)) (last_line pending) taken stands.next
+    ∙ ap (λ ls. taken ++ replies machine first ls) (sym (lines_of_end text total rest pending stands ends)))
 
 -- a prefix of the replies with the last one's
 pub end_prefix : {M : Type 0} (machine : Machine M) (first m : M) (text taken : List ℕ) (total : ℕ) (rest output : Option (List ℕ)) (pending : List ℕ) →

@@ -1,9 +1,8 @@
 -- Pieces of a write join to a prefix of the whole, and counts of faults that rose stay so.
-use Rattle.std.proofs.Common.{◌≡◌, ℕ, ◌+◌, ◌-◌, ◌≤◌, ◌<◌, ◌++◌, ◌⊎◌, inl, inr, List, [], length, take, drop, Option, Some, None, IfSome, append_assoc, sym, ◌∙◌, ap, subst, refl, arith}
+use Rattle.std.proofs.Common.{◌≡◌, ℕ, ◌+◌, ◌-◌, ◌≤◌, ◌++◌, inl, inr, List, length, take, drop, Option, Some, IfSome, append_assoc, sym, ◌∙◌, ap, arith}
 use Rattle.std.proofs.Math.Seq.{take-add}
 use Rattle.std.proofs.lemmas.List.{take_all, length-drop}
-use Rattle.io_edge.specs.Outside.{Rose, Takes}
-use Rattle.script_loop.specs.Replies.{WrotePrefix}
+use Rattle.io_edge.specs.Outside.{Rose}
 
 -- the rest of a piece, as the code takes it
 pub rest_of : (piece : List ℕ) (at : ℕ) → take (length piece - at) (drop at piece) ≡ drop at piece

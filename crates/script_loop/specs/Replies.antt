@@ -1,6 +1,6 @@
 -- What a machine that answers line by line writes for a script.
 use Rattle.std.specs.Prelude.{◌≡◌, ℕ, ◌^◌, ◌<◌, List, [], ◌∷◌, ◌++◌, length, Option, Some}
-use Rattle.script_loop.specs.Lines.{whole_lines, all_lines}
+use Rattle.script_loop.specs.Lines.{whole_lines}
 
 -- A machine: its reply to a line, and the machine after it.
 pub record Machine (M : Type 0) : Type 0 where
@@ -17,11 +17,10 @@ abbrev pub after : {M : Type 0} → Machine M → M → List (List ℕ) → M
 after machine m [] = m
 after machine m (line ∷ lines) = after machine (machine.next m line) lines
 
--- The script was read to its end, and the replies to all its lines were written.
-pub record Answered {M : Type 0} (machine : Machine M) (m : M) (script taken : List ℕ) (rest output : Option (List ℕ)) : Type 0 where
+-- The script was read to its end.
+pub record ReadToEnd (script : List ℕ) (rest : Option (List ℕ)) : Type 0 where
   pub short : length script < 2 ^ 40
   pub ended : rest ≡ Some []
-  pub written : output ≡ Some (taken ++ replies machine m (all_lines script))
 
 -- Some bytes of the script were read, and the replies to the lines whose LF is among them were written.
 pub record AnsweredRead {M : Type 0} (machine : Machine M) (m : M) (script taken : List ℕ) (rest output : Option (List ℕ)) : Type 0 where

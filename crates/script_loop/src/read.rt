@@ -2,7 +2,7 @@
 ghost use Rattle.std.specs.Prelude.{◌≡◌, ◌≤◌, ◌<◌, ◌^◌, ◌++◌, ◌⊎◌, ℕ, List, [], ◌∷◌, length, Some, IfOk, IfErr, OnOk, OnErr, IsErrOf, IfSome};
 ghost use Rattle.io_edge.specs.Outside.{Rose, HandsOut};
 ghost use Rattle.script_loop.specs.Lines.{whole_lines, last_part, last_line, all_lines};
-ghost use Rattle.script_loop.specs.Replies.{replies, after, Answered, AnsweredRead, ReadBytes, WrotePrefix, WroteLines};
+ghost use Rattle.script_loop.specs.Replies.{replies, after, ReadToEnd, AnsweredRead, ReadBytes, WrotePrefix, WroteLines};
 
 use crate::answer::Answerer;
 use crate::outcome::Stop;
@@ -159,8 +159,9 @@ pub fn answer_script<A: Answerer, I: Source, O: Sink>(
     script: &mut I,
     out: &mut O,
 ) -> Result<(), Stop>
+    ensures ended { OnOk result ((text : List ℕ) → I.told script.old ≡ Some text → ReadToEnd text (I.told script.new)) }
     ensures answered { OnOk result ((text taken : List ℕ) → I.told script.old ≡ Some text → O.told out.old ≡ Some taken
-        → Answered A.machine answerer.old text taken (I.told script.new) (O.told out.new)) }
+        → O.told out.new ≡ Some (taken ++ replies A.machine answerer.old (all_lines text))) }
     ensures script_failed { IsErrOf result Stop.Script → Rose (I.faults script.old) (I.faults script.new) }
     ensures script_lines { IsErrOf result Stop.Script → (text taken : List ℕ) → I.told script.old ≡ Some text → O.told out.old ≡ Some taken
         → AnsweredRead A.machine answerer.old text taken (I.told script.new) (O.told out.new) }

@@ -1,6 +1,5 @@
-use Rattle.std.proofs.Common.{◌≡◌, true, false, length, drop, Some, arith, sym, ◌∙◌, ap}
+use Rattle.std.proofs.Common.{◌≡◌, true, false, Some, arith, sym, ◌∙◌, ap}
 use Rattle.std.specs.Str.{bytes_eq}
-use Rattle.io_edge.specs.Outside.{bytes_of}
 use Rattle.io_edge.proofs.FindLemmas.{found_here, found_later, found_nowhere}
 use Rattle.io_edge.proofs.memory.find.Goals as goal
 

@@ -1,7 +1,7 @@
-use Rattle.std.proofs.Common.{◌≡◌, ◌≤◌, ◌+◌, ◌++◌, ◌∙◌, List, [], ◌∷◌, ℕ, Some, take, drop, slice_index_or, ap, refl, arith}
+use Rattle.std.proofs.Common.{◌+◌, ◌++◌, ◌∙◌, [], ◌∷◌, Some, take, drop, slice_index_or, ap, refl, arith}
 use Rattle.script_loop.specs.Lines.{whole_lines, last_part}
 use Rattle.script_loop.specs.Replies.{replies, after}
-use Rattle.script_loop.proofs.LineLemmas.{one_more, lines_around, prefix_behind, lines_behind, replies_behind, after_behind, last_part-append, whole_lines-append, part_more, lines_more}
+use Rattle.script_loop.proofs.LineLemmas.{lines_around, prefix_behind, lines_behind, replies_behind, after_behind, part_more, lines_more}
 use Rattle.script_loop.proofs.read.answer_block.Goals as goal
 
 pub returns-in-Err-clause-prefix : goal.returns-in-Err-clause-prefix

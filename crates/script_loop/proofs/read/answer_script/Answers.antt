@@ -1,8 +1,8 @@
-use Rattle.std.proofs.Common.{◌≡◌, ◌≤◌, ◌+◌, ◌-◌, ◌++◌, ◌∙◌, List, [], ℕ, Some, take, refl, rules, arith, ap, sym}
-use Rattle.script_loop.specs.Lines.{whole_lines, last_line}
-use Rattle.script_loop.specs.Replies.{replies, WrotePrefix, WroteLines, ReadBytes}
+use Rattle.std.proofs.Common.{◌≡◌, ◌++◌, [], take, refl, arith}
+use Rattle.script_loop.specs.Lines.{whole_lines}
+use Rattle.script_loop.specs.Replies.{replies}
 use Rattle.script_loop.proofs.LineLemmas.{on_ok}
-use Rattle.script_loop.proofs.ScriptLemmas.{handed_out, stands_more, written_more, block_prefix, block_lines, all_answered, end_prefix, end_lines, read_so_far, read_bytes}
+use Rattle.script_loop.proofs.ScriptLemmas.{handed_out, stands_more, written_more, block_prefix, block_lines, read_to_end, all_answered, end_prefix, end_lines, read_so_far, read_bytes}
 use Rattle.script_loop.proofs.read.answer_script.Goals as goal
 
 pub returns-in-Err-clause-script_lines : goal.returns-in-Err-clause-script_lines
@@ -10,12 +10,17 @@ returns-in-Err-clause-script_lines g c = λ _ text taken told_text told_taken.
     read_so_far g.A.Answerer.machine c.args.answerer.now c.loop-total.answerer text taken c.loop-total.total _ _ _ c.loop-total.pending.items
     (c.loop-total.invariant.stands text told_text) (c.in-Err.ensures {u = tt}).hands_out (c.loop-total.invariant.written text taken told_text told_taken)
 
+pub returns-in-Ok-eq0-clause-ended : goal.returns-in-Ok-eq0-clause-ended
+returns-in-Ok-eq0-clause-ended g c =
+    on_ok c.answer_rest.result c.answer_rest.ensures.written (λ _ text told_text.
+    read_to_end text c.loop-total.total _ _ c.loop-total.pending.items c.in-Ok-eq0.field-0 c.read_block.new.block
+    (c.loop-total.invariant.stands text told_text) ((c.in-Ok-eq0.ensures {u = tt}).end (omega arith)) (c.in-Ok-eq0.ensures {u = tt}).hands_out (omega arith) c.loop-total-test.true)
+
 pub returns-in-Ok-eq0-clause-answered : goal.returns-in-Ok-eq0-clause-answered
 returns-in-Ok-eq0-clause-answered g c =
     on_ok c.answer_rest.result (rw c.as_slice.ensures.value at c.answer_rest.ensures.written) (λ written text taken told_text told_taken.
-    all_answered g.A.Answerer.machine c.args.answerer.now c.loop-total.answerer text taken c.loop-total.total _ _ _ c.loop-total.pending.items c.in-Ok-eq0.field-0 c.read_block.new.block
-    (c.loop-total.invariant.stands text told_text) ((c.in-Ok-eq0.ensures {u = tt}).end (omega arith)) (c.in-Ok-eq0.ensures {u = tt}).hands_out (omega arith) c.loop-total-test.true
-    (written (taken ++ replies g.A.Answerer.machine c.args.answerer.now (whole_lines [] (take c.loop-total.total text))) (c.loop-total.invariant.written text taken told_text told_taken)))
+    all_answered g.A.Answerer.machine c.args.answerer.now c.loop-total.answerer text taken c.loop-total.total _ _ c.loop-total.pending.items
+    (c.loop-total.invariant.stands text told_text) ((c.in-Ok-eq0.ensures {u = tt}).end (omega arith)) (written (taken ++ replies g.A.Answerer.machine c.args.answerer.now (whole_lines [] (take c.loop-total.total text))) (c.loop-total.invariant.written text taken told_text told_taken)))
 
 pub returns-in-Ok-eq0-clause-sink_prefix : goal.returns-in-Ok-eq0-clause-sink_prefix
 returns-in-Ok-eq0-clause-sink_prefix g c = λ sink text taken told_text told_taken.

@@ -1,6 +1,5 @@
-use Rattle.std.proofs.Common.{◌≡◌, ◌≤◌, ◌<◌, ◌-◌, ◌+◌, ◌++◌, ◌∙◌, List, [], ℕ, Some, length, take, drop, sym, ap, refl, arith, rules, append-nil}
+use Rattle.std.proofs.Common.{◌<◌, ◌-◌, ◌+◌, ◌++◌, ◌∙◌, Some, length, take, drop, sym, ap, arith, append-nil}
 use Rattle.std.proofs.lemmas.List.{take_all, length-drop, take-append-drop}
-use Rattle.script_loop.specs.Replies.{WrotePrefix}
 use Rattle.script_loop.proofs.WriteLemmas.{took_more, rest_of, rose_since}
 use Rattle.script_loop.proofs.write.write_all.Goals as goal
 

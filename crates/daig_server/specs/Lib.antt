@@ -1,0 +1,4 @@
+pub mod Request
+pub mod Reply
+pub mod Output
+pub mod Refusals

@@ -1,0 +1,6 @@
+//! The server: from words, files and a script to bytes and a status.
+#![tactic(auto)]
+
+mod reply;
+mod request;
+mod words;
