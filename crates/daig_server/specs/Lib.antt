@@ -1,4 +1,5 @@
 pub mod Request
+pub mod Refusals
 pub mod Reply
 pub mod Output
-pub mod Refusals
+pub mod Ends

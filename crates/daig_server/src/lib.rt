@@ -3,4 +3,6 @@
 
 mod reply;
 mod request;
+mod run;
+mod status;
 mod words;

@@ -16,4 +16,5 @@ mod write;
 
 pub use answer::Answerer;
 pub use outcome::{Memory, Stop};
+pub use read::answer_script;
 pub use write::write_all;

@@ -6,10 +6,10 @@ use Rattle.daig_server.proofs.reply.refusal_reply.Goals as goal
 
 pub returns-in_ok-from_slice-in-Line : goal.returns-in_ok-from_slice-in-Line
 returns-in_ok-from_slice-in-Line c = record {
-  reply = (c.in_ok-from_slice-in-Line.ensures {u = tt}).items ∙ sym (ap (λ cause. refusal (number_of_refusal cause)) c.in-Line.is ∙ refusal_2)
+  reply = (c.in_ok-from_slice-in-Line.ensures {u = tt}).items ∙ sym (ap (λ cause. refusal (number_of_refusal cause)) c.in-Line.is ∙ refusal_2);
 }
 
 pub returns-in_ok-from_slice-in-Statement : goal.returns-in_ok-from_slice-in-Statement
 returns-in_ok-from_slice-in-Statement c = record {
-  reply = (c.in_ok-from_slice-in-Statement.ensures {u = tt}).items ∙ sym (ap (λ cause. refusal (number_of_refusal cause)) c.in-Statement.is ∙ refusal_4)
+  reply = (c.in_ok-from_slice-in-Statement.ensures {u = tt}).items ∙ sym (ap (λ cause. refusal (number_of_refusal cause)) c.in-Statement.is ∙ refusal_4);
 }

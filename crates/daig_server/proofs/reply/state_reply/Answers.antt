@@ -14,5 +14,5 @@ loop-byte-preserved c =
 pub returns : goal.returns
 returns c = record {
   reply = (c.in_ok-extend_from_slice.ensures {u = tt}).items ∙ ap (λ xs. xs ++ codes "\"}\n") (c.loop-byte.invariant ∙ ap (λ xs. codes "{\"state\":\"" ++ flat_map escape_byte xs) (take_all c.loop-byte.byte-index c.args.text.now (omega arith)))
-    ∙ state_reply_text c.args.text.now
+      ∙ state_reply_text c.args.text.now;
 }

@@ -1,0 +1,62 @@
+-- How the program ends: by a status, with what was read and written.
+use Rattle.std.specs.Prelude.{◌≡◌, ℕ, ◌^◌, ◌++◌, ◌⊎◌, List, [], Option, Some}
+use Rattle.script_loop.specs.Lines.{all_lines}
+use Rattle.script_loop.specs.Replies.{AnsweredRead, WrotePrefix, WroteLines}
+use Rattle.straight_line.specs.Plain.{PlainProgram}
+use Rattle.daig_server.specs.declared.status.Status.{Status}
+use Rattle.daig_server.specs.declared.status.Status.TheVariants.{Done, Words, Source, Script, Sink, Memory, Files, LongScript, LongFile}
+use Rattle.daig_server.specs.Reply.{server}
+use Rattle.daig_server.specs.Output.{Output, program_output}
+
+-- the number of a status
+abbrev pub code_of : Status → ℕ
+code_of Done = 0
+code_of Words = 2
+code_of Source = 3
+code_of Script = 4
+code_of Sink = 5
+code_of Memory = 6
+code_of Files = 7
+code_of LongScript = 8
+code_of LongFile = 9
+
+-- The replies to the lines whose LF was read are written, and no more; the output is that of a program.
+pub record WroteRead (output : Output) (script taken : List ℕ) (rest written : Option (List ℕ)) : Type 0 where
+  pub program : PlainProgram
+  pub is : output ≡ program_output (Some program) script
+  pub answered : AnsweredRead server program script taken rest written
+
+-- Nothing is written, or the replies to the first lines of a program's script, each whole.
+pub data WroteWholeLines (output : Output) (script taken : List ℕ) (written : Option (List ℕ)) : Type 0 where
+  nothing : written ≡ Some taken → WroteWholeLines output script taken written
+  lines : (program : PlainProgram) → output ≡ program_output (Some program) script →
+      WroteLines server program (all_lines script) taken written → WroteWholeLines output script taken written
+
+-- The output was written, and the status is that of the output.
+pub record WroteAll (status : ℕ) (output : Output) (taken : List ℕ) (written : Option (List ℕ)) : Type 0 where
+  pub same : output.status ≡ status
+  pub all : written ≡ Some (taken ++ output.bytes)
+
+-- the status that the output has where the program ends so, if nothing failed
+abbrev pub Fits : Status → ℕ → Type 0
+Fits Done status = status ≡ 0
+Fits Words status = status ≡ 2
+Fits Source status = status ≡ 3
+Fits Script status = status ≡ 0
+Fits Sink status = Unit {0}
+Fits Memory status = Unit {0}
+Fits Files status = Unit {0}
+Fits LongScript status = status ≡ 0
+Fits LongFile status = status ≡ 9
+
+-- what was written, where the program ends so
+abbrev pub Wrote : Status → Output → List ℕ → List ℕ → Option (List ℕ) → Option (List ℕ) → Type 0
+Wrote Done output script taken rest written = WroteAll 0 output taken written
+Wrote Words output script taken rest written = WroteAll 2 output taken written
+Wrote Source output script taken rest written = WroteAll 3 output taken written
+Wrote Script output script taken rest written = WroteRead output script taken rest written
+Wrote Sink output script taken rest written = WrotePrefix output.bytes taken written
+Wrote Memory output script taken rest written = WroteWholeLines output script taken written
+Wrote Files output script taken rest written = written ≡ Some taken
+Wrote LongScript output script taken rest written = WroteRead output script taken rest written
+Wrote LongFile output script taken rest written = written ≡ Some taken
