@@ -1,7 +1,6 @@
 //! The state after a statement.
-ghost use Rattle.std.specs.Prelude.{◌≡◌, IfOk, IfSome, replicate, pos, length, slice_set, List};
+ghost use Rattle.std.specs.Prelude.{◌≡◌, IfOk, IfSome, replicate, pos, slice_set};
 ghost use Rattle.straight_line.specs.Claims.{CoversRuns};
-ghost use Rattle.straight_line.specs.Domain.{answer, state_behind};
 ghost use Rattle.straight_line.specs.Interval.{state_after, single};
 
 use crate::error::Memory;

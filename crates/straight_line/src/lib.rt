@@ -6,16 +6,14 @@
 //! `Reach` of `specs/Runs.antt` what a run reaches, and `state_after` of `specs/Interval.antt`
 //! which state is the answer.
 //!
-//! Reading and printing take time linear in their text, an answer takes time linear in the
-//! program. Each keeps its result alone.
+//! Reading a source and printing a state take time and memory linear in the text, an answer takes
+//! time linear in the program.
 #![tactic(auto)]
 
-ghost use Rattle.std.specs.Prelude.{◌≡◌, ℕ, ℤ, List, Some};
-ghost use Rattle.straight_line.specs.Claims.{CoversRuns, IsExact};
+ghost use Rattle.std.specs.Prelude.{ℤ, List};
+ghost use Rattle.straight_line.specs.Claims.{ReadingIsExact, StatesCoverRuns};
 ghost use Rattle.straight_line.specs.Domain.{Operations, Laws, IsSound};
-ghost use Rattle.straight_line.specs.Interval.{intervals, Holds, state_after};
-ghost use Rattle.straight_line.specs.declared.state.Range.{Range as PlainRange};
-ghost use Rattle.straight_line.specs.Plain.{PlainProgram};
+ghost use Rattle.straight_line.specs.Interval.{intervals, Holds};
 ghost use Rattle.straight_line.specs.IntervalLaws.{interval_laws};
 
 mod answer;
@@ -35,7 +33,7 @@ pub use tree::{Assignment, Program};
 
 /// `program_of` finds exactly the program that a text is.
 pub fn reading_is_exact()
-    ensures exact { (text : List ℕ) (p : PlainProgram) → IsExact text p }
+    ensures exact { ReadingIsExact }
 {}
 
 /// A domain: operations on states, and what a state says of the values of the variables.
@@ -73,7 +71,7 @@ impl Domain for Intervals {
 
 /// The states of the intervals cover every configuration that a run reaches.
 pub fn states_cover_runs()
-    ensures sound { (p : PlainProgram) (n : ℕ) (s : List PlainRange) → state_after p n ≡ Some s → CoversRuns p n s }
+    ensures sound { StatesCoverRuns }
 {}
 
 #[cfg(test)]

@@ -1,9 +1,7 @@
 //! Programs from texts.
-ghost use Rattle.std.specs.Prelude.{◌≡◌, ◌<◌, List, ℕ, length, IfOk, IfErr, Some, None, option_map};
+ghost use Rattle.std.specs.Prelude.{◌≡◌, IfOk, IfErr, Some, None, option_map};
 ghost use Rattle.std.specs.Str.{bytes_eq};
 ghost use Rattle.std.specs.List.{list_any};
-ghost use Rattle.straight_line.specs.Grammar.{IsProgram};
-ghost use Rattle.straight_line.specs.Plain.{PlainProgram};
 ghost use Rattle.straight_line.specs.Reading.{Gives, program_of, procedure_at, block_at, declarations_at, declaration_at, assignment_at, body_at, slot_of, are_different, is_closing};
 
 use crate::error::ReadError;
