@@ -1,3 +1,5 @@
 pub mod NumberLemmas
 pub mod RequestLemmas
 pub mod ReplyLemmas
+pub mod SoundLemmas
+pub mod ServeLemmas

@@ -1,5 +1,5 @@
 -- How the program ends: by a status, with what was read and written.
-use Rattle.std.specs.Prelude.{◌≡◌, ℕ, ◌^◌, ◌++◌, ◌⊎◌, List, [], Option, Some}
+use Rattle.std.specs.Prelude.{◌≡◌, ℕ, ◌<◌, ◌++◌, List, [], Option, Some}
 use Rattle.script_loop.specs.Lines.{all_lines}
 use Rattle.script_loop.specs.Replies.{AnsweredRead, WrotePrefix, WroteLines}
 use Rattle.straight_line.specs.Plain.{PlainProgram}
@@ -43,7 +43,7 @@ Fits Done status = status ≡ 0
 Fits Words status = status ≡ 2
 Fits Source status = status ≡ 3
 Fits Script status = status ≡ 0
-Fits Sink status = Unit {0}
+Fits Sink status = status < 7
 Fits Memory status = Unit {0}
 Fits Files status = Unit {0}
 Fits LongScript status = status ≡ 0

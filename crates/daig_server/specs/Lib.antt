@@ -3,3 +3,4 @@ pub mod Refusals
 pub mod Reply
 pub mod Output
 pub mod Ends
+pub mod Sound

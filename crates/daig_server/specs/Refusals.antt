@@ -1,7 +1,7 @@
 -- The numbers of refusals.
 use Rattle.std.specs.Prelude.{ℕ}
-use Rattle.daig_server.specs.declared.reply.Refusal.{Refusal}
-use Rattle.daig_server.specs.declared.reply.Refusal.TheVariants.{Line, Statement}
+use Rattle.daig_server.specs.declared.replies.Refusal.{Refusal}
+use Rattle.daig_server.specs.declared.replies.Refusal.TheVariants.{Line, Statement}
 
 abbrev pub number_of_refusal : Refusal → ℕ
 number_of_refusal Line = 2

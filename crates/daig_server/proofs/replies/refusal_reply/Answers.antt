@@ -2,7 +2,7 @@ use Rattle.std.proofs.Common.{◌≡◌, ◌∙◌, sym, ap}
 use Rattle.daig_server.specs.Reply.{refusal}
 use Rattle.daig_server.specs.Refusals.{number_of_refusal}
 use Rattle.daig_server.proofs.ReplyLemmas.{refusal_2, refusal_4}
-use Rattle.daig_server.proofs.reply.refusal_reply.Goals as goal
+use Rattle.daig_server.proofs.replies.refusal_reply.Goals as goal
 
 pub returns-in_ok-from_slice-in-Line : goal.returns-in_ok-from_slice-in-Line
 returns-in_ok-from_slice-in-Line c = record {

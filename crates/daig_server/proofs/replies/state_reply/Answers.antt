@@ -2,7 +2,7 @@ use Rattle.std.proofs.Common.{◌≡◌, ◌++◌, ◌∙◌, [], take, codes, f
 use Rattle.std.proofs.lemmas.List.{take_all}
 use Rattle.json.specs.Print.{escape_byte}
 use Rattle.daig_server.proofs.ReplyLemmas.{escaped_more, state_reply_text}
-use Rattle.daig_server.proofs.reply.state_reply.Goals as goal
+use Rattle.daig_server.proofs.replies.state_reply.Goals as goal
 
 pub loop-byte-init : goal.loop-byte-init
 loop-byte-init c = (c.in_ok-line.ensures {u = tt}).items ∙ sym (append-nil (codes "{\"state\":\""))
