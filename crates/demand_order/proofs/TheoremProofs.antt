@@ -1,8 +1,8 @@
 -- The theorems, from the lemmas: each list of names has a bound of ranks.
-use Rattle.std.proofs.Common.{◌≡◌, ℕ, suc, ◌+◌, ◌<◌, ◌≤◌, max, Bool, true, false, ◌||◌, List, [], ◌∷◌, ap, arith, ◌⊎◌, inl, inr}
+use Rattle.std.proofs.Common.{◌≡◌, ℕ, ◌+◌, ◌<◌, max, true, false, List, [], ◌∷◌, ap, arith, inl, inr}
 use Rattle.demand_order.specs.Order.{System, IsAcyclic, member, fill_all}
 use Rattle.demand_order.specs.Machine.{AreBelow}
-use Rattle.demand_order.specs.OrderLaws.{IsClosed, under}
+use Rattle.demand_order.specs.OrderLaws.{under}
 use Rattle.demand_order.specs.Theorems.{OrderIsDistinct, OrderFollowsInputs, OrderIsNeeded, OrderIsClosed, MissingIsRest, FilledIsKeptOrNeeded, FilledIsClosed, RowsAreStable}
 use Rattle.demand_order.proofs.OrderLemmas.{or_cases, or_left}
 use Rattle.demand_order.proofs.OrderLawProofs.{order-distinct, order-follows, order-needed, needed-seen, missing-order, closed-after}

@@ -1,10 +1,10 @@
 -- The edges turned round: the order there is a plan of removal, and what it leaves is closed.
-use Rattle.std.proofs.Common.{◌≡◌, ℕ, suc, ◌+◌, ◌-◌, ◌<◌, ◌≤◌, Bool, true, false, not, ◌||◌, ◌&&◌, List, [], ◌∷◌, refl, sym, ap, ◌∙◌, arith, cond}
+use Rattle.std.proofs.Common.{◌≡◌, ℕ, ◌+◌, ◌<◌, ◌≤◌, Bool, true, false, not, ◌&&◌, List, refl, arith}
 use Rattle.demand_order.specs.Order.{System, IsAcyclic, member}
 use Rattle.demand_order.specs.OrderLaws.{order, Needed, input, under, IsClosed}
 use Rattle.demand_order.specs.Machine.{AreBelow}
 use Rattle.demand_order.specs.Turned.{AreUsers, turned, Leads, here, through, IsPlan, without}
-use Rattle.demand_order.proofs.OrderLemmas.{by_bool, not_both}
+use Rattle.demand_order.proofs.OrderLemmas.{not_both}
 use Rattle.demand_order.proofs.OrderLawProofs.{order-distinct, order-follows, order-needed, needed-seen}
 
 and_both : (a b : Bool) → (a && b) ≡ true → (a ≡ true) × (b ≡ true)

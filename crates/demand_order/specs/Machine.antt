@@ -13,7 +13,7 @@ abbrev pub Above : {T : Type 0} → System T → ℕ → List T → Type 0
 Above s r [] = Unit {0}
 Above s r (y ∷ ys) = (r < s.rank y) × Above s r ys
 
--- a stack, its top first: names that are not seen, each of a lower rank than those below it and than the root
+-- a stack, its top first: names that are not seen, each of a rank lower than those of the names under it and than the bound
 abbrev pub IsStack : {T : Type 0} → System T → (T → Bool) → ℕ → List T → List T → Type 0
 IsStack s kept bound done [] = Unit {0}
 IsStack s kept bound done (x ∷ rest) = (seen s kept done x ≡ false) × (s.rank x < bound) × Above s (s.rank x) rest × IsStack s kept bound done rest

@@ -1,9 +1,10 @@
 -- The theorems, for names of any type T and values of any type V.
-use Rattle.std.specs.Prelude.{◌≡◌, ℕ, ◌+◌, ◌<◌, ◌≤◌, ◌↔◌, ◌⊎◌, Bool, true, false, not, List, [], ◌∷◌, map, take, filter, length, slice_get, Option, Some, None}
+use Rattle.std.specs.Prelude.{◌≡◌, ℕ, ◌+◌, ◌<◌, ◌≤◌, ◌↔◌, ◌⊎◌, Bool, true, false, not, List, [], ◌∷◌, ◌++◌, map, take, filter, length, slice_get, Option, Some, None}
 use Rattle.demand_order.specs.Order.{System, IsAcyclic, member, seen, fill_all}
 use Rattle.demand_order.specs.OrderLaws.{IsDistinct, Follows, Needed, IsClosed, order}
 use Rattle.demand_order.specs.Asking.{Rows, AreRows, SameRow, inputs_of, value_of, system_of}
 use Rattle.demand_order.specs.Store.{Holds, first_absent, Puts, missing_of, Leaves}
+use Rattle.demand_order.specs.Found.{AreFound, Grown}
 use Rattle.demand_order.specs.Machine.{waits, Demand, RunFor, left_of}
 use Rattle.demand_order.specs.Turned.{AreUsers, turned, IsPlan, without}
 
@@ -51,6 +52,29 @@ RowsGiveValues T V = (t : Rows T V) → AreRows t → (x : T) → value_of t x �
 abbrev pub RowsAreStable : Type 0 → Type 0 → Type 0
 RowsAreStable T V = (t u : Rows T V) → AreRows t → AreRows u → (p : T → Bool) → IsClosed (system_of t) p → ((x : T) → p x ≡ true → SameRow t u x)
     → (x : T) → p x ≡ true → (inputs_of t x ≡ inputs_of u x) × (value_of t x ≡ value_of u x)
+
+-- at first nothing is found
+abbrev pub FoundStarts : Type 0 → Type 0 → Type 0
+FoundStarts T V = (value : T → V) (get : T → Option V) (xs : List T) → AreFound value get xs []
+
+-- the next name's value is found with those before it
+abbrev pub FoundSteps : Type 0 → Type 0 → Type 0
+FoundSteps T V = (value : T → V) (get : T → Option V) (xs : List T) (found : List V) → AreFound value get xs found
+    → (x : T) (v : V) → slice_get xs (length found) ≡ Some x → get x ≡ Some v → v ≡ value x → AreFound value get xs (found ++ v ∷ [])
+
+-- the next name, if it has no cell, is the first that has none
+abbrev pub FoundMissing : Type 0 → Type 0 → Type 0
+FoundMissing T V = (value : T → V) (get : T → Option V) (xs : List T) (found : List V) → AreFound value get xs found
+    → (x : T) → slice_get xs (length found) ≡ Some x → get x ≡ None → first_absent get xs ≡ Some x
+
+-- where no name is left, all have cells, and the values of all are found
+abbrev pub FoundAll : Type 0 → Type 0 → Type 0
+FoundAll T V = (value : T → V) (get : T → Option V) (xs : List T) (found : List V) → AreFound value get xs found
+    → slice_get xs (length found) ≡ None → (first_absent get xs ≡ None) × (found ≡ map value xs)
+
+-- what was found stays found where cells are only added, so that a name on the stack need not begin anew
+abbrev pub FoundStays : Type 0 → Type 0 → Type 0
+FoundStays T V = (value : T → V) (old new : T → Option V) (xs : List T) (found : List V) → AreFound value old xs found → Grown old new → AreFound value new xs found
 
 -- over cells that hold their names' values the machine starts with an empty stack
 abbrev pub MachineStarts : Type 0 → Type 0 → Type 0

@@ -1,5 +1,5 @@
 -- The edges turned round: what a name needs is the names that use it. So the order of a demand there is an order of removal.
-use Rattle.std.specs.Prelude.{◌≡◌, ℕ, ◌-◌, ◌≤◌, Bool, true, false, not, ◌&&◌, List, [], ◌∷◌}
+use Rattle.std.specs.Prelude.{◌≡◌, ℕ, ◌-◌, ◌≤◌, Bool, true, false, not, ◌&&◌, List, []}
 use Rattle.demand_order.specs.Order.{System, member}
 use Rattle.demand_order.specs.OrderLaws.{Follows, IsDistinct}
 
