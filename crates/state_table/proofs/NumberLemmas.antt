@@ -1,0 +1,44 @@
+-- Numbers of a list without equal states, and of the list with one state more.
+use Rattle.std.proofs.Common.{◌≡◌, ℕ, zero, suc, Bool, true, false, List, [], ◌∷◌, ◌++◌, Some, slice_get, refl, sym, ap, ◌∙◌, subst}
+use Rattle.std.specs.Cmp.{IsEquivalence}
+use Rattle.std.specs.List.{IsDistinct, AllByRecursion, list_any}
+use Rattle.std.proofs.lemmas.Map.Keys.{IsDistinct-head, IsDistinct-tail}
+use Rattle.state_table.specs.Numbers.{with_state, KeepsNumbers, AreOnce}
+
+-- what holds of all holds at each place
+at_place : {T : Type 0} (P : T → Type 0) (xs : List T) → AllByRecursion P xs → (n : ℕ) (t : T) → slice_get xs n ≡ Some t → P t
+at_place P [] h n t at = cc
+at_place P (x ∷ xs) h zero t at = let e : x ≡ t = cc in subst P e h.0
+at_place P (x ∷ xs) h (suc n) t at = at_place P xs h.1 n t at
+
+apart : {A : Type 0} (b : Bool) → b ≡ true → b ≡ false → A
+apart b h k = cc
+
+pub distinct-once : {T : Type 0} (eq : T → T → Bool) → IsEquivalence eq → (xs : List T) → IsDistinct eq xs → AreOnce eq xs
+distinct-once eq law [] d m n s t p q e = cc
+distinct-once eq law (x ∷ xs) d zero zero s t p q e = refl
+distinct-once eq law (x ∷ xs) d zero (suc n) s t p q e =
+    let is : x ≡ s = cc in
+    let h = at_place (λ y. eq x y ≡ false) xs (IsDistinct-head eq x xs d) n t q in
+    apart (eq s t) e (ap (λ y. eq y t) (sym is) ∙ h)
+distinct-once eq law (x ∷ xs) d (suc m) zero s t p q e =
+    let is : x ≡ t = cc in
+    let h = at_place (λ y. eq x y ≡ false) xs (IsDistinct-head eq x xs d) m s p in
+    apart (eq s t) e (law.symm s t ∙ ap (λ y. eq y s) (sym is) ∙ h)
+distinct-once eq law (x ∷ xs) d (suc m) (suc n) s t p q e = ap suc (distinct-once eq law xs (IsDistinct-tail eq x xs d) m n s t p q e)
+
+by_bool : {P : Type 0} (b : Bool) → (b ≡ true → P) → (b ≡ false → P) → P
+by_bool true f g = f refl
+by_bool false f g = g refl
+
+-- places stay where something is put at the end
+pub append-keeps : {T : Type 0} (xs ys : List T) → KeepsNumbers xs (xs ++ ys)
+append-keeps [] ys n s at = cc
+append-keeps (x ∷ xs) ys zero s at = at
+append-keeps (x ∷ xs) ys (suc n) s at = append-keeps xs ys n s at
+
+pub with_state-keeps : {T : Type 0} (eq : T → T → Bool) (states : List T) (state : T) → KeepsNumbers states (with_state eq states state)
+with_state-keeps eq states state =
+    by_bool (list_any (eq state) states)
+    (λ t. rw t (λ n s at. at))
+    (λ t. rw t (append-keeps states (state ∷ [])))

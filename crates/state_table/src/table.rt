@@ -1,0 +1,76 @@
+//! The table.
+
+ghost use Rattle.std.specs.Prelude.{◌≡◌, ℕ, ◌<◌, ◌↔◌, true, List, [], length, Option, Some, slice_get, IfOk, OnErr, OnOk, IsTrue};
+ghost use Rattle.std.specs.List.{position_or_len};
+ghost use Rattle.state_table.specs.Numbers.{with_state, IsNumberOf, KeepsNumbers, AreOnce, TellsApart};
+
+use crate::memory::Memory;
+use indexmap::IndexSet;
+use std::alloc::Global;
+use std::hash::Hash;
+use std::marker::Model;
+
+/// States under numbers, as a list: the state at place n has the number n.
+#[derive(Drop)]
+pub struct Table<T: Eq + Hash> {
+    states: IndexSet<T>,
+}
+
+impl<T: Eq + Hash> Model for Table<T> {
+    ghost use Rattle.std.specs.Prelude.{List};
+
+    ghost Value = { List T };
+
+    ghost view = { λ t. t.states.keys };
+}
+
+impl<T: Eq + Hash + Drop> Table<T> {
+    /// A table with no states. It takes no memory yet.
+    pub fn new(alloc: Global) -> Table<T>
+        ensures empty { result ≡ [] }
+    {
+        Table {
+            states: IndexSet::new(alloc),
+        }
+    }
+
+    /// How many states there are.
+    pub fn len(&self) -> usize
+        ensures len { result ≡ length self.now }
+        ensures once { AreOnce T.eq self.now }
+    {
+        self.states.len()
+    }
+
+    /// Whether there are none.
+    pub fn is_empty(&self) -> bool
+        ensures empty { IsTrue result ↔ (length self.now ≡ 0) }
+    {
+        self.states.is_empty()
+    }
+
+    /// The number of a state: that of the equal state, or a new one where there is none.
+    pub fn intern(&mut self, state: T) -> Result<usize, Memory>
+        ensures table { OnOk result (self.new ≡ with_state T.eq self.old state) }
+        ensures number { IfOk result (λ n. n ≡ position_or_len (T.eq state) self.old) }
+        ensures equal { IfOk result (IsNumberOf T.eq self.new state) }
+        ensures same { TellsApart T.eq → IfOk result (λ n. slice_get self.new n ≡ Some state) }
+        ensures once { AreOnce T.eq self.new }
+        ensures kept { KeepsNumbers self.old self.new }
+        ensures err { OnErr result (self.new ≡ self.old) }
+    {
+        let (number, _new) = self.states.insert_full(state)?;
+        Ok(number)
+    }
+
+    /// The state under a number.
+    pub fn get(&self, number: usize) -> &T
+        requires { number < length self.now }
+        ensures state { slice_get self.now number ≡ Some result.now }
+    {
+        match self.states.get_index(number) {
+            Some(state) => state,
+            None => unreachable!(),
+        }
+    }
+}
