@@ -1,17 +1,17 @@
 -- The limits and the order of what the operations give.
-use Rattle.std.specs.Prelude.{◌*◌, ◌||◌, ◌/◌, eqb, length, ◌≡◌, ℕ, ◌<◌, ◌^◌, ℤ, pos, neg_ℤ, ◌≤ℤ◌, ◌<ℤ◌, Option, Some, None, Bool, true, false, cond, int_lt, List, [], ◌∷◌, refl}
+use Rattle.std.specs.Prelude.{◌*◌, ◌||◌, ◌/◌, eqb, length, ◌≡◌, ℕ, ◌<◌, ◌^◌, ℤ, pos, ◌≤ℤ◌, Option, Some, None, Bool, true, false, cond, int_lt, List, refl}
 use Rattle.std.proofs.Common.{arith, ap, sym, ◌∙◌, subst, inl, inr}
 use Rattle.std.proofs.lemmas.Int.{ints, clamps}
 use Rattle.std.proofs.lemmas.Bool.{cases_lt, cases_eq, eq-eqb, ne_eqb}
 use Rattle.dbm_core.proofs.LowerLemmas.{lowered-below}
-use Rattle.dbm_core.proofs.WeightLemmas.{AtMost-refl, AtMost-trans, least-cases, least-left}
+use Rattle.dbm_core.proofs.WeightLemmas.{AtMost-refl, AtMost-trans, least-cases}
 use Rattle.dbm_core.specs.Half.{HalfMatrix, IsMatrix, HasEntries, entry, nodes, row_width}
 use Rattle.dbm_core.proofs.HalfLemmas.{entry-coherent, flip-kept}
 use Rattle.dbm_core.proofs.NodeLemmas.{flip-below}
 use Rattle.dbm_core.specs.Limits.{IsLimited, AreAtMost, AreWithin, HasZeroDiagonal, IsWithin, IsZeroAtMost}
 use Rattle.dbm_core.proofs.MarkLemmas.{by_order, next_mark-above}
 use Rattle.dbm_core.specs.Nodes.{is_single, flip}
-use Rattle.dbm_core.specs.Operations.{forgotten, is_pair, joined, lowered, mark_value, next_mark, unbounded, widen_bound, widened}
+use Rattle.dbm_core.specs.Operations.{forgotten, is_pair, joined, lowered, next_mark, unbounded, widen_bound, widened}
 use Rattle.dbm_core.specs.Weights.{AtMost, greatest, least}
 
 pub zero-at_most : (n : ℕ) (d : ℕ → ℕ → Option ℤ) → HasZeroDiagonal n d → IsZeroAtMost n d

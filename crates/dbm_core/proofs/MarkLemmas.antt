@@ -1,12 +1,12 @@
 -- The next mark is the least that is not less than the bound.
-use Rattle.std.specs.Prelude.{◌≡◌, ℕ, ◌^◌, ℤ, pos, neg_ℤ, ◌+ℤ◌, ◌≤ℤ◌, ◌<ℤ◌, Option, Some, None, Bool, true, false, cond, int_lt, List, [], ◌∷◌, ◌⊎◌, ◌<◌, ◌+◌, length, refl}
+use Rattle.std.specs.Prelude.{◌≡◌, ℕ, ℤ, pos, ◌≤ℤ◌, ◌<ℤ◌, Option, Some, None, Bool, true, false, cond, int_lt, List, [], ◌∷◌, ◌<◌, ◌+◌, length, refl}
 use Rattle.std.proofs.Common.{arith, ap, sym, subst, inl, inr, ◌∙◌, get_or, drop, suc, add-one}
 use Rattle.std.proofs.Math.Seq.{drop-cons}
 use Rattle.std.proofs.lemmas.Int.{ints}
 use Rattle.dbm_core.specs.Weights.{AtMost, least}
 use Rattle.dbm_core.proofs.WeightLemmas.{least-assoc, least-cases}
 use Rattle.dbm_core.specs.Limits.{IsWithin}
-use Rattle.dbm_core.specs.Operations.{mark_value, next_mark, IsMark, IsNextMark, NextMarkIsLeast}
+use Rattle.dbm_core.specs.Operations.{mark_value, next_mark, IsNextMark, NextMarkIsLeast}
 
 pub by_order : (P : Bool → Type 0) (x y : ℤ) → (x <ℤ y → P true) → (y ≤ℤ x → P false) → P (int_lt x y)
 by_order P x y p q = go (int_lt x y) refl

@@ -1,4 +1,4 @@
-use Rattle.std.specs.Prelude.{◌≡◌, ℕ, ℤ, eqb, ◌/◌, [], ◌<◌, ◌+◌, ◌-◌, ◌*◌, ◌%◌, ◌⊎◌}
+use Rattle.std.specs.Prelude.{◌≡◌, ℕ, eqb, ◌/◌, ◌<◌, ◌+◌, ◌-◌, ◌*◌, ◌%◌, ◌⊎◌}
 use Rattle.std.proofs.Common.{arith, inl, inr}
 use Rattle.std.proofs.lemmas.Bool.Decides.{nat_tests}
 use Rattle.std.proofs.lemmas.Bool.{cases_eq}

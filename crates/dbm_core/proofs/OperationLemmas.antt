@@ -1,4 +1,4 @@
-use Rattle.std.specs.Prelude.{◌≡◌, ℕ, ℤ, pos, Option, Some, None, Bool, cond, eqb, ◌||◌, ◌/◌, List, [], length, true, false, refl}
+use Rattle.std.specs.Prelude.{◌≡◌, ℕ, ℤ, pos, Option, Some, None, Bool, cond, eqb, ◌||◌, ◌/◌, List, length, true, false, refl}
 use Rattle.std.proofs.Common.{ap, arith, sym, ◌∙◌}
 use Rattle.dbm_core.proofs.HalfLemmas.{entry-coherent}
 use Rattle.dbm_core.proofs.NodeLemmas.{flip-half, flip-same, single-flip}

@@ -1,6 +1,6 @@
 -- Each entry that a widening changes can rise once less often.
-use Rattle.std.specs.Prelude.{◌≡◌, ℕ, ◌<◌, ◌≤◌, ◌+◌, ◌*◌, ℤ, ◌≤ℤ◌, ◌<ℤ◌, Option, Some, None, Bool, true, false, cond, int_lt, List, [], ◌∷◌, length, count_by, ◌⊎◌, refl}
-use Rattle.std.proofs.Common.{arith, ap, sym, ◌∙◌, subst, inl, inr, suc, zero}
+use Rattle.std.specs.Prelude.{◌≡◌, ℕ, ◌<◌, ◌≤◌, ◌+◌, ◌*◌, ℤ, ◌≤ℤ◌, ◌<ℤ◌, Option, Some, None, Bool, cond, int_lt, List, [], ◌∷◌, length, count_by, ◌⊎◌, refl}
+use Rattle.std.proofs.Common.{arith, ap, sym, subst, inl, inr, suc, zero}
 use Rattle.std.proofs.lemmas.Int.{ints}
 use Rattle.std.proofs.lemmas.Bool.{cases_lt}
 use Rattle.std.proofs.lemmas.List.Sums.{sum_by-cons, count_by-le-length}

@@ -1,18 +1,10 @@
 -- The entries determine the matrix.
-use Rattle.std.specs.Prelude.{◌≡◌, ℕ, ◌<◌, ◌+◌, ◌-◌, ◌*◌, ℤ, Option, Some, None, Bool, true, false, ◌&&◌, List, length, refl}
-use Rattle.std.specs.Bool.{Decides, beq}
-use Rattle.std.specs.Option.{option_eq}
-use Rattle.std.specs.Ordering.{int_eq}
-use Rattle.std.specs.Cmp.{IsEquivalence, decided}
-use Rattle.std.specs.Cmp.Lexicographic.{pointwise}
+use Rattle.std.specs.Prelude.{◌≡◌, ℕ, ◌<◌, ◌+◌, ◌-◌, ◌*◌, ℤ, Option, None, Bool, List, length}
 use Rattle.std.proofs.Common.{arith, ap, sym, ◌∙◌, zero, suc, inl, inr, get_or}
 use Rattle.std.proofs.lemmas.Bool.{cases_lt}
 use Rattle.std.proofs.lemmas.List.{same_lists, get_or_default}
-use Rattle.std.proofs.lemmas.Bool.Decides.{Decides-int_eq}
-use Rattle.std.proofs.lemmas.Slice.Eq.{slice_eq-Decides}
 use Rattle.dbm_core.proofs.HalfLemmas.{entry-kept, row_start-double}
 use Rattle.dbm_core.specs.Half.{HalfMatrix, HasEntries, IsMatrix, entry, nodes, row_start, row_width}
-use Rattle.dbm_core.specs.Same.{same_matrix}
 
 -- every place of the list is that of a kept pair
 pub pair_at : (r p : ℕ) → p < row_start r → (i j : ℕ) × ((i < r) × (j < row_width i) × (p ≡ row_start i + j))

@@ -1,5 +1,5 @@
 -- Valuations: what satisfies the matrices that the operations give.
-use Rattle.std.specs.Prelude.{◌≡◌, ℕ, ◌<◌, ◌+◌, ◌-◌, ◌*◌, ◌/◌, ◌%◌, ℤ, pos, neg_ℤ, ◌-ℤ◌, ◌≤ℤ◌, Option, Some, None, Bool, cond, eqb, List, length, Result, Ok, Err, IfOk, refl}
+use Rattle.std.specs.Prelude.{◌≡◌, ℕ, ◌<◌, ◌+◌, ◌-◌, ◌*◌, ◌/◌, ◌%◌, ℤ, pos, neg_ℤ, ◌-ℤ◌, ◌≤ℤ◌, Option, Some, Bool, cond, eqb, List, length, Result, Ok, Err, IfOk, refl}
 use Rattle.std.proofs.Common.{arith, ap, sym, ◌∙◌, subst, inl, inr}
 use Rattle.std.proofs.lemmas.Int.{ints}
 use Rattle.std.proofs.lemmas.Bool.{cases_eq, eq-eqb, ne_eqb}
@@ -11,7 +11,7 @@ use Rattle.dbm_core.specs.Limits.{AreAtMost}
 use Rattle.dbm_core.specs.Nodes.{flip}
 use Rattle.dbm_core.specs.Operations.{unbounded, forgotten, lowered}
 use Rattle.dbm_core.specs.Valuations.{node_value, Meets, IsSatisfiedBy, Covers, Frees, AgreeButAt, AddsBound}
-use Rattle.dbm_core.specs.Weights.{AtMost, least}
+use Rattle.dbm_core.specs.Weights.{AtMost}
 
 pub node_value-even : (x : ℕ → ℤ) (i : ℕ) → i % 2 ≡ 0 → node_value x i ≡ x (i / 2)
 unfolding node_value

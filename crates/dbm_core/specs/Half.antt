@@ -1,5 +1,5 @@
 -- Half matrices: of each pair of mirror images, (i, j) and (flip j, flip i), one entry is kept.
-use Rattle.std.specs.Prelude.{◌≡◌, ℕ, ◌<◌, ◌≤◌, ◌+◌, ◌*◌, ◌/◌, ℤ, Option, None, Bool, cond, ltb, List, [], length, slice_index_or}
+use Rattle.std.specs.Prelude.{◌≡◌, ℕ, ◌<◌, ◌≤◌, ◌+◌, ◌*◌, ◌/◌, ℤ, Option, None, Bool, cond, ltb, List, length, slice_index_or}
 use Rattle.std.proofs.Common.{suc, zero}
 use Rattle.dbm_core.specs.Nodes.{flip}
 
