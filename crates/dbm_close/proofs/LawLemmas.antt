@@ -1,6 +1,6 @@
-use Rattle.std.specs.Prelude.{◌≡◌, ℕ, ◌<◌, ◌+◌, ◌-◌, ◌*◌, ◌/◌, ◌^◌, ℤ, pos, negsuc, neg_ℤ, ◌+ℤ◌, ◌-ℤ◌, ◌≤ℤ◌, ◌<ℤ◌, Option, Some, None, Bool, true, false, cond, int_lt, List, [], ◌∷◌, length, slice_index_or, ◌⊎◌, Result, Ok, Err, IfOk, refl}
-use Rattle.std.specs.Int.{int_min, int_max}
-use Rattle.std.specs.Int.RustNames.{int_div}
+-- Laws of closing: its answer is determined, limited, and keeps the meaning.
+use Rattle.std.specs.Prelude.{◌≡◌, ℕ, ◌<◌, ◌+◌, ◌*◌, ◌/◌, ◌%◌, ◌^◌, ℤ, pos, negsuc, neg_ℤ, ◌+ℤ◌, ◌-ℤ◌, ◌≤ℤ◌, ◌<ℤ◌, Option, Some, None, Bool, true, false, cond, int_lt, List, [], ◌∷◌, length, slice_index_or, ◌⊎◌, Result, Ok, Err, IfOk, refl}
+use Rattle.std.specs.Int.{int_min, int_max, int_div_euclid, int_rem_euclid}
 use Rattle.std.proofs.Common.{arith, ap, sym, ◌∙◌, subst, inl, inr}
 use Rattle.std.proofs.lemmas.Int.{ints, clamps}
 use Rattle.std.proofs.lemmas.Bool.{cases_eq, eq-eqb, ne_eqb}
@@ -8,32 +8,32 @@ use Rattle.std.proofs.lemmas.Bool.Decides.{nat_tests}
 use Rattle.dbm_close.specs.declared.Closed.{Closed}
 use Rattle.dbm_close.specs.declared.Closed.TheVariants.{Empty, Matrix}
 use Rattle.dbm_close.proofs.StrongLemmas.{Agree, HasEntries-change, contradictory-agree, empty_range-agree, strengthened-agree, too_low-agree}
-use Rattle.dbm_close.proofs.WalkLemmas.{Below, walk_weight}
+use Rattle.dbm_close.proofs.WalkLemmas.{add_weight-zero}
 use Rattle.dbm_close.specs.Close.{HasEmptyRange, IsCloseOf, IsContradictory, IsNotContradictory, IsNotTooLow, IsTooLow, closed_entry, slot_high, slot_low, strong}
-use Rattle.dbm_close.specs.Laws.{AreInSlots, CanClose, IsMetBy, IsOnlyAnswer, LosesNone}
+use Rattle.dbm_close.specs.Laws.{AreInSlots, HalvesAreExact, IsLimitedAnswer, IsMetBy, IsOnlyAnswer, KeepsKinds, KeepsMeaning}
 use Rattle.dbm_close.specs.Steps.{cut, even_down, extreme_high, extreme_low, half, range_high, range_low, strengthened, tightened}
-use Rattle.dbm_close.specs.Walks.{AreLeastWeights, HasNegativeWalk, HasNoNegativeWalk}
-use Rattle.dbm_core.proofs.NodeLemmas.{flip-below, parity}
+use Rattle.dbm_close.specs.Walks.{Below, IsWalk, walk_end, walk_weight, AreLeastWeights, HasNegativeWalk, HasNoNegativeWalk}
+use Rattle.dbm_core.proofs.NodeLemmas.{flip-below, flip-flip, parity}
+use Rattle.dbm_core.proofs.LimitLemmas.{IsLimited-entries}
 use Rattle.dbm_core.proofs.SameLemmas.{HasEntries-one}
-use Rattle.dbm_core.proofs.ValuationLemmas.{node-negative, node-plain, node_value-even, node_value-flip, node_value-odd}
-use Rattle.dbm_core.proofs.WeightLemmas.{AtMost-both, AtMost-refl, AtMost-trans, add_weight-mono, least-greatest}
+use Rattle.dbm_core.proofs.ValuationLemmas.{Meets-from_entries, node-negative, node-plain, node_value-even, node_value-flip, node_value-odd}
+use Rattle.dbm_core.proofs.WeightLemmas.{AtMost-both, AtMost-refl, AtMost-trans, add_weight-mono, least-greatest, least-left}
 use Rattle.dbm_core.specs.Half.{HalfMatrix, entry, nodes}
-use Rattle.dbm_core.specs.Limits.{AreWithin, IsWithin, IsZeroAtMost}
+use Rattle.dbm_core.specs.Limits.{AreWithin, IsWithin}
 use Rattle.dbm_core.specs.Nodes.{flip, is_single}
-use Rattle.dbm_core.specs.Valuations.{Meets, node_value}
+use Rattle.dbm_core.specs.Valuations.{IsSatisfiedBy, Meets, node_value}
 use Rattle.dbm_core.specs.Weights.{AtMost, add_weight, least}
 
 zero_weight : (a : Option ℤ) → AtMost a (Some (pos 0)) → AtMost (Some (pos 0)) a → a ≡ Some (pos 0)
 zero_weight None p q = absurd p
 zero_weight (Some x) p q = let e : x ≡ pos 0 = omega (arith, ints) in ap Some e
 
-pub least-diagonal : (w s : ℕ → ℕ → Option ℤ) (n i : ℕ) → i < n → IsZeroAtMost n w → HasNoNegativeWalk w n → AreLeastWeights w n s → s i i ≡ Some (pos 0)
-least-diagonal w s n i l z sound h =
-    zero_weight (s i i) (AtMost-trans (s i i) (w i i) (Some (pos 0)) (h.lower i i [] l l tt) (z i l)) (below (s i i) refl)
+pub least-diagonal : (w s : ℕ → ℕ → Option ℤ) (n i : ℕ) → i < n → HasNoNegativeWalk w n → AreLeastWeights w n s → s i i ≡ Some (pos 0)
+least-diagonal w s n i l sound h = zero_weight (s i i) (h.lower i i [] l l (record { inside = tt; ends = refl })) (below (s i i) refl)
   where
     below : (a : Option ℤ) → s i i ≡ a → AtMost (Some (pos 0)) (s i i)
     below None e = rw e tt
-    below (Some x) e = let p : (xs : List ℕ) × Below n xs × (walk_weight w i xs i ≡ Some x) = h.walks i i x l l e in
+    below (Some x) e = let p : (xs : List ℕ) × IsWalk n i xs i × (walk_weight w i xs ≡ Some x) = h.walks i i x l l e in
         subst (λ v. AtMost (Some (pos 0)) v) (p.2 ∙ sym e) (sound i p.0 l p.1)
 
 pub single-diagonal : (i : ℕ) → is_single i i ≡ false
@@ -68,25 +68,31 @@ closed-within s n h i j hi hj = bounded (strong s i j) (h i j hi hj)
         by_test x p true e = (p, grind (arith, ints))
         by_test x p false e = tt
 
-walk-sound : (w : ℕ → ℕ → Option ℤ) (n : ℕ) (x : ℕ → ℤ) → Meets n w x → (i : ℕ) (xs : List ℕ) (j : ℕ) → i < n → Below n xs → j < n → AtMost (Some (node_value x j -ℤ node_value x i)) (walk_weight w i xs j)
-walk-sound w n x m i [] j hi b hj = m i j hi hj
-walk-sound w n x m i (k ∷ xs) j hi b hj =
-    let e : (node_value x k -ℤ node_value x i) +ℤ (node_value x j -ℤ node_value x k) ≡ node_value x j -ℤ node_value x i = omega (arith, ints) in
-    subst (λ v. AtMost (Some v) (add_weight (w i k) (walk_weight w k xs j))) e
-    (add_weight-mono (Some (node_value x k -ℤ node_value x i)) (w i k) (Some (node_value x j -ℤ node_value x k)) (walk_weight w k xs j) (m i k hi b.0) (walk-sound w n x m k xs j b.0 b.1 hj))
+still : (y : ℤ) → AtMost (Some (y -ℤ y)) (Some (pos 0))
+still y = omega (arith, ints)
+
+walk-sound : (w : ℕ → ℕ → Option ℤ) (n : ℕ) (x : ℕ → ℤ) → Meets n w x → (i : ℕ) (xs : List ℕ) → i < n → Below n xs → AtMost (Some (node_value x (walk_end i xs) -ℤ node_value x i)) (walk_weight w i xs)
+walk-sound w n x m i [] hi b = still (node_value x i)
+walk-sound w n x m i (k ∷ xs) hi b =
+    let e : (node_value x k -ℤ node_value x i) +ℤ (node_value x (walk_end k xs) -ℤ node_value x k) ≡ node_value x (walk_end k xs) -ℤ node_value x i = omega (arith, ints) in
+    subst (λ v. AtMost (Some v) (add_weight (w i k) (walk_weight w k xs))) e
+    (add_weight-mono (Some (node_value x k -ℤ node_value x i)) (w i k) (Some (node_value x (walk_end k xs) -ℤ node_value x k)) (walk_weight w k xs) (m i k hi b.0) (walk-sound w n x m k xs b.0 b.1))
+
+walk_to-sound : (w : ℕ → ℕ → Option ℤ) (n : ℕ) (x : ℕ → ℤ) → Meets n w x → (i j : ℕ) (xs : List ℕ) → i < n → IsWalk n i xs j → AtMost (Some (node_value x j -ℤ node_value x i)) (walk_weight w i xs)
+walk_to-sound w n x m i j xs hi p = subst (λ k. AtMost (Some (node_value x k -ℤ node_value x i)) (walk_weight w i xs)) p.ends (walk-sound w n x m i xs hi p.inside)
 
 pub least-sound : (w s : ℕ → ℕ → Option ℤ) (n : ℕ) (x : ℕ → ℤ) → AreLeastWeights w n s → Meets n w x → Meets n s x
 least-sound w s n x h m i j hi hj = by_entry (s i j) refl
   where
     by_entry : (a : Option ℤ) → s i j ≡ a → AtMost (Some (node_value x j -ℤ node_value x i)) (s i j)
     by_entry None e = rw e tt
-    by_entry (Some y) e = let p : (xs : List ℕ) × Below n xs × (walk_weight w i xs j ≡ Some y) = h.walks i j y hi hj e in
-        subst (λ v. AtMost (Some (node_value x j -ℤ node_value x i)) v) (p.2 ∙ sym e) (walk-sound w n x m i p.0 j hi p.1 hj)
+    by_entry (Some y) e = let p : (xs : List ℕ) × IsWalk n i xs j × (walk_weight w i xs ≡ Some y) = h.walks i j y hi hj e in
+        subst (λ v. AtMost (Some (node_value x j -ℤ node_value x i)) v) (p.2 ∙ sym e) (walk_to-sound w n x m i j p.0 hi p.1)
 
 negative-sound : (w : ℕ → ℕ → Option ℤ) (n : ℕ) (x : ℕ → ℤ) → Meets n w x → HasNegativeWalk w n → ⊥
 negative-sound w n x m z =
     let p : AtMost (Some (node_value x z.0 -ℤ node_value x z.0)) (Some (negsuc 0)) =
-    AtMost-trans (Some (node_value x z.0 -ℤ node_value x z.0)) (walk_weight w z.0 z.2.0 z.0) (Some (negsuc 0)) (walk-sound w n x m z.0 z.2.0 z.0 z.1 z.2.1 z.1) z.2.2 in
+    AtMost-trans (Some (node_value x z.0 -ℤ node_value x z.0)) (walk_weight w z.0 z.2.0) (Some (negsuc 0)) (walk_to-sound w n x m z.0 z.0 z.2.0 z.1 z.2.1) z.2.2 in
     omega (arith, ints, p)
 
 even-bound : (y : ℤ) (a : Option ℤ) → AtMost (Some (y +ℤ y)) a → AtMost (Some (y +ℤ y)) (even_down a)
@@ -160,33 +166,38 @@ low-sound : (array : Bool) (a : Option ℤ) (y : ℤ) → extreme_low array ≤�
 low-sound array None y p q = p
 low-sound array (Some (pos n)) y p q = at_ends (extreme_low array) y p q
   where
-    at_ends : (e y : ℤ) → e ≤ℤ y → AtMost (Some (neg_ℤ y -ℤ y)) (Some (pos n)) → int_max e (neg_ℤ (int_div (pos n) (pos 2))) ≤ℤ y
+    at_ends : (e y : ℤ) → e ≤ℤ y → AtMost (Some (neg_ℤ y -ℤ y)) (Some (pos n)) → int_max e (neg_ℤ (int_div_euclid (pos n) (pos 2))) ≤ℤ y
     at_ends e y p q = omega (arith, ints, clamps)
 low-sound array (Some (negsuc n)) y p q = at_ends (extreme_low array) y p q
   where
-    at_ends : (e y : ℤ) → e ≤ℤ y → AtMost (Some (neg_ℤ y -ℤ y)) (Some (negsuc n)) → int_max e (neg_ℤ (int_div (negsuc n) (pos 2))) ≤ℤ y
+    at_ends : (e y : ℤ) → e ≤ℤ y → AtMost (Some (neg_ℤ y -ℤ y)) (Some (negsuc n)) → int_max e (neg_ℤ (int_div_euclid (negsuc n) (pos 2))) ≤ℤ y
     at_ends e y p q = omega (arith, ints, clamps)
 
 high-sound : (array : Bool) (a : Option ℤ) (y : ℤ) → y ≤ℤ extreme_high array → AtMost (Some (y -ℤ neg_ℤ y)) a → y ≤ℤ range_high array a
 high-sound array None y p q = p
 high-sound array (Some (pos n)) y p q = at_ends (extreme_high array) y p q
   where
-    at_ends : (e y : ℤ) → y ≤ℤ e → AtMost (Some (y -ℤ neg_ℤ y)) (Some (pos n)) → y ≤ℤ int_min e (int_div (pos n) (pos 2))
+    at_ends : (e y : ℤ) → y ≤ℤ e → AtMost (Some (y -ℤ neg_ℤ y)) (Some (pos n)) → y ≤ℤ int_min e (int_div_euclid (pos n) (pos 2))
     at_ends e y p q = omega (arith, ints, clamps)
 high-sound array (Some (negsuc n)) y p q = at_ends (extreme_high array) y p q
   where
-    at_ends : (e y : ℤ) → y ≤ℤ e → AtMost (Some (y -ℤ neg_ℤ y)) (Some (negsuc n)) → y ≤ℤ int_min e (int_div (negsuc n) (pos 2))
+    at_ends : (e y : ℤ) → y ≤ℤ e → AtMost (Some (y -ℤ neg_ℤ y)) (Some (negsuc n)) → y ≤ℤ int_min e (int_div_euclid (negsuc n) (pos 2))
     at_ends e y p q = omega (arith, ints, clamps)
+
+pub range-sound : (r : ℕ → ℕ → Option ℤ) (kinds : List Bool) (x : ℕ → ℤ) → AreInSlots kinds x → Meets (2 * length kinds) r x → (k : ℕ) → k < length kinds → (slot_low kinds r k ≤ℤ x k) × (x k ≤ℤ slot_high kinds r k)
+range-sound r kinds x h m k l = (
+  low-sound (slice_index_or kinds k false) (r (2 * k) (2 * k + 1)) (x k) (h k l).0
+      (subst (λ v. AtMost (Some (neg_ℤ (x k) -ℤ v)) (r (2 * k) (2 * k + 1))) (node-plain x k)
+      (subst (λ v. AtMost (Some (v -ℤ node_value x (2 * k))) (r (2 * k) (2 * k + 1))) (node-negative x k) (m (2 * k) (2 * k + 1) (omega arith) (omega arith)))),
+  high-sound (slice_index_or kinds k false) (r (2 * k + 1) (2 * k)) (x k) (h k l).1
+      (subst (λ v. AtMost (Some (x k -ℤ v)) (r (2 * k + 1) (2 * k))) (node-negative x k)
+      (subst (λ v. AtMost (Some (v -ℤ node_value x (2 * k + 1))) (r (2 * k + 1) (2 * k))) (node-plain x k) (m (2 * k + 1) (2 * k) (omega arith) (omega arith)))),
+)
 
 empty_range-sound : (r : ℕ → ℕ → Option ℤ) (kinds : List Bool) (x : ℕ → ℤ) → AreInSlots kinds x → Meets (2 * length kinds) r x → HasEmptyRange kinds r → ⊥
 empty_range-sound r kinds x h m (k, (l, p)) =
-    let low : slot_low kinds r k ≤ℤ x k = low-sound (slice_index_or kinds k false) (r (2 * k) (2 * k + 1)) (x k) (h k l).0
-    (subst (λ v. AtMost (Some (neg_ℤ (x k) -ℤ v)) (r (2 * k) (2 * k + 1))) (node-plain x k)
-    (subst (λ v. AtMost (Some (v -ℤ node_value x (2 * k))) (r (2 * k) (2 * k + 1))) (node-negative x k) (m (2 * k) (2 * k + 1) (omega arith) (omega arith)))) in
-    let high : x k ≤ℤ slot_high kinds r k = high-sound (slice_index_or kinds k false) (r (2 * k + 1) (2 * k)) (x k) (h k l).1
-    (subst (λ v. AtMost (Some (x k -ℤ v)) (r (2 * k + 1) (2 * k))) (node-negative x k)
-    (subst (λ v. AtMost (Some (v -ℤ node_value x (2 * k + 1))) (r (2 * k + 1) (2 * k))) (node-plain x k) (m (2 * k + 1) (2 * k) (omega arith) (omega arith)))) in
-    apart (slot_low kinds r k) (x k) (slot_high kinds r k) low high p
+    let b : (slot_low kinds r k ≤ℤ x k) × (x k ≤ℤ slot_high kinds r k) = range-sound r kinds x h m k l in
+    apart (slot_low kinds r k) (x k) (slot_high kinds r k) b.0 b.1 p
   where
     apart : (a y b : ℤ) → a ≤ℤ y → y ≤ℤ b → b <ℤ a → ⊥
     apart a y b p q r = omega (arith, ints)
@@ -213,31 +224,121 @@ close-sound m (Matrix r) x (s, e) h p =
     let lj : j < nodes m = omega arith in
     rw (e.entries.entries i j li lj) (closed-meets m s x e.weights p i j li lj)
 
-pub close-again : (m : HalfMatrix) (c : Closed) → IsZeroAtMost (nodes m) (entry m) → IsCloseOf m c → CanClose c
-close-again m Empty z p = tt
-close-again m (Matrix r) z (s, e) =
-    let n : length r.kinds ≡ length m.kinds = ap length e.entries.same_kinds in (
-      (λ i hi. let li : i < nodes m = omega arith in
-          e.entries.entries i i li li ∙ closed-diagonal s (nodes m) i li (least-diagonal (entry m) s (nodes m) i li z e.sound e.weights) e.consistent),
-      (λ i j hi hj. let li : i < nodes m = omega arith in let lj : j < nodes m = omega arith in
-          rw (e.entries.entries i j li lj) (closed-within s (nodes m) e.in_range i j li lj)),
-    )
+pub close-limited : (m : HalfMatrix) (c : Closed) → IsCloseOf m c → IsLimitedAnswer c
+close-limited m Empty p = tt
+close-limited m (Matrix r) (s, e) = IsLimited-entries m.kinds (closed_entry s) r (2 ^ 64)
+    (λ i l. closed-diagonal s (nodes m) i l (least-diagonal (entry m) s (nodes m) i l e.sound e.weights) e.consistent)
+    (closed-within s (nodes m) e.in_range) e.entries
 
--- the same of a result
-pub again-if_ok : {E : Type 0} (m : HalfMatrix) (r : Result Closed E) → IsZeroAtMost (nodes m) (entry m) → IfOk r (IsCloseOf m) → IfOk r CanClose
-again-if_ok m (Ok c) z p = close-again m c z p
-again-if_ok m (Err e) z p = tt
+pub limited-if_ok : {E : Type 0} (m : HalfMatrix) (r : Result Closed E) → IfOk r (IsCloseOf m) → IfOk r IsLimitedAnswer
+limited-if_ok m (Ok c) p = close-limited m c p
+limited-if_ok m (Err e) p = tt
 
-pub sound-if_ok : {E : Type 0} (m : HalfMatrix) (r : Result Closed E) → IfOk r (IsCloseOf m) → IfOk r (LosesNone m)
-sound-if_ok m (Ok c) p = λ x h q. close-sound m c x p h q
-sound-if_ok m (Err e) p = tt
+pub close-kinds : (m : HalfMatrix) (c : Closed) → IsCloseOf m c → KeepsKinds m c
+close-kinds m Empty p = tt
+close-kinds m (Matrix r) (s, e) = e.entries.same_kinds
+
+pub kinds-if_ok : {E : Type 0} (m : HalfMatrix) (r : Result Closed E) → IfOk r (IsCloseOf m) → IfOk r (KeepsKinds m)
+kinds-if_ok m (Ok c) p = close-kinds m c p
+kinds-if_ok m (Err e) p = tt
+
+-- ---- nothing is gained: values within the slots' extremes that meet the closed bounds meet the matrix
+
+even_down-below : (a : Option ℤ) → AtMost (even_down a) a
+even_down-below None = tt
+even_down-below (Some (pos n)) = omega (arith, ints)
+even_down-below (Some (negsuc n)) = omega (arith, ints)
+
+tightened-below : (s : ℕ → ℕ → Option ℤ) (i j : ℕ) → AtMost (tightened s i j) (s i j)
+tightened-below s i j = elim (is_single i j) as (λ v. AtMost (cond v (even_down (s i j)) (s i j)) (s i j)) [
+  | true ↦ even_down-below (s i j)
+  | false ↦ AtMost-refl (s i j)
+]
+
+-- the entry itself is the weight of the walk of one step
+least-below : (w s : ℕ → ℕ → Option ℤ) (n i j : ℕ) → i < n → j < n → AreLeastWeights w n s → AtMost (s i j) (w i j)
+least-below w s n i j hi hj h = subst (λ v. AtMost (s i j) v) (add_weight-zero (w i j)) (h.lower i j (j ∷ []) hi hj (record { inside = (hj, tt); ends = refl }))
+
+strong-below : (w s : ℕ → ℕ → Option ℤ) (n i j : ℕ) → i < n → j < n → AreLeastWeights w n s → AtMost (strong s i j) (w i j)
+strong-below w s n i j hi hj h =
+    AtMost-trans (strong s i j) (tightened s i j) (w i j) (least-left (tightened s i j) (half (add_weight (tightened s i (flip i)) (tightened s (flip j) j))))
+    (AtMost-trans (tightened s i j) (s i j) (w i j) (tightened-below s i j) (least-below w s n i j hi hj h))
+
+uncut : (d : ℤ) (a : Option ℤ) → d ≤ℤ pos (2 ^ 64) → AtMost (Some d) (cut a) → AtMost (Some d) a
+uncut d None l p = tt
+uncut d (Some b) l p = by_test (int_lt b (pos (2 ^ 64))) refl p
+  where
+    by_test : (t : Bool) → int_lt b (pos (2 ^ 64)) ≡ t → AtMost (Some d) (cond t (Some b) None) → d ≤ℤ b
+    by_test true e q = q
+    by_test false e q = at_least d b l (grind (arith, ints))
+      where
+        at_least : (d b : ℤ) → d ≤ℤ pos (2 ^ 64) → pos (2 ^ 64) ≤ℤ b → d ≤ℤ b
+        at_least d b p q = omega (arith, ints)
+
+difference-within : (kinds : List Bool) (x : ℕ → ℤ) → AreInSlots kinds x → (i j : ℕ) → i < 2 * length kinds → j < 2 * length kinds → (node_value x j -ℤ node_value x i) ≤ℤ pos (2 ^ 64)
+difference-within kinds x h i j hi hj =
+    let a : (neg_ℤ (pos (2 ^ 63)) ≤ℤ node_value x i) × (node_value x i ≤ℤ pos (2 ^ 63)) = node-within kinds x h i hi in
+    let b : (neg_ℤ (pos (2 ^ 63)) ≤ℤ node_value x j) × (node_value x j ≤ℤ pos (2 ^ 63)) = node-within kinds x h j hj in
+    within (node_value x i) (node_value x j) a.0 b.1
+  where
+    within : (y z : ℤ) → neg_ℤ (pos (2 ^ 63)) ≤ℤ y → z ≤ℤ pos (2 ^ 63) → (z -ℤ y) ≤ℤ pos (2 ^ 64)
+    within y z p q = omega (arith, ints)
+
+closed-back : (m : HalfMatrix) (s : ℕ → ℕ → Option ℤ) (x : ℕ → ℤ) → AreLeastWeights (entry m) (nodes m) s → AreInSlots m.kinds x → Meets (nodes m) (closed_entry s) x → IsSatisfiedBy m x
+closed-back m s x h a p i j hi hj =
+    AtMost-trans (Some (node_value x j -ℤ node_value x i)) (strong s i j) (entry m i j)
+    (uncut (node_value x j -ℤ node_value x i) (strong s i j) (difference-within m.kinds x a i j hi hj) (p i j hi hj))
+    (strong-below (entry m) s (nodes m) i j hi hj h)
+
+close-back : (m : HalfMatrix) (c : Closed) (x : ℕ → ℤ) → IsCloseOf m c → AreInSlots m.kinds x → IsMetBy c x → IsSatisfiedBy m x
+close-back m Empty x p a q = absurd q
+close-back m (Matrix r) x (s, e) a q = closed-back m s x e.weights a (Meets-from_entries m.kinds (closed_entry s) r x e.entries q)
+
+pub close-meaning : (m : HalfMatrix) (c : Closed) → IsCloseOf m c → KeepsMeaning m c
+close-meaning m c p x a = (close-sound m c x p a, close-back m c x p a)
+
+pub meaning-if_ok : {E : Type 0} (m : HalfMatrix) (r : Result Closed E) → IfOk r (IsCloseOf m) → IfOk r (KeepsMeaning m)
+meaning-if_ok m (Ok c) p = close-meaning m c p
+meaning-if_ok m (Err e) p = tt
+
+-- ---- halves
+
+even_double : (a : Option ℤ) (y : ℤ) → even_down a ≡ Some y → (z : ℤ) × (z +ℤ z ≡ y)
+even_double None y e = absurd (let f : ⊥ = cc in f)
+even_double (Some (pos n)) y e = (pos (n / 2), (let f : pos n -ℤ pos (n % 2) ≡ y = cc in omega (arith, ints)))
+even_double (Some (negsuc n)) y e = (negsuc (n / 2), (let f : negsuc n -ℤ int_rem_euclid (negsuc n) (pos 2) ≡ y = cc in omega (arith, ints)))
+
+half_double : (x h : ℤ) → h +ℤ h ≡ x → int_div_euclid x (pos 2) ≡ h
+half_double (pos n) h e = omega (arith, ints)
+half_double (negsuc n) h e = omega (arith, ints)
+
+half_sum : (a b : Option ℤ) (x : ℤ) → add_weight (even_down a) (even_down b) ≡ Some x → (h : ℤ) × (half (Some x) ≡ Some h) × (h +ℤ h ≡ x)
+half_sum None b x e = absurd (let f : ⊥ = cc in f)
+half_sum (Some y) None x e = absurd (let f : ⊥ = cc in f)
+half_sum (Some y) (Some z) x e =
+    let p : (k : ℤ) × (k +ℤ k ≡ y -ℤ int_rem_euclid y (pos 2)) = even_double (Some y) (y -ℤ int_rem_euclid y (pos 2)) refl in
+    let q : (k : ℤ) × (k +ℤ k ≡ z -ℤ int_rem_euclid z (pos 2)) = even_double (Some z) (z -ℤ int_rem_euclid z (pos 2)) refl in
+    let f : (y -ℤ int_rem_euclid y (pos 2)) +ℤ (z -ℤ int_rem_euclid z (pos 2)) ≡ x = cc in
+    let g : (p.0 +ℤ q.0) +ℤ (p.0 +ℤ q.0) ≡ x = twice p.0 q.0 (y -ℤ int_rem_euclid y (pos 2)) (z -ℤ int_rem_euclid z (pos 2)) x p.1 q.1 f in
+    (p.0 +ℤ q.0, ap Some (half_double x (p.0 +ℤ q.0) g), g)
+  where
+    twice : (k l y z x : ℤ) → k +ℤ k ≡ y → l +ℤ l ≡ z → y +ℤ z ≡ x → (k +ℤ l) +ℤ (k +ℤ l) ≡ x
+    twice k l y z x p q r = omega (arith, ints)
+
+single_down : (s : ℕ → ℕ → Option ℤ) (i j : ℕ) → j ≡ flip i → tightened s i j ≡ even_down (s i j)
+single_down s i j e = rw (eq-eqb j (flip i) e) refl
+
+pub halves-exact : HalvesAreExact
+halves-exact s i j x e = half_sum (s i (flip i)) (s (flip j) j) x
+    (sym (ap (λ v. add_weight v (tightened s (flip j) j)) (single_down s i (flip i) refl)
+    ∙ ap (add_weight (even_down (s i (flip i)))) (single_down s (flip j) j (sym (flip-flip j)))) ∙ e)
 
 least-at_most : (w s t : ℕ → ℕ → Option ℤ) (n : ℕ) → AreLeastWeights w n s → AreLeastWeights w n t → (i j : ℕ) → i < n → j < n → AtMost (s i j) (t i j)
 least-at_most w s t n p q i j hi hj = by_entry (t i j) refl
   where
     by_entry : (a : Option ℤ) → t i j ≡ a → AtMost (s i j) (t i j)
     by_entry None e = rw e tt
-    by_entry (Some y) e = let h : (xs : List ℕ) × Below n xs × (walk_weight w i xs j ≡ Some y) = q.walks i j y hi hj e in
+    by_entry (Some y) e = let h : (xs : List ℕ) × IsWalk n i xs j × (walk_weight w i xs ≡ Some y) = q.walks i j y hi hj e in
         subst (λ v. AtMost (s i j) v) (h.2 ∙ sym e) (p.lower i j h.0 hi hj h.1)
 
 pub least-unique : (w s t : ℕ → ℕ → Option ℤ) (n : ℕ) → AreLeastWeights w n s → AreLeastWeights w n t → Agree n s t
@@ -258,7 +359,7 @@ between a x y p q = AtMost-trans (Some x) a (Some y) p q
 -- Empty and a matrix are never both answers
 not_both : (m r : HalfMatrix) → IsCloseOf m Empty → IsCloseOf m (Matrix r) → ⊥
 not_both m r (inl z) (t, f) =
-    let p : pos 0 ≤ℤ negsuc 0 = between (walk_weight (entry m) z.0 z.2.0 z.0) (pos 0) (negsuc 0) (f.sound z.0 z.2.0 z.1 z.2.1) z.2.2 in omega (arith, ints)
+    let p : pos 0 ≤ℤ negsuc 0 = between (walk_weight (entry m) z.0 z.2.0) (pos 0) (negsuc 0) (f.sound z.0 z.2.0 z.1 z.2.1) z.2.2 in omega (arith, ints)
 not_both m r (inr (s, e)) (t, f) = cause e.cause
   where
     same : Agree (nodes m) s t

@@ -1,16 +1,18 @@
-use Rattle.std.specs.Prelude.{◌≡◌, ℕ, ◌<◌, ◌≤◌, ◌+◌, ◌*◌, ◌^◌, ◌/◌, ℤ, pos, negsuc, ◌≤ℤ◌, neg_ℤ, Option, Some, None, cond, eqb, List, length, refl}
-use Rattle.std.proofs.Common.{arith, ap, ◌∙◌, inl, inr, subst, add-one}
+-- What a round keeps, and what the rounds end with.
+use Rattle.std.specs.Prelude.{[], ◌∷◌, ◌++◌, ◌≡◌, ℕ, ◌<◌, ◌≤◌, ◌+◌, ◌*◌, ◌^◌, ◌/◌, ℤ, pos, negsuc, ◌≤ℤ◌, neg_ℤ, Option, Some, None, cond, eqb, List, length, refl}
+use Rattle.std.proofs.Common.{arith, ap, ◌∙◌, inl, inr, subst, sym, add-one}
 use Rattle.std.proofs.Math.Nat.{pow-suc, pow-le-pow_right}
 use Rattle.std.proofs.lemmas.Int.{ints}
 use Rattle.std.proofs.lemmas.Bool.{cases_lt, cases_eq, eq-eqb, ne_eqb}
-use Rattle.dbm_close.proofs.WalkLemmas.{AreLeastWalks, Below, Below-more, IsLeastWalk, edges-least, least-mirrored, round-least, round_reached, walk_weight}
+use Rattle.dbm_close.specs.Walks.{walk_end, walk_weight}
+use Rattle.dbm_close.proofs.WalkLemmas.{IsWalk-path, walk_weight-path, path_weight-but_last, Below-but_last, but_last, AreLeastWalks, Below-more, IsLeastWalk, edges-least, least-mirrored, round-least, round_reached, path_weight}
 use Rattle.dbm_close.specs.Rounds.{HasLeastWeights, IsDiagonalNegative, IsSlotNegative, IsSlotSound, round_entry, rounded, through}
-use Rattle.dbm_close.specs.Walks.{AreLeastWeights, HasNegativeWalk, HasNoNegativeWalk}
+use Rattle.dbm_close.specs.Walks.{Below, AreLeastWeights, HasNegativeWalk, HasNoNegativeWalk}
 use Rattle.dbm_core.proofs.HalfLemmas.{entry-coherent, flip-kept}
 use Rattle.dbm_core.proofs.NodeLemmas.{flip-below, flip-odd, parity}
 use Rattle.dbm_core.proofs.WeightLemmas.{AtMost-both, AtMost-trans, least-cases}
 use Rattle.dbm_core.specs.Half.{HalfMatrix, IsMatrix, entry, nodes, row_width}
-use Rattle.dbm_core.specs.Limits.{AreWithin, IsWithin}
+use Rattle.dbm_core.specs.Limits.{IsZeroAtMost, AreWithin, IsWithin}
 use Rattle.dbm_core.specs.Nodes.{IsCoherent, flip}
 use Rattle.dbm_core.specs.Weights.{AtMost, add_weight}
 
@@ -70,43 +72,49 @@ round_entry-least w d e h q l cw ce all s kept i j hi hj = elim (cases_lt j (row
         (λ m. subst (λ k. IsLeastWalk w (2 * (q + 1)) i k (rounded d q (2 * (i / 2)) (2 * (i / 2)))) m (at_diagonal i hi))
         (λ m. r i j hi hj))
 
--- a weight that is a walk's, at least, and no walk's more: the two clauses on least weights
-pub weights-from_walks : (w s : ℕ → ℕ → Option ℤ) (n : ℕ) → AreLeastWalks w n n s → AreLeastWeights w n s
-weights-from_walks w s n all = record {
-  walks = λ i j x hi hj e. (let p : IsLeastWalk w n i j (s i j) = all i j hi hj in
-      (p.reached.0, p.reached.1, AtMost-both (walk_weight w i p.reached.0 j) (s i j) p.reached.2 (p.lower p.reached.0 p.reached.1) ∙ e));
-  lower = λ i j xs hi hj b. (all i j hi hj).lower xs b;
+-- least over the inner nodes is least over all walks, where no edge from a node to itself weighs more than 0
+pub weights-from_walks : (w s : ℕ → ℕ → Option ℤ) (n : ℕ) → IsZeroAtMost n w → AreLeastWalks w n n s → AreLeastWeights w n s
+weights-from_walks w s n z all = record {
+  walks = λ i j x hi hj e. (let p : IsLeastWalk w n i j (s i j) = all i j hi hj in (
+    p.reached.0 ++ (j ∷ []),
+    IsWalk-path n i p.reached.0 j hj p.reached.1,
+    walk_weight-path w i p.reached.0 j ∙ AtMost-both (path_weight w i p.reached.0 j) (s i j) p.reached.2 (p.lower p.reached.0 p.reached.1) ∙ e,
+  ));
+  lower = λ i j xs hi hj b. at_most i j xs hi hj b.inside b.ends;
 }
+  where
+    at_most : (i j : ℕ) (xs : List ℕ) → i < n → j < n → Below n xs → walk_end i xs ≡ j → AtMost (s i j) (walk_weight w i xs)
+    at_most i j [] hi hj b e = subst (λ k. AtMost (s i k) (Some (pos 0))) e (AtMost-trans (s i i) (w i i) (Some (pos 0)) ((all i i hi hi).lower [] tt) (z i hi))
+    at_most i j (x ∷ xs) hi hj b e = subst (λ v. AtMost (s i j) v) (path_weight-but_last w i x xs)
+        (subst (λ k. AtMost (s i j) (path_weight w i (but_last x xs) k)) (sym e) ((all i j hi hj).lower (but_last x xs) (Below-but_last n x xs b)))
 
-pub sound-from_diagonal : (w s : ℕ → ℕ → Option ℤ) (n : ℕ) → AreLeastWalks w n n s → ((i : ℕ) → i < n → AtMost (Some (pos 0)) (s i i)) → HasNoNegativeWalk w n
-sound-from_diagonal w s n all zero = λ i xs hi b. AtMost-trans (Some (pos 0)) (s i i) (walk_weight w i xs i) (zero i hi) ((all i i hi hi).lower xs b)
+pub sound-from_diagonal : (w s : ℕ → ℕ → Option ℤ) (n : ℕ) → AreLeastWeights w n s → ((i : ℕ) → i < n → AtMost (Some (pos 0)) (s i i)) → HasNoNegativeWalk w n
+sound-from_diagonal w s n h zero = λ i xs hi b. AtMost-trans (Some (pos 0)) (s i i) (walk_weight w i xs) (zero i hi) (h.lower i i xs hi hi b)
 
-pub negative-from_entry : (w s : ℕ → ℕ → Option ℤ) (n b i : ℕ) → b ≤ n → i < n → IsLeastWalk w b i i (s i i) → AtMost (s i i) (Some (negsuc 0)) → HasNegativeWalk w n
-negative-from_entry w s n b i l hi p z = (
+negative-path : (w : ℕ → ℕ → Option ℤ) (n i : ℕ) (xs : List ℕ) → i < n → Below n xs → AtMost (path_weight w i xs i) (Some (negsuc 0)) → HasNegativeWalk w n
+negative-path w n i xs hi b z = (
   i,
   hi,
   (
-    p.reached.0,
-    Below-more b n p.reached.0 l p.reached.1,
-    AtMost-trans (walk_weight w i p.reached.0 i) (s i i) (Some (negsuc 0)) p.reached.2 z,
+    xs ++ (i ∷ []),
+    IsWalk-path n i xs i hi b,
+    subst (λ v. AtMost v (Some (negsuc 0))) (sym (walk_weight-path w i xs i)) z,
   ),
 )
+
+pub negative-from_entry : (w s : ℕ → ℕ → Option ℤ) (n b i : ℕ) → b ≤ n → i < n → IsLeastWalk w b i i (s i i) → AtMost (s i i) (Some (negsuc 0)) → HasNegativeWalk w n
+negative-from_entry w s n b i l hi p z = negative-path w n i p.reached.0 hi (Below-more b n p.reached.0 l p.reached.1)
+    (AtMost-trans (path_weight w i p.reached.0 i) (s i i) (Some (negsuc 0)) p.reached.2 z)
 
 pub negative-from_slot : (w d : ℕ → ℕ → Option ℤ) (h q : ℕ) → q < h → AreLeastWalks w (2 * h) (2 * q) d → IsSlotNegative d q → HasNegativeWalk w (2 * h)
 negative-from_slot w d h q l all (inl z) = negative-from_entry w d (2 * h) (2 * q) (2 * q) (omega arith) (omega arith) (all (2 * q) (2 * q) (omega arith) (omega arith)) z
 negative-from_slot w d h q l all (inr z) =
     let k : 2 * q < 2 * h = omega arith in
     let m : 2 * q + 1 < 2 * h = omega arith in
-    let r : (xs : List ℕ) × Below (2 * q + 1) xs × AtMost (walk_weight w (2 * q + 1) xs (2 * q + 1)) (through d (2 * q) (2 * q + 1) (2 * q + 1)) =
-    round_reached w d (2 * q) (2 * q + 1) (2 * q + 1) (all (2 * q + 1) (2 * q + 1) m m) (all (2 * q + 1) (2 * q) m k) (all (2 * q) (2 * q + 1) k m) in (
-      2 * q + 1,
-      m,
-      (
-        r.0,
-        Below-more (2 * q + 1) (2 * h) r.0 (omega arith) r.1,
-        AtMost-trans (walk_weight w (2 * q + 1) r.0 (2 * q + 1)) (through d (2 * q) (2 * q + 1) (2 * q + 1)) (Some (negsuc 0)) r.2 z,
-      ),
-    )
+    let r : (xs : List ℕ) × Below (2 * q + 1) xs × AtMost (path_weight w (2 * q + 1) xs (2 * q + 1)) (through d (2 * q) (2 * q + 1) (2 * q + 1)) =
+    round_reached w d (2 * q) (2 * q + 1) (2 * q + 1) (all (2 * q + 1) (2 * q + 1) m m) (all (2 * q + 1) (2 * q) m k) (all (2 * q) (2 * q + 1) k m) in
+    negative-path w (2 * h) (2 * q + 1) r.0 m (Below-more (2 * q + 1) (2 * h) r.0 (omega arith) r.1)
+    (AtMost-trans (path_weight w (2 * q + 1) r.0 (2 * q + 1)) (through d (2 * q) (2 * q + 1) (2 * q + 1)) (Some (negsuc 0)) r.2 z)
 
 pub round_entry-within : (d e : ℕ → ℕ → Option ℤ) (h q b : ℕ) → q < h → IsCoherent e (2 * h) → AreWithin (2 * h) b d →
     ((i j : ℕ) → i < 2 * h → j < row_width i → e i j ≡ round_entry d q i j) → AreWithin (2 * h) (2 * (2 * b)) e
@@ -157,12 +165,12 @@ IsRounded-next m s t q l im p it e z kept =
       within = subst (λ b. AreWithin (nodes m) b (entry t)) (round_bound-next q) (round_entry-within (entry s) (entry t) (length m.kinds) q (round_bound q) l ct p.within kept);
     }
 
-pub HasLeastWeights-last : (m s : HalfMatrix) → length m.kinds ≤ 16 → IsRounded m s (length m.kinds) → ((i : ℕ) → i < nodes m → AtMost (Some (pos 0)) (entry s i i)) → HasLeastWeights m s
-HasLeastWeights-last m s l p z = record {
+pub HasLeastWeights-last : (m s : HalfMatrix) → IsZeroAtMost (nodes m) (entry m) → length m.kinds ≤ 16 → IsRounded m s (length m.kinds) → ((i : ℕ) → i < nodes m → AtMost (Some (pos 0)) (entry s i i)) → HasLeastWeights m s
+HasLeastWeights-last m s d l p z = record {
   matrix = p.matrix;
   same_kinds = p.same_kinds;
-  weights = weights-from_walks (entry m) (entry s) (nodes m) p.walks;
-  sound = sound-from_diagonal (entry m) (entry s) (nodes m) p.walks z;
+  weights = weights-from_walks (entry m) (entry s) (nodes m) d p.walks;
+  sound = sound-from_diagonal (entry m) (entry s) (nodes m) (weights-from_walks (entry m) (entry s) (nodes m) d p.walks) z;
   within = AreWithin-more (nodes m) (round_bound (length m.kinds)) (2 ^ 102) (entry s) (round_bound-room (length m.kinds) l) p.within;
 }
 

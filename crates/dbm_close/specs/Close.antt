@@ -1,3 +1,4 @@
+-- What closing answers: steps 1 to 6 in one definition.
 use Rattle.std.specs.Prelude.{ℕ, ◌<◌, ◌+◌, ◌*◌, ◌^◌, ℤ, pos, negsuc, neg_ℤ, ◌≤ℤ◌, ◌<ℤ◌, Option, Some, Bool, List, length, slice_index_or, ◌⊎◌, false}
 use Rattle.dbm_close.specs.declared.Closed.{Closed}
 use Rattle.dbm_close.specs.declared.Closed.TheVariants.{Empty, Matrix}

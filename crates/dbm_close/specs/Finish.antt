@@ -1,3 +1,4 @@
+-- What steps 2 to 6 answer, over the least weights.
 use Rattle.std.specs.Prelude.{ℕ, ◌*◌, ℤ, Option, Bool, List, length, ◌⊎◌}
 use Rattle.dbm_close.specs.declared.Closed.{Closed}
 use Rattle.dbm_close.specs.declared.Closed.TheVariants.{Empty, Matrix}

@@ -1,4 +1,5 @@
-use Rattle.std.specs.Prelude.{◌≡◌, ℕ, ◌<◌, ◌+◌, ◌*◌, ℤ, pos, Option, Some, ◌⊎◌, cond, eqb, [], ◌^◌, ◌/◌, negsuc}
+-- A round lets walks go through both nodes of one slot.
+use Rattle.std.specs.Prelude.{◌≡◌, ℕ, ◌<◌, ◌+◌, ◌*◌, ℤ, pos, Option, Some, ◌⊎◌, cond, eqb, ◌^◌, ◌/◌, negsuc}
 use Rattle.dbm_close.specs.Walks.{AreLeastWeights, HasNoNegativeWalk}
 use Rattle.dbm_core.specs.Half.{HalfMatrix, IsMatrix, entry, nodes}
 use Rattle.dbm_core.specs.Limits.{AreWithin}

@@ -10,7 +10,7 @@ pub loop-k-preserved : goal.loop-k-preserved
 loop-k-preserved c = below_more _ _ c.loop-k.invariant
     (let p : c.low_end.result ≤ℤ c.high_end.result = grind (arith, ints) in
     let e : c.low_end.result ≡ slot_low c.kinds-kinds.result.now (entry c.args.r.now) c.loop-k.k =
-    c.low_end.ensures ∙ ap (range_low (get_or c.kinds-kinds.result.now c.loop-k.k false)) c.get-in-loop-k.ensures in
+    c.low_end.ensures.low ∙ ap (range_low (get_or c.kinds-kinds.result.now c.loop-k.k false)) c.get-in-loop-k.ensures.bound in
     let f : c.high_end.result ≡ slot_high c.kinds-kinds.result.now (entry c.args.r.now) c.loop-k.k =
-    c.high_end.ensures ∙ ap (range_high (get_or c.kinds-kinds.result.now c.loop-k.k false)) c.get.ensures in
+    c.high_end.ensures.high ∙ ap (range_high (get_or c.kinds-kinds.result.now c.loop-k.k false)) c.get.ensures.bound in
     subst (λ x. x ≤ℤ slot_high c.kinds-kinds.result.now (entry c.args.r.now) c.loop-k.k) e (subst (λ x. c.low_end.result ≤ℤ x) f p))

@@ -12,6 +12,8 @@ from_fn-requires-clause-diagonal c = λ h a b l p q.
     (omega (arith, ap length c.kinds-kinds.ensures.value)) ∙ sym q
 
 pub returns : goal.returns
-returns c = entries-if_ok c.from_fn.result c.args.t.now.kinds (strengthened (entry c.args.t.now))
-    (strengthened-coherent (entry c.args.t.now) (length c.args.t.now.kinds) (entry-coherent c.args.t.now c.kinds-kinds.ensures.matrix))
-    c.from_fn.ensures.matrix (rw c.kinds-kinds.ensures.value at c.from_fn.ensures.same_kinds) (rw c.kinds-kinds.ensures.value at c.from_fn.ensures.kept)
+returns c = record {
+  entries = entries-if_ok c.from_fn.result c.args.t.now.kinds (strengthened (entry c.args.t.now))
+      (strengthened-coherent (entry c.args.t.now) (length c.args.t.now.kinds) (entry-coherent c.args.t.now c.kinds-kinds.ensures.matrix))
+      c.from_fn.ensures.matrix (rw c.kinds-kinds.ensures.value at c.from_fn.ensures.same_kinds) (rw c.kinds-kinds.ensures.value at c.from_fn.ensures.kept);
+}
