@@ -125,6 +125,7 @@ fn plus(a: Option<i128>, b: Option<i128>) -> Option<i128>
     }
 }
 
+// Whether a bound is below 0.
 fn is_negative(a: Option<i128>) -> bool
     ensures negative { MatchBool result (AtMost a (Some (negsuc 0))) (AtMost (Some (pos 0)) a) }
 {
@@ -239,6 +240,7 @@ fn least_weights(alloc: Global, m: &Matrix) -> Result<Option<Matrix>, Memory>
     Ok(Some(current))
 }
 
+// The greatest even number that is not above the bound.
 fn even_bound(a: Option<i128>) -> Option<i128>
     requires within { IsWithin (2 ^ 102) a }
     ensures even { result ≡ even_down a }
@@ -249,6 +251,7 @@ fn even_bound(a: Option<i128>) -> Option<i128>
     }
 }
 
+// Half of a bound, rounded down.
 fn half_bound(a: Option<i128>) -> Option<i128>
     ensures half { result ≡ half a }
 {
@@ -258,6 +261,7 @@ fn half_bound(a: Option<i128>) -> Option<i128>
     }
 }
 
+// Step 5, at one bound: 2^64 or more becomes none.
 fn cut_bound(a: Option<i128>) -> Option<i128>
     ensures cut { result ≡ cut a }
 {
@@ -267,6 +271,7 @@ fn cut_bound(a: Option<i128>) -> Option<i128>
     }
 }
 
+// The least value of a slot, by the bound on twice its negative.
 fn low_end(array: bool, bound: Option<i128>) -> i128
     requires within { IsWithin (2 ^ 104) bound }
     ensures low { result ≡ range_low array bound }
@@ -281,6 +286,7 @@ fn low_end(array: bool, bound: Option<i128>) -> i128
     }
 }
 
+// The greatest value of a slot, by the bound on twice it.
 fn high_end(array: bool, bound: Option<i128>) -> i128
     ensures high { result ≡ range_high array bound }
 {
@@ -374,6 +380,7 @@ fn is_too_low(u: &Matrix) -> bool
     false
 }
 
+// Whether a bound is below -2^64.
 fn is_low_bound(a: Option<i128>) -> bool
     ensures low { MatchBool result (AtMost a (Some (negsuc (2 ^ 64)))) (AtMost (Some (neg_ℤ (pos (2 ^ 64)))) a) }
 {
