@@ -21,16 +21,19 @@ round_entry d q i j = cond (eqb i j) (rounded d q (2 * (i / 2)) (2 * (i / 2))) (
 abbrev pub IsSlotNegative : (ℕ → ℕ → Option ℤ) → ℕ → Type 0
 IsSlotNegative d q = (AtMost (d (2 * q) (2 * q)) (Some (negsuc 0))) ⊎ (AtMost (through d (2 * q) (2 * q + 1) (2 * q + 1)) (Some (negsuc 0)))
 
+-- the closed walks at the slot's nodes weigh 0 or more
 abbrev pub IsSlotSound : (ℕ → ℕ → Option ℤ) → ℕ → Type 0
 IsSlotSound d q = (AtMost (Some (pos 0)) (d (2 * q) (2 * q))) × (AtMost (Some (pos 0)) (through d (2 * q) (2 * q + 1) (2 * q + 1)))
 
+-- an entry of the diagonal is below 0
 abbrev pub IsDiagonalNegative : ℕ → (ℕ → ℕ → Option ℤ) → Type 0
 IsDiagonalNegative n d = (i : ℕ) × ((i < n) × AtMost (d i i) (Some (negsuc 0)))
 
+-- none is
 abbrev pub IsDiagonalSound : ℕ → (ℕ → ℕ → Option ℤ) → Type 0
 IsDiagonalSound n d = (i : ℕ) → i < n → AtMost (Some (pos 0)) (d i i)
 
--- step 1 of the close of m
+-- s has the least weights of m's walks, which step 1 gives, and small entries
 pub record HasLeastWeights (m s : HalfMatrix) : Type 0 where
   pub matrix : IsMatrix s
   pub same_kinds : s.kinds ≡ m.kinds

@@ -27,18 +27,20 @@ abbrev pub cut : Option ℤ → Option ℤ
 cut None = None
 cut (Some x) = cond (int_lt x (pos (2 ^ 64))) (Some x) None
 
--- step 6: a slot's extremes, those of an array's length or of an int
+-- step 6: the least value of a slot, of an array's length or of an int
 abbrev pub extreme_low : Bool → ℤ
 extreme_low array = cond array (pos 0) (neg_ℤ (pos (2 ^ 63)))
 
+-- the greatest value
 abbrev pub extreme_high : Bool → ℤ
 extreme_high array = cond array (pos 1000000) (pos (2 ^ 63 - 1))
 
--- the ends of a slot's range, from the bounds on -2x and 2x: the extremes, or what the bound leaves
+-- the low end of a slot's range, by the bound on -2x: the extreme, or what the bound leaves
 abbrev pub range_low : Bool → Option ℤ → ℤ
 range_low array None = extreme_low array
 range_low array (Some x) = int_max (extreme_low array) (neg_ℤ (int_div_euclid x (pos 2)))
 
+-- the high end, by the bound on 2x
 abbrev pub range_high : Bool → Option ℤ → ℤ
 range_high array None = extreme_high array
 range_high array (Some x) = int_min (extreme_high array) (int_div_euclid x (pos 2))
