@@ -1,0 +1,5 @@
+pub mod FinishLemmas
+pub mod LawLemmas
+pub mod RoundLemmas
+pub mod StrongLemmas
+pub mod WalkLemmas

@@ -1,0 +1,6 @@
+pub mod Close
+pub mod Finish
+pub mod Laws
+pub mod Rounds
+pub mod Steps
+pub mod Walks

@@ -1,0 +1,10 @@
+pub mod HalfLemmas
+pub mod LimitLemmas
+pub mod LowerLemmas
+pub mod MarkLemmas
+pub mod NodeLemmas
+pub mod OperationLemmas
+pub mod RisesLemmas
+pub mod SameLemmas
+pub mod ValuationLemmas
+pub mod WeightLemmas
