@@ -1,4 +1,4 @@
-use Rattle.std.proofs.Common.{◌≡◌, ◌++◌, false, None, List, suc, add-one, map, take, drop, get_or, set, sym, ap, ◌∙◌}
+use Rattle.std.proofs.Common.{◌≡◌, ◌++◌, false, None, List, add-one, map, take, drop, get_or, set, sym, ap, ◌∙◌}
 use Rattle.shape_graph.specs.declared.graph.Atom.{Atom}
 use Rattle.shape_graph.specs.Tables.{renumbered}
 use Rattle.shape_graph.proofs.Renumbered.{get_or-border, set-border}
