@@ -12,8 +12,7 @@ pub fn steps_are_covered()
     ensures entered { EnterIsCovered }
     ensures removed { RemovalIsCovered }
     ensures left { LeaveIsCovered }
-{
-}
+{}
 
 /// What stands in a slot of the last frame tells what its variable is, in all that the graph covers: null
 /// for nil, a cell for a node, and equal variables exactly where the targets are equal.
@@ -21,5 +20,4 @@ pub fn slots_tell_variables()
     ensures null { NilIsNull }
     ensures cell { NodeIsCell }
     ensures equal { EqualityIsTold }
-{
-}
+{}
