@@ -1,13 +1,10 @@
-// A library with one function.
+//! Tests of the server over objects in memory: worked inputs with the exact bytes and status that
+//! come, sinks and sources that move few bytes a call, and devices that fail.
 #![tactic(auto)]
 
-ghost use Rattle.std.specs.Prelude.{◌≡◌};
-ghost use Rattle.worked_rows.specs.Echo.{echo_of};
-
-// The `ensures` clause is the contract: what `echo` returns is `echo_of` of its argument, a definition
-// in `specs/Echo.antt`, which a caller's clause can cite too.
-pub fn echo(x: usize) -> usize
-    ensures { result ≡ echo_of x }
-{
-    x
-}
+#[cfg(test)]
+mod devices;
+#[cfg(test)]
+mod lines;
+#[cfg(test)]
+mod table;

@@ -1,0 +1,80 @@
+//! One run of the server over objects in memory.
+ghost use Rattle.std.specs.Prelude.{◌≡◌, ◌<◌};
+
+use daig_server::serve;
+use io_edge::{FaultPlan, Files, MemFiles, MemSink, MemSource, NamedFile, Sink, Source};
+use std::alloc::Global;
+use std::marker::Brand;
+use std::sync::ledger::{Blank, Ledger};
+use std::test::Fail;
+use step_counter::Steps;
+
+/// The words, separated by spaces.
+pub(crate) fn words_of(alloc: Global, line: &str) -> Result<Vec<String>, Fail> {
+    let mut words = Vec::new(alloc);
+    for word in line.split_whitespace() {
+        words.push(String::from_str(alloc, word)?)?;
+    }
+    Ok(words)
+}
+
+/// A folder with the one file `f`.
+pub(crate) fn folder(alloc: Global, source: &[u8], plan: FaultPlan) -> Result<MemFiles, Fail> {
+    let file = NamedFile::new(String::from_str(alloc, "f")?, source.to_vec(alloc)?);
+    Ok(MemFiles::new(vec![in alloc; file]?, plan))
+}
+
+/// The calls of these numbers fail.
+pub(crate) fn failing(alloc: Global, calls: &[u64]) -> Result<FaultPlan, Fail> {
+    Ok(FaultPlan::new(calls.to_vec(alloc)?))
+}
+
+/// The status of a run that counts nothing.
+fn counted<F: Files, I: Source, O: Sink, L: Ledger>(
+    alloc: Global,
+    words: &[String],
+    files: &mut F,
+    script: &mut I,
+    out: &mut O,
+    blank: Blank,
+) -> u8
+    requires name { blank.name ≡ L.name }
+    requires parts { blank.parts ≡ L.parts }
+    requires some { 0 < blank.parts }
+{
+    let mut steps = Steps::<L>::new(blank);
+    serve(alloc, words, files, script, out, &mut steps)
+}
+
+/// The status of a run.
+pub(crate) fn status<F: Files, I: Source, O: Sink>(
+    alloc: Global,
+    words: &[String],
+    files: &mut F,
+    script: &mut I,
+    out: &mut O,
+) -> u8 {
+    counted::<F, I, O, Brand>(alloc, words, files, script, out, Blank::new(1))
+}
+
+/// The status and the bytes of a run whose script and sink move at most `most` bytes a call.
+pub(crate) fn served(
+    alloc: Global,
+    words: &str,
+    source: &str,
+    script: &str,
+    most: usize,
+) -> Result<(u8, Vec<u8>), Fail>
+    requires some { 0 < most }
+{
+    let words = words_of(alloc, words)?;
+    let mut files = folder(alloc, source.as_bytes(), FaultPlan::none(alloc))?;
+    let mut script = MemSource::new(
+        script.as_bytes().to_vec(alloc)?,
+        most,
+        FaultPlan::none(alloc),
+    );
+    let mut out = MemSink::new(alloc, most, FaultPlan::none(alloc));
+    let status = status(alloc, words.as_slice(), &mut files, &mut script, &mut out);
+    Ok((status, out.bytes().to_vec(alloc)?))
+}
