@@ -1,5 +1,5 @@
 -- When digits are a number.
-use Rattle.std.proofs.Common.{◌≡◌, ℕ, ◌+◌, ◌-◌, ◌*◌, ◌<◌, ◌≤◌, ◌^◌, ◌&&◌, ◌⊎◌, nat_le, nat_lt, List, [], ◌∷◌, length, drop, slice_index_or, Bool, true, false, Option, Some, None, if◌then◌else◌, inl, inr, add-one, sym, ◌∙◌, ap, refl, arith}
+use Rattle.std.proofs.Common.{◌≡◌, ℕ, ◌+◌, ◌-◌, ◌*◌, ◌<◌, ◌≤◌, ◌^◌, ◌&&◌, ◌⊎◌, nat_le, nat_lt, List, [], ◌∷◌, length, drop, slice_index_or, Bool, true, false, Some, None, if◌then◌else◌, inl, inr, add-one, sym, ◌∙◌, ap, refl, arith}
 use Rattle.std.proofs.Math.Seq.{drop-cons}
 use Rattle.std.proofs.lemmas.List.{drop_all}
 use Rattle.std.proofs.lemmas.Bool.Decides.{nat_tests}

@@ -1,13 +1,13 @@
 -- From how the program ends to what its status says.
-use Rattle.std.proofs.Common.{◌≡◌, ◌≢◌, ℕ, ◌+◌, ◌<◌, ◌≤◌, ◌^◌, ◌++◌, ◌⊎◌, inl, inr, List, [], length, Bool, true, false, nat_le, Option, Some, None, IfSome, if◌then◌else◌, append-nil, length-append, sym, ◌∙◌, ap, subst, refl, arith}
+use Rattle.std.proofs.Common.{◌≡◌, ◌≢◌, ℕ, ◌<◌, ◌≤◌, ◌^◌, ◌++◌, ◌⊎◌, inl, inr, List, [], length, Bool, true, false, nat_le, Option, Some, None, IfSome, if◌then◌else◌, append-nil, length-append, sym, ◌∙◌, ap, refl, arith}
 use Rattle.io_edge.specs.Outside.{Rose, Lacks}
-use Rattle.script_loop.specs.Replies.{ReadToEnd, ReadBytes, WrotePrefix}
+use Rattle.script_loop.specs.Replies.{ReadBytes}
 use Rattle.straight_line.specs.Plain.{PlainProgram}
 use Rattle.straight_line.specs.Reading.{program_of}
 use Rattle.daig_server.specs.declared.status.Status.{Status}
 use Rattle.daig_server.specs.declared.status.Status.TheVariants.{Done, Words, Source, Script, Sink, Memory, Files, LongScript, LongFile}
 use Rattle.daig_server.specs.Output.{Output, program_output, file_output, words_output, most_source}
-use Rattle.daig_server.specs.Ends.{code_of, Fits, Wrote, WroteAll, WroteRead, WroteWholeLines}
+use Rattle.daig_server.specs.Ends.{code_of, Fits, Wrote, WroteAll}
 
 -- a status of this number is this one
 pub is_done : (s : Status) → code_of s ≡ 0 → s ≡ Done

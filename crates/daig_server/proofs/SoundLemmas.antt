@@ -1,13 +1,11 @@
 -- The reply to a line, by what it asks and what the answer is.
-use Rattle.std.proofs.Common.{◌≡◌, ℕ, ◌⊎◌, inl, inr, List, Option, Some, None, refl, ap}
+use Rattle.std.proofs.Common.{◌≡◌, ℕ, inl, inr, List, Option, Some, None, refl}
 use Rattle.straight_line.specs.declared.state.Range.{Range}
 use Rattle.straight_line.specs.Plain.{PlainProgram}
 use Rattle.straight_line.specs.Interval.{state_after}
 use Rattle.straight_line.specs.Claims.{CoversRuns}
-use Rattle.straight_line.specs.Text.{text_of}
 use Rattle.daig_server.specs.Request.{statement_asked}
-use Rattle.daig_server.specs.Reply.{refusal, state_reply, asked_reply, answer_reply, reply_to}
-use Rattle.daig_server.specs.Sound.{Covered, IsSound}
+use Rattle.daig_server.specs.Sound.{IsSound}
 
 -- every state covers the runs
 abbrev pub Covers : Type 0

@@ -1,5 +1,5 @@
 -- How the program ends: by a status, with what was read and written.
-use Rattle.std.specs.Prelude.{◌≡◌, ℕ, ◌<◌, ◌++◌, List, [], Option, Some}
+use Rattle.std.specs.Prelude.{◌≡◌, ℕ, ◌<◌, ◌++◌, List, Option, Some}
 use Rattle.script_loop.specs.Lines.{all_lines}
 use Rattle.script_loop.specs.Replies.{AnsweredRead, WrotePrefix, WroteLines}
 use Rattle.straight_line.specs.Plain.{PlainProgram}

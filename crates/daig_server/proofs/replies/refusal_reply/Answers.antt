@@ -1,4 +1,4 @@
-use Rattle.std.proofs.Common.{◌≡◌, ◌∙◌, sym, ap}
+use Rattle.std.proofs.Common.{◌∙◌, sym, ap}
 use Rattle.daig_server.specs.Reply.{refusal}
 use Rattle.daig_server.specs.Refusals.{number_of_refusal}
 use Rattle.daig_server.proofs.ReplyLemmas.{refusal_2, refusal_4}

@@ -1,4 +1,4 @@
-use Rattle.std.proofs.Common.{◌≡◌, ◌++◌, ◌∙◌, [], take, codes, flat_map, length, sym, ap, rules, arith, append-nil}
+use Rattle.std.proofs.Common.{◌++◌, ◌∙◌, codes, flat_map, sym, ap, arith, append-nil}
 use Rattle.std.proofs.lemmas.List.{take_all}
 use Rattle.json.specs.Print.{escape_byte}
 use Rattle.daig_server.proofs.ReplyLemmas.{escaped_more, state_reply_text}

@@ -1,4 +1,4 @@
-use Rattle.std.proofs.Common.{◌≡◌, ◌≤◌, ◌<◌, sym, arith, refl}
+use Rattle.std.proofs.Common.{sym, arith, refl}
 use Rattle.daig_server.proofs.NumberLemmas.{no_digits, many_digits, value_on, all_on, stops, ends}
 use Rattle.daig_server.proofs.request.number_of.Goals as goal
 

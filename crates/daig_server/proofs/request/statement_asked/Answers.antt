@@ -1,6 +1,4 @@
-use Rattle.std.proofs.Common.{◌≡◌, ◌<◌, false, IsTrue, length, ◌∙◌, sym, ap, subst, rules, arith}
-use Rattle.std.specs.Str.{IsUtf8}
-use Rattle.std.specs.Str.Lossy.{utf8_valid_len}
+use Rattle.std.proofs.Common.{false, IsTrue, ◌∙◌, sym, ap}
 use Rattle.serde_json.specs.Read.{read}
 use Rattle.daig_server.proofs.RequestLemmas.{asked_of_value, asked_of_no_text, asked_of_no_value}
 use Rattle.daig_server.proofs.request.statement_asked.Goals as goal

@@ -1,4 +1,4 @@
-use Rattle.std.proofs.Common.{◌≡◌, refl, sym}
+use Rattle.std.proofs.Common.{refl}
 use Rattle.daig_server.proofs.ReplyLemmas.{source_refusal_text}
 use Rattle.daig_server.proofs.run.refuse_source.Goals as goal
 

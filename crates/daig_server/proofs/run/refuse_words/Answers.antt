@@ -1,4 +1,4 @@
-use Rattle.std.proofs.Common.{◌≡◌, refl, sym}
+use Rattle.std.proofs.Common.{refl}
 use Rattle.daig_server.proofs.ReplyLemmas.{usage_text}
 use Rattle.daig_server.proofs.run.refuse_words.Goals as goal
 

@@ -1,4 +1,3 @@
-use Rattle.std.proofs.Common.{◌≡◌}
 use Rattle.daig_server.proofs.run.run.Goals as goal
 
 pub returns-in_default-clause-wrote : goal.returns-in_default-clause-wrote

@@ -1,4 +1,4 @@
-use Rattle.std.proofs.Common.{◌≡◌, Err, ap, refl}
+use Rattle.std.proofs.Common.{Err, ap, refl}
 use Rattle.daig_server.specs.Ends.{lines}
 use Rattle.daig_server.proofs.run.run_program.Goals as goal
 

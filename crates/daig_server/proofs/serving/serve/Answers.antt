@@ -1,16 +1,14 @@
-use Rattle.std.proofs.Common.{◌≡◌, ◌≢◌, ◌∙◌, ◌++◌, ◌⊎◌, ℕ, List, [], Option, Some, map, string_bytes, sym, ap, subst, refl}
-use Rattle.script_loop.specs.Replies.{WrotePrefix}
-use Rattle.daig_server.specs.Output.{file_word, output}
-use Rattle.daig_server.specs.Ends.{code_of, Wrote, WroteRead, WroteWholeLines}
+use Rattle.std.proofs.Common.{◌∙◌, map, string_bytes, sym}
+use Rattle.daig_server.specs.Output.{file_word}
 use Rattle.daig_server.proofs.ServeLemmas.{is_done, is_script, is_sink, is_memory, is_long_script, wrote_done, wrote_complete, long_file_ends}
 use Rattle.daig_server.proofs.serving.serve.Goals as goal
 
 pub returns-clause-complete : goal.returns-clause-complete
 returns-clause-complete g c = λ folder text taken told_folder told_text told_taken no_files no_script no_sink short enough.
     rw c.code.ensures.code (wrote_complete c.run.result (file_word (map string_bytes c.args.words.now)) (g.F.Files.told c.args.files.now) folder text taken _ _ _ _ _ _ _ _
-      told_folder no_files no_script no_sink short (λ six. enough (c.code.ensures.code ∙ six))
-      c.run.ensures.script_failed c.run.ensures.sink_failed c.run.ensures.files_failed (λ long. c.run.ensures.long long text told_text)
-      c.run.ensures.words_taken (c.run.ensures.fits folder text told_folder) (c.run.ensures.wrote folder text taken told_folder told_text told_taken))
+    told_folder no_files no_script no_sink short (λ six. enough (c.code.ensures.code ∙ six))
+    c.run.ensures.script_failed c.run.ensures.sink_failed c.run.ensures.files_failed (λ long. c.run.ensures.long long text told_text)
+    c.run.ensures.words_taken (c.run.ensures.fits folder text told_folder) (c.run.ensures.wrote folder text taken told_folder told_text told_taken))
 
 pub returns-clause-done : goal.returns-clause-done
 returns-clause-done g c = λ is folder text taken told_folder told_text told_taken.
