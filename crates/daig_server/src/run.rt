@@ -1,9 +1,9 @@
 //! The way from words to a status.
-ghost use Rattle.std.specs.Prelude.{◌≡◌, ◌^◌, ◌⊎◌, ℕ, List, Option, Some, None, IfSome, map};
+ghost use Rattle.std.specs.Prelude.{◌≡◌, ◌^◌, ◌++◌, ◌⊎◌, ℕ, List, Option, Some, None, IfSome, map};
 ghost use Rattle.std.specs.String.{string_bytes};
 ghost use Rattle.io_edge.specs.Outside.{Rose, Lacks};
 ghost use Rattle.script_loop.specs.Replies.{ReadToEnd, ReadBytes};
-ghost use Rattle.daig_server.specs.Output.{file_word, output, program_output, words_output};
+ghost use Rattle.daig_server.specs.Output.{file_word, output, program_output, source_refusal, usage, words_output};
 ghost use Rattle.straight_line.specs.Reading.{program_of};
 ghost use Rattle.daig_server.specs.Ends.{Fits, Wrote};
 
@@ -41,6 +41,7 @@ fn run_program<I: Source, O: Sink>(
     ensures no_file { result ≡ Status.Files → ⊥ }
     ensures no_words { result ≡ Status.Words → ⊥ }
     ensures no_long_file { result ≡ Status.LongFile → ⊥ }
+    ensures no_source { result ≡ Status.Source → ⊥ }
 {
     let mut server = Server::new(program);
     match answer_script(alloc, &mut server, script, out) {
@@ -57,6 +58,7 @@ fn refuse_source<O: Sink>(out: &mut O) -> Status
     ensures status { (result ≡ Status.Source) ⊎ (result ≡ Status.Sink) }
     ensures fits { Fits result 3 }
     ensures wrote { (text taken : List ℕ) (rest : Option (List ℕ)) → O.told out.old ≡ Some taken → Wrote result (program_output None text) text taken rest (O.told out.new) }
+    ensures refusal { result ≡ Status.Source → (taken : List ℕ) → O.told out.old ≡ Some taken → O.told out.new ≡ Some (taken ++ source_refusal) }
     ensures failed { result ≡ Status.Sink → Rose (O.faults out.old) (O.faults out.new) }
 {
     match write_all(out, SOURCE_REFUSAL) {
@@ -71,6 +73,7 @@ fn refuse_words<O: Sink>(out: &mut O) -> Status
     ensures fits { Fits result 2 }
     ensures wrote { (folder : List ℕ → Option (List ℕ)) (text taken : List ℕ) (rest : Option (List ℕ)) → O.told out.old ≡ Some taken
         → Wrote result (words_output None folder text) text taken rest (O.told out.new) }
+    ensures usage { result ≡ Status.Words → (taken : List ℕ) → O.told out.old ≡ Some taken → O.told out.new ≡ Some (taken ++ usage) }
     ensures failed { result ≡ Status.Sink → Rose (O.faults out.old) (O.faults out.new) }
 {
     match write_all(out, USAGE) {
@@ -96,6 +99,7 @@ fn run_source<I: Source, O: Sink>(
     ensures no_file { result ≡ Status.Files → ⊥ }
     ensures no_words { result ≡ Status.Words → ⊥ }
     ensures no_long_file { result ≡ Status.LongFile → ⊥ }
+    ensures refusal { result ≡ Status.Source → (taken : List ℕ) → O.told out.old ≡ Some taken → O.told out.new ≡ Some (taken ++ source_refusal) }
 {
     match read_program(alloc, source) {
         Ok(program) => run_program(alloc, program, script, out),
@@ -122,6 +126,8 @@ pub(crate) fn run<F: Files, I: Source, O: Sink>(
     ensures long { result ≡ Status.LongScript → (text : List ℕ) → I.told script.old ≡ Some text → ReadBytes (2 ^ 40) text (I.told script.new) }
     ensures script_failed { result ≡ Status.Script → Rose (I.faults script.old) (I.faults script.new) }
     ensures sink_failed { result ≡ Status.Sink → Rose (O.faults out.old) (O.faults out.new) }
+    ensures usage { result ≡ Status.Words → (taken : List ℕ) → O.told out.old ≡ Some taken → O.told out.new ≡ Some (taken ++ usage) }
+    ensures refusal { result ≡ Status.Source → (taken : List ℕ) → O.told out.old ≡ Some taken → O.told out.new ≡ Some (taken ++ source_refusal) }
     ensures quiet { (result ≡ Status.Files) ⊎ (result ≡ Status.LongFile) → O.told out.new ≡ O.told out.old }
     ensures files_failed { result ≡ Status.Files → (Rose (F.faults files.old) (F.faults files.new)) ⊎ (IfSome (file_word (map string_bytes words.now)) (Lacks (F.told files.old))) }
 {

@@ -3,7 +3,7 @@ ghost use Rattle.std.specs.Prelude.{◌≡◌, ◌≢◌, ◌≤◌, ◌<◌, �
 ghost use Rattle.std.specs.String.{string_bytes};
 ghost use Rattle.io_edge.specs.Outside.{Rose, Lacks};
 ghost use Rattle.script_loop.specs.Replies.{ReadBytes, WrotePrefix};
-ghost use Rattle.daig_server.specs.Output.{file_word, output};
+ghost use Rattle.daig_server.specs.Output.{file_word, output, source_refusal, usage};
 ghost use Rattle.daig_server.specs.Ends.{WroteRead, WroteWholeLines};
 ghost use Rattle.daig_server.specs.Sound.{IsSound};
 ghost use Rattle.script_loop.specs.Lines.{all_lines};
@@ -53,9 +53,11 @@ pub fn serve<F: Files, I: Source, O: Sink, L: Ledger>(
         × (O.told out.new ≡ Some (taken ++ (output (map string_bytes words.now) folder text).bytes)) }
     ensures read_to_end { result ≡ 0 → (text : List ℕ) → I.told script.old ≡ Some text → I.told script.new ≡ Some [] }
     ensures words_refused { result ≡ 2 → file_word (map string_bytes words.now) ≡ None }
+    ensures usage_written { result ≡ 2 → (taken : List ℕ) → O.told out.old ≡ Some taken → O.told out.new ≡ Some (taken ++ usage) }
     ensures words_exactly { file_word (map string_bytes words.now) ≡ None → (result ≡ 2) ⊎ (result ≡ 5) }
     ensures source_refused { result ≡ 3 → (folder : List ℕ → Option (List ℕ)) (text : List ℕ) → F.told files.old ≡ Some folder
         → (output (map string_bytes words.now) folder text).status ≡ 3 }
+    ensures refusal_written { result ≡ 3 → (taken : List ℕ) → O.told out.old ≡ Some taken → O.told out.new ≡ Some (taken ++ source_refusal) }
     ensures source_exactly { (folder : List ℕ → Option (List ℕ)) (text : List ℕ) → F.told files.old ≡ Some folder
         → (output (map string_bytes words.now) folder text).status ≡ 3 → (result ≡ 3) ⊎ (result ≡ 5) ⊎ (result ≡ 6) ⊎ (result ≡ 7) }
     ensures script_failed { result ≡ 4 → Rose (I.faults script.old) (I.faults script.new) }

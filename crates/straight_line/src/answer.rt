@@ -36,13 +36,13 @@ pub fn state_after(
 const ZERO: Range = Range { lo: 0, hi: 0 };
 
 fn initial(alloc: Global, variables: usize) -> Result<Vec<Range>, AllocError>
-    ensures { IfOk result (λ v. v.items ≡ replicate variables (single (pos 0))) }
+    ensures value { IfOk result (λ v. v.items ≡ replicate variables (single (pos 0))) }
 {
     Ok(vec![in alloc; ZERO; variables]?)
 }
 
 fn assign(ranges: &mut Vec<Range>, assignment: Assignment)
-    ensures { ranges.new.items ≡ slice_set ranges.old.items assignment.slot (single assignment.value) }
+    ensures value { ranges.new.items ≡ slice_set ranges.old.items assignment.slot (single assignment.value) }
 {
     let value = assignment.value;
     if assignment.slot < ranges.len() {

@@ -119,7 +119,7 @@ fn assignments(
 
 #[tactic(auto, unfolding(crate::specs::Reading::is_closing))]
 fn is_closing(tokens: &[Token]) -> bool
-    ensures { result ≡ is_closing tokens.now }
+    ensures value { result ≡ is_closing tokens.now }
 {
     match tokens {
         [Token::End] => true,
@@ -148,13 +148,13 @@ fn assignment<'a>(names: &[Name], tokens: &'a [Token]) -> Option<(Assignment, &'
 }
 
 fn slot_of(names: &[Name], bytes: &[u8]) -> Option<usize>
-    ensures { result ≡ slot_of names.now bytes.now }
+    ensures value { result ≡ slot_of names.now bytes.now }
 {
     names.iter().position(|name| name.is(bytes))
 }
 
 fn are_different(names: &[Name]) -> bool
-    ensures { result ≡ are_different names.now }
+    ensures value { result ≡ are_different names.now }
 {
     match names {
         [] => true,
@@ -163,7 +163,7 @@ fn are_different(names: &[Name]) -> bool
 }
 
 fn stands_in(names: &[Name], bytes: &[u8]) -> bool
-    ensures { result ≡ list_any (λ name. bytes_eq name bytes.now) names.now }
+    ensures value { result ≡ list_any (λ name. bytes_eq name bytes.now) names.now }
 {
     names.iter().any(|name| name.is(bytes))
 }

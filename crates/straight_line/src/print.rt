@@ -32,7 +32,7 @@ pub fn state_text(alloc: Global, program: &Program, state: &State) -> Result<Vec
 }
 
 fn put_space(text: &mut Vec<u8>, slot: usize) -> Result<(), AllocError>
-    ensures { OnOk result (text.new.items ≡ text.old.items ++ space_at slot) }
+    ensures value { OnOk result (text.new.items ≡ text.old.items ++ space_at slot) }
 {
     if slot > 0 {
         text.push(b' ')?;
@@ -42,7 +42,7 @@ fn put_space(text: &mut Vec<u8>, slot: usize) -> Result<(), AllocError>
 
 #[tactic(auto, unfolding(crate::specs::Text::slot_text), using(crate::proofs::Written::slot_joined))]
 fn put_slot(text: &mut Vec<u8>, name: &Name, range: Range) -> Result<(), AllocError>
-    ensures { OnOk result (text.new.items ≡ text.old.items ++ slot_text name.now range) }
+    ensures value { OnOk result (text.new.items ≡ text.old.items ++ slot_text name.now range) }
 {
     text.extend_from_slice(&name.bytes)?;
     text.extend_from_slice(b"=[")?;
@@ -55,7 +55,7 @@ fn put_slot(text: &mut Vec<u8>, name: &Name, range: Range) -> Result<(), AllocEr
 
 #[tactic(auto, unfolding(crate::specs::Text::end_text))]
 fn put_end(text: &mut Vec<u8>, end: i64) -> Result<(), AllocError>
-    ensures { OnOk result (text.new.items ≡ text.old.items ++ end_text end) }
+    ensures value { OnOk result (text.new.items ≡ text.old.items ++ end_text end) }
 {
     if end == i64::MAX {
         return text.extend_from_slice(b"max");

@@ -90,7 +90,7 @@ fn front_at(alloc: Global, text: &[u8]) -> Result<Front, AllocError>
 }
 
 fn taken(n: usize, token: Option<Token>) -> Front
-    ensures { result ≡ taken n token }
+    ensures value { result ≡ taken n token }
 {
     match token {
         Some(token) => Front::Takes(n, token),
@@ -100,7 +100,7 @@ fn taken(n: usize, token: Option<Token>) -> Front
 
 #[tactic(auto, unfolding(crate::specs::Lexing::word_token))]
 fn word_token(alloc: Global, word: &[u8]) -> Result<Option<Token>, AllocError>
-    ensures { IfOk result (λ o. o ≡ word_token word.now) }
+    ensures value { IfOk result (λ o. o ≡ word_token word.now) }
 {
     if is(word, b"proc") {
         return Ok(Some(Token::Proc));
@@ -119,14 +119,14 @@ fn word_token(alloc: Global, word: &[u8]) -> Result<Option<Token>, AllocError>
 }
 
 fn is(word: &[u8], text: &[u8]) -> bool
-    ensures { result ≡ bytes_eq word.now text.now }
+    ensures value { result ≡ bytes_eq word.now text.now }
 {
     word == text
 }
 
 /// Whether the word is a reserved word of none of the tokens.
 fn is_unused(word: &[u8]) -> bool
-    ensures { result ≡ list_any (bytes_eq word.now) unused_words }
+    ensures value { result ≡ list_any (bytes_eq word.now) unused_words }
 {
     is(word, b"array")
         || is(word, b"list")
@@ -147,7 +147,7 @@ fn is_unused(word: &[u8]) -> bool
 
 #[tactic(auto, unfolding(crate::specs::Lexing::number_token))]
 fn number_token(digits: &[u8]) -> Option<Token>
-    ensures { result ≡ number_token digits.now }
+    ensures value { result ≡ number_token digits.now }
 {
     let mut value: u64 = 0;
     for digit in digits {
@@ -162,7 +162,7 @@ fn number_token(digits: &[u8]) -> Option<Token>
 
 #[tactic(auto, unfolding(crate::specs::Lexing::mark_token))]
 fn mark_token(b: u8) -> Option<Token>
-    ensures { result ≡ mark_token b }
+    ensures value { result ≡ mark_token b }
 {
     match b {
         b'(' => Some(Token::Open),
@@ -177,13 +177,13 @@ fn mark_token(b: u8) -> Option<Token>
 }
 
 fn is_blank(b: u8) -> bool
-    ensures { result ≡ is_blank b }
+    ensures value { result ≡ is_blank b }
 {
     b == b' ' || b == b'\t' || b == b'\r' || b == b'\n'
 }
 
 fn begins_comment(b: u8, rest: &[u8]) -> bool
-    ensures { result ≡ begins_comment b rest.now }
+    ensures value { result ≡ begins_comment b rest.now }
 {
     match rest {
         [] => false,
@@ -192,13 +192,13 @@ fn begins_comment(b: u8, rest: &[u8]) -> bool
 }
 
 fn is_letter(b: u8) -> bool
-    ensures { result ≡ is_letter b }
+    ensures value { result ≡ is_letter b }
 {
     (b'A' <= b && b <= b'Z') || (b'a' <= b && b <= b'z') || b == b'_'
 }
 
 fn is_digit(b: u8) -> bool
-    ensures { result ≡ is_digit b }
+    ensures value { result ≡ is_digit b }
 {
     b'0' <= b && b <= b'9'
 }

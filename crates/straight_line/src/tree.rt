@@ -21,7 +21,7 @@ impl Model for Name {
 impl Name {
     /// Whether the name has these bytes.
     pub(crate) fn is(&self, bytes: &[u8]) -> bool
-        ensures { result ≡ bytes_eq self.now bytes.now }
+        ensures value { result ≡ bytes_eq self.now bytes.now }
     {
         self.bytes.as_slice() == bytes
     }

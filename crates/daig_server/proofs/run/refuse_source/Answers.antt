@@ -10,3 +10,6 @@ returns-in-Ok-clause-wrote g c = λ text taken rest told. record {
 
 pub returns-in-Err-clause-wrote : goal.returns-in-Err-clause-wrote
 returns-in-Err-clause-wrote g c = λ text taken rest told. rw source_refusal_text ((c.in-Err.ensures {u = tt}).prefix taken told)
+
+pub returns-in-Ok-clause-refusal : goal.returns-in-Ok-clause-refusal
+returns-in-Ok-clause-refusal g c = λ _ taken told. rw source_refusal_text ((c.in-Ok.ensures {u = tt}).written taken told)

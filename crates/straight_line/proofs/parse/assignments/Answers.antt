@@ -11,7 +11,7 @@ each-preserved c =
     subst (λ body. HasBody c.args.names.now c.args.tokens.now body c.in-Some.more.now) (sym c.in_ok-push.ensures.items) read
 
 pub returns-then-is_closing : goal.returns-then-is_closing
-returns-then-is_closing c = record { read = all_assigned c.args.names.now c.args.tokens.now c.each.rest.now c.each.body.items c.in_default.ensures.read (sym c.is_closing.ensures ∙ c.if-is_closing.true) c.each.invariant }
+returns-then-is_closing c = record { read = all_assigned c.args.names.now c.args.tokens.now c.each.rest.now c.each.body.items c.in_default.ensures.read (sym c.is_closing.ensures.value ∙ c.if-is_closing.true) c.each.invariant }
 
 pub returns-else-is_closing : goal.returns-else-is_closing
-returns-else-is_closing c = record { read = not_assigned c.args.names.now c.args.tokens.now c.each.rest.now c.each.body.items c.in_default.ensures.read (sym c.is_closing.ensures ∙ c.if-is_closing.false) c.each.invariant }
+returns-else-is_closing c = record { read = not_assigned c.args.names.now c.args.tokens.now c.each.rest.now c.each.body.items c.in_default.ensures.read (sym c.is_closing.ensures.value ∙ c.if-is_closing.false) c.each.invariant }
