@@ -1,0 +1,13 @@
+use Rattle.std.proofs.Common.{◌++◌, ◌∙◌, ap, codes}
+use Rattle.std.specs.Fmt.{decimal}
+use Rattle.daig_gen.proofs.Lines.{ask_written}
+use Rattle.daig_gen.proofs.turns.put_ask.Goals as goal
+
+pub returns : goal.returns
+returns c = record {
+  added =
+      (c.in_ok-extend_from_slice-2.ensures {u = tt}).items
+      ∙ ap (λ xs. xs ++ codes "\",\"do\":\"state\"}\n{\"do\":\"cost\"}\n")
+      ((c.in_ok-put_number.ensures {u = tt}).added ∙ ap (λ xs. xs ++ decimal c.args.statement) (c.in_ok-extend_from_slice.ensures {u = tt}).items)
+      ∙ ask_written c.args.lines.now.items c.args.statement;
+}
