@@ -1,0 +1,11 @@
+-- Numbers of a text.
+use Rattle.std.specs.Prelude.{ℕ, ◌+◌, ◌-◌, ◌*◌, List, [], ◌∷◌}
+
+-- the number that the digits write in decimal, behind digits that write so much
+abbrev pub value_on : ℕ → List ℕ → ℕ
+value_on so_far [] = so_far
+value_on so_far (d ∷ ds) = value_on (so_far * 10 + (d - 48)) ds
+
+-- the greatest number of a text, 2^63 - 1
+abbrev pub greatest : ℕ
+greatest = 9223372036854775807
