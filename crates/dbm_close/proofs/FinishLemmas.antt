@@ -1,4 +1,4 @@
-use Rattle.std.specs.Prelude.{ℕ, ◌*◌, ℤ, Option, Bool, List, length, Result, Ok, Err, IfOk}
+use Rattle.std.specs.Prelude.{ℕ, ◌*◌, ℤ, Option, Bool, List, length}
 use Rattle.std.proofs.Common.{subst, inr}
 use Rattle.dbm_close.specs.declared.Closed.{Closed}
 use Rattle.dbm_close.specs.declared.Closed.TheVariants.{Empty, Matrix}
@@ -16,10 +16,6 @@ close-from_finish m s Empty h p =
 close-from_finish m s (Matrix r) h p =
     let q : IsFinishedTo m.kinds (entry s) r = subst (λ k. IsFinishedTo k (entry s) r) h.same_kinds p in
     (entry s, record { sound = h.sound; weights = h.weights; consistent = q.consistent; in_range = q.in_range; ranges = q.ranges; entries = q.entries })
-
-pub close-if_ok : {E : Type 0} (m s : HalfMatrix) (r : Result Closed E) → HasLeastWeights m s → IfOk r (IsFinishOf s.kinds (entry s)) → IfOk r (IsCloseOf m)
-close-if_ok m s (Ok c) h p = close-from_finish m s c h p
-close-if_ok m s (Err e) h p = tt
 
 pub contradictory-here : (s t : HalfMatrix) → HasEntries s.kinds (tightened (entry s)) t → IsContradictory (nodes t) (entry t) → IsContradictory (nodes s) (tightened (entry s))
 contradictory-here s t p z = contradictory-agree (length s.kinds) (entry t) (tightened (entry s)) p.entries (subst (λ k. IsContradictory (2 * length k) (entry t)) p.same_kinds z)

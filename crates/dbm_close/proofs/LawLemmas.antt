@@ -1,5 +1,5 @@
 -- Laws of closing: its answer is determined, limited, and keeps the meaning.
-use Rattle.std.specs.Prelude.{◌≡◌, ℕ, ◌<◌, ◌+◌, ◌*◌, ◌/◌, ◌%◌, ◌^◌, ℤ, pos, negsuc, neg_ℤ, ◌+ℤ◌, ◌-ℤ◌, ◌≤ℤ◌, ◌<ℤ◌, Option, Some, None, Bool, true, false, cond, int_lt, List, [], ◌∷◌, length, slice_index_or, ◌⊎◌, Result, Ok, Err, IfOk, refl}
+use Rattle.std.specs.Prelude.{◌≡◌, ℕ, ◌<◌, ◌+◌, ◌*◌, ◌/◌, ◌%◌, ◌^◌, ℤ, pos, negsuc, neg_ℤ, ◌+ℤ◌, ◌-ℤ◌, ◌≤ℤ◌, ◌<ℤ◌, Option, Some, None, Bool, true, false, cond, int_lt, List, [], ◌∷◌, length, slice_index_or, ◌⊎◌, refl}
 use Rattle.std.specs.Int.{int_min, int_max, int_div_euclid, int_rem_euclid}
 use Rattle.std.proofs.Common.{arith, ap, sym, ◌∙◌, subst, inl, inr}
 use Rattle.std.proofs.lemmas.Int.{ints, clamps}
@@ -10,7 +10,7 @@ use Rattle.dbm_close.specs.declared.Closed.TheVariants.{Empty, Matrix}
 use Rattle.dbm_close.proofs.StrongLemmas.{Agree, HasEntries-change, contradictory-agree, empty_range-agree, strengthened-agree, too_low-agree}
 use Rattle.dbm_close.proofs.WalkLemmas.{add_weight-zero}
 use Rattle.dbm_close.specs.Close.{HasEmptyRange, IsCloseOf, IsContradictory, IsNotContradictory, IsNotTooLow, IsTooLow, closed_entry, slot_high, slot_low, strong}
-use Rattle.dbm_close.specs.Laws.{AreInSlots, HalvesAreExact, IsLimitedAnswer, IsMetBy, IsOnlyAnswer, KeepsKinds, KeepsMeaning}
+use Rattle.dbm_close.specs.Laws.{AreInSlots, HalvesAreExact, IsLimitedAnswer, IsMetBy, KeepsKinds, KeepsMeaning}
 use Rattle.dbm_close.specs.Steps.{cut, even_down, extreme_high, extreme_low, half, range_high, range_low, strengthened, tightened}
 use Rattle.dbm_close.specs.Walks.{Below, IsWalk, walk_end, walk_weight, AreLeastWeights, HasNegativeWalk, HasNoNegativeWalk}
 use Rattle.dbm_core.proofs.NodeLemmas.{flip-below, flip-flip, parity}
@@ -230,17 +230,9 @@ close-limited m (Matrix r) (s, e) = IsLimited-entries m.kinds (closed_entry s) r
     (λ i l. closed-diagonal s (nodes m) i l (least-diagonal (entry m) s (nodes m) i l e.sound e.weights) e.consistent)
     (closed-within s (nodes m) e.in_range) e.entries
 
-pub limited-if_ok : {E : Type 0} (m : HalfMatrix) (r : Result Closed E) → IfOk r (IsCloseOf m) → IfOk r IsLimitedAnswer
-limited-if_ok m (Ok c) p = close-limited m c p
-limited-if_ok m (Err e) p = tt
-
 pub close-kinds : (m : HalfMatrix) (c : Closed) → IsCloseOf m c → KeepsKinds m c
 close-kinds m Empty p = tt
 close-kinds m (Matrix r) (s, e) = e.entries.same_kinds
-
-pub kinds-if_ok : {E : Type 0} (m : HalfMatrix) (r : Result Closed E) → IfOk r (IsCloseOf m) → IfOk r (KeepsKinds m)
-kinds-if_ok m (Ok c) p = close-kinds m c p
-kinds-if_ok m (Err e) p = tt
 
 -- ---- nothing is gained: values within the slots' extremes that meet the closed bounds meet the matrix
 
@@ -296,10 +288,6 @@ close-back m (Matrix r) x (s, e) a q = closed-back m s x e.weights a (Meets-from
 
 pub close-meaning : (m : HalfMatrix) (c : Closed) → IsCloseOf m c → KeepsMeaning m c
 close-meaning m c p x a = (close-sound m c x p a, close-back m c x p a)
-
-pub meaning-if_ok : {E : Type 0} (m : HalfMatrix) (r : Result Closed E) → IfOk r (IsCloseOf m) → IfOk r (KeepsMeaning m)
-meaning-if_ok m (Ok c) p = close-meaning m c p
-meaning-if_ok m (Err e) p = tt
 
 -- ---- halves
 
@@ -385,7 +373,3 @@ close-unique m (Matrix a) (Matrix b) (s, e) (t, f) = ap Matrix
     (HasEntries-one m.kinds (closed_entry t) a b
     (HasEntries-change m.kinds m.kinds (closed_entry s) (closed_entry t) a refl (closed-agree (length m.kinds) s t (least-unique (entry m) s t (nodes m) e.weights f.weights)) e.entries)
     f.entries)
-
-pub only-if_ok : {E : Type 0} (m : HalfMatrix) (r : Result Closed E) → IfOk r (IsCloseOf m) → IfOk r (IsOnlyAnswer m)
-only-if_ok m (Ok c) p = λ d q. close-unique m d c q p
-only-if_ok m (Err e) p = tt

@@ -1,8 +1,9 @@
 -- A round lets walks go through both nodes of one slot.
-use Rattle.std.specs.Prelude.{◌≡◌, ℕ, ◌<◌, ◌+◌, ◌*◌, ℤ, pos, Option, Some, ◌⊎◌, cond, eqb, ◌^◌, ◌/◌, negsuc}
+use Rattle.std.specs.Prelude.{◌≡◌, ℕ, ◌<◌, ◌+◌, ◌*◌, ℤ, pos, Option, Some, None, ◌⊎◌, slice_index_or, cond, eqb, ◌^◌, ◌/◌, negsuc}
+use Rattle.dbm_close.specs.declared.Middle.{Middle}
 use Rattle.dbm_close.specs.Walks.{AreLeastWeights, HasNoNegativeWalk}
 use Rattle.dbm_core.specs.Half.{HalfMatrix, IsMatrix, entry, nodes}
-use Rattle.dbm_core.specs.Limits.{AreWithin}
+use Rattle.dbm_core.specs.Limits.{AreWithin, IsWithin}
 use Rattle.dbm_core.specs.Weights.{AtMost, add_weight, least}
 
 -- one round: a walk may now go through k
@@ -40,3 +41,26 @@ pub record HasLeastWeights (m s : HalfMatrix) : Type 0 where
   pub weights : AreLeastWeights (entry m) (nodes m) (entry s)
   pub sound : HasNoNegativeWalk (entry m) (nodes m)
   pub within : AreWithin (nodes m) (2 ^ 102) (entry s)
+
+-- m has the bounds of d to and from both nodes of slot q, those of the second one when walks may go through the first
+pub record HasMiddle (n : ℕ) (d : ℕ → ℕ → Option ℤ) (q : ℕ) (m : Middle) : Type 0 where
+  pub to_first : (i : ℕ) → i < n → slice_index_or m.to_first i None ≡ d i (2 * q)
+  pub from_first : (j : ℕ) → j < n → slice_index_or m.from_first j None ≡ d (2 * q) j
+  pub to_second : (i : ℕ) → i < n → slice_index_or m.to_second i None ≡ through d (2 * q) i (2 * q + 1)
+  pub from_second : (j : ℕ) → j < n → slice_index_or m.from_second j None ≡ through d (2 * q) (2 * q + 1) j
+
+-- each of its bounds is none or small
+pub record IsSmallMiddle (m : Middle) : Type 0 where
+  pub to_first : (i : ℕ) → IsWithin (2 ^ 103) (slice_index_or m.to_first i None)
+  pub from_first : (j : ℕ) → IsWithin (2 ^ 103) (slice_index_or m.from_first j None)
+  pub to_second : (i : ℕ) → IsWithin (2 ^ 103) (slice_index_or m.to_second i None)
+  pub from_second : (j : ℕ) → IsWithin (2 ^ 103) (slice_index_or m.from_second j None)
+
+-- a bound from i to j when walks may go through both nodes of m's slot
+abbrev pub via_both : Middle → ℕ → ℕ → Option ℤ → Option ℤ
+via_both m i j bound = least (least bound (add_weight (slice_index_or m.to_first i None) (slice_index_or m.from_first j None)))
+    (add_weight (slice_index_or m.to_second i None) (slice_index_or m.from_second j None))
+
+-- the same, where a slot's two diagonal entries are taken from its even node
+abbrev pub middle_entry : Middle → ℕ → ℕ → Option ℤ → Option ℤ
+middle_entry m i j bound = cond (eqb i j) (via_both m (2 * (i / 2)) (2 * (i / 2)) bound) (via_both m i j bound)

@@ -18,22 +18,22 @@
 //! walks is enough for integers is R. Bagnara, P. M. Hill and E. Zaffanella, "An Improved Tight
 //! Closure Algorithm for Integer Octagonal Constraints", 2008.
 //!
-//! Closing n slots takes n rounds over the 2n(n + 1) kept entries and four passes more. Each round
-//! makes a new matrix. A round makes entries at most four times as large, so that all sums stay
+//! Closing n slots takes n rounds over the 2n(n + 1) kept entries and five passes more, all in
+//! place: no memory is taken but that of the copy, which becomes the answer. A round makes entries at most four times as large, so that all sums stay
 //! below 2^104, negative walks or not.
 #![tactic(auto)]
 
-ghost use Rattle.std.specs.Prelude.{◌≡◌, ◌<◌, ◌≤◌, ◌+◌, ◌*◌, ◌^◌, ◌-◌, ℕ, ℤ, pos, negsuc, neg_ℤ, ◌≤ℤ◌, Option, Some, None, MatchOption, IfOk, length, List};
+ghost use Rattle.std.specs.Prelude.{◌≡◌, ◌<◌, ◌≤◌, ◌+◌, ◌*◌, ◌^◌, ◌-◌, ℕ, ℤ, pos, negsuc, neg_ℤ, ◌≤ℤ◌, Option, Some, None, MatchOption, IfOk, length, List, cond, slice_index_or};
 ghost use Rattle.std.specs.Bool.{MatchBool};
 ghost use Rattle.dbm_close.specs.Close.{HasEmptyRange, HasNoEmptyRange, IsCloseOf, IsContradictory, IsNotContradictory, IsNotTooLow, IsTooLow, slot_high, slot_low};
 ghost use Rattle.dbm_close.specs.Finish.{IsFinishOf};
 ghost use Rattle.dbm_close.specs.Laws.{AreInSlots, HalvesAreExact, IsLimitedAnswer, IsOnlyAnswer, KeepsKinds, KeepsMeaning};
-ghost use Rattle.dbm_close.specs.Rounds.{HasLeastWeights, IsDiagonalNegative, IsDiagonalSound, IsSlotNegative, IsSlotSound, round_entry, rounded, through};
-ghost use Rattle.dbm_close.specs.Steps.{cut, even_down, half, range_high, range_low, strengthened, tightened};
+ghost use Rattle.dbm_close.specs.Rounds.{HasLeastWeights, IsDiagonalNegative, IsDiagonalSound, IsSlotNegative, IsSlotSound, round_entry, middle_entry, through, via_both, HasMiddle, IsSmallMiddle};
+ghost use Rattle.dbm_close.specs.Steps.{cut, even_down, half, half_sum, range_high, range_low, strengthened, tightened};
 ghost use Rattle.dbm_close.specs.Walks.{HasNegativeWalk};
 ghost use Rattle.dbm_core.specs.Half.{HasEntries, IsMatrix, entry, nodes, row_width};
 ghost use Rattle.dbm_core.specs.Limits.{AreWithin, IsWithin, IsZeroAtMost};
-ghost use Rattle.dbm_core.specs.Nodes.{flip};
+ghost use Rattle.dbm_core.specs.Nodes.{flip, is_single};
 ghost use Rattle.dbm_core.specs.Valuations.{IsSatisfiedBy};
 ghost use Rattle.dbm_core.specs.Weights.{AtMost, add_weight};
 
@@ -68,7 +68,7 @@ pub fn close(alloc: Global, matrix: &Matrix) -> Result<Closed, Memory>
     ensures limited { IfOk result IsLimitedAnswer }
 {
     match least_weights(alloc, matrix)? {
-        Some(s) => finish(alloc, &s),
+        Some(s) => Ok(finish(s)),
         None => Ok(Closed::Empty),
     }
 }
@@ -94,23 +94,24 @@ pub fn halves_law()
 {}
 
 // Steps 2 to 6, over the least weights.
-fn finish(alloc: Global, s: &Matrix) -> Result<Closed, Memory>
-    requires within { AreWithin (nodes s.now) (2 ^ 102) (entry s.now) }
-    ensures finish { IfOk result (IsFinishOf s.now.kinds (entry s.now)) }
+fn finish(weights: Matrix) -> Closed
+    requires within { AreWithin (nodes weights) (2 ^ 102) (entry weights) }
+    ensures finish { IsFinishOf weights.kinds (entry weights) result }
 {
-    let t = tighten(alloc, s)?;
-    if is_contradictory(&t) {
-        return Ok(Closed::Empty);
+    let mut matrix = weights;
+    tighten(&mut matrix);
+    if is_contradictory(&matrix) {
+        return Closed::Empty;
     }
-    let u = strengthen(alloc, &t)?;
-    if is_too_low(&u) {
-        return Ok(Closed::Empty);
+    strengthen(&mut matrix);
+    if is_too_low(&matrix) {
+        return Closed::Empty;
     }
-    let r = cut_entries(alloc, &u)?;
-    if has_empty_range(&r) {
-        return Ok(Closed::Empty);
+    cut_entries(&mut matrix);
+    if has_empty_range(&matrix) {
+        return Closed::Empty;
     }
-    Ok(Closed::Matrix(r))
+    Closed::Matrix(matrix)
 }
 
 // The sum of two bounds.
@@ -146,22 +147,6 @@ fn via(d: &Matrix, k: usize, i: usize, j: usize) -> Option<i128>
     smaller(d.get(i, j), plus(d.get(i, k), d.get(k, j)))
 }
 
-// The bound from i to j when walks may go through both nodes of slot q.
-fn via_slot(d: &Matrix, q: usize, i: usize, j: usize) -> Option<i128>
-    requires middle { q < length d.now.kinds }
-    requires few { length d.now.kinds ≤ 16 }
-    requires row { i < nodes d.now }
-    requires column { j < nodes d.now }
-    requires within { AreWithin (nodes d.now) (2 ^ 102) (entry d.now) }
-    ensures bound { result ≡ rounded (entry d.now) q i j }
-{
-    let k = 2 * q;
-    smaller(
-        via(d, k, i, j),
-        plus(via(d, k, i, k + 1), via(d, k, k + 1, j)),
-    )
-}
-
 // Whether a closed walk at a node of slot q is below 0.
 fn is_slot_negative(d: &Matrix, q: usize) -> bool
     requires middle { q < length d.now.kinds }
@@ -176,34 +161,130 @@ fn is_slot_negative(d: &Matrix, q: usize) -> bool
     is_negative(via(d, k, k + 1, k + 1))
 }
 
-// One round: walks may go through both nodes of slot q.
-fn round(alloc: Global, d: &Matrix, q: usize) -> Result<Matrix, Memory>
+// The bound that the closure gives for each of the nodes, and none beyond.
+fn column<F: Fn(usize) -> Option<i128>>(count: usize, bound: F) -> [Option<i128>; 32]
+    requires few { count ≤ 32 }
+    requires callable { (i : ℕ) → i < count → F.pre bound i }
+    ensures bounds { (i : ℕ) → i < count → F.post bound i (slice_index_or result i None) }
+    ensures beyond { (i : ℕ) → count ≤ i → slice_index_or result i None ≡ None }
+{
+    let mut bounds = [None; 32];
+    for i in 0..count {
+        bounds[i] = bound(i);
+    }
+    bounds
+}
+
+// The bounds to and from both nodes of one slot, those of the second node when walks may go
+// through the first.
+#[derive(Drop)]
+struct Middle {
+    to_first: [Option<i128>; 32],
+    from_first: [Option<i128>; 32],
+    to_second: [Option<i128>; 32],
+    from_second: [Option<i128>; 32],
+}
+
+// The bounds to and from both nodes of slot q.
+fn middle_of(d: &Matrix, q: usize) -> Middle
     requires middle { q < length d.now.kinds }
     requires within { AreWithin (nodes d.now) (2 ^ 102) (entry d.now) }
-    ensures matrix { IfOk result IsMatrix }
-    ensures same_kinds { IfOk result (λ m. m.kinds ≡ d.now.kinds) }
-    ensures kept { IfOk result (λ m. (i j : ℕ) → i < nodes d.now → j < row_width i → entry m i j ≡ round_entry (entry d.now) q i j) }
+    ensures bounds { HasMiddle (nodes d.now) (entry d.now) q result }
+    ensures small { IsSmallMiddle result }
 {
-    let kinds = d.kinds();
-    Matrix::from_fn(
-        alloc,
-        kinds,
-        |i: usize, j: usize| -> Option<i128>
+    let count = 2 * d.kinds().len();
+    let k = 2 * q;
+    let to_first = column(
+        count,
+        |i: usize| -> Option<i128>
             requires row { i < nodes d.now }
+            requires middle { k < nodes d.now }
+            ensures value { result ≡ entry d.entry.now i k }
+        { d.get(i, k) },
+    );
+    let from_first = column(
+        count,
+        |j: usize| -> Option<i128>
             requires column { j < nodes d.now }
-            requires middle { q < length d.now.kinds }
+            requires middle { k < nodes d.now }
+            ensures value { result ≡ entry d.entry.now k j }
+        { d.get(k, j) },
+    );
+    let to_second = column(
+        count,
+        |i: usize| -> Option<i128>
+            requires row { i < nodes d.now }
+            requires middle { k + 1 < nodes d.now }
             requires few { length d.now.kinds ≤ 16 }
             requires within { AreWithin (nodes d.now) (2 ^ 102) (entry d.now) }
-            ensures value { result ≡ round_entry (entry d.entry.now) q i j }
+            ensures value { result ≡ through (entry d.entry.now) k i (k + 1) }
+        { via(d, k, i, k + 1) },
+    );
+    let from_second = column(
+        count,
+        |j: usize| -> Option<i128>
+            requires column { j < nodes d.now }
+            requires middle { k + 1 < nodes d.now }
+            requires few { length d.now.kinds ≤ 16 }
+            requires within { AreWithin (nodes d.now) (2 ^ 102) (entry d.now) }
+            ensures value { result ≡ through (entry d.entry.now) k (k + 1) j }
+        { via(d, k, k + 1, j) },
+    );
+    Middle {
+        to_first,
+        from_first,
+        to_second,
+        from_second,
+    }
+}
+
+// The bound from i to j when walks may go through both nodes of the slot.
+fn via_middle(middle: &Middle, i: usize, j: usize, bound: Option<i128>) -> Option<i128>
+    requires row { i < 32 }
+    requires column { j < 32 }
+    requires small { IsSmallMiddle middle.now }
+    ensures bound { result ≡ via_both middle.now i j bound }
+{
+    let first = smaller(bound, plus(middle.to_first[i], middle.from_first[j]));
+    smaller(first, plus(middle.to_second[i], middle.from_second[j]))
+}
+
+// Lets walks go through both nodes of the slot, in place.
+fn go_through(d: &mut Matrix, middle: &Middle)
+    requires small { IsSmallMiddle middle.now }
+    ensures matrix { IsMatrix d.new }
+    ensures same_kinds { d.new.kinds ≡ d.old.kinds }
+    ensures kept { (i j : ℕ) → i < nodes d.old → j < row_width i → entry d.new i j ≡ middle_entry middle.now i j (entry d.old i j) }
+{
+    let _slots = d.kinds();
+    d.update(
+        |i: usize, j: usize, bound: Option<i128>| -> Option<i128>
+            requires row { i < 32 }
+            requires column { j < 32 }
+            requires small { IsSmallMiddle middle.now }
+            ensures value { result ≡ middle_entry middle.entry.now i j bound }
         {
             if i == j {
                 let node = 2 * (i / 2);
-                via_slot(d, q, node, node)
+                via_middle(middle, node, node, bound)
             } else {
-                via_slot(d, q, i, j)
+                via_middle(middle, i, j, bound)
             }
         },
-    )
+    );
+}
+
+// One round: walks may go through both nodes of slot q.
+fn round(d: &mut Matrix, q: usize)
+    requires middle { q < length d.old.kinds }
+    requires within { AreWithin (nodes d.old) (2 ^ 102) (entry d.old) }
+    ensures matrix { IsMatrix d.new }
+    ensures same_kinds { d.new.kinds ≡ d.old.kinds }
+    ensures kept { (i j : ℕ) → i < nodes d.old → j < row_width i → entry d.new i j ≡ round_entry (entry d.old) q i j }
+{
+    let _slots = d.kinds();
+    let middle = middle_of(d, q);
+    go_through(d, &middle);
 }
 
 // Whether an entry of the diagonal is below 0.
@@ -231,8 +312,7 @@ fn least_weights(alloc: Global, m: &Matrix) -> Result<Option<Matrix>, Memory>
         if is_slot_negative(&current, q) {
             return Ok(None);
         }
-        let next = round(alloc, &current, q)?;
-        current = next;
+        round(&mut current, q);
     }
     if is_diagonal_negative(&current) {
         return Ok(None);
@@ -301,29 +381,24 @@ fn high_end(array: bool, bound: Option<i128>) -> i128
 }
 
 // Step 2: the bounds on one slot made even downwards.
-fn tighten(alloc: Global, s: &Matrix) -> Result<Matrix, Memory>
-    requires within { AreWithin (nodes s.now) (2 ^ 102) (entry s.now) }
-    ensures entries { IfOk result (HasEntries s.now.kinds (tightened (entry s.now))) }
+fn tighten(s: &mut Matrix)
+    requires within { AreWithin (nodes s.old) (2 ^ 102) (entry s.old) }
+    ensures entries { HasEntries s.old.kinds (tightened (entry s.old)) s.new }
 {
-    let kinds = s.kinds();
-    Matrix::from_fn(
-        alloc,
-        kinds,
-        |i: usize, j: usize| -> Option<i128>
-            requires row { i < nodes s.now }
-            requires column { j < nodes s.now }
-            requires few { length s.now.kinds ≤ 16 }
-            requires within { AreWithin (nodes s.now) (2 ^ 102) (entry s.now) }
-            ensures value { result ≡ tightened (entry s.entry.now) i j }
+    let _slots = s.kinds();
+    s.update(
+        |i: usize, j: usize, bound: Option<i128>| -> Option<i128>
+            requires row { i < 2 ^ 32 }
+            requires within { IsWithin (2 ^ 102) bound }
+            ensures value { result ≡ cond (is_single i j) (even_down bound) bound }
         {
-            let bound = s.get(i, j);
             if j == other_sign(i) {
                 even_bound(bound)
             } else {
                 bound
             }
         },
-    )
+    );
 }
 
 // Step 3: whether both bounds on a slot leave no number.
@@ -341,28 +416,49 @@ fn is_contradictory(t: &Matrix) -> bool
     false
 }
 
-// Step 4: each bound is at most half the sum of its slots' own.
-fn strengthen(alloc: Global, t: &Matrix) -> Result<Matrix, Memory>
+// The bounds on twice the slots' values: from each node to that of the other sign.
+fn own_bounds(t: &Matrix) -> [Option<i128>; 32]
     requires within { AreWithin (nodes t.now) (2 ^ 103) (entry t.now) }
-    ensures entries { IfOk result (HasEntries t.now.kinds (strengthened (entry t.now))) }
+    ensures bounds { (i : ℕ) → i < nodes t.now → slice_index_or result i None ≡ entry t.now i (flip i) }
+    ensures small { (i : ℕ) → IsWithin (2 ^ 103) (slice_index_or result i None) }
 {
-    let kinds = t.kinds();
-    Matrix::from_fn(
-        alloc,
-        kinds,
-        |i: usize, j: usize| -> Option<i128>
+    let count = 2 * t.kinds().len();
+    column(
+        count,
+        |i: usize| -> Option<i128>
             requires row { i < nodes t.now }
-            requires column { j < nodes t.now }
             requires few { length t.now.kinds ≤ 16 }
-            requires within { AreWithin (nodes t.now) (2 ^ 103) (entry t.now) }
-            ensures value { result ≡ strengthened (entry t.entry.now) i j }
-        {
-            smaller(
-                t.get(i, j),
-                half_bound(plus(t.get(i, other_sign(i)), t.get(other_sign(j), j))),
-            )
-        },
+            ensures value { result ≡ entry t.entry.now i (flip i) }
+        { t.get(i, other_sign(i)) },
     )
+}
+
+// Makes each bound at most half the sum of its slots' own.
+fn halve_sums(t: &mut Matrix, own: &[Option<i128>; 32])
+    requires small { (i : ℕ) → IsWithin (2 ^ 103) (slice_index_or own.now i None) }
+    ensures matrix { IsMatrix t.new }
+    ensures same_kinds { t.new.kinds ≡ t.old.kinds }
+    ensures kept { (i j : ℕ) → i < nodes t.old → j < row_width i → entry t.new i j ≡ half_sum own.now i j (entry t.old i j) }
+{
+    let _slots = t.kinds();
+    t.update(
+        |i: usize, j: usize, bound: Option<i128>| -> Option<i128>
+            requires row { i < 32 }
+            requires column { j < 32 }
+            requires small { (i : ℕ) → IsWithin (2 ^ 103) (slice_index_or own.now i None) }
+            ensures value { result ≡ half_sum own.entry.now i j bound }
+        { smaller(bound, half_bound(plus(own[i], own[other_sign(j)]))) },
+    );
+}
+
+// Step 4: each bound is at most half the sum of its slots' own.
+fn strengthen(t: &mut Matrix)
+    requires within { AreWithin (nodes t.old) (2 ^ 103) (entry t.old) }
+    ensures entries { HasEntries t.old.kinds (strengthened (entry t.old)) t.new }
+{
+    let _slots = t.kinds();
+    let own = own_bounds(t);
+    halve_sums(t, &own);
 }
 
 // Step 5: whether an entry is below -2^64.
@@ -391,19 +487,15 @@ fn is_low_bound(a: Option<i128>) -> bool
 }
 
 // Step 5: an entry of 2^64 or more becomes none.
-fn cut_entries(alloc: Global, u: &Matrix) -> Result<Matrix, Memory>
-    ensures entries { IfOk result (HasEntries u.now.kinds (λ i j. cut (entry u.now i j))) }
+fn cut_entries(u: &mut Matrix)
+    ensures entries { HasEntries u.old.kinds (λ i j. cut (entry u.old i j)) u.new }
 {
-    let kinds = u.kinds();
-    Matrix::from_fn(
-        alloc,
-        kinds,
-        |i: usize, j: usize| -> Option<i128>
-            requires row { i < nodes u.now }
-            requires column { j < nodes u.now }
-            ensures value { result ≡ cut (entry u.entry.now i j) }
-        { cut_bound(u.get(i, j)) },
-    )
+    let _slots = u.kinds();
+    u.update(
+        |_i: usize, _j: usize, bound: Option<i128>| -> Option<i128>
+            ensures value { result ≡ cut bound }
+        { cut_bound(bound) },
+    );
 }
 
 // Step 6: whether a slot's range is empty.

@@ -6,5 +6,6 @@ pub mod NodeLemmas
 pub mod OperationLemmas
 pub mod RisesLemmas
 pub mod SameLemmas
+pub mod UpdateLemmas
 pub mod ValuationLemmas
 pub mod WeightLemmas

@@ -13,11 +13,11 @@
 //! A. Miné, "The Octagon Abstract Domain", 2006.
 //!
 //! `get` and `set_least` take constant time and no memory. Every other operation is one pass over
-//! the kept entries, which makes a new matrix by two allocations (`widen` goes over the marks at
-//! each entry that rises).
+//! the kept entries (`widen` goes over the marks at each entry that rises): `update` rewrites them
+//! in place, and the others make a new matrix by two allocations.
 #![tactic(auto)]
 
-ghost use Rattle.std.specs.Prelude.{◌≡◌, ◌^◌, ◌<◌, ◌≤◌, ◌+◌, ◌*◌, ◌⊎◌, ◌++◌, ℕ, ℤ, pos, Option, Some, None, IfOk, length, List, eqb, cond, int_lt};
+ghost use Rattle.std.specs.Prelude.{◌≡◌, ◌^◌, ◌<◌, ◌≤◌, ◌+◌, ◌*◌, ◌⊎◌, ◌++◌, ℕ, ℤ, pos, Option, Some, None, IfOk, length, List, eqb, cond, int_lt, slice_index_or};
 ghost use Rattle.std.specs.Hash as fed;
 ghost use Rattle.std.specs.Cmp.{partial_equiv_from_equiv};
 ghost use Rattle.dbm_core.specs.Half.{HalfMatrix, HasEntries, IsMatrix, entry, nodes, row_start, row_width};
@@ -187,6 +187,20 @@ impl Matrix {
         })
     }
 
+    /// Gives each kept pair the bound that the closure makes of the pair and its old bound, in
+    /// place. It takes no memory.
+    pub fn update<F: Fn(usize, usize, Option<i128>) -> Option<i128>>(&mut self, value: F)
+        requires callable { (i j : ℕ) → i < nodes self.old → j < row_width i → F.pre value i j (entry self.old i j) }
+        requires diagonal { (h : ℕ) (a b : Option ℤ) → h < length self.old.kinds → F.post value (2 * h) (2 * h) (entry self.old (2 * h) (2 * h)) a → F.post value (2 * h + 1) (2 * h + 1) (entry self.old (2 * h + 1) (2 * h + 1)) b → a ≡ b }
+        ensures matrix { IsMatrix self.new }
+        ensures same_kinds { self.new.kinds ≡ self.old.kinds }
+        ensures kept { (i j : ℕ) → i < nodes self.old → j < row_width i → F.post value i j (entry self.old i j) (entry self.new i j) }
+    {
+        let slots = self.kinds.len();
+        let entries = self.entries.as_mut_slice();
+        update_kept(entries, slots, value);
+    }
+
     /// The same matrix.
     pub fn copy(&self, alloc: Global) -> Result<Matrix, Memory>
         ensures same { IfOk result (λ m. m ≡ self.now) }
@@ -330,6 +344,28 @@ fn place(i: usize, j: usize) -> usize
         before + j
     } else {
         before + 2 * half + 2 + j
+    }
+}
+
+// Gives each kept entry of this many slots the value that the closure makes of it.
+fn update_kept<F: Fn(usize, usize, Option<i128>) -> Option<i128>>(
+    entries: &mut [Option<i128>],
+    slots: usize,
+    value: F,
+)
+    requires few { slots ≤ 16 }
+    requires size { length entries.old ≡ row_start (2 * slots) }
+    requires callable { (i j : ℕ) → i < 2 * slots → j < row_width i → F.pre value i j (slice_index_or entries.old (row_start i + j) None) }
+    ensures size { length entries.new ≡ length entries.old }
+    ensures kept { (i j : ℕ) → i < 2 * slots → j < row_width i → F.post value i j (slice_index_or entries.old (row_start i + j) None) (slice_index_or entries.new (row_start i + j) None) }
+{
+    let mut at = 0;
+    for i in 0..2 * slots {
+        for j in 0..width(i) {
+            let bound = entries[at];
+            entries[at] = value(i, j, bound);
+            at += 1;
+        }
     }
 }
 

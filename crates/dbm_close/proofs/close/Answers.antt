@@ -1,20 +1,19 @@
-use Rattle.std.specs.Prelude.{IfOk}
 use Rattle.std.proofs.Common.{inl}
 use Rattle.dbm_close.specs.Close.{IsCloseOf}
 use Rattle.dbm_close.specs.declared.Closed.TheVariants.{Empty}
-use Rattle.dbm_close.proofs.FinishLemmas.{close-if_ok}
-use Rattle.dbm_close.proofs.LawLemmas.{close-meaning, close-unique, kinds-if_ok, limited-if_ok, meaning-if_ok, only-if_ok}
+use Rattle.dbm_close.proofs.FinishLemmas.{close-from_finish}
+use Rattle.dbm_close.proofs.LawLemmas.{close-kinds, close-limited, close-meaning, close-unique}
 use Rattle.dbm_close.proofs.close.Goals as goal
 
 pub returns-in-Some : goal.returns-in-Some
 returns-in-Some c =
-    let p : IfOk c.finish.result (IsCloseOf c.args.matrix.now) = close-if_ok c.args.matrix.now c.in-Some.s c.finish.result (rw c.in-Some.is at c.in_ok-s.ensures.weights) c.finish.ensures.finish in
+    let p : IsCloseOf c.args.matrix.now c.finish.result = close-from_finish c.args.matrix.now c.in-Some.s c.finish.result (rw c.in-Some.is at c.in_ok-s.ensures.weights) c.finish.ensures.finish in
     record {
       closed = p;
-      only = only-if_ok c.args.matrix.now c.finish.result p;
-      meaning = meaning-if_ok c.args.matrix.now c.finish.result p;
-      same_kinds = kinds-if_ok c.args.matrix.now c.finish.result p;
-      limited = limited-if_ok c.args.matrix.now c.finish.result p;
+      only = λ d q. close-unique c.args.matrix.now d c.finish.result q p;
+      meaning = close-meaning c.args.matrix.now c.finish.result p;
+      same_kinds = close-kinds c.args.matrix.now c.finish.result p;
+      limited = close-limited c.args.matrix.now c.finish.result p;
     }
 
 pub returns-in-None-clause-meaning : goal.returns-in-None-clause-meaning

@@ -6,23 +6,23 @@ use Rattle.dbm_core.specs.Half.{HasEntries, entry}
 use Rattle.dbm_close.proofs.finish.Goals as goal
 
 pub strengthen-requires : goal.strengthen-requires
-strengthen-requires c = record { within = stage_tight-within c.args.s.now.kinds (entry c.args.s.now) c.in_ok-t.t c.requires.within c.in_ok-t.ensures.entries }
+strengthen-requires c = record { within = stage_tight-within c.args.weights.kinds (entry c.args.weights) c.tighten.new.s c.requires.within c.tighten.ensures.entries }
 
 pub returns-then-is_too_low : goal.returns-then-is_too_low
 returns-then-is_too_low c =
-    let u : HasEntries c.args.s.now.kinds (strong (entry c.args.s.now)) c.in_ok-u.u = stage_strong c.args.s.now.kinds (entry c.args.s.now) c.in_ok-t.t c.in_ok-u.u c.in_ok-t.ensures.entries c.in_ok-u.ensures.entries in
-    record { finish = inr (inl (too_low-here c.args.s.now.kinds (entry c.args.s.now) c.in_ok-u.u u c.if-is_too_low.ensures.too_low)) }
+    let u : HasEntries c.args.weights.kinds (strong (entry c.args.weights)) c.strengthen.new.t = stage_strong c.args.weights.kinds (entry c.args.weights) c.tighten.new.s c.strengthen.new.t c.tighten.ensures.entries c.strengthen.ensures.entries in
+    record { finish = inr (inl (too_low-here c.args.weights.kinds (entry c.args.weights) c.strengthen.new.t u c.if-is_too_low.ensures.too_low)) }
 
 pub has_empty_range-requires : goal.has_empty_range-requires
 has_empty_range-requires c =
-    let u : HasEntries c.args.s.now.kinds (strong (entry c.args.s.now)) c.in_ok-u.u = stage_strong c.args.s.now.kinds (entry c.args.s.now) c.in_ok-t.t c.in_ok-u.u c.in_ok-t.ensures.entries c.in_ok-u.ensures.entries in
-    record { within = stage_cut-within c.args.s.now.kinds (entry c.args.s.now) c.in_ok-r.r c.requires.within (stage_cut c.args.s.now.kinds (entry c.args.s.now) c.in_ok-u.u c.in_ok-r.r u c.in_ok-r.ensures.entries) }
+    let u : HasEntries c.args.weights.kinds (strong (entry c.args.weights)) c.strengthen.new.t = stage_strong c.args.weights.kinds (entry c.args.weights) c.tighten.new.s c.strengthen.new.t c.tighten.ensures.entries c.strengthen.ensures.entries in
+    record { within = stage_cut-within c.args.weights.kinds (entry c.args.weights) c.cut_entries.new.u c.requires.within (stage_cut c.args.weights.kinds (entry c.args.weights) c.strengthen.new.t c.cut_entries.new.u u c.cut_entries.ensures.entries) }
 
 pub returns : goal.returns
 returns c =
-    let u : HasEntries c.args.s.now.kinds (strong (entry c.args.s.now)) c.in_ok-u.u = stage_strong c.args.s.now.kinds (entry c.args.s.now) c.in_ok-t.t c.in_ok-u.u c.in_ok-t.ensures.entries c.in_ok-u.ensures.entries in
+    let u : HasEntries c.args.weights.kinds (strong (entry c.args.weights)) c.strengthen.new.t = stage_strong c.args.weights.kinds (entry c.args.weights) c.tighten.new.s c.strengthen.new.t c.tighten.ensures.entries c.strengthen.ensures.entries in
     record {
-      finish = finished-here c.args.s.now.kinds (entry c.args.s.now) c.in_ok-t.t c.in_ok-u.u c.in_ok-r.r c.in_ok-t.ensures.entries u
-          (stage_cut c.args.s.now.kinds (entry c.args.s.now) c.in_ok-u.u c.in_ok-r.r u c.in_ok-r.ensures.entries)
+      finish = finished-here c.args.weights.kinds (entry c.args.weights) c.tighten.new.s c.strengthen.new.t c.cut_entries.new.u c.tighten.ensures.entries u
+          (stage_cut c.args.weights.kinds (entry c.args.weights) c.strengthen.new.t c.cut_entries.new.u u c.cut_entries.ensures.entries)
           c.if-is_contradictory.ensures.contradictory c.if-is_too_low.ensures.too_low c.if-has_empty_range.ensures.empty;
     }

@@ -19,9 +19,9 @@ round-requires-clause-within c = IsRounded-room c.args.m.now c.loop-q.current c.
 pub loop-q-preserved : goal.loop-q-preserved
 loop-q-preserved c =
     let e : length c.loop-q.current.kinds ≡ length c.args.m.now.kinds = ap length c.loop-q.invariant.same_kinds in
-    IsRounded-next c.args.m.now c.loop-q.current c.in_ok-next.next c.loop-q.q (omega (arith, ap length c.kinds-slots.ensures.value)) c.kinds-slots.ensures.matrix c.loop-q.invariant
-    c.in_ok-next.ensures.matrix (c.in_ok-next.ensures.same_kinds ∙ c.loop-q.invariant.same_kinds) c.if-is_slot_negative.ensures.negative
-    (λ i j hi w. c.in_ok-next.ensures.kept i j (omega arith) w)
+    IsRounded-next c.args.m.now c.loop-q.current c.round.new.d c.loop-q.q (omega (arith, ap length c.kinds-slots.ensures.value)) c.kinds-slots.ensures.matrix c.loop-q.invariant
+    c.round.ensures.matrix (c.round.ensures.same_kinds ∙ c.loop-q.invariant.same_kinds) c.if-is_slot_negative.ensures.negative
+    (λ i j hi w. c.round.ensures.kept i j (omega arith) w)
 
 pub returns-then-is_diagonal_negative : goal.returns-then-is_diagonal_negative
 returns-then-is_diagonal_negative c =
