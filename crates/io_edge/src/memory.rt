@@ -1,8 +1,8 @@
 //! Files, a source and a sink in memory, which tell what they hold and fail where they are to.
-ghost use Rattle.std.specs.Prelude.{◌≡◌, ◌≤◌, ◌<◌, [], take, length, Some, None, IfOk, IsErrOf};
+ghost use Rattle.std.specs.Prelude.{◌≡◌, ◌≤◌, ◌<◌, [], take, length, Some, None, IfOk, IfSome, IsErr, IsErrOf, OnErr, OnOk, is_err, min, true, false};
 ghost use Rattle.std.specs.Option.{option_copied};
 ghost use Rattle.std.specs.String.{string_bytes};
-ghost use Rattle.io_edge.specs.Outside.{bytes_of, IsLonger};
+ghost use Rattle.io_edge.specs.Outside.{HandsOut, IsLonger, Rose, Takes, after_call, bytes_of, is_planned, told_of};
 
 use crate::plan::FaultPlan;
 use crate::traits::{Failed, Files, LoadFault, Sink, Source};
@@ -88,6 +88,7 @@ pub(crate) fn copy_file(
 /// Puts the first bytes into the buffer, at most `most`, and says how many.
 pub(crate) fn hand_out(bytes: &[u8], buffer: &mut [u8], most: usize) -> usize
     ensures some { 0 < most → 0 < length buffer.old → result ≡ 0 → bytes.now ≡ [] }
+    ensures count { result ≡ min (min (length bytes.now) (length buffer.old)) most }
     ensures within { result ≤ length buffer.old }
     ensures there { result ≤ length bytes.now }
     ensures copied { take result buffer.new ≡ take result bytes.now }
@@ -124,13 +125,25 @@ impl MemFiles {
 impl Files for MemFiles {
     ghost faults = { λ f. f.plan.faults };
 
-    ghost told = { λ f. Some (λ name. bytes_of name f.files) };
+    ghost told = { λ f. told_of f.files };
 
     fn fault_count(&self) -> u64 {
         self.plan.faults()
     }
 
-    fn load(&mut self, alloc: Global, name: &str, limit: usize) -> Result<Vec<u8>, LoadFault> {
+    fn load(&mut self, alloc: Global, name: &str, limit: usize) -> Result<Vec<u8>, LoadFault>
+        ensures never_falls { self.old.plan.faults ≤ self.new.plan.faults }
+        ensures stays { told_of self.new.files ≡ told_of self.old.files }
+        ensures fits { IfOk result (λ v. length v.items ≤ limit) }
+        ensures bytes { IfOk result (λ v. bytes_of name.now self.old.files ≡ Some v.items) }
+        ensures failed { IsErrOf result LoadFault.Failed → Rose self.old.plan.faults self.new.plan.faults }
+        ensures absent { IsErrOf result LoadFault.Absent → bytes_of name.now self.old.files ≡ None }
+        ensures too_long { IsErrOf result LoadFault.TooLong → IsLonger (bytes_of name.now self.old.files) limit }
+        // It fails exactly where the plan says so.
+        ensures planned { is_planned self.old.plan ≡ true → IsErrOf result LoadFault.Failed }
+        ensures unplanned { is_planned self.old.plan ≡ false → IsErrOf result LoadFault.Failed → ⊥ }
+        ensures plan { self.new.plan ≡ after_call self.old.plan }
+    {
         if self.plan.fails() {
             return Err(LoadFault::Failed);
         }
@@ -189,7 +202,18 @@ impl Source for MemSource {
         self.plan.faults()
     }
 
-    fn read(&mut self, buffer: &mut [u8]) -> Result<usize, Failed> {
+    fn read(&mut self, buffer: &mut [u8]) -> Result<usize, Failed>
+        ensures within { IfOk result (λ n. n ≤ length buffer.old) }
+        ensures never_falls { self.old.plan.faults ≤ self.new.plan.faults }
+        ensures hands_out { HandsOut (Some self.old.left) (Some self.new.left) result buffer.new }
+        ensures end { IfOk result (λ n. n ≡ 0 → 0 < length buffer.old → IfSome (Some self.old.left) (λ left. left ≡ [])) }
+        ensures failed { OnErr result (Rose self.old.plan.faults self.new.plan.faults) }
+        // It fails exactly where the plan says so, and hands out as much as the room and `most` allow.
+        ensures planned { is_err result ≡ is_planned self.old.plan }
+        ensures plan { self.new.plan ≡ after_call self.old.plan }
+        ensures most { IfOk result (λ n. n ≡ min (min (length self.old.left) (length buffer.old)) self.old.most) }
+        ensures same_most { self.new.most ≡ self.old.most }
+    {
         if self.plan.fails() {
             return Err(Failed);
         }
@@ -249,7 +273,18 @@ impl Sink for MemSink {
     }
 
     /// Want of memory is a fault like another.
-    fn write(&mut self, piece: &[u8]) -> Result<usize, Failed> {
+    fn write(&mut self, piece: &[u8]) -> Result<usize, Failed>
+        ensures within { IfOk result (λ n. n ≤ length piece.now) }
+        ensures never_falls { self.old.plan.faults ≤ self.new.plan.faults }
+        ensures takes { Takes (Some self.old.bytes) (Some self.new.bytes) result piece.now }
+        ensures nothing_taken { IfOk result (λ n. n ≡ 0 → 0 < length piece.now → Rose self.old.plan.faults self.new.plan.faults) }
+        ensures failed { OnErr result (Rose self.old.plan.faults self.new.plan.faults) }
+        // It fails where the plan says so, and takes as much as `most` allows.
+        ensures planned { is_planned self.old.plan ≡ true → IsErr result }
+        ensures plan { OnOk result (self.new.plan ≡ after_call self.old.plan) }
+        ensures most { IfOk result (λ n. n ≡ min (length piece.now) self.old.most) }
+        ensures same_most { self.new.most ≡ self.old.most }
+    {
         if self.plan.fails() {
             return Err(Failed);
         }

@@ -2,7 +2,7 @@
 ghost use Rattle.std.specs.Prelude.{◌≡◌, ◌≤◌, ◌<◌, ◌+◌, ◌-◌, ◌^◌, ◌==◌, [], min};
 ghost use Rattle.std.specs.Bool.{OnTrue, OnFalse};
 ghost use Rattle.std.specs.List.{list_any};
-ghost use Rattle.io_edge.specs.Outside.{Plan, Rose};
+ghost use Rattle.io_edge.specs.Outside.{Rose, after_call, is_planned, with_fault};
 
 use std::alloc::Global;
 use std::marker::Model;
@@ -59,9 +59,8 @@ impl FaultPlan {
 
     /// Counts a call, and says whether it is to fail; then it is counted as a fault too.
     pub fn fails(&mut self) -> bool
-        ensures listed { result ≡ list_any (λ call. call == self.old.calls) self.old.failing }
-        ensures calls { self.new.calls ≡ min (self.old.calls + 1) (2 ^ 64 - 1) }
-        ensures same_list { self.new.failing ≡ self.old.failing }
+        ensures planned { result ≡ is_planned self.old }
+        ensures after { self.new ≡ after_call self.old }
         ensures counted { OnTrue result (Rose self.old.faults self.new.faults) }
         ensures kept { OnFalse result (self.new.faults ≡ self.old.faults) }
         ensures never_falls { self.old.faults ≤ self.new.faults }
@@ -76,9 +75,8 @@ impl FaultPlan {
 
     /// Counts a fault.
     pub fn count(&mut self)
+        ensures after { self.new ≡ with_fault self.old }
         ensures counted { Rose self.old.faults self.new.faults }
-        ensures same_list { self.new.failing ≡ self.old.failing }
-        ensures same_calls { self.new.calls ≡ self.old.calls }
         ensures never_falls { self.old.faults ≤ self.new.faults }
     {
         self.faults = self.faults.saturating_add(1);
