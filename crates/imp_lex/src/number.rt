@@ -24,8 +24,8 @@ impl Model for Number {
 }
 
 impl Number {
-    /// The number of this value.
-    pub(crate) fn new(value: u64) -> Number
+    /// The number of this value, which is less than 2^63.
+    pub fn new(value: u64) -> Number
         requires small { value ≤ greatest }
         ensures same { result ≡ value }
     {

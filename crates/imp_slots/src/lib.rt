@@ -1,0 +1,2 @@
+//! Checked programs: variables as slots, callees as places.
+#![tactic(auto)]
