@@ -1,6 +1,6 @@
 //! The table.
 
-ghost use Rattle.std.specs.Prelude.{◌≡◌, ℕ, ◌<◌, ◌↔◌, true, List, [], length, Option, Some, slice_get, IfOk, OnErr, OnOk, IsTrue};
+ghost use Rattle.std.specs.Prelude.{◌≡◌, ℕ, ◌<◌, ◌↔◌, true, List, [], length, Option, Some, slice_get, position, IfOk, IfSome, OnErr, OnOk, IsTrue};
 ghost use Rattle.std.specs.List.{position_or_len};
 ghost use Rattle.state_table.specs.Numbers.{with_state, IsNumberOf, KeepsNumbers, AreOnce, TellsApart};
 
@@ -61,6 +61,16 @@ impl<T: Eq + Hash + Drop> Table<T> {
     {
         let (number, _new) = self.states.insert_full(state)?;
         Ok(number)
+    }
+
+    /// The number of a state, or `None` where no equal one is there. It takes no memory.
+    pub fn find(&self, state: &T) -> Option<usize>
+        ensures number { result ≡ position (T.eq state.now) self.now }
+        ensures same { TellsApart T.eq → IfSome result (λ n. slice_get self.now n ≡ Some state.now) }
+        ensures found { (n : ℕ) (s : T) → slice_get self.now n ≡ Some s → T.eq state.now s ≡ true → result ≡ Some n }
+    {
+        let _states = self.states.len();
+        self.states.get_index_of(state)
     }
 
     /// The state under a number.
