@@ -1,13 +1,19 @@
-// A library with one function.
+//! The names of cells: a path, and a point of the block that the path leads to.
+//!
+//! A path is a list of [`Frame`]s from `main`: into a call of a procedure, or into a round of a loop.
+//! [`Names`] keeps each path once, as its last frame and the path before it, and each name once. So a
+//! path is one number, which all cells of a block share, and a name is three. The number of a path or
+//! of a name is its place in a list that is only added to: a name has one number and a number one name.
+//!
+//! Contracts see the paths and the names as lists, a path as the list of its frames, the last one first.
+//! Finding or adding a path or a name hashes three numbers and takes constant time on average; finding
+//! takes no memory.
 #![tactic(auto)]
 
-ghost use Rattle.std.specs.Prelude.{◌≡◌};
-ghost use Rattle.cell_names.specs.Echo.{echo_of};
+mod frame;
+mod names;
+mod path;
 
-// The `ensures` clause is the contract: what `echo` returns is `echo_of` of its argument, a definition
-// in `specs/Echo.antt`, which a caller's clause can cite too.
-pub fn echo(x: usize) -> usize
-    ensures { result ≡ echo_of x }
-{
-    x
-}
+pub use frame::{Frame, Point};
+pub use names::Names;
+pub use path::{Name, PathId};

@@ -1,0 +1,56 @@
+//! Paths by their numbers, and names.
+use crate::frame::{Frame, Point};
+use std::marker::Model;
+
+/// A path, by its number. The empty path, at the start of `main`, has the number 0.
+#[derive(Clone, Copy, Debug, PartialEq, Eq, Hash)]
+pub struct PathId {
+    number: usize,
+}
+
+impl Model for PathId {
+    ghost use Rattle.std.specs.Prelude.{ℕ};
+
+    ghost Value = { ℕ };
+
+    ghost view = { λ a. a.number };
+
+    ghost inverse = { λ number. record { number = number } };
+}
+
+ghost use Rattle.std.specs.Prelude.{◌≡◌};
+
+impl PathId {
+    /// The empty path.
+    pub fn root() -> PathId
+        ensures is { result ≡ 0 }
+    {
+        PathId { number: 0 }
+    }
+
+    pub(crate) fn new(number: usize) -> PathId
+        ensures is { result ≡ number }
+    {
+        PathId { number }
+    }
+
+    pub(crate) fn number(self) -> usize
+        ensures is { result ≡ self }
+    {
+        self.number
+    }
+}
+
+/// The name of a cell: a path that some [`Names`](crate::Names) gave, and a point.
+#[derive(Clone, Copy, Debug, PartialEq, Eq, Hash)]
+pub struct Name {
+    pub path: PathId,
+    pub point: Point,
+}
+
+/// A path that is not empty: the path before its last frame, and that frame.
+#[derive(Clone, Copy, Debug, PartialEq, Eq, Hash)]
+pub(crate) struct Step {
+    pub(crate) before: PathId,
+    pub(crate) frame: Frame,
+}
