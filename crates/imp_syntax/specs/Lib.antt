@@ -1,1 +1,3 @@
 pub mod Plain
+pub mod Code
+pub mod Views
