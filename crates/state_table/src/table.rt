@@ -2,7 +2,7 @@
 
 ghost use Rattle.std.specs.Prelude.{◌≡◌, ℕ, ◌<◌, ◌↔◌, true, List, [], length, Option, Some, slice_get, position, IfOk, IfSome, OnErr, OnOk, IsTrue};
 ghost use Rattle.std.specs.List.{position_or_len};
-ghost use Rattle.state_table.specs.Numbers.{with_state, IsNumberOf, KeepsNumbers, AreOnce, TellsApart};
+ghost use Rattle.state_table.specs.Numbers.{with_state, IsNumberOf, KeepsNumbers, AreOnce, TellsApart, Adds};
 
 use crate::memory::Memory;
 use indexmap::IndexSet;
@@ -55,6 +55,7 @@ impl<T: Eq + Hash + Drop> Table<T> {
         ensures number { IfOk result (λ n. n ≡ position_or_len (T.eq state) self.old) }
         ensures equal { IfOk result (IsNumberOf T.eq self.new state) }
         ensures same { TellsApart T.eq → IfOk result (λ n. slice_get self.new n ≡ Some state) }
+        ensures adds { TellsApart T.eq → IfOk result (Adds self.old self.new state) }
         ensures once { AreOnce T.eq self.new }
         ensures kept { KeepsNumbers self.old self.new }
         ensures err { OnErr result (self.new ≡ self.old) }
