@@ -18,7 +18,7 @@ impl Model for PathId {
     ghost inverse = { λ number. record { number = number } };
 }
 
-ghost use Rattle.std.specs.Prelude.{◌≡◌};
+ghost use Rattle.std.specs.Prelude.{◌≡◌, suc, ◌<◌, ◌^◌};
 
 impl PathId {
     /// The empty path.
@@ -28,10 +28,12 @@ impl PathId {
         PathId { number: 0 }
     }
 
-    pub(crate) fn new(number: usize) -> PathId
-        ensures is { result ≡ number }
+    /// The path of a step: the one behind the empty path and the steps before.
+    pub(crate) fn after(step: usize) -> PathId
+        requires small { step < 2 ^ 63 }
+        ensures is { result ≡ suc step }
     {
-        PathId { number }
+        PathId { number: step + 1 }
     }
 
     pub(crate) fn number(self) -> usize
