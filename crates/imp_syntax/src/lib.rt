@@ -1,9 +1,17 @@
 //! The syntax of programs.
 #![tactic(auto)]
 
+mod action;
+mod cond;
 mod expr;
+mod numbers;
+mod stmt;
 mod words;
 
-pub use expr::{Expr, ExprNode};
+pub use action::{Action, Call};
+pub use cond::{Cond, CondNode};
+pub use expr::{Expr, ExprNode, Side};
 pub use imp_lex::Number;
+pub use numbers::{ProcId, StmtId};
+pub use stmt::{Block, Stmt, StmtNode};
 pub use words::{Declaration, Kind, Operator, Relation};
