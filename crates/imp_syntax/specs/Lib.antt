@@ -5,3 +5,6 @@ pub mod ActionViews
 pub mod StmtCode
 pub mod StmtViews
 pub mod Falls
+pub mod Blocks
+pub mod ProgramCode
+pub mod ProcViews

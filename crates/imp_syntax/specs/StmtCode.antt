@@ -1,9 +1,9 @@
--- The codes of plain statements and procedures.
+-- The codes of plain statements.
 use Rattle.std.specs.Prelude.{ℕ, zero, suc, List, [], ◌∷◌, ◌≡◌, refl, Option, Some, None}
 use Rattle.std.specs.Coded.{code_by}
-use Rattle.plain_values.specs.Equal.{text_to, text_from, text_from_to}
-use Rattle.imp_syntax.specs.Plain.{Operand, Action, Skip, Assert, Assign, Input, MakeArray, SetNull, MakeCell, ReadElement, ReadNext, ReadItem, WriteElement, WriteNext, WriteItem, Statement, Simple, Break, Call, If, While, Statements, Ends, Starts}
-use Rattle.imp_syntax.specs.Code.{left, right, expression_to, expression_from, expression_back, condition_to, condition_from, condition_back, operand_to, operand_from, operand_back}
+use Rattle.plain_values.specs.Equal.{list_to, text_to, text_from, text_from_to}
+use Rattle.imp_syntax.specs.Plain.{Action, Skip, Assert, Assign, Input, MakeArray, SetNull, MakeCell, ReadElement, ReadNext, ReadItem, WriteElement, WriteNext, WriteItem, Statement, Simple, Break, Call, If, While, Statements, Ends, Starts}
+use Rattle.imp_syntax.specs.Code.{left, right, list_from, list_back, expression_to, expression_from, expression_back, condition_to, condition_from, condition_back, operand_to, operand_from, operand_back}
 use base.Stored.{Coded, Gv, gnil, gnum, gcons}
 use denote.Struct.Codes.{itself}
 
@@ -59,19 +59,6 @@ action_back (WriteElement a e f) = λ i. WriteElement (text_from_to a i) (expres
 action_back (WriteNext p q) = λ i. WriteNext (text_from_to p i) (text_from_to q i)
 action_back (WriteItem p e) = λ i. WriteItem (text_from_to p i) (expression_back e i)
 
-abbrev pub operands_to : List Operand → Gv
-operands_to [] = gnil
-operands_to (a ∷ as') = gcons (operand_to a) (operands_to as')
-
-abbrev pub operands_from : Gv → List Operand
-operands_from gnil = []
-operands_from (gnum n) = []
-operands_from (gcons a as') = operand_from a ∷ operands_from as'
-
-pub operands_back : (as' : List Operand) → operands_from (operands_to as') ≡ as'
-operands_back [] = refl
-operands_back (a ∷ as') = λ i. operand_back a i ∷ operands_back as' i
-
 abbrev pub target_to : Option (List ℕ) → Gv
 target_to None = gnil
 target_to (Some x) = gcons gnil (text_to x)
@@ -89,7 +76,7 @@ abbrev mutual
   pub statement_to : Statement → Gv
   statement_to (Simple n a) = gcons (gnum n) (gcons (gnum 0) (action_to a))
   statement_to (Break n) = gcons (gnum n) (gcons (gnum 1) gnil)
-  statement_to (Call n x f es) = gcons (gnum n) (gcons (gnum 2) (gcons (target_to x) (gcons (text_to f) (operands_to es))))
+  statement_to (Call n x f es) = gcons (gnum n) (gcons (gnum 2) (gcons (target_to x) (gcons (text_to f) (list_to operand_to es))))
   statement_to (If n c t e) = gcons (gnum n) (gcons (gcons (condition_to c) (block_to t)) (block_to e))
   statement_to (While n c b) = gcons (gnum n) (gcons gnil (gcons (condition_to c) (block_to b)))
 
@@ -100,7 +87,7 @@ abbrev mutual
 abbrev leaf_at : ℕ → ℕ → Gv → Statement
 leaf_at n zero p = Simple n (action_from p)
 leaf_at n (suc zero) p = Break n
-leaf_at n (suc (suc k)) p = Call n (target_from (left p)) (text_from (left (right p))) (operands_from (right (right p)))
+leaf_at n (suc (suc k)) p = Call n (target_from (left p)) (text_from (left (right p))) (list_from operand_from (right (right p)))
 
 abbrev mutual
   pub statement_from : Gv → Statement
@@ -125,7 +112,7 @@ mutual
   pub statement_back : (s : Statement) → statement_from (statement_to s) ≡ s
   statement_back (Simple n a) = λ i. Simple n (action_back a i)
   statement_back (Break n) = refl
-  statement_back (Call n x f es) = λ i. Call n (target_back x i) (text_from_to f i) (operands_back es i)
+  statement_back (Call n x f es) = λ i. Call n (target_back x i) (text_from_to f i) (list_back operand_to operand_from operand_back es i)
   statement_back (If n c t e) = λ i. If n (condition_back c i) (block_back t i) (block_back e i)
   statement_back (While n c b) = λ i. While n (condition_back c i) (block_back b i)
 

@@ -5,6 +5,7 @@ mod action;
 mod cond;
 mod expr;
 mod numbers;
+mod program;
 mod stmt;
 mod words;
 
@@ -13,5 +14,6 @@ pub use cond::{Cond, CondNode};
 pub use expr::{Expr, ExprNode, Side};
 pub use imp_lex::Number;
 pub use numbers::{ProcId, StmtId};
+pub use program::{Proc, Program};
 pub use stmt::{Block, Stmt, StmtNode};
 pub use words::{Declaration, Kind, Operator, Relation};

@@ -133,6 +133,7 @@ impl Block {
     }
 
     /// The statements, in order.
+    #[tactic(auto, using(crate::specs::Blocks::statements_back))]
     pub fn as_slice(&self) -> &[Stmt]
         ensures is { block_of result.now ≡ self.now }
         ensures all { result.now ≡ statements_of self.now }
