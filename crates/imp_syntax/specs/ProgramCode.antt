@@ -53,21 +53,21 @@ procedure_to p = gcons (text_to p.name) (gcons (list_to declaration_to p.paramet
 
 abbrev pub procedure_from : Gv → Procedure
 procedure_from g = record {
-    name = text_from (left g);
-    parameters = list_from declaration_from (left (right g));
-    outcome = outcome_from (left (right (right g)));
-    locals = list_from declaration_from (left (right (right (right g))));
-    body = block_from (right (right (right (right g))))
-  }
+  name = text_from (left g);
+  parameters = list_from declaration_from (left (right g));
+  outcome = outcome_from (left (right (right g)));
+  locals = list_from declaration_from (left (right (right (right g))));
+  body = block_from (right (right (right (right g))));
+}
 
 pub procedure_back : (p : Procedure) → procedure_from (procedure_to p) ≡ p
 procedure_back p = λ i. record {
-    name = text_from_to p.name i;
-    parameters = list_back declaration_to declaration_from declaration_back p.parameters i;
-    outcome = outcome_back p.outcome i;
-    locals = list_back declaration_to declaration_from declaration_back p.locals i;
-    body = block_back p.body i
-  }
+  name = text_from_to p.name i;
+  parameters = list_back declaration_to declaration_from declaration_back p.parameters i;
+  outcome = outcome_back p.outcome i;
+  locals = list_back declaration_to declaration_from declaration_back p.locals i;
+  body = block_back p.body i;
+}
 
 abbrev pub procedure_code : Coded Procedure
 procedure_code = code_by Gv itself procedure_to procedure_from procedure_back

@@ -3,6 +3,7 @@
 
 mod action;
 mod cond;
+mod edit;
 mod expr;
 mod numbers;
 mod program;
@@ -11,6 +12,7 @@ mod words;
 
 pub use action::{Action, Call};
 pub use cond::{Cond, CondNode};
+pub use edit::{Chain, Edit, Location, Place};
 pub use expr::{Expr, ExprNode, Side};
 pub use imp_lex::Number;
 pub use numbers::{ProcId, StmtId};

@@ -38,10 +38,23 @@ impl Model for Proc {
 
 impl Proc {
     /// The procedure of these parts. It fails for want of memory alone.
-    pub fn new(alloc: Global, name: Text, parameters: Items<Declaration>, outcome: Option<Declaration>, locals: Items<Declaration>, body: Block) -> Result<Proc, Memory>
+    pub fn new(
+        alloc: Global,
+        name: Text,
+        parameters: Items<Declaration>,
+        outcome: Option<Declaration>,
+        locals: Items<Declaration>,
+        body: Block,
+    ) -> Result<Proc, Memory>
         ensures is { IfOk result (λ p. p ≡ record { name = name; parameters = parameters; outcome = outcome; locals = locals; body = body }) }
     {
-        let parts = ProcParts { name, parameters, outcome, locals, body };
+        let parts = ProcParts {
+            name,
+            parameters,
+            outcome,
+            locals,
+            body,
+        };
         let parts = Rc::new(alloc, parts)?;
         Ok(Proc { parts })
     }
