@@ -8,3 +8,4 @@ pub mod Falls
 pub mod Blocks
 pub mod ProgramCode
 pub mod ProcViews
+pub mod Changes

@@ -1,8 +1,9 @@
 //! Statements and blocks.
-ghost use Rattle.std.specs.Prelude.{◌≡◌, [], length, ◌↔◌, IsTrue, IfOk, slice_get};
+ghost use Rattle.std.specs.Prelude.{◌≡◌, ◌<◌, ◌≤◌, [], ◌++◌, length, ◌↔◌, IsTrue, IfOk, OnOk, slice_get};
 ghost use Rattle.std.specs.Option.{option_copied};
 ghost use Rattle.imp_syntax.specs.Plain.{Ends, block_of, statements_of, number_of};
 ghost use Rattle.imp_syntax.specs.StmtViews.{statement_of};
+ghost use Rattle.imp_syntax.specs.Changes.{with_condition, with_then, with_else, with_body, replaced, inserted, removed};
 
 use crate::{Action, Call, Cond, StmtId};
 use plain_values::{Items, Memory};
@@ -102,6 +103,61 @@ impl Stmt {
     {
         &self.node
     }
+
+    /// The if or while with another condition; any other statement stays as it is. It shares all else, and fails for
+    /// want of memory alone.
+    pub fn with_condition(&self, alloc: Global, cond: Cond) -> Result<Stmt, Memory>
+        ensures is { IfOk result (λ s. s ≡ with_condition self.now cond) }
+    {
+        let node = match self.node() {
+            StmtNode::If(_, then, els) => StmtNode::If(cond, then.clone()?, els.clone()?),
+            StmtNode::While(_, body) => StmtNode::While(cond, body.clone()?),
+            _ => return Ok(self.clone()?),
+        };
+        Stmt::new(alloc, self.id, node)
+    }
+
+    /// The if with another first block; any other statement stays as it is. It shares all else, and fails for want of
+    /// memory alone.
+    pub fn with_then(&self, alloc: Global, then: Block) -> Result<Stmt, Memory>
+        ensures is { IfOk result (λ s. s ≡ with_then self.now then) }
+    {
+        match self.node() {
+            StmtNode::If(cond, _, els) => {
+                let node = StmtNode::If(cond.clone()?, then, els.clone()?);
+                Stmt::new(alloc, self.id, node)
+            }
+            _ => Ok(self.clone()?),
+        }
+    }
+
+    /// The if with another second block; any other statement stays as it is. It shares all else, and fails for want of
+    /// memory alone.
+    pub fn with_else(&self, alloc: Global, els: Block) -> Result<Stmt, Memory>
+        ensures is { IfOk result (λ s. s ≡ with_else self.now els) }
+    {
+        match self.node() {
+            StmtNode::If(cond, then, _) => {
+                let node = StmtNode::If(cond.clone()?, then.clone()?, els);
+                Stmt::new(alloc, self.id, node)
+            }
+            _ => Ok(self.clone()?),
+        }
+    }
+
+    /// The while with another body; any other statement stays as it is. It shares all else, and fails for want of
+    /// memory alone.
+    pub fn with_body(&self, alloc: Global, body: Block) -> Result<Stmt, Memory>
+        ensures is { IfOk result (λ s. s ≡ with_body self.now body) }
+    {
+        match self.node() {
+            StmtNode::While(cond, _) => {
+                let node = StmtNode::While(cond.clone()?, body);
+                Stmt::new(alloc, self.id, node)
+            }
+            _ => Ok(self.clone()?),
+        }
+    }
 }
 
 impl Clone for Stmt {
@@ -164,6 +220,55 @@ impl Block {
     {
         self.as_slice().get(at)
     }
+
+    /// The block with another statement at a place. It copies a list of pointers, and fails for want of memory alone.
+    pub fn with_replaced(&self, alloc: Global, at: usize, stmt: Stmt) -> Result<Block, Memory>
+        requires within { at < length (statements_of self.now) }
+        ensures is { IfOk result (λ b. b ≡ replaced self.now at stmt) }
+    {
+        let stmts = self.as_slice();
+        let mut all = Items::with_capacity(alloc, stmts.len())?;
+        append(&mut all, &stmts[..at])?;
+        all.push(stmt)?;
+        append(&mut all, &stmts[at + 1..])?;
+        Block::new(alloc, all)
+    }
+
+    /// The block with further statements, which begin at this place. It copies a list of pointers, and fails for want
+    /// of memory alone.
+    pub fn with_inserted(&self, alloc: Global, at: usize, more: &Block) -> Result<Block, Memory>
+        requires within { at ≤ length (statements_of self.now) }
+        ensures is { IfOk result (λ b. b ≡ inserted self.now at more.now) }
+    {
+        let stmts = self.as_slice();
+        let mut all = Items::new(alloc);
+        append(&mut all, &stmts[..at])?;
+        append(&mut all, more.as_slice())?;
+        append(&mut all, &stmts[at..])?;
+        Block::new(alloc, all)
+    }
+
+    /// The block without the statement at a place. It copies a list of pointers, and fails for want of memory alone.
+    pub fn with_removed(&self, alloc: Global, at: usize) -> Result<Block, Memory>
+        requires within { at < length (statements_of self.now) }
+        ensures is { IfOk result (λ b. b ≡ removed self.now at) }
+    {
+        let stmts = self.as_slice();
+        let mut all = Items::with_capacity(alloc, stmts.len())?;
+        append(&mut all, &stmts[..at])?;
+        append(&mut all, &stmts[at + 1..])?;
+        Block::new(alloc, all)
+    }
+}
+
+/// Adds statements, shared with what they were.
+fn append(all: &mut Items<Stmt>, stmts: &[Stmt]) -> Result<(), Memory>
+    ensures added { OnOk result (all.new ≡ all.old ++ stmts.now) }
+{
+    for stmt in stmts {
+        all.push(stmt.clone()?)?;
+    }
+    Ok(())
 }
 
 impl Clone for Block {
