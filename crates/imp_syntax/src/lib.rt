@@ -4,6 +4,7 @@
 mod action;
 mod cond;
 mod edit;
+mod equal;
 mod expr;
 mod numbers;
 mod program;
