@@ -55,6 +55,16 @@ relation_back AtMost = refl
 relation_back Greater = refl
 relation_back AtLeast = refl
 
+-- the list of a code, where from gives its items back
+abbrev pub list_from : {A : Type 0} → (Gv → A) → Gv → List A
+list_from from gnil = []
+list_from from (gnum n) = []
+list_from from (gcons x xs) = from x ∷ list_from from xs
+
+pub list_back : {A : Type 0} (to : A → Gv) (from : Gv → A) → ((x : A) → from (to x) ≡ x) → (xs : List A) → list_from from (list_to to xs) ≡ xs
+list_back to from back [] = refl
+list_back to from back (x ∷ xs) = λ i. back x i ∷ list_back to from back xs i
+
 -- the number of a code
 abbrev pub number_from : Gv → ℕ
 number_from gnil = 0

@@ -32,6 +32,15 @@ pub enum ExprNode {
     Binary(Operator, Expr, Expr),
 }
 
+/// A side of a comparison, or an argument of a call.
+#[derive(Debug, Drop)]
+pub enum Side {
+    /// `null`
+    Null,
+    /// An expression.
+    Expr(Expr),
+}
+
 impl Model for Expr {
     ghost use Rattle.imp_syntax.specs.Plain.{Expression, expression_size};
     ghost use Rattle.imp_syntax.specs.Code.{expression_code};

@@ -1,5 +1,8 @@
 //! Kinds, operators, relations and declarations.
+ghost use Rattle.std.specs.Prelude.{◌≡◌};
+
 use plain_values::Text;
+use std::alloc::AllocError;
 
 /// The kind of a variable.
 #[derive(Clone, Copy, Debug, PartialEq, Eq, Hash)]
@@ -17,6 +20,18 @@ pub enum Kind {
 pub struct Declaration {
     pub name: Text,
     pub kind: Kind,
+}
+
+impl Clone for Declaration {
+    ghost is_clone = { λ d copy. copy ≡ d };
+
+    fn clone(&self) -> Result<Declaration, AllocError> {
+        let name = self.name.clone()?;
+        Ok(Declaration {
+            name,
+            kind: self.kind,
+        })
+    }
 }
 
 /// An operator between two integers.
