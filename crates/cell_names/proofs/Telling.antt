@@ -1,7 +1,8 @@
 -- Steps and names that compare equal are equal.
-use Rattle.std.proofs.Common.{◌≡◌, ℕ, Bool, true, false, ◌&&◌, ap, ap₂, arith, refl}
+use Rattle.std.proofs.Common.{◌≡◌, ℕ, Bool, true, false, ◌&&◌, ap, ap₂, ◌∙◌, sym, arith, refl}
 use Rattle.std.proofs.lemmas.Bool.Decides.{nat_tests}
 use Rattle.std.proofs.lemmas.Bool.{and_parts}
+use Rattle.plain_values.specs.Claims.{IsDecided}
 use Rattle.state_table.specs.Numbers.{TellsApart}
 use Rattle.cell_names.specs.declared.frame.Frame.{Frame}
 use Rattle.cell_names.specs.declared.frame.Frame.TheVariants.{InCall, InLoop}
@@ -13,6 +14,8 @@ use Rattle.cell_names.specs.contracts.frame.FramePartialEq.TheImpl as frame_impl
 use Rattle.cell_names.specs.contracts.frame.PointPartialEq.TheImpl as point_impl
 use Rattle.cell_names.specs.contracts.path.StepPartialEq.TheImpl as step_impl
 use Rattle.cell_names.specs.contracts.path.NamePartialEq.TheImpl as name_impl
+use Rattle.cell_names.specs.contracts.frame.FrameEq.TheImpl.Laws as frame_laws
+use Rattle.cell_names.specs.contracts.frame.PointEq.TheImpl.Laws as point_laws
 use Rattle.cell_names.specs.contracts.path.StepEq.TheImpl.Laws as step_laws
 use Rattle.cell_names.specs.contracts.path.NameEq.TheImpl.Laws as name_laws
 
@@ -51,3 +54,15 @@ step_self x = step_laws.laws-law.refl x
 
 pub name_self : (x : Name) → name_impl.ghosts.eq x x ≡ true
 name_self x = name_laws.laws-law.refl x
+
+decided_by : {A : Type 0} (eq : A → A → Bool) → TellsApart eq → ((x : A) → eq x x ≡ true) → IsDecided eq
+decided_by eq tells self x y = (tells x y, λ e. ap (λ z. eq x z) (sym e) ∙ self x)
+
+pub frame_decides : IsDecided frame_impl.ghosts.eq
+frame_decides = decided_by frame_impl.ghosts.eq frame_tells (λ x. frame_laws.laws-law.refl x)
+
+pub point_decides : IsDecided point_impl.ghosts.eq
+point_decides = decided_by point_impl.ghosts.eq point_tells (λ x. point_laws.laws-law.refl x)
+
+pub name_decides : IsDecided name_impl.ghosts.eq
+name_decides = decided_by name_impl.ghosts.eq name_tells name_self

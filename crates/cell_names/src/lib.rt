@@ -10,6 +10,8 @@
 //! takes no memory.
 #![tactic(auto)]
 
+ghost use Rattle.plain_values.specs.Claims.{IsDecided};
+
 mod frame;
 mod names;
 mod path;
@@ -17,6 +19,13 @@ mod path;
 pub use frame::{Frame, Point};
 pub use names::Names;
 pub use path::{Name, PathId};
+
+/// `==` tells frames, points and names apart exactly where they are not the same.
+pub fn equality_decides()
+    ensures frames { IsDecided ⟦<Frame as PartialEq>⟧.eq }
+    ensures points { IsDecided ⟦<Point as PartialEq>⟧.eq }
+    ensures names { IsDecided ⟦<Name as PartialEq>⟧.eq }
+{}
 
 #[cfg(test)]
 mod tests {
