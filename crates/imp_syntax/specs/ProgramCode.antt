@@ -35,6 +35,9 @@ declaration_from p = record { name = text_from (left p); kind = kind_at (number_
 pub declaration_back : (d : Declaration) → declaration_from (declaration_to d) ≡ d
 declaration_back d = λ i. record { name = text_from_to d.name i; kind = kind_back d.kind i }
 
+abbrev pub declaration_code : Coded Declaration
+declaration_code = code_by Gv itself declaration_to declaration_from declaration_back
+
 abbrev pub outcome_to : Option Declaration → Gv
 outcome_to None = gnil
 outcome_to (Some d) = gcons gnil (declaration_to d)
