@@ -9,6 +9,7 @@ mod equal_procs;
 mod equal_stmts;
 mod expr;
 mod hashes;
+mod hashes_of_stmts;
 mod numbers;
 mod program;
 mod stmt;
