@@ -9,3 +9,4 @@ pub mod Blocks
 pub mod ProgramCode
 pub mod ProcViews
 pub mod Changes
+pub mod Hashes

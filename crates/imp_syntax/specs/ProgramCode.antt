@@ -1,5 +1,5 @@
 -- The codes of plain procedures and programs.
-use Rattle.std.specs.Prelude.{ℕ, zero, suc, List, [], ◌∷◌, ◌≡◌, refl, Option, Some, None}
+use Rattle.std.specs.Prelude.{ℕ, zero, suc, List, ◌≡◌, refl, Option, Some, None}
 use Rattle.std.specs.Coded.{code_by}
 use Rattle.plain_values.specs.Equal.{list_to, text_to, text_from, text_from_to}
 use Rattle.imp_syntax.specs.Plain.{Procedure}
@@ -34,6 +34,9 @@ declaration_from p = record { name = text_from (left p); kind = kind_at (number_
 
 pub declaration_back : (d : Declaration) → declaration_from (declaration_to d) ≡ d
 declaration_back d = λ i. record { name = text_from_to d.name i; kind = kind_back d.kind i }
+
+abbrev pub declaration_code : Coded Declaration
+declaration_code = code_by Gv itself declaration_to declaration_from declaration_back
 
 abbrev pub outcome_to : Option Declaration → Gv
 outcome_to None = gnil

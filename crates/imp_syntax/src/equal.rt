@@ -73,8 +73,9 @@ impl Eq for Cond {
     ghost laws = { same_equiv condition_code };
 }
 
+/// Whether two texts are the same.
 #[tactic(auto, using(plain_values::specs::Equal::text_same))]
-fn same_text(a: &Text, b: &Text) -> bool
+pub(crate) fn same_text(a: &Text, b: &Text) -> bool
     ensures is { result ≡ code_same (text_to a.now) (text_to b.now) }
 {
     a == b
