@@ -59,9 +59,9 @@ fits_effect l (WriteItem p e) = is_link l p && fits_term l e
 -- are the slots that are left for them.
 abbrev pub fits_arguments : Layout → List Argument → (numbers : List Numeric) → (links : List (List ℕ)) → Bool
 fits_arguments l [] numbers links = true
-fits_arguments l (IntArgument e ∷ as) numbers links = is_kind false (slice_get numbers 0) && (fits_term l e && fits_arguments l as (drop 1 numbers) links)
-fits_arguments l (ArrayArgument a ∷ as) numbers links = is_kind true (slice_get numbers 0) && (is_array l a && fits_arguments l as (drop 1 numbers) links)
-fits_arguments l (LinkArgument p ∷ as) numbers links = nat_lt 0 (length links) && (is_side l p && fits_arguments l as numbers (drop 1 links))
+fits_arguments l (IntArgument e ∷ more) numbers links = is_kind false (slice_get numbers 0) && (fits_term l e && fits_arguments l more (drop 1 numbers) links)
+fits_arguments l (ArrayArgument a ∷ more) numbers links = is_kind true (slice_get numbers 0) && (is_array l a && fits_arguments l more (drop 1 numbers) links)
+fits_arguments l (LinkArgument p ∷ more) numbers links = nat_lt 0 (length links) && (is_side l p && fits_arguments l more numbers (drop 1 links))
 
 -- the result's slot is of the callee's layout, and the slot that takes it of the caller's, with the same kind
 abbrev pub fits_returning : (callee caller : Layout) → Option Returning → Bool
