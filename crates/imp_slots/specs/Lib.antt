@@ -1,1 +1,11 @@
 pub mod Plain
+pub mod Sizes
+pub mod Codes
+pub mod PartCodes
+pub mod BlockCodes
+pub mod ExprViews
+pub mod CondViews
+pub mod ActionViews
+pub mod CallViews
+pub mod BlockViews
+pub mod BlockFalls
