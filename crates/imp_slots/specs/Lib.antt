@@ -1,2 +1,12 @@
 pub mod Plain
 pub mod Fits
+pub mod Sizes
+pub mod Codes
+pub mod PartCodes
+pub mod BlockCodes
+pub mod ExprViews
+pub mod CondViews
+pub mod ActionViews
+pub mod CallViews
+pub mod BlockViews
+pub mod BlockFalls
