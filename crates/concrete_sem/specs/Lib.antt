@@ -8,3 +8,5 @@ pub mod Reach
 pub mod Proper
 pub mod WellFormed
 pub mod Items
+pub mod Keeping
+pub mod Claims
