@@ -1,15 +1,10 @@
 -- Where a configuration stands, and what runs reach.
 use Rattle.std.specs.Prelude.{◌≡◌, ℕ, zero, suc, ◌==◌, List, [], ◌∷◌, reverse, slice_get, option_map, Option, Some, None, Bool, true, false, if◌then◌else◌, All, ℤ}
+use Rattle.imp_syntax.specs.declared.edit.Location.{Location}
+use Rattle.imp_syntax.specs.declared.edit.Location.TheVariants.{Before, After, Head, End}
 use Rattle.imp_slots.specs.Plain.{Code, Stop, Simple, If, While, Call, Break, Routine}
 use Rattle.concrete_sem.specs.Values.{IsWord}
 use Rattle.concrete_sem.specs.Steps.{Work, Ret, Do, Done, Test, Frame, In, Config, Step, Next, Faulted, InputsUsedUp, Ended, step, start}
-
--- A place in a program: before a statement, after it, at the head of a loop; or at the end of the procedure of that name.
-pub data Location : Type 0 where
-  Before : ℕ → Location
-  After : ℕ → Location
-  Head : ℕ → Location
-  End : List ℕ → Location
 
 -- the number of a block's first statement
 abbrev pub first_number : Code → Option ℕ

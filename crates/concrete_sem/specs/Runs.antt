@@ -3,7 +3,7 @@ use Rattle.std.specs.Prelude.{ℕ, zero, suc, ◌+◌, ◌==◌, List, Option, S
 use Rattle.imp_slots.specs.Plain.{Routine}
 use Rattle.concrete_sem.specs.declared.fault.FaultKind.{FaultKind}
 use Rattle.concrete_sem.specs.Steps.{Config, Step, Next, Faulted, InputsUsedUp, Ended, step}
-use Rattle.concrete_sem.specs.Reach.{Location, Before, After, Head, End, standing}
+
 
 -- How a run ends: main is done, a fault at a statement, no input left there, or no more steps allowed.
 pub data RunEnd : Type 0 where
