@@ -1,8 +1,8 @@
 -- Work changes as its list of items does.
-use Rattle.std.specs.Prelude.{◌≡◌, List, ◌++◌, Option, Some, None}
+use Rattle.std.specs.Prelude.{◌≡◌, List, ◌++◌}
 use Rattle.std.proofs.Common.{refl, sym, ◌∙◌}
 use Rattle.imp_slots.specs.Plain.{Code, Stop, Simple, If, While, Call, Break}
-use Rattle.concrete_sem.specs.Steps.{Work, Ret, Do, Done, Test}
+use Rattle.concrete_sem.specs.Steps.{Ret, Do, Done, Test}
 use Rattle.concrete_sem.specs.Items.{Item, do_items, items, leave_items}
 use Rattle.concrete_sem.specs.Claims.{PushesItems, BreakLeavesItems}
 

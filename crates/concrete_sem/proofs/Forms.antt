@@ -1,18 +1,17 @@
 -- Steps keep well-formedness, and well-formed configurations go on until main is done.
-use Rattle.std.specs.Prelude.{◌≡◌, ◌≢◌, ◌↔◌, ℕ, zero, suc, ◌-◌, ◌<◌, ℤ, List, [], ◌∷◌, length, slice_get, Option, Some, None, Bool, true, false, ◌||◌, MatchOption, All, ◌⊎◌, ◌≤◌, get_or}
+use Rattle.std.specs.Prelude.{◌≡◌, ◌≢◌, ℕ, suc, ◌-◌, ◌<◌, List, [], ◌∷◌, length, slice_get, Option, Some, None, Bool, true, false, ◌||◌, ◌⊎◌, ◌≤◌, get_or}
 use Rattle.std.proofs.Common.{refl, sym, ap, ◌∙◌, subst, inl, inr, arith}
 use Rattle.std.proofs.lemmas.Option.{slice_get_within, slice_get_cases}
-use Rattle.imp_slots.specs.Plain.{Layout, Guard, Effect, Invoke, Code, Stop, Simple, If, While, Call, Break, Routine}
-use Rattle.imp_slots.specs.Fits.{breaks, fits_effect, fits_invoke, FitsCall, FitsCode, IsChecked}
-use Rattle.concrete_sem.specs.declared.fault.FaultKind.{FaultKind}
-use Rattle.concrete_sem.specs.Values.{Variables, Heap, Attempt, Gives, Faults, LacksInput, IsWord}
+use Rattle.imp_slots.specs.Plain.{Layout, Guard, Invoke, Code, Stop, Simple, If, While, Call, Break, Routine}
+use Rattle.imp_slots.specs.Fits.{breaks, fits_invoke, FitsCode, IsChecked}
+use Rattle.concrete_sem.specs.Values.{Variables, Heap, Attempt, Gives, Faults, LacksInput}
 use Rattle.concrete_sem.specs.Evaluation.{truth_of}
 use Rattle.concrete_sem.specs.Effects.{effect_of}
 use Rattle.concrete_sem.specs.Passing.{first_variables, pass, back}
-use Rattle.concrete_sem.specs.Steps.{Work, Ret, Do, Done, Test, Frame, In, Config, Step, Next, Faulted, InputsUsedUp, Ended, push, leave_loop, chosen, goes_on, step_at, step_if_some, turn, returns_to, enters, step_frame, step_frames, step, main, started, start}
+use Rattle.concrete_sem.specs.Steps.{Work, Ret, Do, Done, Test, Frame, In, Config, Step, Next, Ended, push, leave_loop, chosen, goes_on, step_at, step_if_some, turn, returns_to, enters, step_frame, step_frames, main, started}
 use Rattle.concrete_sem.specs.Reach.{first_number}
 use Rattle.concrete_sem.specs.Proper.{IsProper}
-use Rattle.concrete_sem.specs.WellFormed.{StandsIn, whole, behind_simple, then_block, else_block, behind_if, loop_body, behind_loop, behind_call, behind_break, has_test, first_call, IsWork, Awaits, AreStacked, DoTheirWork, layout_at, layouts_of, variables_of, IsWellFormed, IsEnded}
+use Rattle.concrete_sem.specs.WellFormed.{StandsIn, whole, behind_simple, then_block, else_block, behind_if, loop_body, behind_loop, behind_call, has_test, first_call, IsWork, Awaits, AreStacked, DoTheirWork, layout_at, layouts_of, variables_of, IsWellFormed, IsEnded}
 use Rattle.concrete_sem.specs.Claims.{StepsGoOn, StepsKeepForm, StartIsWellFormed}
 use Rattle.concrete_sem.proofs.Keeps.{effects_keep, passing_keeps, returns_keep, start_keeps}
 use Rattle.concrete_sem.proofs.Programs.{Known, known, block_fits, from_match, to_match}

@@ -1,22 +1,22 @@
 -- Steps keep heaps and variables as the layouts say.
-use Rattle.std.specs.Prelude.{◌≡◌, ℕ, zero, suc, ◌+◌, ◌^◌, ◌<◌, ◌≤◌, nat_lt, nat_le, ℤ, pos, negsuc, List, [], ◌∷◌, ◌++◌, length, map, drop, replicate, slice_get, slice_index_or, slice_set, Option, Some, None, Bool, true, false, ◌&&◌, ◌||◌, not, if◌then◌else◌, All, ◌⊎◌}
+use Rattle.std.specs.Prelude.{◌≡◌, ℕ, zero, suc, ◌<◌, ◌≤◌, nat_lt, nat_le, ℤ, pos, negsuc, List, [], ◌∷◌, ◌++◌, length, map, drop, replicate, slice_get, slice_index_or, slice_set, Option, Some, None, Bool, true, false, ◌&&◌, ◌||◌, if◌then◌else◌, All, ◌⊎◌}
 use Rattle.std.specs.List.{AllZip}
 use Rattle.std.proofs.Common.{refl, sym, ap, ◌∙◌, subst, inl, inr, arith}
 use Rattle.std.proofs.lemmas.Bool.Decides.{nat_tests}
 use Rattle.std.proofs.lemmas.List.Elements.{All-set, All-append, All-replicate, All-nil, All-cons}
 use Rattle.std.proofs.lemmas.List.{length-set, length-append, length-replicate}
 use Rattle.std.proofs.lemmas.Option.{slice_get_within, get_or_from_slice_get}
-use Rattle.imp_slots.specs.Plain.{Numeric, Layout, Term, Guard, Effect, Skip, Assert, SetInt, Input, ReadElement, ReadItem, MakeArray, CopyArray, WriteElement, SetNull, MakeCell, CopyLink, ReadNext, WriteNext, WriteItem, Argument, IntArgument, ArrayArgument, LinkArgument, Returning, NumericResult, LinkResult, Invoke}
-use Rattle.imp_slots.specs.Fits.{is_kind, is_int, is_array, is_link, is_side, fits_term, fits_guard, fits_effect, fits_arguments, fits_returning, fits_invoke}
+use Rattle.imp_slots.specs.Plain.{Numeric, Layout, Effect, Skip, Assert, SetInt, Input, ReadElement, ReadItem, MakeArray, CopyArray, WriteElement, SetNull, MakeCell, CopyLink, ReadNext, WriteNext, WriteItem, Argument, IntArgument, ArrayArgument, LinkArgument, Returning, NumericResult, LinkResult}
+use Rattle.imp_slots.specs.Fits.{is_kind, is_int, is_array, is_link, is_side, fits_term, fits_effect, fits_arguments, fits_returning, fits_invoke}
 use Rattle.concrete_sem.specs.declared.fault.FaultKind.{FaultKind}
 use Rattle.concrete_sem.specs.declared.fault.FaultKind.TheVariants.{Length, Index, Null, Assert as Failed}
-use Rattle.concrete_sem.specs.Values.{Number, Int, Array, Variables, Cell, Heap, Attempt, Gives, Faults, LacksInput, andthen, given_or, IsWord, number_at, array_at, link_at, with_number, with_link}
+use Rattle.concrete_sem.specs.Values.{Number, Int, Array, Variables, Cell, Heap, Gives, Faults, andthen, given_or, IsWord, number_at, array_at, link_at, with_number, with_link}
 use Rattle.concrete_sem.specs.Evaluation.{value_of, truth_of, side_at}
 use Rattle.concrete_sem.specs.Effects.{new_array, element, with_element, cell_of, with_cell, take_input, effect_of}
 use Rattle.concrete_sem.specs.Passing.{first_number, first_link, first_variables, passed, over, pass, back}
 use Rattle.concrete_sem.specs.Proper.{IsLink, IsCell, IsNumber, AreVariables, AreFrames, IsProper}
 use Rattle.concrete_sem.specs.Keeping.{EffectsKeep, PassingKeeps, ReturnsKeep, LastAloneKeeps, StartKeeps}
-use Rattle.concrete_sem.proofs.Numbers.{given, gives_inj, both, below, is_word_zero, slot_of, int_is_word, array_is_words, number_is, numbers_kept, at_slot, value_word}
+use Rattle.concrete_sem.proofs.Numbers.{given, gives_inj, both, is_word_zero, slot_of, array_is_words, numbers_kept, at_slot, value_word}
 
 some_inj : {A : Type 0} (a b : A) → Some a ≡ Some b → a ≡ b
 some_inj a b e = cc
@@ -309,11 +309,11 @@ passing_keeps i l ls h v u vs f g p =
     let k = both (fits_arguments l i.entering.arguments ns ks) (fits_returning i.entering.layout l i.returning) f in
     let r = passed_fit c l v i.entering.arguments ns ks t.value p.frames.0 k.0 t.was in
     let a : AreVariables c i.entering.layout (record { numbers = over t.value.numbers (map first_number ns); links = over t.value.links (map first_link ks) }) =
-        record {
-          numbers = over_zip ns t.value.numbers (map first_number ns) r.numbers (first_zip ns);
-          count = over_length t.value.links (map first_link ks) ∙ first_length ks;
-          links = over_all (IsLink c) t.value.links (map first_link ks) r.links (first_links c ks);
-        } in
+    record {
+      numbers = over_zip ns t.value.numbers (map first_number ns) r.numbers (first_zip ns);
+      count = over_length t.value.links (map first_link ks) ∙ first_length ks;
+      links = over_all (IsLink c) t.value.links (map first_link ks) r.links (first_links c ks);
+    } in
     record { cells = p.cells; inputs = p.inputs; frames = (subst (AreVariables c i.entering.layout) (gives_inj _ _ t.gives) a, p.frames) }
 
 -- The result's value in the caller's slot.

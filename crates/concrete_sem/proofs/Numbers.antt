@@ -1,20 +1,19 @@
 -- What is evaluated in variables of a layout is an integer of 64 bits.
-use Rattle.std.specs.Prelude.{◌≡◌, ℕ, zero, suc, ◌^◌, ◌<◌, ◌≤◌, nat_lt, ℤ, pos, negsuc, ◌+ℤ◌, ◌-ℤ◌, ◌*ℤ◌, neg_ℤ, unsigned_abs, int_div, int_rem, List, [], ◌∷◌, length, slice_get, slice_index_or, slice_set, Option, Some, None, Bool, true, false, ◌&&◌, ◌||◌, not, if◌then◌else◌, All, FitsSigned}
+use Rattle.std.specs.Prelude.{◌≡◌, ℕ, zero, suc, ◌^◌, ◌<◌, ◌≤◌, nat_lt, ℤ, pos, negsuc, ◌+ℤ◌, ◌-ℤ◌, ◌*ℤ◌, neg_ℤ, unsigned_abs, int_div, int_rem, List, [], ◌∷◌, length, slice_get, slice_index_or, slice_set, Option, Some, None, Bool, true, false, ◌&&◌, not, if◌then◌else◌, All}
 use Rattle.std.specs.List.{AllZip}
 use Rattle.std.specs.Int.{w64}
 use Rattle.std.specs.Ordering.{int_eq}
-use Rattle.std.proofs.Common.{refl, sym, ap, ◌∙◌, subst, arith}
+use Rattle.std.proofs.Common.{refl, sym, subst, arith}
 use Rattle.std.proofs.lemmas.Bool.Decides.{nat_tests}
-use Rattle.std.proofs.lemmas.Int.{ints, rem_below, fits_signed_from_abs}
-use Rattle.std.proofs.lemmas.List.Elements.{All-set}
+use Rattle.std.proofs.lemmas.Int.{rem_below, fits_signed_from_abs}
 use Rattle.imp_slots.specs.Plain.{Numeric, Layout, Term, Literal, Slot, Length, Negative, Binary}
-use Rattle.imp_slots.specs.Fits.{is_kind, is_int, is_array, fits_term}
+use Rattle.imp_slots.specs.Fits.{is_kind, fits_term}
 use Rattle.imp_syntax.specs.declared.words.Operator.{Operator}
 use Rattle.imp_syntax.specs.declared.words.Operator.TheVariants.{Add, Subtract, Multiply, Divide, Remainder}
 use Rattle.concrete_sem.specs.declared.fault.FaultKind.{FaultKind}
 use Rattle.concrete_sem.specs.declared.fault.FaultKind.TheVariants.{Overflow, Zero}
-use Rattle.concrete_sem.specs.Values.{Number, Int, Array, Variables, Attempt, Gives, Faults, LacksInput, andthen, is_word, IsWord, as_int, as_array, number_at, int_at, array_at}
-use Rattle.concrete_sem.specs.Evaluation.{word, quotient, remainder, combine, value_of}
+use Rattle.concrete_sem.specs.Values.{Number, Int, Array, Variables, Attempt, Gives, Faults, LacksInput, andthen, is_word, IsWord, as_int, as_array, number_at}
+use Rattle.concrete_sem.specs.Evaluation.{word, quotient, combine, value_of}
 use Rattle.concrete_sem.specs.Proper.{IsNumber, AreVariables}
 
 -- an attempt that gave something

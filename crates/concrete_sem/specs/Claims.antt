@@ -1,5 +1,5 @@
 -- What is claimed of steps: well-formed configurations go on until main is done, and stay well-formed.
-use Rattle.std.specs.Prelude.{◌≡◌, ◌↔◌, ◌++◌, List, Option, Some, None, All, ℤ, option_map}
+use Rattle.std.specs.Prelude.{◌≡◌, ◌↔◌, ◌++◌, List, All, ℤ, option_map}
 use Rattle.imp_slots.specs.Plain.{Code, Routine}
 use Rattle.imp_slots.specs.Fits.{IsChecked}
 use Rattle.concrete_sem.specs.Values.{IsWord}

@@ -2,7 +2,7 @@
 use Rattle.std.specs.Prelude.{◌≡◌, ℤ, List, [], ◌∷◌, true, All}
 use Rattle.imp_slots.specs.Plain.{Layout, Effect, Invoke}
 use Rattle.imp_slots.specs.Fits.{fits_effect, fits_invoke}
-use Rattle.concrete_sem.specs.Values.{Variables, Heap, Attempt, Gives, IsWord}
+use Rattle.concrete_sem.specs.Values.{Variables, Heap, Gives, IsWord}
 use Rattle.concrete_sem.specs.Effects.{effect_of}
 use Rattle.concrete_sem.specs.Passing.{first_variables, pass, back}
 use Rattle.concrete_sem.specs.Proper.{IsProper}

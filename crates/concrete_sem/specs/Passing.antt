@@ -1,5 +1,5 @@
 -- What a call passes to its callee, and what it takes back.
-use Rattle.std.specs.Prelude.{ℕ, ℤ, pos, List, [], ◌∷◌, map, Option, Some, None, Bool, if◌then◌else◌}
+use Rattle.std.specs.Prelude.{ℕ, pos, List, [], ◌∷◌, map, Option, Some, None, if◌then◌else◌}
 use Rattle.imp_slots.specs.Plain.{Numeric, Layout, Argument, IntArgument, ArrayArgument, LinkArgument, Entering, Returning, NumericResult, LinkResult}
 use Rattle.concrete_sem.specs.Values.{Number, Int, Array, Variables, Attempt, Gives, andthen, number_at, array_at, link_at, with_number, with_link}
 use Rattle.concrete_sem.specs.Evaluation.{value_of, side_at}

@@ -1,9 +1,8 @@
 -- Runs of so many steps at most, and how often they stand at a location.
-use Rattle.std.specs.Prelude.{ℕ, zero, suc, ◌+◌, ◌==◌, List, Option, Some, None, Bool, true, false, ◌&&◌, if◌then◌else◌}
+use Rattle.std.specs.Prelude.{ℕ, zero, suc, ◌+◌, List, Bool, true, false}
 use Rattle.imp_slots.specs.Plain.{Routine}
 use Rattle.concrete_sem.specs.declared.fault.FaultKind.{FaultKind}
 use Rattle.concrete_sem.specs.Steps.{Config, Step, Next, Faulted, InputsUsedUp, Ended, step}
-
 
 -- How a run ends: main is done, a fault at a statement, no input left there, or no more steps allowed.
 pub data RunEnd : Type 0 where
