@@ -3,6 +3,7 @@ use Rattle.std.specs.Prelude.{◌≡◌, ℕ, zero, suc, ◌==◌, List, [], ◌
 use Rattle.imp_syntax.specs.declared.edit.Location.{Location}
 use Rattle.imp_syntax.specs.declared.edit.Location.TheVariants.{Before, After, Head, End}
 use Rattle.imp_slots.specs.Plain.{Code, Stop, Simple, If, While, Call, Break, Routine}
+use Rattle.program_chains.specs.Chains.{ends_in}
 use Rattle.concrete_sem.specs.Values.{IsWord}
 use Rattle.concrete_sem.specs.Steps.{Work, Ret, Do, Done, Test, Frame, In, Config, Step, Next, Faulted, InputsUsedUp, Ended, step, start}
 
@@ -43,12 +44,6 @@ sites (In p v w ∷ below) = site w ∷ sites below
 abbrev pub call_sites : List Frame → List ℕ
 call_sites [] = []
 call_sites (f ∷ below) = sites below
-
--- a list of numbers, the last one first, ends in another
-abbrev pub ends_in : List ℕ → List ℕ → Bool
-ends_in [] z = true
-ends_in (k ∷ s) [] = false
-ends_in (k ∷ s) (n ∷ z) = if k == n then ends_in s z else false
 
 -- the configuration with its last frame alone
 abbrev pub last_alone : List Frame → List Frame

@@ -4,6 +4,7 @@ use Rattle.std.specs.Prelude.{◌≡◌, ◌↔◌, List, [], ◌∷◌, Option,
 
 use Rattle.imp_slots.specs.Plain.{Layout, Guard, Effect, Act, DoBreak, Does, Invoke}
 use Rattle.imp_slots.specs.Fits.{fits_guard, fits_effect, fits_invoke}
+pub use Rattle.program_chains.specs.Marks.{IsRising}
 use Rattle.concrete_sem.specs.Values.{Variables, Heap, Attempt, Gives, Faults, IsWord}
 use Rattle.concrete_sem.specs.Evaluation.{truth_of}
 use Rattle.concrete_sem.specs.Effects.{effect_of}
@@ -17,12 +18,6 @@ use Rattle.domain_laws.specs.Checks.{Check, check_of, fault_of}
 abbrev pub fits_act : Layout → Act → Bool
 fits_act l DoBreak = true
 fits_act l (Does e) = fits_effect l e
-
--- marks rise, each once, and are integers of 64 bits
-abbrev pub IsRising : List ℤ → Type 0
-IsRising [] = Unit {0}
-IsRising (x ∷ []) = IsWord x
-IsRising (x ∷ y ∷ zs) = IsWord x × (x <ℤ y) × IsRising (y ∷ zs)
 
 -- Operations on states that fit give states that fit.
 pub record Fitting {S : Type 0} (dom : Operations S) : Type 0 where
