@@ -9,3 +9,5 @@ pub mod ActionViews
 pub mod CallViews
 pub mod BlockViews
 pub mod BlockFalls
+pub mod EnumCodes
+pub mod ListCodes

@@ -5,6 +5,7 @@ mod actions;
 mod blocks;
 mod calls;
 mod conditions;
+mod equal;
 mod expressions;
 mod layouts;
 
