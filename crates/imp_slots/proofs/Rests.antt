@@ -1,13 +1,11 @@
 -- Equality of blocks, statement by statement.
 use Rattle.std.proofs.Common.{ℕ, zero, suc, ◌≤◌, get_or, drop-cons, add-one, ◌≡◌, ◌+◌, ◌<◌, ◌&&◌, Bool, true, false, List, [], ◌∷◌, length, drop, refl, ap, ◌∙◌, arith}
-use base.Stored.{Gv, gcons}
-use Rattle.plain_values.specs.Equal.{code_same, list_to, list_same}
+use Rattle.plain_values.specs.Equal.{code_same, list_to}
 use Rattle.imp_slots.specs.BlockCodes.{code_to}
 use Rattle.imp_slots.specs.BlockViews.{code_of}
 use Rattle.imp_slots.specs.EnumCodes.{node_to}
 use Rattle.imp_slots.specs.ListCodes.{list_to-code_of}
 use Rattle.imp_slots.specs.declared.blocks.SlotNode.{SlotNode}
-
 
 -- the codes of the rests of two lists from the i-th statement on
 abbrev pub rests_same : (xs ys : List SlotNode) → ℕ → Bool

@@ -1,6 +1,6 @@
 -- The codes of the enums of slot forms: those of what they say.
-use Rattle.std.specs.Prelude.{ℕ, zero, suc, ◌≡◌, refl}
-use base.Stored.{Coded, Gv, gnil, gnum, gcons}
+use Rattle.std.specs.Prelude.{zero, suc, ◌≡◌, refl}
+use base.Stored.{Coded, Gv, gnum, gcons}
 use Rattle.std.specs.Coded.{code_by}
 use denote.Struct.Codes.{itself}
 use Rattle.std.proofs.Common.{ap, ◌∙◌}

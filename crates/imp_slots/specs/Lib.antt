@@ -11,3 +11,4 @@ pub mod BlockViews
 pub mod BlockFalls
 pub mod EnumCodes
 pub mod ListCodes
+pub mod Hashes

@@ -7,8 +7,10 @@ ghost use Rattle.imp_slots.specs.PartCodes.{numeric_code, numeric_to, layout_cod
 ghost use Rattle.imp_slots.specs.BlockCodes.{code_code, routine_code};
 ghost use Rattle.imp_slots.specs.EnumCodes.{action_coded, stmt_coded, argument_coded, node_coded};
 
-use crate::{Argument, Entering, Layout, NumericSlot, Returning, Routine, SlotAction, SlotBlock};
-use crate::{SlotCall, SlotCond, SlotCondNode, SlotExpr, SlotExprNode, SlotNode, SlotStmt};
+use crate::{
+    Argument, Entering, Layout, NumericSlot, Returning, Routine, SlotAction, SlotBlock, SlotCall,
+    SlotCond, SlotCondNode, SlotExpr, SlotExprNode, SlotNode, SlotStmt,
+};
 use plain_values::Text;
 
 impl PartialEq for SlotExpr {
