@@ -1,4 +1,5 @@
 pub mod Plain
+pub mod Fits
 pub mod Sizes
 pub mod Codes
 pub mod PartCodes

@@ -1,4 +1,8 @@
-//! Kinds, operators and relations.
+//! Kinds, operators, relations and declarations.
+ghost use Rattle.std.specs.Prelude.{◌≡◌};
+
+use plain_values::Text;
+use std::alloc::AllocError;
 
 /// The kind of a variable.
 #[derive(Clone, Copy, Debug, PartialEq, Eq, Hash)]
@@ -9,6 +13,25 @@ pub enum Kind {
     Array,
     /// A link to a list cell, or null.
     List,
+}
+
+/// A parameter, a result or a local variable.
+#[derive(Debug, Drop)]
+pub struct Declaration {
+    pub name: Text,
+    pub kind: Kind,
+}
+
+impl Clone for Declaration {
+    ghost is_clone = { λ d copy. copy ≡ d };
+
+    fn clone(&self) -> Result<Declaration, AllocError> {
+        let name = self.name.clone()?;
+        Ok(Declaration {
+            name,
+            kind: self.kind,
+        })
+    }
 }
 
 /// An operator between two integers.
