@@ -46,8 +46,8 @@ pub record Laws {S : Type 0} (dom : Operations S) (covers : S → Heap → List 
   pub init : (l : Layout) (inputs : List ℤ) → All IsWord inputs → covers (dom.init l) (record { cells = []; inputs = inputs }) (first_variables l ∷ [])
   pub shed : (l : Layout) (ls : List Layout) (s : S) (h : Heap) (v : Variables) (vs : List Variables) → dom.fits s (l ∷ ls) ≡ true → IsProper h (v ∷ vs) (l ∷ ls) → covers s h (v ∷ vs) → covers (dom.shed s) h (v ∷ [])
   -- verdicts on a statement that has a check: dead, nothing is described; safe, nothing described fails the check
-  pub dead_verdict : (e : Effect) (c : Check) (l : Layout) (ls : List Layout) (s : S) (h : Heap) (vs : List Variables) → check_of e ≡ Some c → fits_effect l e ≡ true → dom.fits s (l ∷ ls) ≡ true → IsProper h vs (l ∷ ls) → dom.check e s ≡ Dead → covers s h vs → ⊥
-  pub safe_verdict : (e : Effect) (c : Check) (l : Layout) (ls : List Layout) (s : S) (h : Heap) (v : Variables) (vs : List Variables) → check_of e ≡ Some c → fits_effect l e ≡ true → dom.fits s (l ∷ ls) ≡ true → IsProper h (v ∷ vs) (l ∷ ls) → dom.check e s ≡ Safe → covers s h (v ∷ vs) → effect_of e h v ≡ Faults (fault_of c) → ⊥
+  pub dead_verdict : (e : Effect) (c : Check) (l : Layout) (ls : List Layout) (s : S) (h : Heap) (vs : List Variables) → check_of e ≡ Some c → fits_effect l e ≡ true → dom.fits s (l ∷ ls) ≡ true → IsProper h vs (l ∷ ls) → dom.check (Does e) s ≡ Dead → covers s h vs → ⊥
+  pub safe_verdict : (e : Effect) (c : Check) (l : Layout) (ls : List Layout) (s : S) (h : Heap) (v : Variables) (vs : List Variables) → check_of e ≡ Some c → fits_effect l e ≡ true → dom.fits s (l ∷ ls) ≡ true → IsProper h (v ∷ vs) (l ∷ ls) → dom.check (Does e) s ≡ Safe → covers s h (v ∷ vs) → effect_of e h v ≡ Faults (fault_of c) → ⊥
 
 -- The dead law: simple statements change no dead state.
 abbrev pub KeepsDead : {S : Type 0} → Operations S → Type 0

@@ -1,6 +1,6 @@
 -- The operations of a domain of states.
 use Rattle.std.specs.Prelude.{ℕ, ℤ, List, Option, Bool}
-use Rattle.imp_slots.specs.Plain.{Layout, Guard, Effect, Act, Entering, Returning}
+use Rattle.imp_slots.specs.Plain.{Layout, Guard, Act, Entering, Returning}
 use Rattle.domain_laws.specs.declared.verdict.Verdict.{Verdict}
 
 pub record Operations (S : Type 0) : Type 0 where
@@ -19,8 +19,8 @@ pub record Operations (S : Type 0) : Type 0 where
   pub leave : Option Returning → S → S → S
   -- the last frame alone
   pub shed : S → S
-  -- what the state says of the check of a statement
-  pub check : Effect → S → Verdict
+  -- what the state says of the check of a statement; where it has none, no fault comes of one
+  pub check : Act → S → Verdict
   -- whether two states are equal
   pub same : S → S → Bool
   -- no configuration is described, and simple statements change nothing

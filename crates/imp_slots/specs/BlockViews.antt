@@ -1,7 +1,8 @@
 -- What a list of statements says.
-use Rattle.std.specs.Prelude.{ℕ, List, [], ◌∷◌}
+use Rattle.std.specs.Prelude.{ℕ, ◌+◌, List, [], ◌∷◌}
 use Rattle.imp_slots.specs.Plain.{Code, Stop}
 use Rattle.imp_slots.specs.Plain as plain
+use Rattle.imp_slots.specs.Sizes.{code_size}
 use Rattle.imp_slots.specs.ActionViews.{effect_of}
 use Rattle.imp_slots.specs.declared.blocks.SlotNode.{SlotNode}
 use Rattle.imp_slots.specs.declared.blocks.SlotNode.TheVariants.{Simple, If, While, Call, Break}
@@ -24,3 +25,11 @@ number_of (If n c t e) = n
 number_of (While n c b) = n
 number_of (Call n i q) = n
 number_of (Break n) = n
+
+-- how large a statement is: more than the blocks inside it, and no more than a block that it stands in
+abbrev pub node_size : SlotNode → ℕ
+node_size (Simple n a) = 1
+node_size (If n c t e) = code_size t + code_size e + 3
+node_size (While n c b) = code_size b + 2
+node_size (Call n i q) = 1
+node_size (Break n) = 1

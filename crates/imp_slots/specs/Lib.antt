@@ -10,3 +10,6 @@ pub mod ActionViews
 pub mod CallViews
 pub mod BlockViews
 pub mod BlockFalls
+pub mod EnumCodes
+pub mod ListCodes
+pub mod Hashes
