@@ -1,0 +1,58 @@
+-- The report: a verdict on each statement that has a check.
+use Rattle.std.specs.Prelude.{ℕ, List, [], ◌∷◌, ◌++◌, map, Option, Some, None}
+use Rattle.imp_syntax.specs.declared.edit.Location.TheVariants.{Before}
+use Rattle.imp_slots.specs.Plain.{Effect, Code, Stop, Simple, If, While, Call, Break, Routine}
+use Rattle.domain_laws.specs.declared.verdict.Verdict.{Verdict}
+use Rattle.domain_laws.specs.declared.verdict.Verdict.TheVariants.{Dead, Safe, May}
+use Rattle.domain_laws.specs.Operations.{Operations}
+use Rattle.domain_laws.specs.Checks.{Check, check_of}
+use Rattle.batch_interp.specs.Values.{Value, State, Over}
+use Rattle.batch_interp.specs.Batch.{Engine}
+use Rattle.batch_interp.specs.Answers.{Answer, Refuses, Answers, answer}
+use Rattle.batch_interp.specs.declared.refusal.Refusal.{Refusal}
+use Rattle.batch_interp.specs.declared.refusal.Refusal.TheVariants.{LongString, NoProcedure, NoStatement, WrongStatement, NoChain}
+
+-- A statement that has a check.
+pub record Checked : Type 0 where
+  pub number : ℕ
+  pub effect : Effect
+  pub check : Check
+
+abbrev pub checked_one : ℕ → Effect → Option Check → List Checked
+checked_one n e None = []
+checked_one n e (Some c) = record { number = n; effect = e; check = c } ∷ []
+
+-- the checked statements of a block, of procedures, in the order of the text
+abbrev pub checked_in : Code → List Checked
+checked_in Stop = []
+checked_in (Simple n e r) = checked_one n e (check_of e) ++ checked_in r
+checked_in (If n g t e r) = checked_in t ++ (checked_in e ++ checked_in r)
+checked_in (While n g b r) = checked_in b ++ checked_in r
+checked_in (Call n i q r) = checked_in r
+checked_in (Break n r) = checked_in r
+
+abbrev pub checked_statements : List Routine → List Checked
+checked_statements [] = []
+checked_statements (r ∷ rs) = checked_in r.code ++ checked_statements rs
+
+-- A statement with the verdict on its check.
+pub record Finding : Type 0 where
+  pub statement : Checked
+  pub verdict : Verdict
+
+module _ {S : Type 0} (dom : Operations S) (engine : Engine) where
+  -- dead where no chain comes to the procedure, may where the value is Over, else what the state says
+  abbrev pub verdict_on : Effect → Answer S → Verdict
+  verdict_on e (Refuses NoChain) = Dead
+  verdict_on e (Refuses LongString) = May
+  verdict_on e (Refuses NoProcedure) = May
+  verdict_on e (Refuses NoStatement) = May
+  verdict_on e (Refuses WrongStatement) = May
+  verdict_on e (Answers (Over n z)) = May
+  verdict_on e (Answers (State s)) = dom.check e s
+
+  abbrev pub finding : List Routine → Checked → Finding
+  finding program c = record { statement = c; verdict = verdict_on c.effect (answer dom engine program (Before c.number) []) }
+
+  abbrev pub report : List Routine → List Finding
+  report program = map (finding program) (checked_statements program)

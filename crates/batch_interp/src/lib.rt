@@ -1,0 +1,6 @@
+//! Batch interpretation.
+#![tactic(auto)]
+
+mod refusal;
+
+pub use refusal::Refusal;

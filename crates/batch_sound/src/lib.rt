@@ -1,0 +1,2 @@
+//! That batch interpretation covers every run.
+#![tactic(auto)]
