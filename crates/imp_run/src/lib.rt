@@ -1,0 +1,9 @@
+//! The interpreter: runs of a checked program, step by step.
+#![tactic(auto)]
+
+mod actions;
+mod elements;
+mod evaluation;
+mod halt;
+mod slots;
+mod store;
