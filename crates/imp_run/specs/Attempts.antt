@@ -27,3 +27,8 @@ Comes (Err e) x after = Stops e x
 abbrev pub placed_of : Result (ℕ × ListCell) FaultKind → Attempt (ℕ × Cell)
 placed_of (Ok x) = Gives (x.0, cell_of x.1)
 placed_of (Err k) = Faults k
+
+-- what is made of an attempt, or how it stops
+abbrev pub Gave : {A : Type 0} → Result A Halt → Attempt A → Type 0
+Gave (Ok a) x = x ≡ Gives a
+Gave (Err e) x = Stops e x

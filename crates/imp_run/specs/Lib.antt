@@ -2,3 +2,5 @@ pub mod Held
 pub mod Slots
 pub mod Store
 pub mod Attempts
+pub mod Passes
+pub mod Machine

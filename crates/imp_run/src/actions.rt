@@ -165,3 +165,100 @@ fn element(slots: &Slots, a: u32, index: i64) -> Option<i64>
     }
     slots.element_at(a, index as usize)
 }
+
+#[tactic(auto, unfolding(concrete_sem::specs::Effects::effect_of))]
+fn write_element(
+    alloc: Global,
+    store: &Store<'_>,
+    slots: &mut Slots,
+    a: u32,
+    place: &SlotExpr,
+    expr: &SlotExpr,
+) -> Result<(), Halt>
+    ensures is { Comes result (effect_of (plain.WriteElement a place.now expr.now) store.now slots.old) (store.now, slots.new) }
+{
+    let index = match value_of(slots, place) {
+        Ok(index) => index,
+        Err(fault) => return Err(Halt::Fault(fault)),
+    };
+    let value = match value_of(slots, expr) {
+        Ok(value) => value,
+        Err(fault) => return Err(Halt::Fault(fault)),
+    };
+    if index < 0 || index >= slots.length_at(a) {
+        return Err(Halt::Fault(FaultKind::Index));
+    }
+    slots.set_element(alloc, a, index as usize, value)?;
+    Ok(())
+}
+
+#[tactic(auto, unfolding(concrete_sem::specs::Effects::effect_of))]
+fn write_item(store: &mut Store<'_>, slots: &Slots, p: u32, expr: &SlotExpr) -> Result<(), Halt>
+    ensures is { Comes result (effect_of (plain.WriteItem p expr.now) store.old slots.now) (store.new, slots.now) }
+{
+    let item = match value_of(slots, expr) {
+        Ok(item) => item,
+        Err(fault) => return Err(Halt::Fault(fault)),
+    };
+    match cell_of(store, slots.link_at(p)) {
+        Ok((place, cell)) => {
+            let next = cell.next;
+            store.set_cell(place, ListCell { item, next });
+            Ok(())
+        }
+        Err(fault) => Err(Halt::Fault(fault)),
+    }
+}
+
+#[tactic(auto, unfolding(concrete_sem::specs::Effects::effect_of))]
+fn set_null(store: &Store<'_>, slots: &mut Slots, p: u32) -> Result<(), Halt>
+    ensures is { Comes result (effect_of (plain.SetNull p) store.now slots.old) (store.now, slots.new) }
+{
+    slots.set_link(p, None);
+    Ok(())
+}
+
+#[tactic(auto, unfolding(concrete_sem::specs::Effects::effect_of))]
+fn copy_link(store: &Store<'_>, slots: &mut Slots, p: u32, q: u32) -> Result<(), Halt>
+    ensures is { Comes result (effect_of (plain.CopyLink p q) store.now slots.old) (store.now, slots.new) }
+{
+    let link = slots.link_at(q);
+    slots.set_link(p, link);
+    Ok(())
+}
+
+#[tactic(auto, unfolding(concrete_sem::specs::Effects::effect_of))]
+fn skip(store: &Store<'_>, slots: &Slots) -> Result<(), Halt>
+    ensures is { Comes result (effect_of plain.Skip store.now slots.now) (store.now, slots.now) }
+{
+    Ok(())
+}
+
+/// Does what a simple statement does. It takes the time of its expressions, and of the elements
+/// that it makes, or copies because they are shared.
+pub(crate) fn perform(
+    alloc: Global,
+    store: &mut Store<'_>,
+    slots: &mut Slots,
+    action: &SlotAction,
+) -> Result<(), Halt>
+    ensures is { Comes result (effect_of (effect action.now) store.old slots.old) (store.new, slots.new) }
+{
+    match action {
+        SlotAction::Skip => skip(store, slots),
+        SlotAction::Assert(cond) => claim(store, slots, cond),
+        SlotAction::SetInt(x, expr) => set_int(store, slots, *x, expr),
+        SlotAction::Input(x) => input(store, slots, *x),
+        SlotAction::ReadElement(x, a, expr) => read_element(store, slots, *x, *a, expr),
+        SlotAction::ReadItem(x, q) => read_item(store, slots, *x, *q),
+        SlotAction::MakeArray(a, expr) => make_array(alloc, store, slots, *a, expr),
+        SlotAction::CopyArray(a, b) => copy_array(store, slots, *a, *b),
+        SlotAction::WriteElement(a, e, f) => write_element(alloc, store, slots, *a, e, f),
+        SlotAction::SetNull(p) => set_null(store, slots, *p),
+        SlotAction::MakeCell(p) => make_cell(store, slots, *p),
+        SlotAction::CopyLink(p, q) => copy_link(store, slots, *p, *q),
+        SlotAction::ReadNext(p, q) => read_next(store, slots, *p, *q),
+        SlotAction::WriteNext(p, q) => write_next(store, slots, *p, *q),
+        SlotAction::WriteItem(p, expr) => write_item(store, slots, *p, expr),
+    }
+}

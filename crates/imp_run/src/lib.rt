@@ -5,5 +5,8 @@ mod actions;
 mod elements;
 mod evaluation;
 mod halt;
+mod machine;
+mod passing;
 mod slots;
 mod store;
+mod work;

@@ -1,10 +1,12 @@
 //! The variables of a frame.
-ghost use Rattle.std.specs.Prelude.{◌≡◌, ◌<◌, pos, length, map, slice_get, slice_set, IfOk, OnOk};
+ghost use Rattle.std.specs.Prelude.{◌≡◌, ◌∷◌, [], ◌++◌, ◌<◌, pos, length, map, slice_get, slice_set, IfOk, OnOk};
 ghost use Rattle.concrete_sem.specs.Values.{int_at, array_at, link_at, number_at, with_number, with_link, Int, Array};
+ghost use Rattle.concrete_sem.specs.Passing.{first_number, first_link, over};
 ghost use Rattle.imp_run.specs.Slots.{number_of, elements_of};
 
 use crate::elements::Elements;
-use plain_values::Memory;
+use imp_slots::{Layout, NumericSlot};
+use plain_values::{Memory, Text};
 use std::alloc::Global;
 use std::marker::Model;
 use std::mem::replace;
@@ -35,12 +37,43 @@ impl Model for Slots {
 }
 
 impl Slots {
-    /// The variables that these lists hold.
-    pub(crate) fn new(numbers: Vec<Held>, links: Vec<Option<usize>>) -> Slots
-        ensures numbers { result.numbers ≡ map number_of numbers.items }
-        ensures links { result.links ≡ links.items }
+    /// No slots.
+    pub(crate) fn new(alloc: Global) -> Slots
+        ensures numbers { result.numbers ≡ [] }
+        ensures links { result.links ≡ [] }
     {
-        Slots { numbers, links }
+        Slots {
+            numbers: Vec::new(alloc),
+            links: Vec::new(alloc),
+        }
+    }
+
+    /// Adds a numeric slot behind the others.
+    pub(crate) fn add_number(&mut self, held: Held) -> Result<(), Memory>
+        ensures numbers { OnOk result (self.new.numbers ≡ self.old.numbers ++ number_of held ∷ []) }
+        ensures links { self.new.links ≡ self.old.links }
+    {
+        self.numbers.push(held)?;
+        Ok(())
+    }
+
+    /// Adds a link slot behind the others.
+    pub(crate) fn add_link(&mut self, link: Option<usize>) -> Result<(), Memory>
+        ensures numbers { self.new.numbers ≡ self.old.numbers }
+        ensures links { OnOk result (self.new.links ≡ self.old.links ++ link ∷ []) }
+    {
+        self.links.push(link)?;
+        Ok(())
+    }
+
+    /// The first slots stay, and the others of the layout are added as they start; slots that the
+    /// layout does not have go.
+    pub(crate) fn fill(&mut self, layout: &Layout) -> Result<(), Memory>
+        ensures numbers { OnOk result (self.new.numbers ≡ over self.old.numbers (map first_number layout.now.numbers)) }
+        ensures links { OnOk result (self.new.links ≡ over self.old.links (map first_link layout.now.links)) }
+    {
+        fill_numbers(&mut self.numbers, layout.numbers())?;
+        fill_links(&mut self.links, layout.links())
     }
 
     /// The int of a slot, 0 where it holds none.
@@ -183,4 +216,35 @@ fn take(numbers: &mut Vec<Held>, at: usize) -> Option<Held>
     } else {
         None
     }
+}
+
+/// What a numeric slot starts with.
+fn first_held(slot: &NumericSlot) -> Held
+    ensures is { number_of result ≡ first_number slot.now }
+{
+    if slot.is_array() {
+        Held::Array(Elements::none())
+    } else {
+        Held::Int(0)
+    }
+}
+
+fn fill_numbers(numbers: &mut Vec<Held>, layout: &[NumericSlot]) -> Result<(), Memory>
+    ensures is { OnOk result (map number_of numbers.new.items ≡ over (map number_of numbers.old.items) (map first_number layout.now)) }
+{
+    numbers.truncate(layout.len());
+    for slot in &layout[numbers.len()..] {
+        numbers.push(first_held(slot))?;
+    }
+    Ok(())
+}
+
+fn fill_links(links: &mut Vec<Option<usize>>, layout: &[Text]) -> Result<(), Memory>
+    ensures is { OnOk result (links.new.items ≡ over links.old.items (map first_link layout.now)) }
+{
+    links.truncate(layout.len());
+    for _name in &layout[links.len()..] {
+        links.push(None)?;
+    }
+    Ok(())
 }
