@@ -1,2 +1,3 @@
 pub mod Words
 pub mod SlotLemmas
+pub mod WorkLemmas

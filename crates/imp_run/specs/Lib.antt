@@ -3,4 +3,5 @@ pub mod Slots
 pub mod Store
 pub mod Attempts
 pub mod Passes
+pub mod Work
 pub mod Machine

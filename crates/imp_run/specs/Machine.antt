@@ -1,30 +1,15 @@
 -- The parts of a configuration in code, as plain data.
-use Rattle.std.specs.Prelude.{ℕ, List, [], ◌∷◌, Option, Some, None}
-use denote.Bor.{Bor}
-use Rattle.imp_slots.specs.Plain.{Invoke}
-use Rattle.imp_slots.specs.BlockViews.{code_of}
-use Rattle.concrete_sem.specs.Steps.{Work, Ret, Frame, In, Config, Step, push}
+use Rattle.std.specs.Prelude.{◌≡◌, ℕ, List, [], ◌∷◌, Option, Some, None}
+use Rattle.concrete_sem.specs.Steps.{Work, Ret, Frame, In, Config, Step, step_frame, goes_on}
+use Rattle.concrete_sem.specs.Values.{Heap, Variables}
+use Rattle.imp_slots.specs.Plain.{Routine}
 use Rattle.concrete_sem.specs.Steps as plain
 use Rattle.imp_run.specs.declared.work.Item.{Item}
-use Rattle.imp_run.specs.declared.work.Item.TheVariants.{Do, Done, Test}
+use Rattle.imp_run.specs.Work.{work_on}
 use Rattle.imp_run.specs.declared.machine.Activation.{Activation}
+use Rattle.imp_run.specs.declared.machine.Machine.{Machine}
 use Rattle.imp_run.specs.declared.machine.Stepped.{Stepped}
 use Rattle.imp_run.specs.declared.machine.Stepped.TheVariants as s
-
-abbrev pub call_of : Option (Bor Invoke) → Option Invoke
-call_of None = None
-call_of (Some call) = Some call.now
-
--- an item on top of the work
-abbrev pub put : Item → Work → Work
-put (Do nodes) w = push (code_of nodes.now) w
-put (Done n call) w = plain.Done n (call_of call) w
-put (Test n cond body) w = plain.Test n cond.now body.now w
-
--- items one upon another, the last one on top
-abbrev pub work_on : Work → List Item → Work
-work_on w [] = w
-work_on w (item ∷ items) = work_on (put item w) items
 
 abbrev pub work_of : ℕ → List Item → Work
 work_of p items = work_on (Ret p) items
@@ -43,3 +28,15 @@ step_of s.Next c = plain.Next c
 step_of (s.Fault n k) c = plain.Faulted n k
 step_of (s.NoInput n) c = plain.InputsUsedUp n
 step_of s.Ended c = plain.Ended
+
+-- The last frame's step, whatever the program is and whatever frames and procedure stand below: from this work to that.
+abbrev pub StepsTo : Stepped → Heap → Variables → (Work → Work) → Heap → Variables → (Work → Work) → Type 0
+StepsTo s h v work h2 v2 work2 =
+    (program : List Routine) (below : List Frame) (p : ℕ) → step_frame program p below h v (work (Ret p)) ≡ step_of s (goes_on p below h2 v2 (work2 (Ret p)))
+
+-- the frames, the last one first
+abbrev pub frames_of : Machine → List Frame
+frames_of m = frame_of m.last ∷ frames_on [] m.below.items
+
+abbrev pub config_of : Machine → Config
+config_of m = record { heap = m.store; frames = frames_of m }
