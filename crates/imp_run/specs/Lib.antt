@@ -5,3 +5,4 @@ pub mod Attempts
 pub mod Passes
 pub mod Work
 pub mod Machine
+pub mod Outcome

@@ -7,6 +7,7 @@ mod evaluation;
 mod halt;
 mod machine;
 mod passing;
+mod run;
 mod slots;
 mod store;
 mod work;

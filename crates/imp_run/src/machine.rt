@@ -1,25 +1,25 @@
 //! Configurations and steps.
-ghost use Rattle.std.specs.Prelude.{◌≡◌, ◌∷◌, OnOk, IfOk};
+ghost use Rattle.std.specs.Prelude.{◌≡◌, [], ◌∷◌, OnOk, IfOk};
 ghost use Rattle.imp_slots.specs.Plain as plain;
 ghost use Rattle.imp_slots.specs.Plain.{Routine as PlainRoutine};
 ghost use Rattle.imp_slots.specs.ActionViews.{effect_of};
-ghost use Rattle.imp_slots.specs.BlockViews.{code_of};
+ghost use Rattle.imp_slots.specs.BlockViews.{code_of, before_code};
 ghost use Rattle.concrete_sem.specs.Steps as steps;
 ghost use Rattle.concrete_sem.specs.Steps.{In};
 ghost use Rattle.concrete_sem.specs.Passing.{pass};
 ghost use Rattle.imp_run.specs.Attempts.{Gave};
-ghost use Rattle.imp_run.specs.Machine.{StepsTo, frames_of};
+ghost use Rattle.imp_run.specs.Machine.{StepsTo, frames_of, frames_on, work_of, step_of, config_of};
 ghost use Rattle.imp_run.specs.Work.{work_on};
 
 use crate::actions::perform;
 use crate::evaluation::truth_of;
 use crate::halt::Halt;
-use crate::passing::pass;
+use crate::passing::{pass, take_back};
 use crate::slots::Slots;
 use crate::store::Store;
-use crate::work::{Item, leave_loop, push_block, push_item};
+use crate::work::{Item, leave_loop, pop_item, push_block, push_item};
 use concrete_sem::FaultKind;
-use imp_slots::{SlotAction, SlotBlock, SlotCall, SlotCond, SlotNode};
+use imp_slots::{Routine, SlotAction, SlotBlock, SlotCall, SlotCond, SlotNode};
 use plain_values::Memory;
 use std::alloc::Global;
 use std::mem::replace;
@@ -195,4 +195,102 @@ fn enter<'a>(
     let caller = replace(&mut machine.last, last);
     machine.below.push(caller)?;
     Ok(())
+}
+
+/// The last frame is removed, and its caller takes the result.
+#[tactic(auto, using(crate::proofs::WorkLemmas::frames_on_push))]
+fn leave(machine: &mut Machine<'_>) -> Result<Stepped, Memory>
+    ensures is { IfOk result (λ s. steps.returns_to machine.old.store machine.old.last.slots (frames_on [] machine.old.below.items) ≡ step_of s (config_of machine.new)) }
+{
+    let Some(mut caller) = machine.below.pop() else {
+        return Ok(Stepped::Ended);
+    };
+    match pop_item(&mut caller.work) {
+        Some(Item::Done(number, Some(call))) => {
+            take_back(&mut caller.slots, &machine.last.slots, call.returning())?;
+            push_item(&mut caller.work, Item::Done(number, Some(call)))?;
+            machine.last = caller;
+            Ok(Stepped::Next)
+        }
+        Some(Item::Done(_, None)) => Ok(Stepped::Ended),
+        Some(Item::Do(_, _)) => Ok(Stepped::Ended),
+        Some(Item::Test(_, _, _)) => Ok(Stepped::Ended),
+        None => Ok(Stepped::Ended),
+    }
+}
+
+/// A call enters its callee, where the program has it.
+fn begin_call<'a>(
+    alloc: Global,
+    program: &'a [Routine],
+    machine: &mut Machine<'a>,
+    number: u32,
+    call: &'a SlotCall,
+    place: u32,
+    rest: &'a [SlotNode],
+) -> Result<Stepped, Memory>
+    ensures is { IfOk result (λ s. steps.step_frame program.now machine.old.last.place (frames_on [] machine.old.below.items) machine.old.store machine.old.last.slots (steps.Do (plain.Call number call.now place (code_of rest.now)) (work_of machine.old.last.place machine.old.last.work.items)) ≡ step_of s (config_of machine.new)) }
+{
+    let last = &mut machine.last;
+    match do_call(alloc, &last.slots, &mut last.work, number, call, rest) {
+        Ok(slots) => match program.get(place as usize) {
+            Some(routine) => {
+                enter(machine, place, slots, routine.body().statements(), alloc)?;
+                Ok(Stepped::Next)
+            }
+            None => Ok(Stepped::Ended),
+        },
+        Err(Halt::Fault(fault)) => Ok(Stepped::Fault(number, fault)),
+        Err(Halt::NoInput) => Ok(Stepped::NoInput(number)),
+        Err(Halt::Memory) => Err(Memory),
+    }
+}
+
+/// A statement begins.
+fn begin<'a>(
+    alloc: Global,
+    program: &'a [Routine],
+    machine: &mut Machine<'a>,
+    node: &'a SlotNode,
+    rest: &'a [SlotNode],
+) -> Result<Stepped, Memory>
+    ensures is { IfOk result (λ s. steps.step_frame program.now machine.old.last.place (frames_on [] machine.old.below.items) machine.old.store machine.old.last.slots (steps.Do (before_code node.now (code_of rest.now)) (work_of machine.old.last.place machine.old.last.work.items)) ≡ step_of s (config_of machine.new)) }
+{
+    let store = &mut machine.store;
+    let slots = &mut machine.last.slots;
+    let work = &mut machine.last.work;
+    match node {
+        SlotNode::Simple(number, action) => {
+            do_simple(alloc, store, slots, work, *number, action, rest)
+        }
+        SlotNode::If(number, cond, then, els) => {
+            do_if(store, slots, work, *number, cond, (then, els), rest)
+        }
+        SlotNode::While(number, cond, body) => {
+            do_while(store, slots, work, *number, cond, body, rest)
+        }
+        SlotNode::Call(number, call, place) => {
+            begin_call(alloc, program, machine, *number, call, *place, rest)
+        }
+        SlotNode::Break(number) => do_break(store, slots, work, *number, rest),
+    }
+}
+
+/// One step of the program.
+pub(crate) fn step<'a>(
+    alloc: Global,
+    program: &'a [Routine],
+    machine: &mut Machine<'a>,
+) -> Result<Stepped, Memory>
+    ensures is { IfOk result (λ s. steps.step program.now (config_of machine.old) ≡ step_of s (config_of machine.new)) }
+{
+    match pop_item(&mut machine.last.work) {
+        None => leave(machine),
+        Some(Item::Done(_, _)) => Ok(Stepped::Next),
+        Some(Item::Test(number, cond, body)) => {
+            let last = &mut machine.last;
+            do_test(&machine.store, &last.slots, &mut last.work, number, cond, body)
+        }
+        Some(Item::Do(node, rest)) => begin(alloc, program, machine, node, rest),
+    }
 }
