@@ -2,7 +2,7 @@
 use Rattle.std.specs.Prelude.{◌≡◌, ℕ, List, [], ◌∷◌, Option, Some, None}
 use Rattle.concrete_sem.specs.Steps.{Work, Ret, Frame, In, Config, Step, step_frame, goes_on}
 use Rattle.concrete_sem.specs.Values.{Heap, Variables}
-use Rattle.imp_slots.specs.Plain.{Routine}
+use Rattle.imp_slots.specs.Plain.{Guard, Code, Routine}
 use Rattle.concrete_sem.specs.Steps as plain
 use Rattle.imp_run.specs.declared.work.Item.{Item}
 use Rattle.imp_run.specs.Work.{work_on}
@@ -40,3 +40,13 @@ frames_of m = frame_of m.last ∷ frames_on [] m.below.items
 
 abbrev pub config_of : Machine → Config
 config_of m = record { heap = m.store; frames = frames_of m }
+
+-- This code, on top of the last frame's work, begins: whatever the program is, the step from there comes to this machine.
+abbrev pub BeginsSo : Code → Machine → Stepped → Machine → Type 0
+BeginsSo code before s after =
+    (program : List Routine) → step_frame program before.last.place (frames_on [] before.below.items) before.store before.last.slots (plain.Do code (work_of before.last.place before.last.work.items)) ≡ step_of s (config_of after)
+
+-- the same of a loop whose condition is tested
+abbrev pub TestsSo : ℕ → Guard → Code → Machine → Stepped → Machine → Type 0
+TestsSo n cond body before s after =
+    (program : List Routine) → step_frame program before.last.place (frames_on [] before.below.items) before.store before.last.slots (plain.Test n cond body (work_of before.last.place before.last.work.items)) ≡ step_of s (config_of after)

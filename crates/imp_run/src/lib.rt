@@ -7,7 +7,9 @@ mod evaluation;
 mod halt;
 mod machine;
 mod passing;
-mod run;
+mod running;
 mod slots;
 mod store;
 mod work;
+
+pub use running::{End, Outcome, run};

@@ -8,7 +8,7 @@ ghost use Rattle.concrete_sem.specs.Steps as steps;
 ghost use Rattle.concrete_sem.specs.Steps.{In};
 ghost use Rattle.concrete_sem.specs.Passing.{pass};
 ghost use Rattle.imp_run.specs.Attempts.{Gave};
-ghost use Rattle.imp_run.specs.Machine.{StepsTo, frames_of, frames_on, work_of, step_of, config_of};
+ghost use Rattle.imp_run.specs.Machine.{StepsTo, frames_of, frames_on, work_of, step_of, config_of, BeginsSo, TestsSo};
 ghost use Rattle.imp_run.specs.Work.{work_on};
 
 use crate::actions::perform;
@@ -246,6 +246,104 @@ fn begin_call<'a>(
     }
 }
 
+fn begin_simple<'a>(
+    alloc: Global,
+    machine: &mut Machine<'a>,
+    number: u32,
+    action: &SlotAction,
+    rest: &'a [SlotNode],
+) -> Result<Stepped, Memory>
+    ensures is { IfOk result (λ s. BeginsSo (plain.Simple number (effect_of action.now) (code_of rest.now)) machine.old s machine.new) }
+{
+    let last = &mut machine.last;
+    let stepped = do_simple(
+        alloc,
+        &mut machine.store,
+        &mut last.slots,
+        &mut last.work,
+        number,
+        action,
+        rest,
+    )?;
+    Ok(stepped)
+}
+
+fn begin_if<'a>(
+    machine: &mut Machine<'a>,
+    number: u32,
+    cond: &SlotCond,
+    blocks: (&'a SlotBlock, &'a SlotBlock),
+    rest: &'a [SlotNode],
+) -> Result<Stepped, Memory>
+    ensures is { IfOk result (λ s. BeginsSo (plain.If number cond.now blocks.entry.0.now blocks.entry.1.now (code_of rest.now)) machine.old s machine.new) }
+{
+    let last = &mut machine.last;
+    let stepped = do_if(
+        &machine.store,
+        &last.slots,
+        &mut last.work,
+        number,
+        cond,
+        blocks,
+        rest,
+    )?;
+    Ok(stepped)
+}
+
+fn begin_while<'a>(
+    machine: &mut Machine<'a>,
+    number: u32,
+    cond: &'a SlotCond,
+    body: &'a SlotBlock,
+    rest: &'a [SlotNode],
+) -> Result<Stepped, Memory>
+    ensures is { IfOk result (λ s. BeginsSo (plain.While number cond.now body.now (code_of rest.now)) machine.old s machine.new) }
+{
+    let last = &mut machine.last;
+    let stepped = do_while(
+        &machine.store,
+        &last.slots,
+        &mut last.work,
+        number,
+        cond,
+        body,
+        rest,
+    )?;
+    Ok(stepped)
+}
+
+fn begin_break<'a>(
+    machine: &mut Machine<'a>,
+    number: u32,
+    rest: &'a [SlotNode],
+) -> Result<Stepped, Memory>
+    ensures is { IfOk result (λ s. BeginsSo (plain.Break number (code_of rest.now)) machine.old s machine.new) }
+{
+    let last = &mut machine.last;
+    let stepped = do_break(&machine.store, &last.slots, &mut last.work, number, rest)?;
+    Ok(stepped)
+}
+
+fn begin_test<'a>(
+    machine: &mut Machine<'a>,
+    number: u32,
+    cond: &'a SlotCond,
+    body: &'a SlotBlock,
+) -> Result<Stepped, Memory>
+    ensures is { IfOk result (λ s. TestsSo number cond.now body.now machine.old s machine.new) }
+{
+    let last = &mut machine.last;
+    let stepped = do_test(
+        &machine.store,
+        &last.slots,
+        &mut last.work,
+        number,
+        cond,
+        body,
+    )?;
+    Ok(stepped)
+}
+
 /// A statement begins.
 fn begin<'a>(
     alloc: Global,
@@ -256,23 +354,26 @@ fn begin<'a>(
 ) -> Result<Stepped, Memory>
     ensures is { IfOk result (λ s. steps.step_frame program.now machine.old.last.place (frames_on [] machine.old.below.items) machine.old.store machine.old.last.slots (steps.Do (before_code node.now (code_of rest.now)) (work_of machine.old.last.place machine.old.last.work.items)) ≡ step_of s (config_of machine.new)) }
 {
-    let store = &mut machine.store;
-    let slots = &mut machine.last.slots;
-    let work = &mut machine.last.work;
     match node {
         SlotNode::Simple(number, action) => {
-            do_simple(alloc, store, slots, work, *number, action, rest)
+            let stepped = begin_simple(alloc, machine, *number, action, rest)?;
+            Ok(stepped)
         }
         SlotNode::If(number, cond, then, els) => {
-            do_if(store, slots, work, *number, cond, (then, els), rest)
+            let stepped = begin_if(machine, *number, cond, (then, els), rest)?;
+            Ok(stepped)
         }
         SlotNode::While(number, cond, body) => {
-            do_while(store, slots, work, *number, cond, body, rest)
+            let stepped = begin_while(machine, *number, cond, body, rest)?;
+            Ok(stepped)
         }
         SlotNode::Call(number, call, place) => {
             begin_call(alloc, program, machine, *number, call, *place, rest)
         }
-        SlotNode::Break(number) => do_break(store, slots, work, *number, rest),
+        SlotNode::Break(number) => {
+            let stepped = begin_break(machine, *number, rest)?;
+            Ok(stepped)
+        }
     }
 }
 
@@ -288,8 +389,8 @@ pub(crate) fn step<'a>(
         None => leave(machine),
         Some(Item::Done(_, _)) => Ok(Stepped::Next),
         Some(Item::Test(number, cond, body)) => {
-            let last = &mut machine.last;
-            do_test(&machine.store, &last.slots, &mut last.work, number, cond, body)
+            let stepped = begin_test(machine, number, cond, body)?;
+            Ok(stepped)
         }
         Some(Item::Do(node, rest)) => begin(alloc, program, machine, node, rest),
     }
