@@ -85,7 +85,13 @@ fn write_next(store: &mut Store<'_>, slots: &Slots, p: u32, q: u32) -> Result<()
     match cell_of(store, slots.link_at(p)) {
         Ok((place, cell)) => {
             let next = slots.link_at(q);
-            store.set_cell(place, ListCell { item: cell.item, next });
+            store.set_cell(
+                place,
+                ListCell {
+                    item: cell.item,
+                    next,
+                },
+            );
             Ok(())
         }
         Err(fault) => Err(Halt::Fault(fault)),
@@ -106,7 +112,13 @@ fn cell_of(store: &Store<'_>, link: Option<usize>) -> Result<(usize, ListCell), 
 }
 
 #[tactic(auto, unfolding(concrete_sem::specs::Effects::effect_of))]
-fn make_array(alloc: Global, store: &Store<'_>, slots: &mut Slots, a: u32, expr: &SlotExpr) -> Result<(), Halt>
+fn make_array(
+    alloc: Global,
+    store: &Store<'_>,
+    slots: &mut Slots,
+    a: u32,
+    expr: &SlotExpr,
+) -> Result<(), Halt>
     ensures is { Comes result (effect_of (plain.MakeArray a expr.now) store.now slots.old) (store.now, slots.new) }
 {
     let count = match value_of(slots, expr) {
@@ -140,7 +152,13 @@ fn make_cell(store: &mut Store<'_>, slots: &mut Slots, p: u32) -> Result<(), Hal
 }
 
 #[tactic(auto, unfolding(concrete_sem::specs::Effects::effect_of))]
-fn read_element(store: &Store<'_>, slots: &mut Slots, x: u32, a: u32, expr: &SlotExpr) -> Result<(), Halt>
+fn read_element(
+    store: &Store<'_>,
+    slots: &mut Slots,
+    x: u32,
+    a: u32,
+    expr: &SlotExpr,
+) -> Result<(), Halt>
     ensures is { Comes result (effect_of (plain.ReadElement x a expr.now) store.now slots.old) (store.now, slots.new) }
 {
     let index = match value_of(slots, expr) {

@@ -67,7 +67,9 @@ impl Elements {
         ensures same { IfOk result (λ e. e ≡ self.now) }
     {
         match &self.items {
-            Some(items) => Ok(Elements { items: Some(items.clone()?) }),
+            Some(items) => Ok(Elements {
+                items: Some(items.clone()?),
+            }),
             None => Ok(Elements { items: None }),
         }
     }

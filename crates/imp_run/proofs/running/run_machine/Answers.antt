@@ -15,8 +15,10 @@ returns-in-Some c =
     let last = subst (IsEndAfter c.in_ok-stepped.stepped c.loop-stepped.left) c.in-Some.is c.end_after.ensures.is in
     let told = run-ends c.args.program.now here c.in_ok-stepped.stepped c.loop-stepped.left c.in-Some.end before after last (c.in_ok-stepped.ensures {u = tt}).is in
     let count = c.counted-reached.ensures.is ∙ ap (λ b. c.loop-stepped.reached + bit b) c.stands_at-here.ensures.is in
-    record { outcome =
-      ap (λ m. let r : Run = record { end = end_of c.in-Some.end; reached = m } in r) (count ∙ count-zero (c.loop-stepped.reached + bit (here before)))
-      ∙ sym (after-counted c.loop-stepped.reached (here before) (ends (end_of c.in-Some.end)))
-      ∙ ap (after_more c.loop-stepped.reached) (sym told)
-      ∙ c.loop-stepped.invariant.told }
+    record {
+      outcome =
+          ap (λ m. let r : Run = record { end = end_of c.in-Some.end; reached = m } in r) (count ∙ count-zero (c.loop-stepped.reached + bit (here before)))
+          ∙ sym (after-counted c.loop-stepped.reached (here before) (ends (end_of c.in-Some.end)))
+          ∙ ap (after_more c.loop-stepped.reached) (sym told)
+          ∙ c.loop-stepped.invariant.told;
+    }
