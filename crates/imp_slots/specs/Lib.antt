@@ -1,1 +1,15 @@
 pub mod Plain
+pub mod Fits
+pub mod Sizes
+pub mod Codes
+pub mod PartCodes
+pub mod BlockCodes
+pub mod ExprViews
+pub mod CondViews
+pub mod ActionViews
+pub mod CallViews
+pub mod BlockViews
+pub mod BlockFalls
+pub mod EnumCodes
+pub mod ListCodes
+pub mod Hashes

@@ -1,0 +1,5 @@
+pub mod Numbers
+pub mod Keeps
+pub mod Flat
+pub mod Programs
+pub mod Forms

@@ -1,0 +1,12 @@
+pub mod Values
+pub mod Evaluation
+pub mod Effects
+pub mod Passing
+pub mod Steps
+pub mod Runs
+pub mod Reach
+pub mod Proper
+pub mod WellFormed
+pub mod Items
+pub mod Keeping
+pub mod Claims
