@@ -1,0 +1,7 @@
+pub mod Faults
+pub mod Names
+pub mod Kinds
+pub mod Statements
+pub mod Chains
+pub mod Programs
+pub mod ScopeCode
