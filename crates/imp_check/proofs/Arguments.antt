@@ -1,5 +1,6 @@
 -- Arguments beside parameters.
 use Rattle.std.proofs.Common.{ℕ, zero, suc, ◌≡◌, ◌+◌, ◌<◌, ◌≤◌, ◌==◌, ◌&&◌, Bool, true, false, List, [], ◌∷◌, length, drop, refl, ap, arith, add-one, drop-cons, get_or}
+use Rattle.std.proofs.lemmas.Bool.Decides.{nat_tests}
 use Rattle.imp_syntax.specs.Views.{operand_of}
 use Rattle.imp_syntax.specs.ActionViews.{operands_of}
 use Rattle.imp_syntax.specs.declared.expr.Side.{Side}
@@ -8,9 +9,9 @@ use Rattle.imp_check.specs.Statements.{same_length, fits_parameter, fit_paramete
 
 pub same_length_is : (es : List Side) (ds : List Declaration) → same_length (operands_of es) ds ≡ (length es == length ds)
 same_length_is [] [] = refl
-same_length_is [] (d ∷ ds) = refl
-same_length_is (e ∷ es) [] = refl
-same_length_is (e ∷ es) (d ∷ ds) = same_length_is es ds
+same_length_is [] (d ∷ ds) = grind (arith, nat_tests)
+same_length_is (e ∷ es) [] = grind (arith, nat_tests)
+same_length_is (e ∷ es) (d ∷ ds) = grind (arith, nat_tests, same_length_is es ds)
 
 pub fit_step : (vs : List Declaration) (es : List Side) (ds : List Declaration) (i : ℕ) (e : Side) (d : Declaration) → i < length es → i < length ds → e ≡ get_or es i e → d ≡ get_or ds i d → fit_parameters vs (operands_of (drop i es)) (drop i ds) ≡ (fits_parameter vs (operand_of e) d.kind && fit_parameters vs (operands_of (drop (i + 1) es)) (drop (i + 1) ds))
 fit_step vs es ds i e d h k p q = rw (drop-cons es i e, drop-cons ds i d, add-one, ← p, ← q) refl

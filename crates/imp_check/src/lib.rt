@@ -1,9 +1,11 @@
 //! Checking programs.
 #![tactic(auto)]
 
+mod counts;
 mod fault;
 mod kinds;
 mod names;
+mod programs;
 mod statements;
 
 pub use fault::{CheckError, Fault, Found};

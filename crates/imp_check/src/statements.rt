@@ -19,6 +19,7 @@ use plain_values::Text;
 use std::marker::Model;
 
 /// What the statements of a procedure may name: the procedures before it, itself and those behind it, its variables.
+#[derive(Drop)]
 pub(crate) struct Scope<'a> {
     earlier: &'a [Proc],
     others: &'a [Proc],
