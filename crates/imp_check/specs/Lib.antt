@@ -5,3 +5,4 @@ pub mod Statements
 pub mod Chains
 pub mod Programs
 pub mod ScopeCode
+pub mod Tallies

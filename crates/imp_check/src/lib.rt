@@ -1,6 +1,7 @@
 //! Checking programs.
 #![tactic(auto)]
 
+mod chains;
 mod counts;
 mod fault;
 mod kinds;

@@ -1,4 +1,4 @@
-use Rattle.std.proofs.Common.{◌≡◌, ◌+◌, ◌-◌, ◌^◌, min, max, drop}
+use Rattle.std.proofs.Common.{◌≡◌, ◌+◌, ◌-◌, ◌^◌, ◌≤◌, min, max, drop}
 use Rattle.imp_syntax.specs.Plain.{block_of}
 use Rattle.imp_check.specs.Programs.{nesting}
 use Rattle.imp_check.proofs.counts.+nestings.Given as goal
@@ -12,5 +12,6 @@ decreases-statement_nesting l = goal.size-statement_nesting l
 abbrev pub invariant-nesting-loop-stmt : goal.invariant-nesting-loop-stmt
 invariant-nesting-loop-stmt l = record {
   is : block_of l.stmt-items ≡ l.block;
-  told : min (max l.most (nesting (block_of (drop l.stmt-index l.stmt-items)))) (2 ^ 32 - 1) ≡ min (nesting (block_of l.stmt-items)) (2 ^ 32 - 1);
+  small : l.most ≤ 2 ^ 32 - 1;
+  told : min (max l.most (nesting (block_of (drop l.stmt-index l.stmt-items)))) (2 ^ 32 - 1) ≡ min (nesting l.block) (2 ^ 32 - 1);
 }
