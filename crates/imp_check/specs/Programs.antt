@@ -1,5 +1,5 @@
 -- The first fault of a program.
-use Rattle.std.specs.Prelude.{ℕ, ◌+◌, List, [], ◌∷◌, ◌++◌, Option, Some, None, Bool, true, false, ◌&&◌, not, nat_lt, max, length, codes}
+use Rattle.std.specs.Prelude.{ℕ, ◌+◌, List, [], ◌∷◌, ◌++◌, Option, Some, None, Bool, true, false, ◌&&◌, not, nat_lt, max, length, slice_get, ◌-◌, codes}
 use Rattle.std.specs.Str.{bytes_eq}
 use Rattle.imp_syntax.specs.Plain.{Statement, Simple, Break, Call, If, While, Statements, Ends, Starts, Procedure, program_numbers}
 use Rattle.imp_syntax.specs.declared.words.Declaration.{Declaration}
@@ -97,11 +97,13 @@ abbrev pub procedures_fault : (earlier : List Procedure) → List Procedure → 
 procedures_fault earlier [] = None
 procedures_fault earlier (p ∷ later) = first (in_procedure p.name (procedure_fault earlier (p ∷ later) p)) (procedures_fault (earlier ++ p ∷ []) later)
 
--- the name of the last procedure
-abbrev pub last_name : List Procedure → List ℕ
-last_name [] = []
-last_name (p ∷ []) = p.name
-last_name (p ∷ q ∷ ps) = last_name (q ∷ ps)
+-- the last procedure, if there is one, and its name
+abbrev pub last_of : List Procedure → Option Procedure
+last_of ps = slice_get ps (length ps - 1)
+
+abbrev pub name_of : Option Procedure → List ℕ
+name_of None = []
+name_of (Some p) = p.name
 
 abbrev is_nil : List Declaration → Bool
 is_nil [] = true
@@ -111,37 +113,35 @@ abbrev no_outcome : Option Declaration → Bool
 no_outcome None = true
 no_outcome (Some d) = false
 
--- `main` comes last
-abbrev pub ends_with_main : List Procedure → Bool
-ends_with_main ps = bytes_eq (last_name ps) (codes "main")
-
-abbrev pub takes_nothing : Procedure → Bool
-takes_nothing p = is_nil p.parameters && no_outcome p.outcome
-
-abbrev pub last_takes_nothing : List Procedure → Bool
-last_takes_nothing [] = true
-last_takes_nothing (p ∷ []) = takes_nothing p
-last_takes_nothing (p ∷ q ∷ ps) = last_takes_nothing (q ∷ ps)
+-- `main` has neither parameters nor a result
+abbrev pub takes_nothing : Option Procedure → Bool
+takes_nothing None = true
+takes_nothing (Some p) = is_nil p.parameters && no_outcome p.outcome
 
 -- the most calls in a chain
 abbrev pub longest : List (List ℕ) → ℕ
 longest [] = 0
 longest (w ∷ ws) = max (length w) (longest ws)
 
--- main, and the chains of calls: at most 8 calls in a chain, at most 4,096 chains in all
+-- at most 8 calls in a chain, at most 4,096 chains in all
+abbrev pub chains_fault : List Procedure → Option Fault
+chains_fault ps =
+    first (unless (nat_lt (longest (all_chains ps)) 9) Depth)
+    (unless (nat_lt (length (all_chains ps)) 4097) Chains)
+
+-- `main` comes last, and the chains of calls are few and short
 abbrev pub ending_fault : List Procedure → Option Fault
 ending_fault ps =
-    first (unless (ends_with_main ps) NoMain)
-    (first (unless (last_takes_nothing ps) MainHasParameters)
-    (first (unless (nat_lt (longest (all_chains ps)) 9) Depth)
-    (unless (nat_lt (length (all_chains ps)) 4097) Chains)))
+    first (unless (bytes_eq (name_of (last_of ps)) (codes "main")) NoMain)
+    (first (unless (takes_nothing (last_of ps)) MainHasParameters)
+    (chains_fault ps))
 
 -- The first fault of a program.
 abbrev pub check_fault : List Procedure → Option Found
 check_fault ps =
-    first (in_procedure (last_name ps) (at 0 (size_fault ps)))
+    first (in_procedure (name_of (last_of ps)) (at 0 (size_fault ps)))
     (first (procedures_fault [] ps)
-    (in_procedure (last_name ps) (at 0 (ending_fault ps))))
+    (in_procedure (name_of (last_of ps)) (at 0 (ending_fault ps))))
 
 -- statement numbers are 1 or more, and each stands once
 pub record AreNumbered (ps : List Procedure) : Type 0 where

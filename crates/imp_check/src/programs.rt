@@ -1,9 +1,11 @@
 //! The first fault of a program.
 ghost use Rattle.std.specs.Prelude.{◌≡◌, ◌<◌, ◌≤◌, ◌∷◌, ◌++◌, [], length, IfOk, OnOk};
+ghost use Rattle.std.specs.Option.{option_copied};
 ghost use Rattle.imp_check.specs.Faults.{at, in_procedure};
 ghost use Rattle.imp_check.specs.Names.{variables};
-ghost use Rattle.imp_check.specs.Programs.{size_fault, count_numeric, count_links, one_numeric, one_link, variable_fault, variables_fault, procedure_fault, procedures_fault};
+ghost use Rattle.imp_check.specs.Programs.{size_fault, count_numeric, count_links, one_numeric, one_link, variable_fault, variables_fault, procedure_fault, procedures_fault, last_of, name_of, takes_nothing, chains_fault, ending_fault, check_fault};
 
+use crate::chains::all_chains;
 use crate::counts::{deepest, program_count};
 use crate::fault::Spot;
 use crate::names::{is_named, kind_of};
@@ -22,6 +24,10 @@ const MOST_NESTING: u32 = 32;
 const MOST_INTS: usize = 16;
 
 const MOST_LISTS: usize = 8;
+
+const MOST_CALLS: u32 = 8;
+
+const MOST_CHAINS: u32 = 4_096;
 
 /// More procedures, statements or blocks in one another than there may be.
 pub(crate) fn size_fault(procs: &[Proc]) -> Option<Fault>
@@ -175,4 +181,73 @@ pub(crate) fn procedures_fault(alloc: Global, procs: &[Proc]) -> Result<Option<F
         }
     }
     Ok(None)
+}
+
+fn takes_nothing(proc: &Proc) -> bool
+    ensures is { result ≡ takes_nothing (Some proc.now) }
+{
+    proc.parameters().is_empty() && proc.outcome().is_none()
+}
+
+/// A fault of `main` or of the chains of calls.
+#[tactic(auto, unfolding(crate::specs::Tallies::tally_of))]
+fn ending_fault(alloc: Global, procs: &[Proc]) -> Result<Option<Fault>, Memory>
+    ensures is { IfOk result (λ fault. fault ≡ ending_fault procs.now) }
+{
+    let Some(main) = procs.last() else {
+        return Ok(Some(Fault::NoMain));
+    };
+    if main.name().as_slice() != b"main".as_slice() {
+        return Ok(Some(Fault::NoMain));
+    }
+    if !takes_nothing(main) {
+        return Ok(Some(Fault::MainHasParameters));
+    }
+    chains_fault(alloc, procs)
+}
+
+/// More calls in a chain, or more chains, than there may be.
+#[tactic(auto, unfolding(crate::specs::Tallies::tally_of))]
+fn chains_fault(alloc: Global, procs: &[Proc]) -> Result<Option<Fault>, Memory>
+    ensures is { IfOk result (λ fault. fault ≡ chains_fault procs.now) }
+{
+    let tally = all_chains(alloc, procs)?;
+    if tally.longest > MOST_CALLS {
+        Ok(Some(Fault::Depth))
+    } else if tally.count > MOST_CHAINS {
+        Ok(Some(Fault::Chains))
+    } else {
+        Ok(None)
+    }
+}
+
+/// A fault whose procedure is the last one.
+fn found_last(alloc: Global, procs: &[Proc], fault: Fault) -> Result<Found, Memory>
+    ensures is { IfOk result (λ found. found ≡ record { fault = fault; proc = name_of (last_of procs.now); at = 0 }) }
+{
+    let spot = Spot { fault, at: 0 };
+    match procs.last() {
+        Some(last) => found_in(last.name(), spot),
+        None => Ok(Found {
+            fault,
+            proc: Text::new(alloc),
+            at: 0,
+        }),
+    }
+}
+
+/// The first fault of a program.
+pub(crate) fn check_fault(alloc: Global, procs: &[Proc]) -> Result<Option<Found>, Memory>
+    ensures is { IfOk result (λ found. found ≡ check_fault procs.now) }
+{
+    if let Some(fault) = size_fault(procs) {
+        return Ok(Some(found_last(alloc, procs, fault)?));
+    }
+    if let Some(found) = procedures_fault(alloc, procs)? {
+        return Ok(Some(found));
+    }
+    match ending_fault(alloc, procs)? {
+        Some(fault) => Ok(Some(found_last(alloc, procs, fault)?)),
+        None => Ok(None),
+    }
 }
