@@ -1,3 +1,4 @@
 pub mod Arguments
 pub mod Going
 pub mod ChainLemmas
+pub mod SlotLemmas

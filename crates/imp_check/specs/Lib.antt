@@ -6,3 +6,4 @@ pub mod Chains
 pub mod Programs
 pub mod ScopeCode
 pub mod Tallies
+pub mod Slots

@@ -7,6 +7,8 @@ mod fault;
 mod kinds;
 mod names;
 mod programs;
+mod slots;
 mod statements;
+mod terms;
 
 pub use fault::{CheckError, Fault, Found};

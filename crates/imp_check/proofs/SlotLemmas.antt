@@ -1,0 +1,41 @@
+-- Slots.
+use Rattle.std.proofs.Common.{ℕ, suc, ◌≡◌, ◌+◌, ◌<◌, List, [], ◌∷◌, ◌++◌, length, map, drop, refl, ap, arith, add-one, drop-cons, get_or}
+use Rattle.imp_syntax.specs.declared.words.Declaration.{Declaration}
+use Rattle.imp_syntax.specs.declared.words.Kind.{Kind}
+use Rattle.imp_syntax.specs.declared.words.Kind.TheVariants.{Int, Array, List as OfLinks}
+use Rattle.imp_syntax.specs.Views.{operand_of}
+use Rattle.imp_syntax.specs.ActionViews.{operands_of}
+use Rattle.imp_syntax.specs.declared.expr.Side.{Side}
+use Rattle.imp_slots.specs.Plain.{Numeric, Layout, Argument}
+use Rattle.imp_slots.specs.CallViews.{argument_of}
+use Rattle.imp_slots.specs.declared.calls.Argument as declared
+use Rattle.imp_check.specs.Programs.{count_numeric, count_links, one_numeric, one_link}
+use Rattle.imp_check.specs.Slots.{with_numeric, with_link, numerics, links, argument_in, arguments_in}
+
+length_with : (k : Kind) (x : List ℕ) (ns : List Numeric) → length (with_numeric k x ns) ≡ one_numeric k + length ns
+length_with Int x ns = omega arith
+length_with Array x ns = omega arith
+length_with OfLinks x ns = omega arith
+
+pub length_numerics : (ds : List Declaration) → length (numerics ds) ≡ count_numeric ds
+length_numerics [] = refl
+length_numerics (d ∷ ds) = omega (arith, length_with d.kind d.name (numerics ds), length_numerics ds)
+
+length_with_link : (k : Kind) (x : List ℕ) (ls : List (List ℕ)) → length (with_link k x ls) ≡ one_link k + length ls
+length_with_link Int x ls = omega arith
+length_with_link Array x ls = omega arith
+length_with_link OfLinks x ls = omega arith
+
+pub length_links : (ds : List Declaration) → length (links ds) ≡ count_links ds
+length_links [] = refl
+length_links (d ∷ ds) = omega (arith, length_with_link d.kind d.name (links ds), length_links ds)
+
+pub numerics_step : (ds : List Declaration) (i : ℕ) (d : Declaration) → i < length ds → d ≡ get_or ds i d → numerics (drop i ds) ≡ with_numeric d.kind d.name (numerics (drop (i + 1) ds))
+numerics_step ds i d h e = rw (drop-cons ds i d, add-one, ← e) refl
+
+pub arguments_step : (l : Layout) (es : List Side) (i : ℕ) (e : Side) → i < length es → e ≡ get_or es i e → arguments_in l (operands_of (drop i es)) ≡ argument_in l (operand_of e) ∷ arguments_in l (operands_of (drop (i + 1) es))
+arguments_step l es i e h p = rw (drop-cons es i e, add-one, ← p) refl
+
+pub argument_added : (xs : List declared.Argument) (x : declared.Argument) (ys : List Argument) → map argument_of (xs ++ x ∷ []) ++ ys ≡ map argument_of xs ++ argument_of x ∷ ys
+argument_added [] x ys = refl
+argument_added (y ∷ xs) x ys = ap (λ (zs : List Argument). argument_of y ∷ zs) (argument_added xs x ys)
