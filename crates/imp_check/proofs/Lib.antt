@@ -2,3 +2,5 @@ pub mod Arguments
 pub mod Going
 pub mod ChainLemmas
 pub mod SlotLemmas
+pub mod CodeLemmas
+pub mod FewLemmas

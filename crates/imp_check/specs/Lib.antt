@@ -7,3 +7,5 @@ pub mod Programs
 pub mod ScopeCode
 pub mod Tallies
 pub mod Slots
+pub mod FrameCode
+pub mod Few

@@ -7,6 +7,7 @@ mod fault;
 mod kinds;
 mod names;
 mod programs;
+mod resolve;
 mod slots;
 mod statements;
 mod terms;

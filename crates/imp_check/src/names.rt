@@ -43,6 +43,19 @@ pub(crate) fn is_named(procs: &[Proc], name: &Text) -> bool
     false
 }
 
+/// The place of the first procedure of this name, or how many there are.
+pub(crate) fn place_named(procs: &[Proc], name: &Text) -> usize
+    ensures is { result ≡ place_named procs.now name.now }
+    ensures within { result ≤ length procs.now }
+{
+    for (i, proc) in procs.iter().enumerate() {
+        if same_name(proc.name(), name) {
+            return i;
+        }
+    }
+    procs.len()
+}
+
 pub(crate) fn same_name(a: &Text, b: &Text) -> bool
     ensures is { result ≡ bytes_eq a.now b.now }
 {
