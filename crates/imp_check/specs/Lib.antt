@@ -9,3 +9,5 @@ pub mod Tallies
 pub mod Slots
 pub mod FrameCode
 pub mod Few
+pub mod Tables
+pub mod Refused

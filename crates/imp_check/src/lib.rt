@@ -2,6 +2,7 @@
 #![tactic(auto)]
 
 mod chains;
+mod checked;
 mod counts;
 mod fault;
 mod kinds;
@@ -12,4 +13,5 @@ mod slots;
 mod statements;
 mod terms;
 
+pub use checked::{Checked, check};
 pub use fault::{CheckError, Fault, Found};
