@@ -4,3 +4,4 @@ pub mod ChainLemmas
 pub mod SlotLemmas
 pub mod CodeLemmas
 pub mod FewLemmas
+pub mod EntryLemmas

@@ -11,3 +11,4 @@ pub mod FrameCode
 pub mod Few
 pub mod Tables
 pub mod Refused
+pub mod Entries

@@ -4,6 +4,8 @@
 mod chains;
 mod checked;
 mod counts;
+mod entries;
+mod entry;
 mod fault;
 mod kinds;
 mod names;
@@ -14,4 +16,5 @@ mod statements;
 mod terms;
 
 pub use checked::{Checked, check};
+pub use entry::{Around, Entry, SlotForm, Which};
 pub use fault::{CheckError, Fault, Found};

@@ -22,7 +22,7 @@ use std::marker::Model;
 /// What the statements of a procedure are resolved by: its slots, the procedures before it and theirs.
 #[derive(Drop)]
 pub(crate) struct Frame<'a> {
-    slots: &'a Slots,
+    pub(crate) slots: &'a Slots,
     earlier: &'a [Proc],
     known: &'a [Slots],
 }
@@ -55,7 +55,7 @@ impl<'a> Frame<'a> {
     }
 
     /// The place of a callee in the program.
-    fn callee(&self, call: &Call) -> u32
+    pub(crate) fn callee(&self, call: &Call) -> u32
         ensures is { result ≡ callee_in self.now call.now.callee }
     {
         place_named(self.earlier, &call.callee) as u32
@@ -63,7 +63,7 @@ impl<'a> Frame<'a> {
 
     /// A call.
     #[tactic(auto, using(crate::proofs::SlotLemmas::callee_there, crate::proofs::SlotLemmas::callee_gone, crate::proofs::SlotLemmas::layout_there, crate::proofs::SlotLemmas::known_length))]
-    fn invoke(&self, alloc: Global, call: &Call) -> Result<SlotCall, Memory>
+    pub(crate) fn invoke(&self, alloc: Global, call: &Call) -> Result<SlotCall, Memory>
         ensures is { IfOk result (λ c. c ≡ invoke_in self.now call.now.target call.now.callee (operands_of call.now.arguments)) }
     {
         let place = place_named(self.earlier, &call.callee);
