@@ -2,15 +2,20 @@
 ghost use Rattle.std.specs.Prelude.{◌≡◌, IfOk, IfErr, None};
 ghost use Rattle.imp_check.specs.Programs.{AreNumbered, check_fault};
 ghost use Rattle.imp_check.specs.Slots.{routines_of};
+ghost use Rattle.std.specs.Option.{option_copied};
+ghost use Rattle.imp_check.specs.Entries.{entries_of, entry_of};
 ghost use Rattle.imp_check.specs.Refused.{IsRefused};
 
 use crate::CheckError;
+use crate::entry::Entry;
+use crate::index::{entry_of, index_of};
 use crate::programs::check_fault;
-use crate::resolve::routines_of;
+use crate::routines::routines_of;
 use imp_slots::Routine;
-use imp_syntax::Program;
+use imp_syntax::{Program, StmtId};
 use plain_values::{Items, Memory};
 use std::alloc::{AllocError, Global};
+use std::collections::HashMap;
 use std::marker::Model;
 use std::rc::Rc;
 
@@ -24,6 +29,8 @@ pub struct Checked {
 struct Parts {
     program: Program,
     routines: Items<Routine>,
+    entries: Items<Entry>,
+    index: HashMap<u32, usize>,
 }
 
 impl Model for Checked {
@@ -67,8 +74,16 @@ fn accept(alloc: Global, program: Program) -> Result<Checked, Memory>
     requires faultless { check_fault program ≡ None }
     ensures is { IfOk result (λ c. c ≡ program) }
 {
-    let routines = routines_of(alloc, program.procs())?;
-    let parts = Rc::new(alloc, Parts { program, routines })?;
+    let mut entries = Items::new(alloc);
+    let routines = routines_of(alloc, program.procs(), &mut entries)?;
+    let index = index_of(alloc, entries.as_slice())?;
+    let parts = Parts {
+        program,
+        routines,
+        entries,
+        index,
+    };
+    let parts = Rc::new(alloc, parts)?;
     Ok(Checked { parts })
 }
 
@@ -87,6 +102,25 @@ impl Checked {
         ensures is { result.now ≡ routines_of self.now }
     {
         self.parts.routines.as_slice()
+    }
+
+    /// All statements in the order of the text, each with where it stands and with its slots.
+    pub fn entries(&self) -> &[Entry]
+        ensures is { result.now ≡ entries_of self.now }
+    {
+        self.parts.entries.as_slice()
+    }
+
+    /// The statement of a number, with where it stands and with its slots, or `None` where the program has no such
+    /// statement. It takes constant time, by a hash.
+    pub fn entry(&self, id: StmtId) -> Option<&Entry>
+        ensures is { option_copied result ≡ entry_of (entries_of self.now) id }
+    {
+        entry_of(
+            &self.parts.index,
+            self.parts.entries.as_slice(),
+            id.number(),
+        )
     }
 }
 

@@ -6,16 +6,14 @@ ghost use Rattle.imp_slots.specs.Plain.{Code};
 ghost use Rattle.imp_slots.specs.BlockViews.{before_code};
 ghost use Rattle.imp_slots.specs.CallViews.{taken_of, returning_of};
 ghost use Rattle.imp_check.specs.Names.{place_named};
-ghost use Rattle.imp_check.specs.Slots.{layout_in, result_in, returning_in, invoke_of, callee_in, invoke_in, statement_in, code_in, routine_of, routines_of};
-ghost use Rattle.imp_check.specs.Few.{HasFew, AreFew};
+ghost use Rattle.imp_check.specs.Slots.{layout_in, result_in, returning_in, invoke_of, callee_in, invoke_in, statement_in, code_in};
 
 use crate::names::place_named;
-use crate::programs::variables_of;
 use crate::slots::Slots;
 use crate::terms::{arguments_in, effect_in, guard_in};
-use imp_slots::{Entering, Returning, Routine, SlotBlock, SlotCall, SlotNode};
+use imp_slots::{Entering, Returning, SlotBlock, SlotCall, SlotNode};
 use imp_syntax::{Block, Call, Declaration, Proc, Stmt, StmtNode};
-use plain_values::{Items, Memory, Text};
+use plain_values::{Memory, Text};
 use std::alloc::Global;
 use std::marker::Model;
 
@@ -180,49 +178,4 @@ fn statement_in(alloc: Global, frame: &Frame, stmt: &Stmt) -> Result<SlotNode, M
             Ok(SlotNode::While(number, cond, body))
         }
     }
-}
-
-/// The procedures over slots.
-#[tactic(auto, using(crate::proofs::FewLemmas::few_at, crate::proofs::FewLemmas::routines_step, crate::proofs::FewLemmas::layouts_step))]
-pub(crate) fn routines_of(alloc: Global, procs: &[Proc]) -> Result<Items<Routine>, Memory>
-    requires few { AreFew procs.now }
-    ensures is { IfOk result (λ routines. routines ≡ routines_of procs.now) }
-{
-    let mut known: Vec<Slots> = Vec::new(alloc);
-    let mut routines = Items::new(alloc);
-    for (i, proc) in procs.iter().enumerate() {
-        let slots = slots_of(alloc, proc)?;
-        let routine = routine_of(alloc, &slots, &procs[..i], known.as_slice(), proc)?;
-        routines.push(routine)?;
-        known.push(slots)?;
-    }
-    Ok(routines)
-}
-
-fn slots_of(alloc: Global, proc: &Proc) -> Result<Slots, Memory>
-    requires few { HasFew proc.now }
-    ensures is { IfOk result (λ slots. slots ≡ layout_in proc.now) }
-{
-    let variables = variables_of(alloc, proc)?;
-    Slots::new(alloc, variables.as_slice())
-}
-
-/// A procedure, with its slots and those of the procedures before it.
-fn routine_of(
-    alloc: Global,
-    slots: &Slots,
-    earlier: &[Proc],
-    known: &[Slots],
-    proc: &Proc,
-) -> Result<Routine, Memory>
-    requires few { length earlier.now < 2 ^ 32 }
-    requires known { known.now ≡ map layout_in earlier.now }
-    requires slots { slots.now ≡ layout_in proc.now }
-    ensures is { IfOk result (λ r. r ≡ routine_of earlier.now proc.now) }
-{
-    let frame = Frame::new(slots, earlier, known);
-    let code = code_in(alloc, &frame, proc.body())?;
-    let name = proc.name().clone()?;
-    let layout = slots.layout().clone()?;
-    Routine::new(alloc, name, layout, code)
 }
