@@ -18,14 +18,13 @@ entries_step ps i p h e = rw (drop-cons ps i p, add-one, take-suc ps i p, ← e)
 pub place_step : (es : List Entry) (i : ℕ) (e : Entry) (n : ℕ) → i < length es → e ≡ get_or es i e → place_of i (drop i es) n ≡ cond (number_of e.stmt == n) (Some i) (place_of (i + 1) (drop (i + 1) es) n)
 place_step es i e n h p = rw (drop-cons es i e, add-one, ← p) refl
 
-mutual
-  place_at_least : (es : List Entry) (n k i : ℕ) → place_of k es n ≡ Some i → k ≤ i
-  place_at_least [] n k i h = cc
-  place_at_least (e ∷ es) n k i h = at_least_by (number_of e.stmt == n) es n k i h
+at_least_by : (b : Bool) (k i : ℕ) (rest : Option ℕ) → (rest ≡ Some i → suc k ≤ i) → cond b (Some k) rest ≡ Some i → k ≤ i
+at_least_by true k i rest ih h = let e : k ≡ i = cc in omega arith
+at_least_by false k i rest ih h = omega (arith, ih h)
 
-  at_least_by : (b : Bool) (es : List Entry) (n k i : ℕ) → cond b (Some k) (place_of (suc k) es n) ≡ Some i → k ≤ i
-  at_least_by true es n k i h = let e : k ≡ i = cc in omega arith
-  at_least_by false es n k i h = omega (arith, place_at_least es n (suc k) i h)
+place_at_least : (es : List Entry) (n k i : ℕ) → place_of k es n ≡ Some i → k ≤ i
+place_at_least [] n k i h = cc
+place_at_least (e ∷ es) n k i h = at_least_by (number_of e.stmt == n) k i (place_of (suc k) es n) (place_at_least es n (suc k) i) h
 
 found_by : (b : Bool) (e : Entry) (es : List Entry) (n k i j : ℕ) → ((m : ℕ) → place_of (suc k) es n ≡ Some i → i ≡ suc k + m → slice_get es m ≡ entry_of es n) → cond b (Some k) (place_of (suc k) es n) ≡ Some i → i ≡ k + j → slice_get (e ∷ es) j ≡ cond b (Some e) (entry_of es n)
 found_by true e es n k i zero ih h g = refl

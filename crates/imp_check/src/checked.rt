@@ -116,11 +116,7 @@ impl Checked {
     pub fn entry(&self, id: StmtId) -> Option<&Entry>
         ensures is { option_copied result ≡ entry_of (entries_of self.now) id }
     {
-        entry_of(
-            &self.parts.index,
-            self.parts.entries.as_slice(),
-            id.number(),
-        )
+        entry_of(&self.parts.index, &self.parts.entries, id.number())
     }
 }
 

@@ -5,7 +5,7 @@ ghost use Rattle.std.specs.Option.{option_copied};
 ghost use Rattle.imp_check.specs.Entries.{entry_of, place_of};
 
 use crate::entry::Entry;
-use plain_values::Memory;
+use plain_values::{Items, Memory};
 use std::alloc::Global;
 use std::collections::HashMap;
 
@@ -21,10 +21,9 @@ pub(crate) fn index_of(alloc: Global, entries: &[Entry]) -> Result<HashMap<u32, 
 }
 
 /// The entry of a number.
-#[tactic(auto, using(crate::proofs::EntryLemmas::place_found, crate::proofs::EntryLemmas::place_gone))]
 pub(crate) fn entry_of<'a>(
     index: &HashMap<u32, usize>,
-    entries: &'a [Entry],
+    entries: &'a Items<Entry>,
     number: u32,
 ) -> Option<&'a Entry>
     requires right { (n : ℕ) → get nat_eq index.now n ≡ place_of 0 entries.now n }
