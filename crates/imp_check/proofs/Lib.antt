@@ -5,3 +5,4 @@ pub mod SlotLemmas
 pub mod CodeLemmas
 pub mod FewLemmas
 pub mod EntryLemmas
+pub mod NumberLemmas

@@ -1,5 +1,5 @@
 -- The first fault of a program.
-use Rattle.std.specs.Prelude.{ℕ, ◌+◌, List, [], ◌∷◌, ◌++◌, Option, Some, None, Bool, true, false, ◌&&◌, not, nat_lt, max, length, slice_get, ◌-◌, codes}
+use Rattle.std.specs.Prelude.{ℕ, ◌+◌, List, [], ◌∷◌, ◌++◌, Option, Some, None, Bool, true, false, ◌&&◌, ◌||◌, ◌==◌, not, nat_lt, max, length, slice_get, ◌-◌, codes}
 use Rattle.std.specs.Str.{bytes_eq}
 use Rattle.imp_syntax.specs.Plain.{Statement, Simple, Break, Call, If, While, Statements, Ends, Starts, Procedure, program_numbers}
 use Rattle.imp_syntax.specs.declared.words.Declaration.{Declaration}
@@ -147,3 +147,12 @@ check_fault ps =
 pub record AreNumbered (ps : List Procedure) : Type 0 where
   pub no_zero : Absent 0 (program_numbers ps)
   pub once : Distinct (program_numbers ps)
+
+-- the same as a test: no number is 0, and none stands again behind it
+abbrev pub has : List ℕ → ℕ → Bool
+has [] n = false
+has (m ∷ ms) n = (n == m) || has ms n
+
+abbrev pub all_once : List ℕ → Bool
+all_once [] = true
+all_once (n ∷ ns) = not (n == 0) && (not (has ns n) && all_once ns)
