@@ -28,23 +28,35 @@ fn variable(rt: &HostRuntime, name: &[u8]) -> Result<Expr, Fail> {
 }
 
 fn replaced(rt: &HostRuntime, block: &Block, at: usize, stmt: Stmt) -> Result<Block, Fail> {
-    assert!(rt; at < block.len());
-    Ok(block.with_replaced(rt.alloc(), at, stmt)?)
+    if at < block.len() {
+        Ok(block.with_replaced(rt.alloc(), at, stmt)?)
+    } else {
+        Ok(Block::empty())
+    }
 }
 
 fn inserted(rt: &HostRuntime, block: &Block, at: usize, more: &Block) -> Result<Block, Fail> {
-    assert!(rt; at <= block.len());
-    Ok(block.with_inserted(rt.alloc(), at, more)?)
+    if at <= block.len() {
+        Ok(block.with_inserted(rt.alloc(), at, more)?)
+    } else {
+        Ok(Block::empty())
+    }
 }
 
 fn removed(rt: &HostRuntime, block: &Block, at: usize) -> Result<Block, Fail> {
-    assert!(rt; at < block.len());
-    Ok(block.with_removed(rt.alloc(), at)?)
+    if at < block.len() {
+        Ok(block.with_removed(rt.alloc(), at)?)
+    } else {
+        Ok(Block::empty())
+    }
 }
 
 fn with_proc(rt: &HostRuntime, program: &Program, at: usize, proc: Proc) -> Result<Program, Fail> {
-    assert!(rt; at < program.procs().len());
-    Ok(program.with_proc(rt.alloc(), at, proc)?)
+    if at < program.procs().len() {
+        Ok(program.with_proc(rt.alloc(), at, proc)?)
+    } else {
+        Ok(program.clone()?)
+    }
 }
 
 fn with_inserted(
@@ -53,13 +65,19 @@ fn with_inserted(
     at: usize,
     proc: Proc,
 ) -> Result<Program, Fail> {
-    assert!(rt; at <= program.procs().len());
-    Ok(program.with_inserted(rt.alloc(), at, proc)?)
+    if at <= program.procs().len() {
+        Ok(program.with_inserted(rt.alloc(), at, proc)?)
+    } else {
+        Ok(program.clone()?)
+    }
 }
 
 fn with_removed(rt: &HostRuntime, program: &Program, at: usize) -> Result<Program, Fail> {
-    assert!(rt; at < program.procs().len());
-    Ok(program.with_removed(rt.alloc(), at)?)
+    if at < program.procs().len() {
+        Ok(program.with_removed(rt.alloc(), at)?)
+    } else {
+        Ok(program.clone()?)
+    }
 }
 
 /// `i = i + by;`
