@@ -27,6 +27,59 @@ fn variable(rt: &HostRuntime, name: &[u8]) -> Result<Expr, Fail> {
     Ok(Expr::new(rt.alloc(), ExprNode::Variable(name))?)
 }
 
+fn replaced(rt: &HostRuntime, block: &Block, at: usize, stmt: Stmt) -> Result<Block, Fail> {
+    if at < block.len() {
+        Ok(block.with_replaced(rt.alloc(), at, stmt)?)
+    } else {
+        Ok(Block::empty())
+    }
+}
+
+fn inserted(rt: &HostRuntime, block: &Block, at: usize, more: &Block) -> Result<Block, Fail> {
+    if at <= block.len() {
+        Ok(block.with_inserted(rt.alloc(), at, more)?)
+    } else {
+        Ok(Block::empty())
+    }
+}
+
+fn removed(rt: &HostRuntime, block: &Block, at: usize) -> Result<Block, Fail> {
+    if at < block.len() {
+        Ok(block.with_removed(rt.alloc(), at)?)
+    } else {
+        Ok(Block::empty())
+    }
+}
+
+fn with_proc(rt: &HostRuntime, program: &Program, at: usize, proc: Proc) -> Result<Program, Fail> {
+    if at < program.procs().len() {
+        Ok(program.with_proc(rt.alloc(), at, proc)?)
+    } else {
+        Ok(program.clone()?)
+    }
+}
+
+fn with_inserted(
+    rt: &HostRuntime,
+    program: &Program,
+    at: usize,
+    proc: Proc,
+) -> Result<Program, Fail> {
+    if at <= program.procs().len() {
+        Ok(program.with_inserted(rt.alloc(), at, proc)?)
+    } else {
+        Ok(program.clone()?)
+    }
+}
+
+fn with_removed(rt: &HostRuntime, program: &Program, at: usize) -> Result<Program, Fail> {
+    if at < program.procs().len() {
+        Ok(program.with_removed(rt.alloc(), at)?)
+    } else {
+        Ok(program.clone()?)
+    }
+}
+
 /// `i = i + by;`
 fn step(rt: &HostRuntime, id: u32, by: u32) -> Result<Stmt, Fail> {
     let alloc = rt.alloc();
@@ -85,7 +138,7 @@ fn program(rt: &HostRuntime, body: Block) -> Result<Program, Fail> {
 }
 
 #[test]
-fn changes(rt: HostRuntime) -> Result<(), Fail> {
+fn conditions_and_bodies(rt: HostRuntime) -> Result<(), Fail> {
     let alloc = rt.alloc();
     let old = program(&rt, body(&rt, 10, 1)?)?;
     let copy = old.clone()?;
@@ -95,22 +148,29 @@ fn changes(rt: HostRuntime) -> Result<(), Fail> {
     let stmt = main.body().get(0).expect(&rt, "a statement");
     // the condition alone, by a path from the statement up to the program
     let guarded = stmt.with_condition(alloc, below(&rt, 20)?)?;
-    let new = main.body().with_replaced(alloc, 0, guarded)?;
-    let new = old.with_proc(alloc, 0, main.with_body(new)?)?;
+    let new = replaced(&rt, main.body(), 0, guarded)?;
+    let new = with_proc(&rt, &old, 0, main.with_body(new)?)?;
+    let same = program(&rt, body(&rt, 20, 1)?)?;
     assert!(rt; new != old);
-    assert!(rt; new == program(&rt, body(&rt, 20, 1)?)?);
-    assert_eq!(rt; hash_of(&new), hash_of(&program(&rt, body(&rt, 20, 1)?)?));
+    assert!(rt; new == same);
+    assert_eq!(rt; hash_of(&new), hash_of(&same));
     // the body alone
     let mut steps = Items::new(alloc);
     steps.push(step(&rt, 2, 7)?)?;
     let other = stmt.with_body(alloc, Block::new(alloc, steps)?)?;
-    let new = main.body().with_replaced(alloc, 0, other)?;
+    let new = replaced(&rt, main.body(), 0, other)?;
     assert!(rt; new == body(&rt, 10, 7)?);
-    // put in and taken out again
-    let more = main.body().with_inserted(alloc, 1, &body(&rt, 3, 4)?)?;
+    Ok(())
+}
+
+#[test]
+fn blocks(rt: HostRuntime) -> Result<(), Fail> {
+    let old = body(&rt, 10, 1)?;
+    let more = inserted(&rt, &old, 1, &body(&rt, 3, 4)?)?;
     assert_eq!(rt; more.len(), 4);
-    let less = more.with_removed(alloc, 2)?.with_removed(alloc, 1)?;
-    assert!(rt; less == *main.body());
+    let less = removed(&rt, &more, 2)?;
+    let less = removed(&rt, &less, 1)?;
+    assert!(rt; less == old);
     assert!(rt; less.get(2).is_none());
     assert!(rt; Block::empty().is_empty());
     Ok(())
@@ -130,11 +190,11 @@ fn procedures(rt: HostRuntime) -> Result<(), Fail> {
     assert!(rt; wider.name() == main.name());
     assert!(rt; wider.outcome().is_none());
     assert!(rt; wider.parameters().is_empty());
-    let two = old.with_inserted(alloc, 0, wider.clone()?)?;
+    let two = with_inserted(&rt, &old, 0, wider.clone()?)?;
     assert!(rt; two != old);
-    let one = two.with_removed(alloc, 0)?;
+    let one = with_removed(&rt, &two, 0)?;
     assert!(rt; one == old);
-    let wide = one.with_proc(alloc, 0, wider)?;
-    assert!(rt; wide == two.with_removed(alloc, 1)?);
+    let wide = with_proc(&rt, &one, 0, wider)?;
+    assert!(rt; wide == with_removed(&rt, &two, 1)?);
     Ok(())
 }
