@@ -1,0 +1,3 @@
+pub mod Fix
+pub mod Exact
+pub mod Pack
