@@ -1,1 +1,10 @@
 pub mod Plain
+pub mod Code
+pub mod Views
+pub mod ActionViews
+pub mod StmtCode
+pub mod StmtViews
+pub mod Falls
+pub mod Blocks
+pub mod ProgramCode
+pub mod ProcViews

@@ -1,6 +1,6 @@
 -- Programs as plain data. A name is the list of its bytes, a number is 0 to 2^63 - 1.
 use Rattle.std.specs.Prelude.{ℕ, List, [], ◌∷◌, ◌++◌, ◌+◌, Option}
-use Rattle.imp_syntax.specs.declared.words.Kind.{Kind}
+use Rattle.imp_syntax.specs.declared.words.Declaration.{Declaration}
 use Rattle.imp_syntax.specs.declared.words.Operator.{Operator}
 use Rattle.imp_syntax.specs.declared.words.Relation.{Relation}
 
@@ -54,11 +54,6 @@ mutual
   pub data Statements : Type 0 where
     Ends : Statements
     Starts : Statement → Statements → Statements
-
--- A parameter, a result or a local variable.
-pub record Declaration : Type 0 where
-  pub name : List ℕ
-  pub kind : Kind
 
 pub record Procedure : Type 0 where
   pub name : List ℕ

@@ -1,4 +1,5 @@
-//! Kinds, operators and relations.
+//! Kinds, operators, relations and declarations.
+use plain_values::Text;
 
 /// The kind of a variable.
 #[derive(Clone, Copy, Debug, PartialEq, Eq, Hash)]
@@ -9,6 +10,13 @@ pub enum Kind {
     Array,
     /// A link to a list cell, or null.
     List,
+}
+
+/// A parameter, a result or a local variable.
+#[derive(Debug, Drop)]
+pub struct Declaration {
+    pub name: Text,
+    pub kind: Kind,
 }
 
 /// An operator between two integers.

@@ -54,6 +54,13 @@ impl<T> Items<T> {
         Items { items }
     }
 
+    /// The items as a `Vec`. It copies nothing.
+    pub fn into_vec(self) -> Vec<T>
+        ensures same { result.items ≡ self }
+    {
+        self.items
+    }
+
     /// The items, in order.
     pub fn as_slice(&self) -> &[T]
         ensures same { result.now ≡ self.now }

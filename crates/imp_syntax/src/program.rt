@@ -1,0 +1,149 @@
+//! Procedures and programs.
+ghost use Rattle.std.specs.Prelude.{◌≡◌, length, IfOk};
+ghost use Rattle.std.specs.Option.{option_copied};
+
+use crate::{Block, Declaration};
+use plain_values::{Items, Memory, Text};
+use std::alloc::{AllocError, Global};
+use std::marker::Model;
+use std::rc::Rc;
+
+/// A procedure, seen as plain data. Copies share it.
+#[derive(Debug, Drop)]
+pub struct Proc {
+    parts: Rc<ProcParts>,
+}
+
+#[derive(Debug, Drop)]
+struct ProcParts {
+    name: Text,
+    parameters: Items<Declaration>,
+    outcome: Option<Declaration>,
+    locals: Items<Declaration>,
+    body: Block,
+}
+
+impl Model for Proc {
+    ghost use Rattle.imp_syntax.specs.Plain.{Procedure};
+    ghost use Rattle.imp_syntax.specs.ProgramCode.{procedure_code};
+
+    ghost Value = { Procedure };
+
+    ghost coded = { procedure_code };
+
+    ghost use Rattle.imp_syntax.specs.ProcViews.{procedure_of};
+
+    ghost view = { λ a. procedure_of a.parts.value };
+}
+
+impl Proc {
+    /// The procedure of these parts. It fails for want of memory alone.
+    pub fn new(
+        alloc: Global,
+        name: Text,
+        parameters: Items<Declaration>,
+        outcome: Option<Declaration>,
+        locals: Items<Declaration>,
+        body: Block,
+    ) -> Result<Proc, Memory>
+        ensures is { IfOk result (λ p. p ≡ record { name = name; parameters = parameters; outcome = outcome; locals = locals; body = body }) }
+    {
+        let parts = ProcParts {
+            name,
+            parameters,
+            outcome,
+            locals,
+            body,
+        };
+        let parts = Rc::new(alloc, parts)?;
+        Ok(Proc { parts })
+    }
+
+    /// Its name.
+    pub fn name(&self) -> &Text
+        ensures is { result.now ≡ self.now.name }
+    {
+        &self.parts.name
+    }
+
+    /// Its parameters, in order.
+    pub fn parameters(&self) -> &[Declaration]
+        ensures is { result.now ≡ self.now.parameters }
+    {
+        self.parts.parameters.as_slice()
+    }
+
+    /// Its result, if it has one.
+    pub fn outcome(&self) -> Option<&Declaration>
+        ensures is { option_copied result ≡ self.now.outcome }
+    {
+        self.parts.outcome.as_ref()
+    }
+
+    /// Its local variables, in order.
+    pub fn locals(&self) -> &[Declaration]
+        ensures is { result.now ≡ self.now.locals }
+    {
+        self.parts.locals.as_slice()
+    }
+
+    /// Its body.
+    pub fn body(&self) -> &Block
+        ensures is { result.now ≡ self.now.body }
+    {
+        &self.parts.body
+    }
+}
+
+impl Clone for Proc {
+    ghost is_clone = { λ p copy. copy ≡ p };
+
+    fn clone(&self) -> Result<Proc, AllocError> {
+        let parts = self.parts.clone()?;
+        Ok(Proc { parts })
+    }
+}
+
+/// A program, seen as the list of its procedures. Copies share it.
+#[derive(Debug, Drop)]
+pub struct Program {
+    procs: Rc<Items<Proc>>,
+}
+
+impl Model for Program {
+    ghost use Rattle.std.specs.Prelude.{List};
+    ghost use Rattle.imp_syntax.specs.Plain.{Procedure};
+    ghost use Rattle.imp_syntax.specs.ProgramCode.{program_code};
+
+    ghost Value = { List Procedure };
+
+    ghost coded = { program_code };
+
+    ghost view = { λ a. a.procs.value };
+}
+
+impl Program {
+    /// The program of these procedures, in the order of the text. It fails for want of memory alone.
+    pub fn new(alloc: Global, procs: Items<Proc>) -> Result<Program, Memory>
+        ensures is { IfOk result (λ p. p ≡ procs) }
+    {
+        let procs = Rc::new(alloc, procs)?;
+        Ok(Program { procs })
+    }
+
+    /// The procedures, in the order of the text.
+    pub fn procs(&self) -> &[Proc]
+        ensures is { result.now ≡ self.now }
+    {
+        self.procs.as_slice()
+    }
+}
+
+impl Clone for Program {
+    ghost is_clone = { λ p copy. copy ≡ p };
+
+    fn clone(&self) -> Result<Program, AllocError> {
+        let procs = self.procs.clone()?;
+        Ok(Program { procs })
+    }
+}
