@@ -1,3 +1,5 @@
 pub mod Fix
 pub mod Exact
 pub mod Pack
+pub mod Layers
+pub mod Chains

@@ -44,7 +44,7 @@ pub record Pack (L : Layer) (A : Type 0) (up at : ℕ → ℕ) (on : Kind → Bo
   pub reader : Calls L → Reader A
   pub keeps : (f : Calls L) → Keeps L f → (k : ℕ) (ts : List Kind) → length ts < up k → Below k (reader f ts)
   pub same : (f g : Calls L) → Keeps L f → (k : ℕ) → Agree L k f g → (ts : List Kind) → length ts < at k → reader f ts ≡ reader g ts
-  pub exact : (f : Calls L) (k : ℕ) → Good L k f → Exact (up k) lang on (reader f)
+  pub exact : (f : Calls L) (k : ℕ) → Good L k f → Exact (at k) lang on (reader f)
   pub some : Opens lang []
   pub grows : (k : ℕ) (w : List Kind) (a : A) → lang w a → up k ≤ k + length w
   pub high : (k : ℕ) → k ≤ up k
@@ -82,7 +82,7 @@ loose p = record {
   reader = p.reader;
   keeps = λ f kf k ts lt. p.keeps f kf k ts (omega (arith, p.high k));
   same = λ f g kf k h ts lt. p.same f g kf k h ts (omega (arith, p.tight k));
-  exact = λ f k good. fewer _ k p.lang _ (p.reader f) (p.high k) (p.exact f k good);
+  exact = λ f k good. fewer _ k p.lang _ (p.reader f) (p.tight k) (p.exact f k good);
   some = p.some;
   grows = λ k w a g. omega arith;
   high = λ k. omega arith;
@@ -389,31 +389,31 @@ module _ {L : Layer} {A : Type 0} {up at : ℕ → ℕ} {on : Kind → Bool} (ar
   chosen_grows k w a (other o g) = d.grows k w a g
 
   module _ (f : Calls L) (k : ℕ) (good : Good L k f) where
-    arm_explains : (t : Kind) (rest : List Kind) → suc (length rest) < up k → (x : Arm L A on) → arm t ≡ x → Explained (Chosen arm d.lang) (chosen_reader arm (d.reader f) f) (t ∷ rest) (arm_reader x f (d.reader f) t rest)
+    arm_explains : (t : Kind) (rest : List Kind) → suc (length rest) < at k → (x : Arm L A on) → arm t ≡ x → Explained (Chosen arm d.lang) (chosen_reader arm (d.reader f) f) (t ∷ rest) (arm_reader x f (d.reader f) t rest)
     arm_explains t rest lt Dead e = stuck_first (Chosen arm d.lang) (chosen_reader arm (d.reader f) f) t rest some (λ q. ap (λ y. arm_reader y f (d.reader f) t q) e)
     arm_explains t rest lt (Live p) e =
         after_first p.lang (Chosen arm d.lang) (p.reader f) (chosen_reader arm (d.reader f) f) t rest (λ w a g. live {t = t} (subst (λ y. arm_lang y w a) (sym e) g)) (λ q. ap (λ y. arm_reader y f (d.reader f) t q) e)
-        (p.reader f rest) ((p.exact f k good).explains rest (omega (arith, d.low k)))
+        (p.reader f rest) ((p.exact f k good).explains rest (omega (arith, d.near k)))
     arm_explains t rest lt Other e = other_explains arm d.lang (d.reader f) f some (t ∷ rest) (ap is_other e) (d.reader f (t ∷ rest)) ((d.exact f k good).explains (t ∷ rest) lt)
 
-    chosen_explains : (ts : List Kind) → length ts < up k → Explained (Chosen arm d.lang) (chosen_reader arm (d.reader f) f) ts (chosen_reader arm (d.reader f) f ts)
+    chosen_explains : (ts : List Kind) → length ts < at k → Explained (Chosen arm d.lang) (chosen_reader arm (d.reader f) f) ts (chosen_reader arm (d.reader f) f ts)
     chosen_explains [] lt = other_explains arm d.lang (d.reader f) f some [] tt (d.reader f []) ((d.exact f k good).explains [] lt)
     chosen_explains (t ∷ rest) lt = arm_explains t rest lt (arm t) refl
 
-    arm_reads : (t : Kind) (w : List Kind) (a : A) (rest : List Kind) → suc (length w) < up k → (x : Arm L A on) → arm_lang x w a → Free on rest → arm_reader x f (d.reader f) t (w ++ rest) ≡ Ok (a, rest)
+    arm_reads : (t : Kind) (w : List Kind) (a : A) (rest : List Kind) → suc (length w) < at k → (x : Arm L A on) → arm_lang x w a → Free on rest → arm_reader x f (d.reader f) t (w ++ rest) ≡ Ok (a, rest)
     arm_reads t w a rest lt Dead g free = absurd g
-    arm_reads t w a rest lt (Live p) g free = (p.exact f k good).reads w a rest (omega (arith, d.low k)) g free
+    arm_reads t w a rest lt (Live p) g free = (p.exact f k good).reads w a rest (omega (arith, d.near k)) g free
     arm_reads t w a rest lt Other g free = absurd g
 
     other_on : (w : List Kind) (a : A) (rest : List Kind) → IsOther arm w → d.lang w a → Free on rest → IsOther arm (w ++ rest)
     other_on [] a rest o g free = stops a rest g free
     other_on (t ∷ w) a rest o g free = o
 
-    chosen_reads : (w : List Kind) (a : A) (rest : List Kind) → length w < up k → Chosen arm d.lang w a → Free on rest → chosen_reader arm (d.reader f) f (w ++ rest) ≡ Ok (a, rest)
+    chosen_reads : (w : List Kind) (a : A) (rest : List Kind) → length w < at k → Chosen arm d.lang w a → Free on rest → chosen_reader arm (d.reader f) f (w ++ rest) ≡ Ok (a, rest)
     chosen_reads w a rest lt (live {t = t} {w = v} g) free = arm_reads t v a rest lt (arm t) g free
     chosen_reads w a rest lt (other o g) free = other_eq arm d.lang (d.reader f) f (w ++ rest) (other_on w a rest o g free) ∙ (d.exact f k good).reads w a rest lt g free
 
-    pub chosen_exact : Exact (up k) (Chosen arm d.lang) on (chosen_reader arm (d.reader f) f)
+    pub chosen_exact : Exact (at k) (Chosen arm d.lang) on (chosen_reader arm (d.reader f) f)
     chosen_exact = record { reads = chosen_reads; explains = chosen_explains }
 
 abbrev pub choose : {L : Layer} {A : Type 0} {up at : ℕ → ℕ} {on : Kind → Bool} (arm : Kind → Arm L A on) (d : Pack L A up at on) → ((a : A) (rest : List Kind) → d.lang [] a → Free on rest → IsOther arm rest) → Opens (Chosen arm d.lang) [] → Pack L A up at on

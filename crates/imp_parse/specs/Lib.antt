@@ -1,2 +1,5 @@
 pub mod Language
 pub mod Reader
+pub mod Tables
+pub mod Grammar
+pub mod Reading
