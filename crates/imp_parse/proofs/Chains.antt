@@ -3,11 +3,12 @@ use Rattle.std.proofs.Common.{◌≡◌, ℕ, zero, suc, ◌+◌, ◌<◌, ◌�
 use Rattle.std.specs.Prelude.{is_some, ◌||◌}
 use Rattle.imp_lex.specs.declared.token.Kind.{Kind}
 use Rattle.imp_parse.specs.Language.{Language, Opens}
-use Rattle.imp_parse.specs.Reader.{Read, ◌>>=◌, Steps}
+use Rattle.imp_parse.specs.Reader.{Read, ◌>>=◌, Steps, fix}
 use Rattle.imp_parse.specs.Reading.{Part, Whole, Inner, High, Low, Parts, tail_by, chain_by, part_by, high_by, low_by, chain_step}
 use Rattle.imp_parse.proofs.Exact.{Reader, Free, Both, both}
 use Rattle.imp_parse.proofs.Pack.{Layer, Calls, strictly, loosely, Pack, Strict, Loose, loose, Nothing, nothing, done, call, Follows, then, Arm, Live, Other, is_other, arm_reader, arm_lang, IsOther, Chosen, live, other, chosen_reader, choose}
-use Rattle.imp_parse.proofs.Layers.{Turn}
+use Rattle.imp_parse.proofs.Layers.{Turn, layer_eq}
+use std.Path.{fun_ext}
 
 -- behind what spells a: no more, or an operator, one more part, and the rest
 pub data Tail {A Op : Type 0} (ops : Kind → Option Op) (made : Op → A → A → A) (G : Language A) (Rest : A → Language A) (a : A) : List Kind → A → Type 0 where
@@ -204,3 +205,20 @@ module _ {A Op : Type 0} (high low : Kind → Option Op) (made_high made_low : O
       turn Inner = record { up = strictly; pack = unit; is = unit_is; to = unit_to; from = unit_from }
       turn (High a) = record { up = loosely; pack = high_pack a; is = high_is a; to = high_all a; from = λ w e g. high_out a w e (c.high_from a w e g) }
       turn (Low a) = record { up = loosely; pack = low_pack a; is = low_is a; to = low_all a; from = λ w e g. low_out a w e (c.low_from a w e g) }
+
+      -- ---- what each part reads, said of the others
+
+      inner_eq : (ts : List Kind) → fix step Inner ts ≡ unit_reader (fix step) ts
+      inner_eq ts = layer_eq layer step turn Inner ts
+
+      inners : unit_reader (fix step) ≡ fix step Inner
+      inners = fun_ext (λ ts. sym (inner_eq ts))
+
+      pub whole_eq : (ts : List Kind) → fix step Whole ts ≡ (fix step Inner ts >>= λ x. fix step (High x.0) x.1) >>= λ x. fix step (Low x.0) x.1
+      whole_eq ts = layer_eq layer step turn Whole ts ∙ ap (λ r. (r ts >>= λ x. fix step (High x.0) x.1) >>= λ x. fix step (Low x.0) x.1) inners
+
+      pub high_eq : (a : A) (ts : List Kind) → fix step (High a) ts ≡ chain_by high (λ op rest. fix step Inner rest >>= λ x. fix step (High (made_high op a x.0)) x.1) a ts
+      high_eq a ts = layer_eq layer step turn (High a) ts ∙ ap (λ r. chain_by high (λ op rest. r rest >>= λ x. fix step (High (made_high op a x.0)) x.1) a ts) inners
+
+      pub low_eq : (a : A) (ts : List Kind) → fix step (Low a) ts ≡ chain_by low (λ op rest. (fix step Inner rest >>= λ x. fix step (High x.0) x.1) >>= λ x. fix step (Low (made_low op a x.0)) x.1) a ts
+      low_eq a ts = layer_eq layer step turn (Low a) ts ∙ ap (λ r. chain_by low (λ op rest. (r rest >>= λ x. fix step (High x.0) x.1) >>= λ x. fix step (Low (made_low op a x.0)) x.1) a ts) inners

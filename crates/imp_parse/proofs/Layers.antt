@@ -5,7 +5,7 @@ use Rattle.imp_lex.specs.declared.token.Kind.{Kind}
 use Rattle.imp_parse.specs.Language.{Language, Opens}
 use Rattle.imp_parse.specs.Reader.{Stop, Unexpected, Out, Read, ◌>>=◌, within, bounded, Steps, turns, fix}
 use Rattle.imp_parse.proofs.Fix.{fix_eq, within_fewer}
-use Rattle.imp_parse.proofs.Exact.{Reader, Exact, another, nothing_exact}
+use Rattle.imp_parse.proofs.Exact.{Reader, Exact, another, nothing_exact, fewer}
 use Rattle.imp_parse.proofs.Pack.{Layer, Calls, Below, Keeps, Agree, Good, strictly, loosely, Pack}
 
 -- the step of a layer, call by call: no call stands at its front, and what it reads is the call's language
@@ -44,3 +44,16 @@ module _ (L : Layer) (F : Steps L.Call L.Value) (turn : (i : L.Call) → Turn L 
       let t = turn i in
       let same : t.pack.reader (fix F) ≡ fix F i = fun_ext (λ ts. sym (t.is (fix F) ts) ∙ sym (layer_eq i ts)) in
       subst (Exact (suc n) (L.lang i) (L.on i)) same (another (suc n) t.pack.lang (L.lang i) (L.on i) (t.pack.reader (fix F)) t.to t.from (t.pack.exact (fix F) n (layer_exact n)))
+
+-- ---- a pack that calls nothing
+
+abbrev pub alone : Layer
+alone = record { Call = ⊥; Value = Unit {0}; lang = λ i w a. absurd i; on = λ i t. absurd i; some = λ i. absurd i }
+
+abbrev pub no_calls : Calls alone
+no_calls i ts = absurd i
+
+pub alone_exact : {A : Type 0} {on : Kind → Bool} {up : ℕ → ℕ} (p : Pack alone A up strictly on) (G : Language A) (r : Reader A) → ((w : List Kind) (a : A) → p.lang w a → G w a) → ((w : List Kind) (a : A) → G w a → p.lang w a) → ((ts : List Kind) → r ts ≡ p.reader no_calls ts) → (n : ℕ) → Exact n G on r
+alone_exact {on = on} p G r to from is n =
+    let same : p.reader no_calls ≡ r = fun_ext (λ ts. sym (is ts)) in
+    subst (Exact n G on) same (another n p.lang G on (p.reader no_calls) to from (fewer (suc n) n p.lang on (p.reader no_calls) (omega arith) (p.exact no_calls n (λ i. absurd i))))
