@@ -15,7 +15,7 @@ use Rattle.imp_parse.specs.Tables.{additive, multiplicative, relation_of, and_of
 use Rattle.imp_parse.specs.Grammar.{IsExpression, sum, sum_ends, IsTerm, product, product_ends, IsFactor, negative, number, name, length_of, group, IsSide, null, value, begins_group, IsCondition, disjunction, IsOr, or_ends, or_more, IsConjunction, conjunction, IsAnd, and_ends, and_more, IsUnit, opposite, grouped, compare}
 use Rattle.imp_parse.specs.Reading.{Part, Whole, Inner, High, Low, Parts, expression_at, value_at, side_at, compare_at, grouped_by, unit_by, condition_step, condition_at, chain_by}
 use Rattle.imp_parse.proofs.Exact.{Reader, Free, Exact, Both, both, another}
-use Rattle.imp_parse.proofs.Pack.{Layer, Calls, strictly, loosely, Pack, Strict, Loose, loose, Nothing, nothing, done, call, read, Follows, then, next, never, Arm, Live, Other, is_other, arm_lang, IsOther, Chosen, live, other, choose, strict_stops, Good, until}
+use Rattle.imp_parse.proofs.Pack.{Layer, Calls, strictly, loosely, Pack, Strict, Loose, loose, Nothing, nothing, done, nothing_follows, call, read, Follows, then, next, never, Arm, Live, Other, is_other, arm_lang, IsOther, Chosen, live, other, choose, strict_stops, Good, until}
 use Rattle.imp_parse.proofs.Layers.{Turn, layer_eq, layer_exact, alone, no_calls, alone_exact}
 use Rattle.imp_parse.proofs.Chains.{Tail, ends, more, Chains, high_on, low_on, layer, turn, whole_eq, high_eq, low_eq}
 use Rattle.imp_parse.proofs.Singles.{IsMark, mark, a_mark, IsPicked, picked_as, a_relation}
@@ -35,9 +35,6 @@ number_spells = (k.Number 0 ∷ [], Literal 0, sum (product number product_ends)
 
 abbrev pub an_expression : {L : Layer} → Strict L Expression operator_on
 an_expression = read IsExpression operator_on expression_at expression_exact number_spells (λ w a g. expression_some g)
-
-pub nothing_follows : {A : Type 0} (on : Kind → Bool) (x : A) → Follows on (Nothing x) on
-nothing_follows on x w a rest nothing free = free
 
 abbrev pub value_pack : {L : Layer} → Strict L Operand operator_on
 value_pack = then an_expression (λ e. loose (done operator_on (Value e))) (λ e. nothing_follows operator_on (Value e))

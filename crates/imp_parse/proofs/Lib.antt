@@ -6,3 +6,4 @@ pub mod Chains
 pub mod Singles
 pub mod Expressions
 pub mod Conditions
+pub mod ListLayers

@@ -434,3 +434,9 @@ choose arm d stops some = record {
 -- one that always takes a token stops at none
 pub strict_stops : {L : Layer} {A : Type 0} {on : Kind → Bool} (arm : Kind → Arm L A on) (d : Strict L A on) → (a : A) (rest : List Kind) → d.lang [] a → Free on rest → IsOther arm rest
 strict_stops arm d a rest g free = absurd (omega (arith, d.grows 0 [] a g))
+
+pub nothing_follows : {A : Type 0} (on : Kind → Bool) (x : A) → Follows on (Nothing x) on
+nothing_follows on x w a rest nothing free = free
+
+pub nothing_is : {A : Type 0} (x : A) (w : List Kind) (a : A) → Nothing x w a → (w ≡ []) × (x ≡ a)
+nothing_is x w a nothing = (refl, refl)

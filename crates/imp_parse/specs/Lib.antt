@@ -3,3 +3,8 @@ pub mod Reader
 pub mod Tables
 pub mod Grammar
 pub mod Reading
+pub mod Statements
+pub mod Programs
+pub mod Lists
+pub mod StatementReading
+pub mod ProgramReading
