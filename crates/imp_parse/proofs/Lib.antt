@@ -7,3 +7,4 @@ pub mod Singles
 pub mod Expressions
 pub mod Conditions
 pub mod ListLayers
+pub mod Calls

@@ -440,3 +440,17 @@ nothing_follows on x w a rest nothing free = free
 
 pub nothing_is : {A : Type 0} (x : A) (w : List Kind) (a : A) → Nothing x w a → (w ≡ []) × (x ≡ a)
 nothing_is x w a nothing = (refl, refl)
+
+-- ---- the same texts, with values made of theirs
+
+abbrev pub Made : {A B : Type 0} → (B → A) → Language B → Language A
+Made h G = Both G (λ b. Nothing (h b))
+
+abbrev pub give : {L : Layer} {A B : Type 0} {up : ℕ → ℕ} {on : Kind → Bool} → Pack L B up up on → (B → A) → Pack L A up up on
+give {on = on} p h = then p (λ b. loose (done on (h b))) (λ b. nothing_follows on (h b))
+
+pub made_of : {A B : Type 0} (h : B → A) (G : Language B) (w : List Kind) (a : A) → Made h G w a → (b : B) × G w b × (h b ≡ a)
+made_of h G w a (both {v = v} {w = u} {a = b} g n) = let e = nothing_is (h b) u a n in (b, subst (λ (q : List Kind). G q b) (sym (ap (λ (q : List Kind). v ++ q) e.0 ∙ append-nil v)) g, e.1)
+
+pub made : {A B : Type 0} (h : B → A) (G : Language B) (w : List Kind) (b : B) → G w b → Made h G w (h b)
+made h G w b g = subst (λ (q : List Kind). Made h G q (h b)) (append-nil w) (both g nothing)
