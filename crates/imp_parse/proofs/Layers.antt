@@ -53,7 +53,7 @@ alone = record { Call = ⊥; Value = Unit {0}; lang = λ i w a. absurd i; on = �
 abbrev pub no_calls : Calls alone
 no_calls i ts = absurd i
 
-pub alone_exact : {A : Type 0} {on : Kind → Bool} {up : ℕ → ℕ} (p : Pack alone A up strictly on) (G : Language A) (r : Reader A) → ((w : List Kind) (a : A) → p.lang w a → G w a) → ((w : List Kind) (a : A) → G w a → p.lang w a) → ((ts : List Kind) → r ts ≡ p.reader no_calls ts) → (n : ℕ) → Exact n G on r
+pub alone_exact : {A : Type 0} {on : Kind → Bool} {up at : ℕ → ℕ} (p : Pack alone A up at on) (G : Language A) (r : Reader A) → ((w : List Kind) (a : A) → p.lang w a → G w a) → ((w : List Kind) (a : A) → G w a → p.lang w a) → ((ts : List Kind) → r ts ≡ p.reader no_calls ts) → (n : ℕ) → Exact n G on r
 alone_exact {on = on} p G r to from is n =
     let same : p.reader no_calls ≡ r = fun_ext (λ ts. sym (is ts)) in
-    subst (Exact n G on) same (another n p.lang G on (p.reader no_calls) to from (fewer (suc n) n p.lang on (p.reader no_calls) (omega arith) (p.exact no_calls n (λ i. absurd i))))
+    subst (Exact n G on) same (another n p.lang G on (p.reader no_calls) to from (fewer _ n p.lang on (p.reader no_calls) (p.tight n) (p.exact no_calls n (λ i. absurd i))))

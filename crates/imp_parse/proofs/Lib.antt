@@ -8,3 +8,4 @@ pub mod Expressions
 pub mod Conditions
 pub mod ListLayers
 pub mod Calls
+pub mod Simples

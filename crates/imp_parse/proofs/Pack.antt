@@ -454,3 +454,6 @@ made_of h G w a (both {v = v} {w = u} {a = b} g n) = let e = nothing_is (h b) u 
 
 pub made : {A B : Type 0} (h : B → A) (G : Language B) (w : List Kind) (b : B) → G w b → Made h G w (h b)
 made h G w b g = subst (λ (q : List Kind). Made h G q (h b)) (append-nil w) (both g nothing)
+
+pub made_follows : {A B : Type 0} (h : B → A) (G : Language B) (on on' : Kind → Bool) → Follows on G on' → Follows on (Made h G) on'
+made_follows h G on on' follow w a rest g free = let q = made_of h G w a g in follow w q.0 rest q.1 free

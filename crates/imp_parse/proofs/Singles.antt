@@ -10,7 +10,9 @@ use Rattle.imp_lex.specs.declared.token.Kind.TheVariants as k
 use Rattle.imp_syntax.specs.declared.words.Relation.{Relation}
 use Rattle.imp_syntax.specs.declared.words.Relation.TheVariants as r
 use Rattle.imp_parse.specs.Tables.{is_mark, same_mark, name_of, relation_of}
-use Rattle.imp_parse.proofs.Pack.{Layer, Strict, Single, never, one}
+use Rattle.imp_parse.proofs.Pack.{Layer, Strict, Loose, loose, Single, never, one, Follows, give}
+use Rattle.imp_parse.proofs.Exact.{Free, Both, both}
+use Rattle.imp_parse.specs.Language.{Language}
 
 -- the text is this mark
 pub data IsMark (wanted : Mark) : List Kind → Unit {0} → Type 0 where
@@ -77,3 +79,15 @@ picked_single pick e = record { to = λ t a is. picked_as t is; from = picked_fr
 
 abbrev pub a_relation : {L : Layer} → Strict L Relation never
 a_relation = one relation_of (IsPicked relation_of) (picked_single relation_of (k.Mark m.Less, r.Less, refl))
+
+-- what goes on up to another mark may stand before this one
+pub mark_follows : {A : Type 0} (wanted : Mark) (H : Unit {0} → Language A) (on on' : Kind → Bool) → on (k.Mark wanted) ≡ false → Follows on (Both (IsMark wanted) H) on'
+mark_follows wanted H on on' e w a rest (both mark h) free = e
+
+-- a mark alone, with this value
+abbrev pub ended : {L : Layer} {A : Type 0} → Mark → A → Loose L A never
+ended wanted a = loose (give (a_mark wanted) (λ z. a))
+
+-- a pack that no text begins with
+abbrev pub refused : {L : Layer} {A : Type 0} → A → Strict L A never
+refused a = give (a_mark m.Semicolon) (λ z. a)
