@@ -9,3 +9,4 @@ pub mod Conditions
 pub mod ListLayers
 pub mod Calls
 pub mod Simples
+pub mod Blocks

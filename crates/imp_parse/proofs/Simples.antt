@@ -174,3 +174,108 @@ module _ (n : ℕ) (x : List ℕ) where
 
   abbrev pub an_assigned : {L : Layer} → Strict L Statement rhs_on
   an_assigned = read (IsAssigned n x) rhs_on (rhs_at n x) rhs_exact (k.Word word.Input ∷ [], Simple n (plain.Input x), input) assigned_some
+
+-- ---- simple statements
+
+module _ (L : Layer) (n : ℕ) where
+  abbrev pub field_arm : List ℕ → Kind → Arm L Statement never
+  field_arm p (k.Word word.Next) = Live (loose (packs.next (a_mark m.Equals) (λ a. loose (packs.next a_name (λ q. ended m.Semicolon (Simple n (plain.WriteNext p q)))))))
+  field_arm p (k.Word word.Item) = Live (loose (packs.next (a_mark m.Equals) (λ a. loose (then an_expression (λ e. ended m.Semicolon (Simple n (plain.WriteItem p e))) (λ e. mark_follows m.Semicolon _ operator_on never refl)))))
+  field_arm p t = Dead
+
+  abbrev pub field_pack : List ℕ → Strict L Statement never
+  field_pack p = choose (field_arm p) (refused (Break n)) (strict_stops (field_arm p) (refused (Break n)))
+      (k.Word word.Next ∷ k.Mark m.Equals ∷ k.Name [] ∷ k.Mark m.Semicolon ∷ [], Simple n (plain.WriteNext p []), live {t = k.Word word.Next} (both mark (both named (both mark nothing))))
+
+  abbrev pub named_arm : List ℕ → Kind → Arm L Statement never
+  named_arm x (k.Mark m.Equals) = Live (loose (then (an_assigned n x) (λ s. ended m.Semicolon s) (λ s. mark_follows m.Semicolon _ rhs_on never refl)))
+  named_arm x (k.Mark m.OpenBracket) =
+      Live (loose (then an_expression (λ e. loose (packs.next (a_mark m.CloseBracket) (λ b. loose (packs.next (a_mark m.Equals) (λ q.
+      loose (then an_expression (λ f. ended m.Semicolon (Simple n (plain.WriteElement x e f))) (λ f. mark_follows m.Semicolon _ operator_on never refl))))))) (λ e. mark_follows m.CloseBracket _ operator_on never refl)))
+  named_arm x (k.Mark m.Dot) = Live (loose (field_pack x))
+  named_arm x t = Dead
+
+  abbrev pub named_pack : List ℕ → Strict L Statement never
+  named_pack x = choose (named_arm x) (refused (Break n)) (strict_stops (named_arm x) (refused (Break n)))
+      (k.Mark m.Equals ∷ k.Word word.Input ∷ k.Mark m.Semicolon ∷ [], Simple n (plain.Input x), live {t = k.Mark m.Equals} (both input (both mark nothing)))
+
+  abbrev pub simple_arm : Kind → Arm L Statement never
+  simple_arm (k.Word word.Skip) = Live (ended m.Semicolon (Simple n plain.Skip))
+  simple_arm (k.Word word.Break) = Live (ended m.Semicolon (Break n))
+  simple_arm (k.Word word.Assert) = Live (loose (then a_condition (λ c. ended m.Semicolon (Simple n (plain.Assert c))) (λ c. mark_follows m.Semicolon _ junction_on never refl)))
+  simple_arm (k.Word word.Call) = Live (loose (packs.next a_call (λ i. ended m.Semicolon (Call n None i.0 i.1))))
+  simple_arm (k.Name x) = Live (loose (named_pack x))
+  simple_arm t = Dead
+
+  pub field_to : (p : List ℕ) (w : List Kind) (s : Statement) → (field_pack p).lang w s → IsSimple n (k.Name p ∷ k.Mark m.Dot ∷ w) s
+  field_to p w s (live {t = k.Word word.Next} (both mark (both named (both mark nothing)))) = write_next
+  field_to p w s (live {t = k.Word word.Item} (both mark (both g (both mark nothing)))) = write_item g
+  field_to p w s (live {t = t} g) = absurd g
+  field_to p w s (other o (both mark nothing)) = absurd cc
+
+  pub named_to : (x : List ℕ) (w : List Kind) (s : Statement) → (named_pack x).lang w s → IsSimple n (k.Name x ∷ w) s
+  named_to x w s (live {t = k.Mark m.Equals} (both g (both mark nothing))) = assign g
+  named_to x w s (live {t = k.Mark m.OpenBracket} (both g (both mark (both mark (both h (both mark nothing)))))) = write_element g h
+  named_to x w s (live {t = k.Mark m.Dot} {w = u} g) = field_to x u s g
+  named_to x w s (live {t = t} g) = absurd g
+  named_to x w s (other o (both mark nothing)) = absurd cc
+
+  -- what an arm reads on to is a simple statement that begins with its token
+  pub arm_to : (t : Kind) (w : List Kind) (s : Statement) → arm_lang (simple_arm t) w s → IsSimple n (t ∷ w) s
+  arm_to (k.Word word.Skip) w s (both mark nothing) = skip
+  arm_to (k.Word word.Break) w s (both mark nothing) = break
+  arm_to (k.Word word.Assert) w s (both g (both mark nothing)) = assert g
+  arm_to (k.Word word.Call) w s (both {a = i} g (both mark nothing)) = call {f = i.0} {es = i.1} g
+  arm_to (k.Name x) w s g = named_to x w s g
+  arm_to t w s g = absurd g
+
+  pub arm_from : (w : List Kind) (s : Statement) → IsSimple n w s → (t : Kind) × (v : List Kind) × (w ≡ t ∷ v) × arm_lang (simple_arm t) v s
+  arm_from w s skip = (k.Word word.Skip, _, refl, both mark nothing)
+  arm_from w s break = (k.Word word.Break, _, refl, both mark nothing)
+  arm_from w s (assert g) = (k.Word word.Assert, _, refl, both g (both mark nothing))
+  arm_from w s (call {f = f} {es = es} g) = (k.Word word.Call, _, refl, both {a = (f, es)} g (both mark nothing))
+  arm_from w s (assign {x = x} g) = (k.Name x, _, refl, live {t = k.Mark m.Equals} (both g (both mark nothing)))
+  arm_from w s (write_element {a = a} g h) = (k.Name a, _, refl, live {t = k.Mark m.OpenBracket} (both g (both mark (both mark (both h (both mark nothing))))))
+  arm_from w s (write_next {p = p}) = (k.Name p, _, refl, live {t = k.Mark m.Dot} (live {t = k.Word word.Next} (both mark (both named (both mark nothing)))))
+  arm_from w s (write_item {p = p} g) = (k.Name p, _, refl, live {t = k.Mark m.Dot} (live {t = k.Word word.Item} (both mark (both g (both mark nothing)))))
+
+  abbrev pub simple_pack : Strict L Statement never
+  simple_pack = choose simple_arm (refused (Break n)) (strict_stops simple_arm (refused (Break n))) (k.Word word.Skip ∷ k.Mark m.Semicolon ∷ [], Simple n plain.Skip, live {t = k.Word word.Skip} (both mark nothing))
+
+  pub simple_to : (w : List Kind) (s : Statement) → simple_pack.lang w s → IsSimple n w s
+  simple_to w s (live {t = t} {w = u} g) = arm_to t u s g
+  simple_to w s (other o (both mark nothing)) = absurd cc
+
+  pub simple_from : (w : List Kind) (s : Statement) → IsSimple n w s → simple_pack.lang w s
+  simple_from w s g = let f = arm_from w s g in subst (λ (q : List Kind). simple_pack.lang q s) (sym f.2) (live {t = f.0} f.3)
+
+  field_is : (f : Calls L) (p : List ℕ) (ts : List Kind) → field_at n p ts ≡ (field_pack p).reader f ts
+  unfolding same_mark
+  field_is f p [] = refl
+  field_is f p (k.Word word.Next ∷ rest) = refl
+  field_is f p (k.Word word.Item ∷ rest) = refl
+  field_is f p (t ∷ rest) = refl
+
+  named_is : (f : Calls L) (x : List ℕ) (ts : List Kind) → named_at n x ts ≡ (named_pack x).reader f ts
+  unfolding named_at same_mark
+  named_is f x [] = refl
+  named_is f x (k.Mark m.Equals ∷ rest) = refl
+  named_is f x (k.Mark m.OpenBracket ∷ rest) = refl
+  named_is f x (k.Mark m.Dot ∷ rest) = field_is f x rest
+  named_is f x (t ∷ rest) = refl
+
+  pub simple_is : (f : Calls L) (ts : List Kind) → simple_at n ts ≡ simple_pack.reader f ts
+  unfolding simple_at same_mark
+  simple_is f [] = refl
+  simple_is f (k.Word word.Skip ∷ rest) = refl
+  simple_is f (k.Word word.Break ∷ rest) = refl
+  simple_is f (k.Word word.Assert ∷ rest) = refl
+  simple_is f (k.Word word.Call ∷ rest) = refl
+  simple_is f (k.Name x ∷ rest) = named_is f x rest
+  simple_is f (t ∷ rest) = refl
+
+pub simple_exact : (n j : ℕ) → Exact j (IsSimple n) never (simple_at n)
+simple_exact n j = alone_exact (simple_pack alone n) (IsSimple n) (simple_at n) (simple_to alone n) (simple_from alone n) (simple_is alone n no_calls) j
+
+pub simple_some : (n : ℕ) → Opens (IsSimple n) []
+simple_some n = (k.Word word.Skip ∷ k.Mark m.Semicolon ∷ [], Simple n plain.Skip, skip)

@@ -145,25 +145,21 @@ else_by lists n [] = Ok ((Ends, n), [])
 else_by lists n (k.Word word.Else ∷ rest) = block_by lists n rest
 else_by lists n (t ∷ rest) = Ok ((Ends, n), t ∷ rest)
 
--- a condition in parentheses
-abbrev pub test_at : List Kind → Read Condition
-test_at ts = do
+abbrev pub if_by : Blocks → ℕ → List Kind → Read (Statement × ℕ)
+if_by lists n ts = do
   a ← mark_at m.OpenParenthesis ts
   c ← condition_at a.1
   z ← mark_at m.CloseParenthesis c.1
-  Ok (c.0, z.1)
-
-abbrev pub if_by : Blocks → ℕ → List Kind → Read (Statement × ℕ)
-if_by lists n ts = do
-  c ← test_at ts
-  t ← block_by lists (n + 1) c.1
+  t ← block_by lists (n + 1) z.1
   e ← else_by lists t.0.1 t.1
   Ok ((If n c.0 t.0.0 e.0.0, e.0.1), e.1)
 
 abbrev pub while_by : Blocks → ℕ → List Kind → Read (Statement × ℕ)
 while_by lists n ts = do
-  c ← test_at ts
-  b ← block_by lists (n + 1) c.1
+  a ← mark_at m.OpenParenthesis ts
+  c ← condition_at a.1
+  z ← mark_at m.CloseParenthesis c.1
+  b ← block_by lists (n + 1) z.1
   Ok ((While n c.0 b.0.0, b.0.1), b.1)
 
 abbrev pub numbered_at : ℕ → List Kind → Read (Statement × ℕ)
