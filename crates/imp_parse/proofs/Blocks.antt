@@ -16,14 +16,14 @@ use Rattle.imp_parse.specs.Reader.{Stop, Unexpected, Read, ◌>>=◌, Steps, fix
 use Rattle.imp_parse.specs.Tables.{same_mark}
 use Rattle.imp_parse.specs.Grammar.{IsCondition}
 use Rattle.imp_parse.specs.Statements.{IsSimple, skip, break, assert, call, assign, write_element, write_next, write_item, IsStatement, simple, if_, if_else, while, IsBlock, block, IsStatements, none, onward}
-use Rattle.imp_parse.specs.Lists.{Lists}
+use Rattle.imp_parse.specs.Lists.{Lists, begun}
 use Rattle.imp_parse.specs.StatementReading.{simple_at, begins_statement, block_by, else_by, if_by, while_by, numbered_at, statement_by, statements_step, statements_at, statement_at}
 use Rattle.imp_parse.proofs.Exact.{Free, Exact, Both, both}
 use Rattle.imp_parse.proofs.Pack as packs
 use Rattle.imp_parse.proofs.Pack.{Layer, Calls, strictly, loosely, Pack, Strict, Loose, loose, Nothing, nothing, done, Follows, then, never, until, Arm, Dead, Live, Other, is_other, arm_reader, arm_lang, IsOther, Chosen, live, other, choose, strict_stops, Made, give, made_of, made, made_follows, nothing_is}
 use Rattle.imp_parse.proofs.Layers.{Turn, layer_eq, layer_exact}
 use Rattle.imp_parse.proofs.Chains.{or_first, or_second, free_less}
-use Rattle.imp_parse.proofs.ListLayers.{IsList, ends, more, Listing, layer, list_arm, is_live, turn}
+use Rattle.imp_parse.proofs.ListLayers.{IsList, ends, more, Listing, layer, list_arm, is_live, turn, with_front, goes_on, stops_at, is_done}
 use Rattle.imp_parse.proofs.Singles.{IsMark, mark, a_mark, mark_follows, ended}
 use Rattle.imp_parse.proofs.Conditions.{a_condition, junction_on}
 use Rattle.imp_parse.proofs.Simples.{simple_arm, arm_to, arm_from, simple_pack, simple_is}
@@ -266,3 +266,18 @@ statements_exact n j = layer_exact statements statements_step statements_turn j 
 abbrev pub some_statements : {L : Layer} → ℕ → Loose L (List Statement × ℕ) statements_on
 some_statements n = packs.read_some (StatementsIn n) statements_on (statements_at n) (statements_exact n) ([], ([], n), none)
 
+
+-- ---- a loop that reads them
+
+pub statements_go_on : (n : ℕ) (front : List Statement) (ts : List Kind) (x : (Statement × ℕ) × List Kind) (total : Read (List Statement × ℕ)) → begun begins_statement ts ≡ true → statement_by (fix statements_step) n ts ≡ Ok x
+    → with_front front (fix statements_step n ts) ≡ total → with_front (front ++ x.0.0 ∷ []) (fix statements_step x.0.1 x.1) ≡ total
+unfolding statements_step
+statements_go_on = goes_on begins_statement is_else statements_on listing statement_arm statement_to item_from begins_is statement_by statement_is
+
+pub statements_stop : (n : ℕ) (front : List Statement) (ts : List Kind) (e : Stop) (total : Read (List Statement × ℕ)) → begun begins_statement ts ≡ true → statement_by (fix statements_step) n ts ≡ Err e → with_front front (fix statements_step n ts) ≡ total → total ≡ Err e
+unfolding statements_step
+statements_stop = stops_at begins_statement is_else statements_on listing statement_arm statement_to item_from begins_is statement_by statement_is
+
+pub statements_done : (n : ℕ) (front : List Statement) (ts : List Kind) (total : Read (List Statement × ℕ)) → begun begins_statement ts ≡ false → with_front front (fix statements_step n ts) ≡ total → total ≡ Ok ((front, n), ts)
+unfolding statements_step
+statements_done = is_done begins_statement is_else statements_on listing statement_arm statement_to item_from begins_is statement_by statement_is

@@ -12,13 +12,13 @@ use Rattle.imp_parse.specs.Tables.{same_mark}
 use Rattle.imp_parse.specs.Grammar.{sum, product, negative, number, name, length_of, group, IsSide, null, value}
 use Rattle.imp_parse.specs.Statements.{IsSides, sides_end, sides_more, IsArguments, no_arguments, arguments, IsInvoke, invoke}
 use Rattle.imp_parse.specs.Reading.{mark_at, side_at}
-use Rattle.imp_parse.specs.Lists.{Lists}
+use Rattle.imp_parse.specs.Lists.{Lists, begun}
 use Rattle.imp_parse.specs.StatementReading.{is_comma, side_by, sides_step, sides_at, arguments_at, invoke_at}
 use Rattle.imp_parse.proofs.Exact.{Free, Exact, Both, both}
 use Rattle.imp_parse.proofs.Pack.{Layer, Calls, Pack, Strict, Loose, loose, Nothing, nothing, done, read, read_some, Follows, then, next, never, Arm, Dead, Live, Other, is_other, arm_reader, arm_lang, IsOther, Chosen, live, other, choose, strict_stops, Made, give, made_of, made}
 use Rattle.imp_parse.proofs.Layers.{Turn, layer_exact, alone, no_calls, alone_exact}
 use Rattle.imp_parse.proofs.Chains.{or_first, or_second, free_less}
-use Rattle.imp_parse.proofs.ListLayers.{IsList, ends, more, Listing, layer, list_arm, is_live, turn}
+use Rattle.imp_parse.proofs.ListLayers.{IsList, ends, more, Listing, layer, list_arm, is_live, turn, with_front, goes_on, stops_at, is_done}
 use Rattle.imp_parse.proofs.Singles.{IsMark, mark, a_mark, IsName, named, a_name}
 use Rattle.imp_parse.proofs.Expressions.{operator_on}
 use Rattle.imp_parse.proofs.Conditions.{a_side, side_some}
@@ -82,6 +82,20 @@ sides_turn s = turn is_comma operator_on sides_on sides_listing side_arm side_it
 
 pub sides_exact : (n : ℕ) → Exact n (SidesIn tt) sides_on sides_at
 sides_exact n = layer_exact sides sides_step sides_turn n tt
+
+-- a loop that reads them
+pub sides_go_on : (s : Unit {0}) (front : List Operand) (ts : List Kind) (x : (Operand × Unit {0}) × List Kind) (total : Read (List Operand × Unit {0})) → begun is_comma ts ≡ true → side_by (fix sides_step) s ts ≡ Ok x
+    → with_front front (fix sides_step s ts) ≡ total → with_front (front ++ x.0.0 ∷ []) (fix sides_step x.0.1 x.1) ≡ total
+unfolding sides_step
+sides_go_on = goes_on is_comma operator_on sides_on sides_listing side_arm side_item_to side_item_from comma_is side_by side_item_is
+
+pub sides_stop : (s : Unit {0}) (front : List Operand) (ts : List Kind) (e : Stop) (total : Read (List Operand × Unit {0})) → begun is_comma ts ≡ true → side_by (fix sides_step) s ts ≡ Err e → with_front front (fix sides_step s ts) ≡ total → total ≡ Err e
+unfolding sides_step
+sides_stop = stops_at is_comma operator_on sides_on sides_listing side_arm side_item_to side_item_from comma_is side_by side_item_is
+
+pub sides_done : (s : Unit {0}) (front : List Operand) (ts : List Kind) (total : Read (List Operand × Unit {0})) → begun is_comma ts ≡ false → with_front front (fix sides_step s ts) ≡ total → total ≡ Ok ((front, s), ts)
+unfolding sides_step
+sides_done = is_done is_comma operator_on sides_on sides_listing side_arm side_item_to side_item_from comma_is side_by side_item_is
 
 abbrev pub some_sides : {L : Layer} → Loose L (List Operand × Unit {0}) sides_on
 some_sides = read_some (SidesIn tt) sides_on sides_at sides_exact ([], ([], tt), sides_end)

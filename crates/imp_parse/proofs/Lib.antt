@@ -10,3 +10,4 @@ pub mod ListLayers
 pub mod Calls
 pub mod Simples
 pub mod Blocks
+pub mod Procedures

@@ -24,6 +24,10 @@ pub record Listing (X S : Type 0) (begins item_on many_on : Kind → Bool) : Typ
   pub follow : (s : S) → Follows item_on (Many s) many_on
   pub stops : (t : Kind) → many_on t ≡ false → begins t ≡ false
 
+-- items before those that are read
+abbrev pub with_front : {X S : Type 0} → List X → Read (List X × S) → Read (List X × S)
+with_front front read = read >>= λ x. Ok ((front ++ x.0.0, x.0.1), x.1)
+
 module _ {X S : Type 0} (begins item_on many_on : Kind → Bool) (c : Listing X S begins item_on many_on) where
   abbrev pub layer : Layer
   layer = record { Call = S; Value = List X × S; lang = c.Many; on = λ s. many_on; some = λ s. ([], ([], s), c.to s [] ([], s) ends) }
@@ -105,9 +109,6 @@ module _ {X S : Type 0} (begins item_on many_on : Kind → Bool) (c : Listing X 
       turn s = record { up = loosely; pack = list_pack s; is = step_is s; to = list_to s; from = λ w xs g. from_list s w xs (c.from s w xs g) }
 
       -- ---- a loop that reads the list
-
-      abbrev pub with_front : List X → Read (List X × S) → Read (List X × S)
-      with_front front read = read >>= λ x. Ok ((front ++ x.0.0, x.0.1), x.1)
 
       pub list_begun : (s : S) (ts : List Kind) → begun begins ts ≡ true → fix step s ts ≡ more_by item (fix step) s ts
       list_begun s [] e = absurd cc
