@@ -54,29 +54,34 @@ pub statements_from : (n j : ℕ) (w : List Kind) (ss : List Statement) → IsSt
 statements_from n j w ss none = ends
 statements_from n j w ss (onward {i = i} {s = s} {ss = ss'} g h) = more {x = (s, i)} {xs = (ss', j)} g h
 
--- no statement begins with else
-simple_first : {n : ℕ} {v : List Kind} {s : Statement} → IsSimple n v s → (rest : List Kind) → Free is_else (v ++ rest)
-simple_first skip rest = refl
-simple_first break rest = refl
-simple_first (assert g) rest = refl
-simple_first (call g) rest = refl
-simple_first (assign g) rest = refl
-simple_first (write_element g h) rest = refl
-simple_first write_next rest = refl
-simple_first (write_item g) rest = refl
+-- what no statement begins with does not stand first
+module _ (on : Kind → Bool) (apart : (t : Kind) → begins_statement t ≡ true → on t ≡ false) where
+  simple_first : {n : ℕ} {v : List Kind} {s : Statement} → IsSimple n v s → (rest : List Kind) → Free on (v ++ rest)
+  simple_first skip rest = apart (k.Word word.Skip) refl
+  simple_first break rest = apart (k.Word word.Break) refl
+  simple_first (assert g) rest = apart (k.Word word.Assert) refl
+  simple_first (call g) rest = apart (k.Word word.Call) refl
+  simple_first (assign {x = x} g) rest = apart (k.Name x) refl
+  simple_first (write_element {a = a} g h) rest = apart (k.Name a) refl
+  simple_first (write_next {p = p}) rest = apart (k.Name p) refl
+  simple_first (write_item {p = p} g) rest = apart (k.Name p) refl
 
-statement_first : {n j : ℕ} {v : List Kind} {s : Statement} → IsStatement n v s j → (rest : List Kind) → Free is_else (v ++ rest)
-statement_first (simple g) rest = simple_first g rest
-statement_first (if_ g h) rest = refl
-statement_first (if_else g h i) rest = refl
-statement_first (while g h) rest = refl
+  statement_first : {n j : ℕ} {v : List Kind} {s : Statement} → IsStatement n v s j → (rest : List Kind) → Free on (v ++ rest)
+  statement_first (simple g) rest = simple_first g rest
+  statement_first (if_ g h) rest = apart (k.Word word.If) refl
+  statement_first (if_else g h i) rest = apart (k.Word word.If) refl
+  statement_first (while g h) rest = apart (k.Word word.While) refl
 
-statements_first : {n j : ℕ} {w : List Kind} {ss : List Statement} → IsStatements n w ss j → (rest : List Kind) → Free is_else rest → Free is_else (w ++ rest)
-statements_first none rest free = free
-statements_first (onward {v = v} {w = w} g h) rest free = subst (Free is_else) (sym (append_assoc v w rest)) (statement_first g (w ++ rest))
+  pub statements_first : {n j : ℕ} {w : List Kind} {ss : List Statement} → IsStatements n w ss j → (rest : List Kind) → Free on rest → Free on (w ++ rest)
+  statements_first none rest free = free
+  statements_first (onward {v = v} {w = w} g h) rest free = subst (Free on) (sym (append_assoc v w rest)) (statement_first g (w ++ rest))
+
+else_apart : (t : Kind) → begins_statement t ≡ true → is_else t ≡ false
+else_apart (k.Word word.Else) e = absurd cc
+else_apart t e = refl
 
 pub statements_follow : (n : ℕ) → Follows is_else (StatementsIn n) statements_on
-statements_follow n w ss rest g free = statements_first g rest (free_less statements_on is_else (λ t h. or_second (begins_statement t) (is_else t) h) rest free)
+statements_follow n w ss rest g free = statements_first is_else else_apart g rest (free_less statements_on is_else (λ t h. or_second (begins_statement t) (is_else t) h) rest free)
 
 abbrev pub listing : Listing Statement ℕ begins_statement is_else statements_on
 listing = record { Item = StatementIn; Many = StatementsIn; to = statements_to; from = λ n w ss g. statements_from n ss.1 w ss.0 g; follow = statements_follow; stops = λ t h. or_first (begins_statement t) (is_else t) h }

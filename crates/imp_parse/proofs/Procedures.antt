@@ -16,14 +16,14 @@ use Rattle.imp_parse.specs.Tables.{same_mark, kind_of}
 use Rattle.imp_parse.specs.Statements.{IsStatements, none}
 use Rattle.imp_parse.specs.Programs.{IsDeclaration, declaration, IsDeclarations, declarations_end, declarations_more, IsParameters, no_parameters, parameters, IsOutcome, no_outcome, outcome, IsLocals, locals_end, locals_more, IsProcedure, procedure, IsProcedures, procedures_end, procedures_more, IsProgram, program}
 use Rattle.imp_parse.specs.Lists.{Lists, begun}
-use Rattle.imp_parse.specs.StatementReading.{is_comma, statements_at}
+use Rattle.imp_parse.specs.StatementReading.{is_comma, begins_statement, statements_at}
 use Rattle.imp_parse.specs.ProgramReading.{kind_at, declaration_at, declaration_by, declarations_step, declarations_at, parameters_at, outcome_at, begins_local, local_by, locals_step, locals_at, procedure_behind, procedure_at, begins_procedure, procedures_step, procedures_at, program_at}
 use Rattle.imp_parse.proofs.Exact.{Free, Exact, Both, both}
 use Rattle.imp_parse.proofs.Pack.{Layer, Calls, strictly, loosely, Pack, Strict, Loose, loose, Nothing, nothing, done, read, read_some, one, Follows, then, next, never, until, free_never, Arm, Dead, Live, Other, is_other, arm_reader, arm_lang, IsOther, Chosen, live, other, choose, strict_stops, Made, give, made_of, made}
 use Rattle.imp_parse.proofs.Layers.{Turn, layer_exact, alone, no_calls, alone_exact}
 use Rattle.imp_parse.proofs.ListLayers.{IsList, ends, more, Listing, layer, list_arm, is_live, turn, with_front, goes_on, stops_at, is_done}
-use Rattle.imp_parse.proofs.Singles.{IsMark, mark, a_mark, mark_follows, ended, IsName, named, a_name, IsPicked, picked_as, picked_single}
-use Rattle.imp_parse.proofs.Blocks.{some_statements, statements_on}
+use Rattle.imp_parse.proofs.Singles.{IsMark, mark, a_mark, mark_follows, ended, refused, IsName, named, a_name, IsPicked, picked_as, picked_single}
+use Rattle.imp_parse.proofs.Blocks.{StatementsIn, some_statements, statements_on, statements_first}
 
 -- ---- a declaration
 
@@ -279,3 +279,159 @@ locals_stop = stops_at begins_local never begins_local locals_listing local_arm 
 pub locals_done : (s : Unit {0}) (front : List Declaration) (ts : List Kind) (total : Read (List Declaration × Unit {0})) → begun begins_local ts ≡ false → with_front front (fix locals_step s ts) ≡ total → total ≡ Ok ((front, s), ts)
 unfolding locals_step
 locals_done = is_done begins_local never begins_local locals_listing local_arm local_to local_from local_begins local_by local_is
+
+-- ---- a procedure
+
+abbrev pub ProcedureIn : ℕ → Language (Procedure × ℕ)
+ProcedureIn n w p = IsProcedure n w p.0 p.1
+
+abbrev pub ProceduresIn : ℕ → Language (List Procedure × ℕ)
+ProceduresIn n w ps = IsProcedures n w ps.0 ps.1
+
+local_apart : (t : Kind) → begins_statement t ≡ true → begins_local t ≡ false
+local_apart (k.Word word.Var) e = absurd cc
+local_apart t e = refl
+
+close_free : {A : Type 0} (x : Unit {0} → A) (w : List Kind) (a : A) (rest : List Kind) → Made x (IsMark m.CloseBrace) w a → Free begins_local (w ++ rest)
+close_free x w a rest (both mark h) = refl
+
+pub body_follows : {A : Type 0} (n : ℕ) (x : List Statement × ℕ → Unit {0} → A) → Follows begins_local (Both (StatementsIn n) (λ ss. Made (x ss) (IsMark m.CloseBrace))) never
+body_follows n x w a rest (both {v = y} {w = u} {a = ss} g h) free = subst (Free begins_local) (sym (append_assoc y u rest)) (statements_first begins_local local_apart g (u ++ rest) (close_free (x ss) u a rest h))
+
+abbrev pub made_procedure : List ℕ → List Declaration → Option Declaration → List Declaration → List Statement × ℕ → Procedure × ℕ
+made_procedure x ps o ls ss = (record { name = x; parameters = ps; outcome = o; locals = ls; body = block_of ss.0 }, ss.1)
+
+module _ (L : Layer) (n : ℕ) where
+  abbrev pub body_pack : List ℕ → List Declaration → Option Declaration → Loose L (Procedure × ℕ) never
+  body_pack x ps o = then some_locals (λ ls. then (some_statements n) (λ ss. loose (give (a_mark m.CloseBrace) (λ z. made_procedure x ps o ls.0 ss))) (λ ss. mark_follows m.CloseBrace _ statements_on never refl)) (λ ls. body_follows n (λ ss z. made_procedure x ps o ls.0 ss))
+
+  abbrev pub behind_pack : Strict L (Procedure × ℕ) never
+  behind_pack = next a_name (λ x. loose (next (a_mark m.OpenParenthesis) (λ a. loose (next some_parameters (λ ps.
+      then an_outcome (λ o. loose (next (a_mark m.OpenBrace) (λ b. body_pack x ps o))) (λ o. mark_follows m.OpenBrace _ is_arrow never refl))))))
+
+brace_text : (w : List Kind) (a : Unit {0}) → IsMark m.CloseBrace w a → w ≡ k.Mark m.CloseBrace ∷ []
+brace_text w a mark = refl
+
+pub behind_to : (L : Layer) (n : ℕ) (w : List Kind) (p : Procedure × ℕ) → (behind_pack L n).lang w p → ProcedureIn n (k.Word word.Proc ∷ w) p
+behind_to L n w p (both {a = x} named (both mark (both {v = u} {a = ps} g (both {v = c} {a = o} h (both mark (both {v = y} {a = ls} l (both {v = z} {w = r} {a = ss} s e))))))) =
+    let q = made_of (λ a. made_procedure x ps o ls.0 ss) (IsMark m.CloseBrace) r p e in
+    let front = λ (end : List Kind). k.Word word.Proc ∷ k.Name x ∷ k.Mark m.OpenParenthesis ∷ (u ++ (c ++ (k.Mark m.OpenBrace ∷ (y ++ (z ++ end))))) in
+    subst (λ (end : List Kind). ProcedureIn n (front end) p) (sym (brace_text r q.0 q.1)) (subst (ProcedureIn n (front (k.Mark m.CloseBrace ∷ []))) q.2 (procedure g h l s))
+
+pub behind_from : (L : Layer) (n j : ℕ) (w : List Kind) (p : Procedure) → IsProcedure n w p j → (t : Kind) × (v : List Kind) × (w ≡ t ∷ v) × (t ≡ k.Word word.Proc) × (behind_pack L n).lang v (p, j)
+behind_from L n j w p (procedure {x = x} {ps = ps} {ls = ls} {o = o} {ss = ss} g h l s) =
+    (k.Word word.Proc, _, refl, refl, both named (both mark (both g (both h (both mark (both {a = (ls, tt)} l (both {a = (ss, j)} s (made (λ a. made_procedure x ps o ls (ss, j)) (IsMark m.CloseBrace) (k.Mark m.CloseBrace ∷ []) tt mark))))))))
+
+abbrev pub procedure_arm : (L : Layer) → ℕ → Kind → Arm L (Procedure × ℕ) never
+procedure_arm L n (k.Word word.Proc) = Live (loose (behind_pack L n))
+procedure_arm L n t = Dead
+
+pub arm_to : (L : Layer) (n : ℕ) (t : Kind) (w : List Kind) (p : Procedure × ℕ) → arm_lang (procedure_arm L n t) w p → ProcedureIn n (t ∷ w) p
+arm_to L n (k.Word word.Proc) w p g = behind_to L n w p g
+arm_to L n t w p g = absurd g
+
+pub arm_from : (L : Layer) (n : ℕ) (w : List Kind) (p : Procedure × ℕ) → ProcedureIn n w p → (t : Kind) × (v : List Kind) × (w ≡ t ∷ v) × arm_lang (procedure_arm L n t) v p
+arm_from L n w p g = let f = behind_from L n p.1 w p.0 g in (f.0, f.1, f.2, subst (λ t. arm_lang (procedure_arm L n t) f.1 p) (sym f.3) f.4)
+
+abbrev pub no_procedure : Procedure × ℕ
+no_procedure = made_procedure [] [] None [] ([], 0)
+
+abbrev pub procedure_pack : ℕ → Strict alone (Procedure × ℕ) never
+procedure_pack n = choose (procedure_arm alone n) (refused no_procedure) (strict_stops (procedure_arm alone n) (refused no_procedure)) (let e = (behind_pack alone n).some in (k.Word word.Proc ∷ e.0, e.1, live {t = k.Word word.Proc} e.2))
+
+refused_other : (n : ℕ) (w : List Kind) (p : Procedure × ℕ) → IsOther (procedure_arm alone n) w → Made (λ z. no_procedure) (IsMark m.Semicolon) w p → ⊥
+refused_other n w p o (both mark h) = cc
+
+pub procedure_to : (n : ℕ) (w : List Kind) (p : Procedure × ℕ) → (procedure_pack n).lang w p → ProcedureIn n w p
+procedure_to n w p (live {t = t} {w = u} g) = arm_to alone n t u p g
+procedure_to n w p (other o g) = absurd (refused_other n w p o g)
+
+pub procedure_from : (n : ℕ) (w : List Kind) (p : Procedure × ℕ) → ProcedureIn n w p → (procedure_pack n).lang w p
+procedure_from n w p g = let f = arm_from alone n w p g in subst (λ (q : List Kind). (procedure_pack n).lang q p) (sym f.2) (live {t = f.0} f.3)
+
+pub procedure_is : (n : ℕ) (ts : List Kind) → procedure_at n ts ≡ (procedure_pack n).reader no_calls ts
+unfolding procedure_at
+procedure_is n [] = refl
+procedure_is n (k.Word word.Proc ∷ rest) = refl
+procedure_is n (t ∷ rest) = refl
+
+pub procedure_exact : (n j : ℕ) → Exact j (ProcedureIn n) never (procedure_at n)
+procedure_exact n j = alone_exact (procedure_pack n) (ProcedureIn n) (procedure_at n) (procedure_to n) (procedure_from n) (procedure_is n) j
+
+pub procedure_opens : (n : ℕ) → Opens (ProcedureIn n) []
+procedure_opens n = let e = (procedure_pack n).some in (e.0, e.1, procedure_to n e.0 e.1 e.2)
+
+pub procedure_some : (n : ℕ) (w : List Kind) (p : Procedure × ℕ) → ProcedureIn n w p → 0 < length w
+procedure_some n w p g = let k = procedure_pack n in omega (arith, k.grows 0 w p (procedure_from n w p g))
+
+abbrev pub a_procedure : {L : Layer} → ℕ → Strict L (Procedure × ℕ) never
+a_procedure n = read (ProcedureIn n) never (procedure_at n) (procedure_exact n) (procedure_opens n) (procedure_some n)
+
+-- ---- procedures
+
+pub procedures_to : (n : ℕ) (w : List Kind) (ps : List Procedure × ℕ) → IsList ProcedureIn ProceduresIn n w ps → ProceduresIn n w ps
+procedures_to n w ps ends = procedures_end
+procedures_to n w ps (more g h) = procedures_more g h
+
+pub procedures_from : (n j : ℕ) (w : List Kind) (ps : List Procedure) → IsProcedures n w ps j → IsList ProcedureIn ProceduresIn n w (ps, j)
+procedures_from n j w ps procedures_end = ends
+procedures_from n j w ps (procedures_more {i = i} {p = p} {ps = ps'} g h) = more {x = (p, i)} {xs = (ps', j)} g h
+
+abbrev pub procedures_listing : Listing Procedure ℕ begins_procedure never begins_procedure
+procedures_listing = record { Item = ProcedureIn; Many = ProceduresIn; to = procedures_to; from = λ n w ps g. procedures_from n ps.1 w ps.0 g; follow = λ n w ps rest g free. free_never (w ++ rest); stops = λ t h. h }
+
+abbrev pub procedures : Layer
+procedures = layer begins_procedure never begins_procedure procedures_listing
+
+pub procedure_begins : (n : ℕ) (t : Kind) → begins_procedure t ≡ is_live begins_procedure never begins_procedure procedures_listing (procedure_arm procedures n t)
+procedure_begins n (k.Word word.Proc) = refl
+procedure_begins n t = refl
+
+abbrev pub procedure_by : Lists Procedure ℕ → ℕ → List Kind → Read (Procedure × ℕ)
+procedure_by f n ts = procedure_at n ts
+
+pub procedure_item : (f : Lists Procedure ℕ) (n : ℕ) (t : Kind) (rest : List Kind) → procedure_by f n (t ∷ rest) ≡ arm_reader (procedure_arm procedures n t) f (λ ts. Err (Unexpected (length ts))) t rest
+unfolding procedure_at
+procedure_item f n (k.Word word.Proc) rest = refl
+procedure_item f n t rest = refl
+
+pub procedures_turn : (n : ℕ) → Turn procedures procedures_step n
+unfolding procedures_step
+procedures_turn n = turn begins_procedure never begins_procedure procedures_listing (procedure_arm procedures) (arm_to procedures) (arm_from procedures) procedure_begins procedure_by procedure_item n
+
+pub procedures_exact : (n j : ℕ) → Exact j (ProceduresIn n) begins_procedure (procedures_at n)
+procedures_exact n j = layer_exact procedures procedures_step procedures_turn j n
+
+abbrev pub some_procedures : {L : Layer} → ℕ → Loose L (List Procedure × ℕ) begins_procedure
+some_procedures n = read_some (ProceduresIn n) begins_procedure (procedures_at n) (procedures_exact n) ([], ([], n), procedures_end)
+
+pub procedures_go_on : (n : ℕ) (front : List Procedure) (ts : List Kind) (x : (Procedure × ℕ) × List Kind) (total : Read (List Procedure × ℕ)) → begun begins_procedure ts ≡ true → procedure_at n ts ≡ Ok x
+    → with_front front (fix procedures_step n ts) ≡ total → with_front (front ++ x.0.0 ∷ []) (fix procedures_step x.0.1 x.1) ≡ total
+unfolding procedures_step
+procedures_go_on = goes_on begins_procedure never begins_procedure procedures_listing (procedure_arm procedures) (arm_to procedures) (arm_from procedures) procedure_begins procedure_by procedure_item
+
+pub procedures_stop : (n : ℕ) (front : List Procedure) (ts : List Kind) (e : Stop) (total : Read (List Procedure × ℕ)) → begun begins_procedure ts ≡ true → procedure_at n ts ≡ Err e → with_front front (fix procedures_step n ts) ≡ total → total ≡ Err e
+unfolding procedures_step
+procedures_stop = stops_at begins_procedure never begins_procedure procedures_listing (procedure_arm procedures) (arm_to procedures) (arm_from procedures) procedure_begins procedure_by procedure_item
+
+pub procedures_done : (n : ℕ) (front : List Procedure) (ts : List Kind) (total : Read (List Procedure × ℕ)) → begun begins_procedure ts ≡ false → with_front front (fix procedures_step n ts) ≡ total → total ≡ Ok ((front, n), ts)
+unfolding procedures_step
+procedures_done = is_done begins_procedure never begins_procedure procedures_listing (procedure_arm procedures) (arm_to procedures) (arm_from procedures) procedure_begins procedure_by procedure_item
+
+-- ---- a program
+
+abbrev pub program_pack : Strict alone (List Procedure) begins_procedure
+program_pack = next (a_procedure 1) (λ p. give (some_procedures p.1) (λ ps. p.0 ∷ ps.0))
+
+pub program_to : (w : List Kind) (ps : List Procedure) → program_pack.lang w ps → IsProgram w ps
+program_to w ps (both {v = y} {w = u} {a = p} g h) = let q = made_of (λ qs. p.0 ∷ qs.0) (ProceduresIn p.1) u ps h in subst (IsProgram (y ++ u)) q.2 (program g q.1)
+
+pub program_from : (w : List Kind) (ps : List Procedure) → IsProgram w ps → program_pack.lang w ps
+program_from w ps (program {i = i} {j = j} {w = u} {p = p} {ps = qs} g h) = both {a = (p, i)} g (made (λ y. p ∷ y.0) (ProceduresIn i) u (qs, j) h)
+
+pub program_is : (ts : List Kind) → program_at ts ≡ program_pack.reader no_calls ts
+unfolding program_at
+program_is ts = refl
+
+pub program_exact : (n : ℕ) → Exact n IsProgram begins_procedure program_at
+program_exact n = alone_exact program_pack IsProgram program_at program_to program_from program_is n
