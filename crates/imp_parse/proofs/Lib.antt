@@ -11,3 +11,4 @@ pub mod Calls
 pub mod Simples
 pub mod Blocks
 pub mod Procedures
+pub mod Judge

@@ -8,3 +8,7 @@ pub mod Programs
 pub mod Lists
 pub mod StatementReading
 pub mod ProgramReading
+pub mod Kinds
+pub mod Limits
+pub mod Answer
+pub mod Judged

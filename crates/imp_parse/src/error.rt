@@ -1,0 +1,53 @@
+//! Why a text is not read.
+ghost use Rattle.std.specs.Prelude.{◌≡◌};
+ghost use Rattle.imp_parse.specs.Judged.{of_lex};
+ghost use Rattle.imp_parse.specs.declared.error.ParseError.TheVariants as errors;
+ghost use Rattle.imp_parse.specs.declared.error.Stopped.TheVariants as stops;
+
+use imp_lex::LexError;
+use plain_values::Memory;
+use thiserror::Error;
+
+/// Why a text is not read, and at which token, counted from 0.
+#[derive(Clone, Copy, Debug, PartialEq, Eq, Hash, Drop, Error)]
+pub enum ParseError {
+    /// A lexical fault, never [`LexError::Memory`].
+    #[error("{0}")]
+    Lex(LexError),
+    /// No text goes on with this token, or the text ends before it.
+    #[error("token {0} is not expected")]
+    Unexpected(usize),
+    /// This token begins a block at nesting 33, or is the 33rd operator of an expression or
+    /// condition.
+    #[error("token {0} is nested too deep")]
+    TooDeep(usize),
+    /// Want of memory.
+    #[error("out of memory")]
+    Memory,
+}
+
+impl From<LexError> for ParseError {
+    ghost from_gives = { λ error e. e ≡ of_lex error };
+
+    fn from(error: LexError) -> ParseError {
+        match error {
+            LexError::Memory => ParseError::Memory,
+            fault => ParseError::Lex(fault),
+        }
+    }
+}
+
+/// Why reading stops, with the number of tokens that are left there.
+#[derive(Clone, Copy, Debug, PartialEq, Eq, Drop)]
+pub(crate) enum Stopped {
+    Memory,
+    Unexpected(usize),
+}
+
+impl From<Memory> for Stopped {
+    ghost from_gives = { λ _ e. e ≡ stops.Memory };
+
+    fn from(_e: Memory) -> Stopped {
+        Stopped::Memory
+    }
+}
