@@ -13,7 +13,7 @@ use Rattle.imp_parse.specs.Language.{Language, Opens}
 use Rattle.imp_parse.specs.Reader.{Stop, Unexpected, Out, Read, ◌>>=◌, Steps, fix}
 use Rattle.imp_parse.specs.Tables.{additive, multiplicative, relation_of, and_of, or_of, same_mark}
 use Rattle.imp_parse.specs.Grammar.{IsExpression, sum, sum_ends, IsTerm, product, product_ends, IsFactor, negative, number, name, length_of, group, IsSide, null, value, begins_group, IsCondition, disjunction, IsOr, or_ends, or_more, IsConjunction, conjunction, IsAnd, and_ends, and_more, IsUnit, opposite, grouped, compare}
-use Rattle.imp_parse.specs.Reading.{Part, Whole, Inner, High, Low, Parts, expression_at, value_at, side_at, compare_at, grouped_by, unit_by, condition_step, condition_at, chain_by}
+use Rattle.imp_parse.specs.Reading.{Part, Whole, Inner, High, Low, Parts, expression_at, value_at, side_at, compare_at, grouped_by, unit_by, condition_step, condition_at, and_by, or_by}
 use Rattle.imp_parse.proofs.Exact.{Reader, Free, Exact, Both, both, another}
 use Rattle.imp_parse.proofs.Pack.{Layer, Calls, strictly, loosely, Pack, Strict, Loose, loose, Nothing, nothing, done, nothing_follows, call, read, Follows, then, next, never, Arm, Live, Other, is_other, arm_lang, IsOther, Chosen, live, other, choose, strict_stops, Good, until}
 use Rattle.imp_parse.proofs.Layers.{Turn, layer_eq, layer_exact, alone, no_calls, alone_exact}
@@ -244,10 +244,10 @@ pub unit_eq : (ts : List Kind) → fix condition_step Inner ts ≡ unit_by (fix 
 unfolding condition_step
 unit_eq ts = layer_eq conditions condition_step turns Inner ts
 
-pub and_eq : (a : Condition) (ts : List Kind) → fix condition_step (High a) ts ≡ chain_by and_of (λ op rest. fix condition_step Inner rest >>= λ x. fix condition_step (High (And a x.0)) x.1) a ts
+pub and_eq : (a : Condition) (ts : List Kind) → fix condition_step (High a) ts ≡ and_by a ts
 unfolding condition_step
 and_eq a ts = high_eq and_of or_of (λ u. And) (λ u. Or) operator_on chains unit_pack unit_to unit_from unit_by unit_is a ts
 
-pub or_eq : (a : Condition) (ts : List Kind) → fix condition_step (Low a) ts ≡ chain_by or_of (λ op rest. (fix condition_step Inner rest >>= λ x. fix condition_step (High x.0) x.1) >>= λ x. fix condition_step (Low (Or a x.0)) x.1) a ts
+pub or_eq : (a : Condition) (ts : List Kind) → fix condition_step (Low a) ts ≡ or_by a ts
 unfolding condition_step
 or_eq a ts = low_eq and_of or_of (λ u. And) (λ u. Or) operator_on chains unit_pack unit_to unit_from unit_by unit_is a ts

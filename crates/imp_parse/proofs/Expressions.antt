@@ -12,7 +12,7 @@ use Rattle.imp_parse.specs.Language.{Language, Opens}
 use Rattle.imp_parse.specs.Reader.{Stop, Unexpected, Out, Read, ◌>>=◌, Steps, fix}
 use Rattle.imp_parse.specs.Tables.{additive, multiplicative, same_mark}
 use Rattle.imp_parse.specs.Grammar.{IsExpression, sum, IsSum, sum_ends, sum_more, IsTerm, product, IsProduct, product_ends, product_more, IsFactor, negative, number, name, length_of, group}
-use Rattle.imp_parse.specs.Reading.{Part, Whole, Inner, High, Low, Parts, factor_by, expression_step, expression_at, factor_at, product_at, sum_at, term_at, chain_by}
+use Rattle.imp_parse.specs.Reading.{Part, Whole, Inner, High, Low, Parts, factor_by, expression_step, expression_at, factor_at, product_at, sum_at, term_at, product_by, sum_by}
 use Rattle.imp_parse.proofs.Exact.{Reader, Free, Exact, Both, both}
 use Rattle.imp_parse.proofs.Pack.{Layer, Calls, strictly, loosely, Pack, Strict, Loose, loose, Nothing, nothing, done, call, Follows, then, next, never, Arm, Live, Other, is_other, arm_lang, IsOther, Chosen, live, other, choose, strict_stops, Good, until}
 use Rattle.imp_parse.proofs.Layers.{Turn, layer_eq, layer_exact}
@@ -152,10 +152,10 @@ pub factor_eq : (ts : List Kind) → fix expression_step Inner ts ≡ factor_by 
 unfolding expression_step
 factor_eq ts = layer_eq expressions expression_step turns Inner ts
 
-pub product_eq : (a : Expression) (ts : List Kind) → fix expression_step (High a) ts ≡ chain_by multiplicative (λ op rest. fix expression_step Inner rest >>= λ x. fix expression_step (High (Binary op a x.0)) x.1) a ts
+pub product_eq : (a : Expression) (ts : List Kind) → fix expression_step (High a) ts ≡ product_by a ts
 unfolding expression_step
 product_eq a ts = high_eq multiplicative additive Binary Binary never chains factor_pack factor_to factor_from factor_by factor_is a ts
 
-pub sum_eq : (a : Expression) (ts : List Kind) → fix expression_step (Low a) ts ≡ chain_by additive (λ op rest. (fix expression_step Inner rest >>= λ x. fix expression_step (High x.0) x.1) >>= λ x. fix expression_step (Low (Binary op a x.0)) x.1) a ts
+pub sum_eq : (a : Expression) (ts : List Kind) → fix expression_step (Low a) ts ≡ sum_by a ts
 unfolding expression_step
 sum_eq a ts = low_eq multiplicative additive Binary Binary never chains factor_pack factor_to factor_from factor_by factor_is a ts

@@ -85,6 +85,13 @@ sum_at a ts = fix expression_step (Low a) ts
 abbrev pub term_at : List Kind → Read Expression
 term_at ts = factor_at ts >>= λ x. product_at x.0 x.1
 
+-- what stands behind a left side, by its first token
+abbrev pub product_by : Expression → List Kind → Read Expression
+product_by a ts = chain_by multiplicative (λ op rest. factor_at rest >>= λ x. product_at (Binary op a x.0) x.1) a ts
+
+abbrev pub sum_by : Expression → List Kind → Read Expression
+sum_by a ts = chain_by additive (λ op rest. term_at rest >>= λ x. sum_at (Binary op a x.0) x.1) a ts
+
 -- ---- conditions
 
 abbrev pub value_at : List Kind → Read Operand
@@ -132,3 +139,10 @@ or_at a ts = fix condition_step (Low a) ts
 
 abbrev pub conjunction_at : List Kind → Read Condition
 conjunction_at ts = unit_at ts >>= λ x. and_at x.0 x.1
+
+-- what stands behind a left side, by its first token
+abbrev pub and_by : Condition → List Kind → Read Condition
+and_by a ts = chain_by and_of (λ op rest. unit_at rest >>= λ x. and_at (And a x.0) x.1) a ts
+
+abbrev pub or_by : Condition → List Kind → Read Condition
+or_by a ts = chain_by or_of (λ op rest. conjunction_at rest >>= λ x. or_at (Or a x.0) x.1) a ts
