@@ -16,14 +16,16 @@ use Rattle.imp_parse.specs.Reader.{Stop, Unexpected, Read, ◌>>=◌, Steps, fix
 use Rattle.imp_parse.specs.Tables.{same_mark}
 use Rattle.imp_parse.specs.Grammar.{IsCondition}
 use Rattle.imp_parse.specs.Statements.{IsSimple, skip, break, assert, call, assign, write_element, write_next, write_item, IsStatement, simple, if_, if_else, while, IsBlock, block, IsStatements, none, onward}
-use Rattle.imp_parse.specs.Lists.{Lists, begun}
+use Rattle.imp_parse.specs.Lists.{Lists, begun, with_front}
 use Rattle.imp_parse.specs.StatementReading.{simple_at, begins_statement, block_by, else_by, if_by, while_by, numbered_at, statement_by, statements_step, statements_at, statement_at}
+use Rattle.imp_parse.specs.declared.error.Stopped.{Stopped}
+use Rattle.imp_parse.specs.Judged.{Fails}
 use Rattle.imp_parse.proofs.Exact.{Free, Exact, Both, both}
 use Rattle.imp_parse.proofs.Pack as packs
 use Rattle.imp_parse.proofs.Pack.{Layer, Calls, strictly, loosely, Pack, Strict, Loose, loose, Nothing, nothing, done, Follows, then, never, until, Arm, Dead, Live, Other, is_other, arm_reader, arm_lang, IsOther, Chosen, live, other, choose, strict_stops, Made, give, made_of, made, made_follows, nothing_is}
 use Rattle.imp_parse.proofs.Layers.{Turn, layer_eq, layer_exact}
 use Rattle.imp_parse.proofs.Chains.{or_first, or_second, free_less}
-use Rattle.imp_parse.proofs.ListLayers.{IsList, ends, more, Listing, layer, list_arm, is_live, turn, with_front, goes_on, stops_at, is_done}
+use Rattle.imp_parse.proofs.ListLayers.{IsList, ends, more, Listing, layer, list_arm, is_live, turn, goes_on, stops_by, is_done}
 use Rattle.imp_parse.proofs.Singles.{IsMark, mark, a_mark, mark_follows, ended}
 use Rattle.imp_parse.proofs.Conditions.{a_condition, junction_on}
 use Rattle.imp_parse.proofs.Simples.{simple_arm, arm_to, arm_from, simple_pack, simple_is}
@@ -279,9 +281,9 @@ pub statements_go_on : (n : ℕ) (front : List Statement) (ts : List Kind) (x : 
 unfolding statements_step
 statements_go_on = goes_on begins_statement is_else statements_on listing statement_arm statement_to item_from begins_is statement_by statement_is
 
-pub statements_stop : (n : ℕ) (front : List Statement) (ts : List Kind) (e : Stop) (total : Read (List Statement × ℕ)) → begun begins_statement ts ≡ true → statement_by (fix statements_step) n ts ≡ Err e → with_front front (fix statements_step n ts) ≡ total → total ≡ Err e
+pub statements_stop : (n : ℕ) (front : List Statement) (ts : List Kind) (e : Stopped) (total : Read (List Statement × ℕ)) → begun begins_statement ts ≡ true → Fails e (statement_by (fix statements_step) n ts) → with_front front (fix statements_step n ts) ≡ total → Fails e total
 unfolding statements_step
-statements_stop = stops_at begins_statement is_else statements_on listing statement_arm statement_to item_from begins_is statement_by statement_is
+statements_stop = stops_by begins_statement is_else statements_on listing statement_arm statement_to item_from begins_is statement_by statement_is
 
 pub statements_done : (n : ℕ) (front : List Statement) (ts : List Kind) (total : Read (List Statement × ℕ)) → begun begins_statement ts ≡ false → with_front front (fix statements_step n ts) ≡ total → total ≡ Ok ((front, n), ts)
 unfolding statements_step

@@ -6,20 +6,25 @@ use Rattle.imp_lex.specs.declared.token.Word.TheVariants as word
 use Rattle.imp_lex.specs.declared.token.Kind.{Kind}
 use Rattle.imp_lex.specs.declared.token.Kind.TheVariants as k
 use Rattle.imp_syntax.specs.Plain.{Operand, Null}
+use Rattle.imp_syntax.specs.declared.expr.Side.{Side}
+use Rattle.imp_syntax.specs.Views.{operand_of}
+use Rattle.imp_syntax.specs.ActionViews.{operands_of}
 use Rattle.imp_parse.specs.Language.{Language, Opens}
 use Rattle.imp_parse.specs.Reader.{Stop, Unexpected, Read, ◌>>=◌, Steps, fix}
 use Rattle.imp_parse.specs.Tables.{same_mark}
 use Rattle.imp_parse.specs.Grammar.{sum, product, negative, number, name, length_of, group, IsSide, null, value}
 use Rattle.imp_parse.specs.Statements.{IsSides, sides_end, sides_more, IsArguments, no_arguments, arguments, IsInvoke, invoke}
 use Rattle.imp_parse.specs.Reading.{mark_at, side_at}
-use Rattle.imp_parse.specs.Lists.{Lists, begun}
+use Rattle.imp_parse.specs.Lists.{Lists, begun, with_front}
 use Rattle.imp_parse.specs.StatementReading.{is_comma, side_by, sides_step, sides_at, arguments_at, invoke_at}
+use Rattle.imp_parse.specs.declared.error.Stopped.{Stopped}
+use Rattle.imp_parse.specs.Judged.{Fails}
 use Rattle.imp_parse.proofs.Exact.{Free, Exact, Both, both}
 use Rattle.imp_parse.proofs.Pack.{Layer, Calls, Pack, Strict, Loose, loose, Nothing, nothing, done, read, read_some, Follows, then, next, never, Arm, Dead, Live, Other, is_other, arm_reader, arm_lang, IsOther, Chosen, live, other, choose, strict_stops, Made, give, made_of, made}
 use Rattle.imp_parse.proofs.Layers.{Turn, layer_exact, alone, no_calls, alone_exact}
 use Rattle.imp_parse.proofs.Chains.{or_first, or_second, free_less}
-use Rattle.imp_parse.proofs.ListLayers.{IsList, ends, more, Listing, layer, list_arm, is_live, turn, with_front, goes_on, stops_at, is_done}
-use Rattle.imp_parse.proofs.Singles.{IsMark, mark, a_mark, IsName, named, a_name}
+use Rattle.imp_parse.proofs.ListLayers.{IsList, ends, more, Listing, layer, list_arm, is_live, turn, goes_on, stops_by, is_done}
+use Rattle.imp_parse.proofs.Singles.{IsMark, mark, a_mark, IsName, named, a_name, mark_follows, ended}
 use Rattle.imp_parse.proofs.Expressions.{operator_on}
 use Rattle.imp_parse.proofs.Conditions.{a_side, side_some}
 
@@ -89,9 +94,9 @@ pub sides_go_on : (s : Unit {0}) (front : List Operand) (ts : List Kind) (x : (O
 unfolding sides_step
 sides_go_on = goes_on is_comma operator_on sides_on sides_listing side_arm side_item_to side_item_from comma_is side_by side_item_is
 
-pub sides_stop : (s : Unit {0}) (front : List Operand) (ts : List Kind) (e : Stop) (total : Read (List Operand × Unit {0})) → begun is_comma ts ≡ true → side_by (fix sides_step) s ts ≡ Err e → with_front front (fix sides_step s ts) ≡ total → total ≡ Err e
+pub sides_stop : (s : Unit {0}) (front : List Operand) (ts : List Kind) (e : Stopped) (total : Read (List Operand × Unit {0})) → begun is_comma ts ≡ true → Fails e (side_by (fix sides_step) s ts) → with_front front (fix sides_step s ts) ≡ total → Fails e total
 unfolding sides_step
-sides_stop = stops_at is_comma operator_on sides_on sides_listing side_arm side_item_to side_item_from comma_is side_by side_item_is
+sides_stop = stops_by is_comma operator_on sides_on sides_listing side_arm side_item_to side_item_from comma_is side_by side_item_is
 
 pub sides_done : (s : Unit {0}) (front : List Operand) (ts : List Kind) (total : Read (List Operand × Unit {0})) → begun is_comma ts ≡ false → with_front front (fix sides_step s ts) ≡ total → total ≡ Ok ((front, s), ts)
 unfolding sides_step
@@ -102,15 +107,21 @@ some_sides = read_some (SidesIn tt) sides_on sides_at sides_exact ([], ([], tt),
 
 -- ---- arguments
 
-pub close_follows : {A : Type 0} (a : A) (w : List Kind) (e : A) (rest : List Kind) → Both (IsMark m.CloseParenthesis) (λ z. Nothing a) w e → Free never rest → Free sides_on (w ++ rest)
-close_follows a w e rest (both mark h) free = refl
+-- one more in front
+abbrev pub behind : Operand → List Operand × Unit {0} → List Operand × Unit {0}
+behind e es = (e ∷ es.0, es.1)
 
 abbrev pub rest_of_arguments : Operand → Loose alone (List Operand) never
-rest_of_arguments e = then some_sides (λ es. loose (next (a_mark m.CloseParenthesis) (λ z. loose (done never (e ∷ es.0))))) (λ es. close_follows (e ∷ es.0))
+rest_of_arguments e = then (give some_sides (behind e)) (λ es. ended m.CloseParenthesis es.0) (λ es. mark_follows m.CloseParenthesis _ sides_on never refl)
+
+pub rest_in : (e : Operand) (w : List Kind) (es : List Operand) → (rest_of_arguments e).lang w es → (v : List Kind) × (xs : List Operand) × (w ≡ v ++ k.Mark m.CloseParenthesis ∷ []) × (e ∷ xs ≡ es) × IsSides v xs
+rest_in e w es (both {v = v} g (both mark nothing)) = let q = made_of (behind e) (SidesIn tt) v _ g in (v, q.0.0, refl, ap (λ y. y.0) q.2, q.1)
 
 pub rest_follows : (e : Operand) → Follows operator_on (rest_of_arguments e).lang never
-rest_follows e w a rest (both sides_end (both mark h)) free = refl
-rest_follows e w a rest (both (sides_more g i) h) free = refl
+rest_follows e w a rest g free = let q = rest_in e w a g in subst (λ (u : List Kind). Free operator_on (u ++ rest)) (sym q.2) (sides_free q.0 q.1 q.4) where
+  sides_free : (v : List Kind) (xs : List Operand) → IsSides v xs → Free operator_on ((v ++ k.Mark m.CloseParenthesis ∷ []) ++ rest)
+  sides_free v xs sides_end = refl
+  sides_free v xs (sides_more h i) = refl
 
 abbrev pub argument_pack : Strict alone (List Operand) never
 argument_pack = then a_side rest_of_arguments rest_follows
@@ -125,7 +136,7 @@ arguments_pack = choose argument_arm argument_pack (strict_stops argument_arm ar
 pub arguments_to : (w : List Kind) (es : List Operand) → arguments_pack.lang w es → IsArguments w es
 arguments_to w es (live {t = k.Mark m.CloseParenthesis} nothing) = no_arguments
 arguments_to w es (live {t = t} g) = absurd g
-arguments_to w es (other o (both g (both h (both mark nothing)))) = arguments g h
+arguments_to w es (other o (both {v = v} {w = u} {a = e} g h)) = let q = rest_in e u es h in subst (λ (r : List Kind). IsArguments (v ++ r) es) (sym q.2) (subst (IsArguments (v ++ (q.0 ++ k.Mark m.CloseParenthesis ∷ []))) q.3 (arguments g q.4))
 
 side_other : {v : List Kind} {a : Operand} → IsSide v a → (rest : List Kind) → IsOther argument_arm (v ++ rest)
 side_other null rest = refl
@@ -137,7 +148,7 @@ side_other (value (sum (product (group g) h) l)) rest = refl
 
 pub arguments_from : (w : List Kind) (es : List Operand) → IsArguments w es → arguments_pack.lang w es
 arguments_from w es no_arguments = live {t = k.Mark m.CloseParenthesis} nothing
-arguments_from w es (arguments {w = u} {es = es'} g h) = other (side_other g (u ++ k.Mark m.CloseParenthesis ∷ [])) (both g (both {a = (es', tt)} h (both mark nothing)))
+arguments_from w es (arguments {w = u} {e = e} {es = es'} g h) = other (side_other g (u ++ k.Mark m.CloseParenthesis ∷ [])) (both {a = e} g (both {a = (e ∷ es', tt)} (made (behind e) (SidesIn tt) u (es', tt) h) (both mark nothing)))
 
 pub arguments_is : (ts : List Kind) → arguments_at ts ≡ arguments_pack.reader no_calls ts
 arguments_is [] = refl
@@ -177,3 +188,7 @@ invoke_some w i (invoke g) = omega arith
 
 abbrev pub a_call : {L : Layer} → Strict L (List ℕ × List Operand) never
 a_call = read IsInvoke never invoke_at invoke_exact (k.Name [] ∷ k.Mark m.OpenParenthesis ∷ k.Mark m.CloseParenthesis ∷ [], ([], []), invoke no_arguments) invoke_some
+
+pub operands_push : (es : List Side) (e : Side) → operands_of (es ++ e ∷ []) ≡ operands_of es ++ operand_of e ∷ []
+operands_push [] e = refl
+operands_push (x ∷ es) e = ap (λ q. operand_of x ∷ q) (operands_push es e)

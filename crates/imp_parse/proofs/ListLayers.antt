@@ -5,7 +5,10 @@ use Rattle.std.specs.Prelude.{not}
 use Rattle.imp_lex.specs.declared.token.Kind.{Kind}
 use Rattle.imp_parse.specs.Language.{Language, Opens}
 use Rattle.imp_parse.specs.Reader.{Stop, Unexpected, Read, ◌>>=◌, Steps, fix}
-use Rattle.imp_parse.specs.Lists.{Lists, begun, more_by, list_step}
+use Rattle.imp_parse.specs.Lists.{Lists, begun, more_by, list_step, with_front}
+use Rattle.imp_parse.specs.declared.error.Stopped.{Stopped}
+use Rattle.imp_parse.specs.declared.error.Stopped.TheVariants as stopped
+use Rattle.imp_parse.specs.Judged.{Fails}
 use Rattle.imp_parse.proofs.Exact.{Reader, Free, Both, both}
 use Rattle.imp_parse.proofs.Pack.{Layer, Calls, strictly, loosely, Pack, Strict, Loose, loose, Nothing, nothing, done, nothing_follows, nothing_is, call, Follows, then, Arm, Dead, Live, Other, is_other, arm_reader, arm_lang, IsOther, Chosen, live, other, chosen_reader, choose}
 use Rattle.imp_parse.proofs.Layers.{Turn, layer_eq}
@@ -23,10 +26,6 @@ pub record Listing (X S : Type 0) (begins item_on many_on : Kind → Bool) : Typ
   -- behind an item and the list after it comes nothing that the item goes on with
   pub follow : (s : S) → Follows item_on (Many s) many_on
   pub stops : (t : Kind) → many_on t ≡ false → begins t ≡ false
-
--- items before those that are read
-abbrev pub with_front : {X S : Type 0} → List X → Read (List X × S) → Read (List X × S)
-with_front front read = read >>= λ x. Ok ((front ++ x.0.0, x.0.1), x.1)
 
 module _ {X S : Type 0} (begins item_on many_on : Kind → Bool) (c : Listing X S begins item_on many_on) where
   abbrev pub layer : Layer
@@ -131,3 +130,8 @@ module _ {X S : Type 0} (begins item_on many_on : Kind → Bool) (c : Listing X 
 
       pub is_done : (s : S) (front : List X) (ts : List Kind) (total : Read (List X × S)) → begun begins ts ≡ false → with_front front (fix step s ts) ≡ total → total ≡ Ok ((front, s), ts)
       is_done s front ts total b so_far = sym so_far ∙ ap (with_front front) (list_ended s ts b) ∙ ap (λ ys. Ok ((ys, s), ts)) (append-nil front)
+
+      -- the same of a function's error
+      pub stops_by : (s : S) (front : List X) (ts : List Kind) (e : Stopped) (total : Read (List X × S)) → begun begins ts ≡ true → Fails e (item (fix step) s ts) → with_front front (fix step s ts) ≡ total → Fails e total
+      stops_by s front ts stopped.Memory total b is so_far = tt
+      stops_by s front ts (stopped.Unexpected left) total b is so_far = stops_at s front ts (Unexpected left) total b is so_far

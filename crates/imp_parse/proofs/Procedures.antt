@@ -15,13 +15,15 @@ use Rattle.imp_parse.specs.Reader.{Stop, Unexpected, Read, ◌>>=◌, Steps, fix
 use Rattle.imp_parse.specs.Tables.{same_mark, kind_of}
 use Rattle.imp_parse.specs.Statements.{IsStatements, none}
 use Rattle.imp_parse.specs.Programs.{IsDeclaration, declaration, IsDeclarations, declarations_end, declarations_more, IsParameters, no_parameters, parameters, IsOutcome, no_outcome, outcome, IsLocals, locals_end, locals_more, IsProcedure, procedure, IsProcedures, procedures_end, procedures_more, IsProgram, program}
-use Rattle.imp_parse.specs.Lists.{Lists, begun}
+use Rattle.imp_parse.specs.Lists.{Lists, begun, with_front}
 use Rattle.imp_parse.specs.StatementReading.{is_comma, begins_statement, statements_at}
 use Rattle.imp_parse.specs.ProgramReading.{kind_at, declaration_at, declaration_by, declarations_step, declarations_at, parameters_at, outcome_at, begins_local, local_by, locals_step, locals_at, procedure_behind, procedure_at, begins_procedure, procedures_step, procedures_at, program_at}
+use Rattle.imp_parse.specs.declared.error.Stopped.{Stopped}
+use Rattle.imp_parse.specs.Judged.{Fails}
 use Rattle.imp_parse.proofs.Exact.{Free, Exact, Both, both}
 use Rattle.imp_parse.proofs.Pack.{Layer, Calls, strictly, loosely, Pack, Strict, Loose, loose, Nothing, nothing, done, read, read_some, one, Follows, then, next, never, until, free_never, Arm, Dead, Live, Other, is_other, arm_reader, arm_lang, IsOther, Chosen, live, other, choose, strict_stops, Made, give, made_of, made}
 use Rattle.imp_parse.proofs.Layers.{Turn, layer_exact, alone, no_calls, alone_exact}
-use Rattle.imp_parse.proofs.ListLayers.{IsList, ends, more, Listing, layer, list_arm, is_live, turn, with_front, goes_on, stops_at, is_done}
+use Rattle.imp_parse.proofs.ListLayers.{IsList, ends, more, Listing, layer, list_arm, is_live, turn, goes_on, stops_by, is_done}
 use Rattle.imp_parse.proofs.Singles.{IsMark, mark, a_mark, mark_follows, ended, refused, IsName, named, a_name, IsPicked, picked_as, picked_single}
 use Rattle.imp_parse.proofs.Blocks.{StatementsIn, some_statements, statements_on, statements_first}
 
@@ -119,9 +121,9 @@ pub declarations_go_on : (s : Unit {0}) (front : List Declaration) (ts : List Ki
 unfolding declarations_step
 declarations_go_on = goes_on is_comma never is_comma declarations_listing next_arm next_to next_from comma_is declaration_by next_is
 
-pub declarations_stop : (s : Unit {0}) (front : List Declaration) (ts : List Kind) (e : Stop) (total : Read (List Declaration × Unit {0})) → begun is_comma ts ≡ true → declaration_by (fix declarations_step) s ts ≡ Err e → with_front front (fix declarations_step s ts) ≡ total → total ≡ Err e
+pub declarations_stop : (s : Unit {0}) (front : List Declaration) (ts : List Kind) (e : Stopped) (total : Read (List Declaration × Unit {0})) → begun is_comma ts ≡ true → Fails e (declaration_by (fix declarations_step) s ts) → with_front front (fix declarations_step s ts) ≡ total → Fails e total
 unfolding declarations_step
-declarations_stop = stops_at is_comma never is_comma declarations_listing next_arm next_to next_from comma_is declaration_by next_is
+declarations_stop = stops_by is_comma never is_comma declarations_listing next_arm next_to next_from comma_is declaration_by next_is
 
 pub declarations_done : (s : Unit {0}) (front : List Declaration) (ts : List Kind) (total : Read (List Declaration × Unit {0})) → begun is_comma ts ≡ false → with_front front (fix declarations_step s ts) ≡ total → total ≡ Ok ((front, s), ts)
 unfolding declarations_step
@@ -129,8 +131,15 @@ declarations_done = is_done is_comma never is_comma declarations_listing next_ar
 
 -- ---- parameters
 
+-- one more in front
+abbrev pub behind : Declaration → List Declaration × Unit {0} → List Declaration × Unit {0}
+behind d ds = (d ∷ ds.0, ds.1)
+
 abbrev pub rest_of_parameters : Declaration → Loose alone (List Declaration) never
-rest_of_parameters d = then some_declarations (λ ds. ended m.CloseParenthesis (d ∷ ds.0)) (λ ds. mark_follows m.CloseParenthesis _ is_comma never refl)
+rest_of_parameters d = then (give some_declarations (behind d)) (λ ds. ended m.CloseParenthesis ds.0) (λ ds. mark_follows m.CloseParenthesis _ is_comma never refl)
+
+pub rest_in : (d : Declaration) (w : List Kind) (ds : List Declaration) → (rest_of_parameters d).lang w ds → (v : List Kind) × (xs : List Declaration) × (w ≡ v ++ k.Mark m.CloseParenthesis ∷ []) × (d ∷ xs ≡ ds) × IsDeclarations v xs
+rest_in d w ds (both {v = v} g (both mark nothing)) = let q = made_of (behind d) (DeclarationsIn tt) v _ g in (v, q.0.0, refl, ap (λ y. y.0) q.2, q.1)
 
 abbrev pub parameter_pack : Strict alone (List Declaration) never
 parameter_pack = next a_declaration rest_of_parameters
@@ -145,14 +154,14 @@ parameters_pack = choose parameter_arm parameter_pack (strict_stops parameter_ar
 pub parameters_to : (w : List Kind) (ds : List Declaration) → parameters_pack.lang w ds → IsParameters w ds
 parameters_to w ds (live {t = k.Mark m.CloseParenthesis} nothing) = no_parameters
 parameters_to w ds (live {t = t} g) = absurd g
-parameters_to w ds (other o (both g (both h (both mark nothing)))) = parameters g h
+parameters_to w ds (other o (both {v = y} {w = u} {a = d} g h)) = let q = rest_in d u ds h in subst (λ (r : List Kind). IsParameters (y ++ r) ds) (sym q.2) (subst (IsParameters (y ++ (q.0 ++ k.Mark m.CloseParenthesis ∷ []))) q.3 (parameters g q.4))
 
 parameter_other : {v : List Kind} {d : Declaration} → IsDeclaration v d → (rest : List Kind) → IsOther parameter_arm (v ++ rest)
 parameter_other (declaration t is) rest = refl
 
 pub parameters_from : (w : List Kind) (ds : List Declaration) → IsParameters w ds → parameters_pack.lang w ds
 parameters_from w ds no_parameters = live {t = k.Mark m.CloseParenthesis} nothing
-parameters_from w ds (parameters {w = u} {ds = ds'} g h) = other (parameter_other g (u ++ k.Mark m.CloseParenthesis ∷ [])) (both g (both {a = (ds', tt)} h (both mark nothing)))
+parameters_from w ds (parameters {w = u} {d = d} {ds = ds'} g h) = other (parameter_other g (u ++ k.Mark m.CloseParenthesis ∷ [])) (both {a = d} g (both {a = (d ∷ ds', tt)} (made (behind d) (DeclarationsIn tt) u (ds', tt) h) (both mark nothing)))
 
 pub parameters_is : (ts : List Kind) → parameters_at ts ≡ parameters_pack.reader no_calls ts
 unfolding parameters_at
@@ -272,9 +281,9 @@ pub locals_go_on : (s : Unit {0}) (front : List Declaration) (ts : List Kind) (x
 unfolding locals_step
 locals_go_on = goes_on begins_local never begins_local locals_listing local_arm local_to local_from local_begins local_by local_is
 
-pub locals_stop : (s : Unit {0}) (front : List Declaration) (ts : List Kind) (e : Stop) (total : Read (List Declaration × Unit {0})) → begun begins_local ts ≡ true → local_by (fix locals_step) s ts ≡ Err e → with_front front (fix locals_step s ts) ≡ total → total ≡ Err e
+pub locals_stop : (s : Unit {0}) (front : List Declaration) (ts : List Kind) (e : Stopped) (total : Read (List Declaration × Unit {0})) → begun begins_local ts ≡ true → Fails e (local_by (fix locals_step) s ts) → with_front front (fix locals_step s ts) ≡ total → Fails e total
 unfolding locals_step
-locals_stop = stops_at begins_local never begins_local locals_listing local_arm local_to local_from local_begins local_by local_is
+locals_stop = stops_by begins_local never begins_local locals_listing local_arm local_to local_from local_begins local_by local_is
 
 pub locals_done : (s : Unit {0}) (front : List Declaration) (ts : List Kind) (total : Read (List Declaration × Unit {0})) → begun begins_local ts ≡ false → with_front front (fix locals_step s ts) ≡ total → total ≡ Ok ((front, s), ts)
 unfolding locals_step
@@ -410,9 +419,9 @@ pub procedures_go_on : (n : ℕ) (front : List Procedure) (ts : List Kind) (x : 
 unfolding procedures_step
 procedures_go_on = goes_on begins_procedure never begins_procedure procedures_listing (procedure_arm procedures) (arm_to procedures) (arm_from procedures) procedure_begins procedure_by procedure_item
 
-pub procedures_stop : (n : ℕ) (front : List Procedure) (ts : List Kind) (e : Stop) (total : Read (List Procedure × ℕ)) → begun begins_procedure ts ≡ true → procedure_at n ts ≡ Err e → with_front front (fix procedures_step n ts) ≡ total → total ≡ Err e
+pub procedures_stop : (n : ℕ) (front : List Procedure) (ts : List Kind) (e : Stopped) (total : Read (List Procedure × ℕ)) → begun begins_procedure ts ≡ true → Fails e (procedure_at n ts) → with_front front (fix procedures_step n ts) ≡ total → Fails e total
 unfolding procedures_step
-procedures_stop = stops_at begins_procedure never begins_procedure procedures_listing (procedure_arm procedures) (arm_to procedures) (arm_from procedures) procedure_begins procedure_by procedure_item
+procedures_stop = stops_by begins_procedure never begins_procedure procedures_listing (procedure_arm procedures) (arm_to procedures) (arm_from procedures) procedure_begins procedure_by procedure_item
 
 pub procedures_done : (n : ℕ) (front : List Procedure) (ts : List Kind) (total : Read (List Procedure × ℕ)) → begun begins_procedure ts ≡ false → with_front front (fix procedures_step n ts) ≡ total → total ≡ Ok ((front, n), ts)
 unfolding procedures_step
@@ -420,14 +429,21 @@ procedures_done = is_done begins_procedure never begins_procedure procedures_lis
 
 -- ---- a program
 
+abbrev pub in_front : Procedure → List Procedure × ℕ → List Procedure × ℕ
+in_front p ps = (p ∷ ps.0, ps.1)
+
 abbrev pub program_pack : Strict alone (List Procedure) begins_procedure
-program_pack = next (a_procedure 1) (λ p. give (some_procedures p.1) (λ ps. p.0 ∷ ps.0))
+program_pack = next (a_procedure 1) (λ p. give (give (some_procedures p.1) (in_front p.0)) (λ ps. ps.0))
 
 pub program_to : (w : List Kind) (ps : List Procedure) → program_pack.lang w ps → IsProgram w ps
-program_to w ps (both {v = y} {w = u} {a = p} g h) = let q = made_of (λ qs. p.0 ∷ qs.0) (ProceduresIn p.1) u ps h in subst (IsProgram (y ++ u)) q.2 (program g q.1)
+program_to w ps (both {v = y} {w = u} {a = p} g h) =
+    let q = made_of (λ (qs : List Procedure × ℕ). qs.0) (Made (in_front p.0) (ProceduresIn p.1)) u ps h in
+    let r = made_of (in_front p.0) (ProceduresIn p.1) u q.0 q.1 in
+    subst (IsProgram (y ++ u)) (ap (λ z. z.0) r.2 ∙ q.2) (program g r.1)
 
 pub program_from : (w : List Kind) (ps : List Procedure) → IsProgram w ps → program_pack.lang w ps
-program_from w ps (program {i = i} {j = j} {w = u} {p = p} {ps = qs} g h) = both {a = (p, i)} g (made (λ y. p ∷ y.0) (ProceduresIn i) u (qs, j) h)
+program_from w ps (program {i = i} {j = j} {w = u} {p = p} {ps = qs} g h) =
+    both {a = (p, i)} g (made (λ (y : List Procedure × ℕ). y.0) (Made (in_front p) (ProceduresIn i)) u (p ∷ qs, j) (made (in_front p) (ProceduresIn i) u (qs, j) h))
 
 pub program_is : (ts : List Kind) → program_at ts ≡ program_pack.reader no_calls ts
 unfolding program_at

@@ -1,5 +1,5 @@
 -- Reading lists: items that are told by their first token, each with the state behind it.
-use Rattle.std.specs.Prelude.{◌≡◌, ℕ, Bool, false, List, [], ◌∷◌, Result, Ok, Err, if◌then◌else◌}
+use Rattle.std.specs.Prelude.{◌≡◌, ℕ, Bool, false, List, [], ◌∷◌, ◌++◌, Result, Ok, Err, if◌then◌else◌}
 use Rattle.imp_lex.specs.declared.token.Kind.{Kind}
 use Rattle.imp_parse.specs.Reader.{Read, ◌>>=◌, Steps}
 
@@ -19,3 +19,7 @@ begun begins (t ∷ rest) = begins t
 abbrev pub list_step : {X S : Type 0} → (Kind → Bool) → (Lists X S → S → List Kind → Read (X × S)) → Steps S (List X × S)
 list_step begins item lists s [] = Ok (([], s), [])
 list_step begins item lists s (t ∷ rest) = if begins t then more_by item lists s (t ∷ rest) else Ok (([], s), t ∷ rest)
+
+-- items before those that are read
+abbrev pub with_front : {X S : Type 0} → List X → Read (List X × S) → Read (List X × S)
+with_front front read = read >>= λ x. Ok ((front ++ x.0.0, x.0.1), x.1)

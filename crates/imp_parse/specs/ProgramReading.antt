@@ -10,7 +10,7 @@ use Rattle.imp_syntax.specs.Plain.{Procedure, block_of}
 use Rattle.imp_parse.specs.Reader.{Stop, Unexpected, Read, ◌>>=◌, pick_at, Steps, fix}
 use Rattle.imp_parse.specs.Tables.{kind_of}
 use Rattle.imp_parse.specs.Reading.{mark_at, name_at}
-use Rattle.imp_parse.specs.Lists.{Lists, list_step}
+use Rattle.imp_parse.specs.Lists.{Lists, list_step, with_front}
 use Rattle.imp_parse.specs.StatementReading.{is_comma, statements_at}
 
 abbrev pub kind_at : List Kind → Read kinds.Kind
@@ -35,9 +35,9 @@ declarations_at ts = fix declarations_step tt ts
 abbrev pub some_parameters_at : List Kind → Read (List Declaration)
 some_parameters_at ts = do
   d ← declaration_at ts
-  ds ← declarations_at d.1
+  ds ← with_front (d.0 ∷ []) (declarations_at d.1)
   z ← mark_at m.CloseParenthesis ds.1
-  Ok (d.0 ∷ ds.0.0, z.1)
+  Ok (ds.0.0, z.1)
 
 unfoldable pub parameters_at : List Kind → Read (List Declaration)
 parameters_at [] = some_parameters_at []
@@ -95,5 +95,5 @@ procedures_at n ts = fix procedures_step n ts
 unfoldable pub program_at : List Kind → Read (List Procedure)
 program_at ts = do
   p ← procedure_at 1 ts
-  ps ← procedures_at p.0.1 p.1
-  Ok (p.0.0 ∷ ps.0.0, ps.1)
+  ps ← with_front (p.0.0 ∷ []) (procedures_at p.0.1 p.1)
+  Ok (ps.0.0, ps.1)

@@ -8,7 +8,7 @@ use Rattle.imp_syntax.specs.Plain as plain
 use Rattle.imp_syntax.specs.Plain.{Expression, Operand, Condition, Statement, Simple, Break, Call, If, While, Statements, Ends, block_of}
 use Rattle.imp_parse.specs.Reader.{Stop, Unexpected, Read, ◌>>=◌, Steps, fix}
 use Rattle.imp_parse.specs.Reading.{mark_at, name_at, expression_at, product_at, sum_at, side_at, condition_at}
-use Rattle.imp_parse.specs.Lists.{Lists, list_step}
+use Rattle.imp_parse.specs.Lists.{Lists, list_step, with_front}
 
 -- ---- calls
 
@@ -28,9 +28,9 @@ sides_at ts = fix sides_step tt ts
 abbrev pub some_arguments_at : List Kind → Read (List Operand)
 some_arguments_at ts = do
   e ← side_at ts
-  es ← sides_at e.1
+  es ← with_front (e.0 ∷ []) (sides_at e.1)
   z ← mark_at m.CloseParenthesis es.1
-  Ok (e.0 ∷ es.0.0, z.1)
+  Ok (es.0.0, z.1)
 
 abbrev pub arguments_at : List Kind → Read (List Operand)
 arguments_at [] = some_arguments_at []

@@ -1,6 +1,8 @@
 //! Reading.
 #![tactic(auto)]
 
+mod call;
+mod condition;
 mod error;
 mod expression;
 mod limits;
