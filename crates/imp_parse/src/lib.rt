@@ -7,5 +7,7 @@ mod error;
 mod expression;
 mod limits;
 mod marks;
+mod simple;
+mod statement;
 
 pub use error::ParseError;
