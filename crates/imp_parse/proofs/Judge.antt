@@ -211,6 +211,10 @@ module _ {A : Type 0} (G : Language A) (on : Kind → Bool) (r : Reader A) (exac
   whole : (ts : List Kind) → Whole G ts (finished (r ts))
   whole ts = whole_of ts (r ts) ((exact (suc (length ts))).explains ts (omega arith))
 
+  -- a whole reading ends
+  pub never_out : (ts : List Kind) → finished (r ts) ≡ Err Out → ⊥
+  never_out ts h = subst (Whole G ts) h (whole ts)
+
   module _ (p : Place) (ts : List Kind) where
     judged_at : (deep : Option ℕ) → too_deep p ts ≡ deep → (read : Result A Stopped) → Gives (λ x. x) read (finished (r (cut deep ts))) → (judged deep (length ts) read ≡ Err e.Memory) ⊎ IsTokenAnswer G p ts (judged deep (length ts) read)
     judged_at None h (Ok x) g = inr (subst (Whole G ts) g (whole ts), h)

@@ -12,3 +12,5 @@ pub mod Simples
 pub mod Blocks
 pub mod Procedures
 pub mod Judge
+pub mod Wholes
+pub mod Texts

@@ -12,3 +12,4 @@ pub mod Kinds
 pub mod Limits
 pub mod Answer
 pub mod Judged
+pub mod Languages

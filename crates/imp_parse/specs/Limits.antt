@@ -1,5 +1,5 @@
 -- How deep a token stands: nested blocks, and operators in one outermost expression or condition.
-use Rattle.std.specs.Prelude.{◌≡◌, ℕ, suc, ◌+◌, ◌-◌, Bool, true, false, nat_lt, not, List, [], ◌∷◌, Option, Some, None, option_map, if◌then◌else◌}
+use Rattle.std.specs.Prelude.{◌≡◌, ℕ, suc, ◌+◌, ◌-◌, ◌≤◌, Bool, true, false, nat_lt, not, List, [], ◌∷◌, Option, Some, None, option_map, if◌then◌else◌}
 use Rattle.imp_lex.specs.declared.token.Mark.TheVariants as m
 use Rattle.imp_lex.specs.declared.token.Word.TheVariants as word
 use Rattle.imp_lex.specs.declared.token.Kind.{Kind}
@@ -70,6 +70,11 @@ exceeds p r.Plain = false
 abbrev pub too_deep : Place → List Kind → Option ℕ
 too_deep p [] = None
 too_deep p (t ∷ ts) = if exceeds p (role_of t) then Some 0 else option_map suc (too_deep (next p (role_of t)) ts)
+
+-- no more braces are open, and no more operators counted, than the budgets and one brace more
+pub record IsRoom (p : Place) : Type 0 where
+  pub depth : p.depth ≤ most + 1
+  pub used : p.used ≤ most
 
 -- where a program or a procedure begins, and where statements or a condition do
 abbrev pub outside : Place

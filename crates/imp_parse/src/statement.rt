@@ -40,7 +40,8 @@ fn begins(kind: &Kind) -> bool
     }
 }
 
-fn numbered(
+/// A simple statement of this number, the next number, and the tokens behind it.
+pub(crate) fn numbered(
     alloc: Global,
     number: u32,
     tokens: &[Token],
