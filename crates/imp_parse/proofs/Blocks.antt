@@ -187,9 +187,13 @@ simple_way n t v x g = numbered_from n v x (simple_arm statements n t) g
 
 pub statement_from : (n j : ℕ) (w : List Kind) (s : Statement) → IsStatement n w s j → (t : Kind) × (v : List Kind) × (w ≡ t ∷ v) × arm_lang (statement_arm n t) v (s, j)
 statement_from n j w s (simple g) = let f = arm_from statements n w s g in (f.0, f.1, f.2, simple_way n f.0 f.1 s f.3)
-statement_from n j w s (if_ {v = v} {c = c} {t = t} g h) =
-    (k.Word word.If, _, refl, both mark (both g (both mark (subst (λ (q : List Kind). Both {B = Statement × ℕ} (block_pack (n + 1)).lang (λ y. Made (λ e. (If n c y.0 e.0, e.1)) (else_pack y.1).lang) q (If n c t Ends, j)) (append-nil v)
-    (both {a = (t, j)} (block_from (n + 1) j v t h) (made (λ e. (If n c t e.0, e.1)) (else_pack j).lang [] (Ends, j) (other tt nothing)))))))
+statement_from n j w s (if_ {v = v} {c = c} {t = t} g h) = (
+  k.Word word.If,
+  _,
+  refl,
+  both mark (both g (both mark (subst (λ (q : List Kind). Both {B = Statement × ℕ} (block_pack (n + 1)).lang (λ y. Made (λ e. (If n c y.0 e.0, e.1)) (else_pack y.1).lang) q (If n c t Ends, j)) (append-nil v)
+      (both {a = (t, j)} (block_from (n + 1) j v t h) (made (λ e. (If n c t e.0, e.1)) (else_pack j).lang [] (Ends, j) (other tt nothing)))))),
+)
 statement_from n j w s (if_else {i = i} {v = v} {w = y} {c = c} {t = t} {e = e} g h r) =
     (k.Word word.If, _, refl, both mark (both g (both mark (both {a = (t, i)} (block_from (n + 1) i v t h) (made (λ z. (If n c t z.0, z.1)) (else_pack i).lang (k.Word word.Else ∷ y) (e, j) (live {t = k.Word word.Else} (block_from i j y e r)))))))
 statement_from n j w s (while {v = v} {c = c} {b = b} g h) = (k.Word word.While, _, refl, both mark (both g (both mark (made (λ z. (While n c z.0, z.1)) (block_pack (n + 1)).lang v (b, j) (block_from (n + 1) j v b h)))))
@@ -272,7 +276,6 @@ statements_exact n j = layer_exact statements statements_step statements_turn j 
 
 abbrev pub some_statements : {L : Layer} → ℕ → Loose L (List Statement × ℕ) statements_on
 some_statements n = packs.read_some (StatementsIn n) statements_on (statements_at n) (statements_exact n) ([], ([], n), none)
-
 
 -- ---- a loop that reads them
 

@@ -34,7 +34,6 @@ pub record Chains (A Op : Type 0) (high low : Kind → Option Op) (made_high mad
   pub high_apart : (t : Kind) (op : Op) → high t ≡ Some op → unit_on t ≡ false
   pub low_apart : (t : Kind) (op : Op) → low t ≡ Some op → (is_some (high t) || unit_on t) ≡ false
 
-
 -- ---- tests for the tokens that go on
 
 abbrev pub high_on : {A Op : Type 0} {high low : Kind → Option Op} {made_high made_low : Op → A → A → A} {unit_on : Kind → Bool} → Chains A Op high low made_high made_low unit_on → Kind → Bool

@@ -93,16 +93,16 @@ module _ {A : Type 0} (G : Language A) where
         wrong = λ lt o. wrong_at rest parts dead (omega arith) o;
         short = λ i a g. short_at rest parts dead (omega arith) a g;
       } where
-    wrong_at : (rest : List Kind) → ts ≡ before ++ rest → ((more : List Kind) → SameFirst rest more → (a : A) → G (before ++ more) a → ⊥) → 0 < length rest → Opens G (take (length before + 1) ts) → ⊥
-    wrong_at [] parts dead lt o = absurd (omega arith)
-    wrong_at (t ∷ rest) parts dead lt o =
-        let regrouped : ts ≡ (before ++ t ∷ []) ++ rest = parts ∙ sym (append_assoc before (t ∷ []) rest) in
-        let front : take (length before + 1) ts ≡ before ++ t ∷ [] = ap (take (length before + 1)) regrouped ∙ take_at (before ++ t ∷ []) rest (length before + 1) (length-append before (t ∷ [])) in
-        dead (t ∷ o.0) refl o.1 (subst (λ (q : List Kind). G q o.1) (ap (λ (q : List Kind). q ++ o.0) front ∙ append_assoc before (t ∷ []) o.0) o.2)
+        wrong_at : (rest : List Kind) → ts ≡ before ++ rest → ((more : List Kind) → SameFirst rest more → (a : A) → G (before ++ more) a → ⊥) → 0 < length rest → Opens G (take (length before + 1) ts) → ⊥
+        wrong_at [] parts dead lt o = absurd (omega arith)
+        wrong_at (t ∷ rest) parts dead lt o =
+            let regrouped : ts ≡ (before ++ t ∷ []) ++ rest = parts ∙ sym (append_assoc before (t ∷ []) rest) in
+            let front : take (length before + 1) ts ≡ before ++ t ∷ [] = ap (take (length before + 1)) regrouped ∙ take_at (before ++ t ∷ []) rest (length before + 1) (length-append before (t ∷ [])) in
+            dead (t ∷ o.0) refl o.1 (subst (λ (q : List Kind). G q o.1) (ap (λ (q : List Kind). q ++ o.0) front ∙ append_assoc before (t ∷ []) o.0) o.2)
 
-    short_at : (rest : List Kind) → ts ≡ before ++ rest → ((more : List Kind) → SameFirst rest more → (a : A) → G (before ++ more) a → ⊥) → length rest ≡ 0 → (a : A) → G ts a → ⊥
-    short_at [] parts dead z a g = dead [] tt a (subst (λ (q : List Kind). G q a) parts g)
-    short_at (t ∷ rest) parts dead z a g = absurd (omega arith)
+        short_at : (rest : List Kind) → ts ≡ before ++ rest → ((more : List Kind) → SameFirst rest more → (a : A) → G (before ++ more) a → ⊥) → length rest ≡ 0 → (a : A) → G ts a → ⊥
+        short_at [] parts dead z a g = dead [] tt a (subst (λ (q : List Kind). G q a) parts g)
+        short_at (t ∷ rest) parts dead z a g = absurd (omega arith)
 
   -- what goes wrong in a front of the tokens, and before its end, goes wrong there in all of them
   stuck_front : (ts : List Kind) (m i : ℕ) → m ≤ length ts → i < m → IsStuck G (take m ts) i → IsStuck G ts i

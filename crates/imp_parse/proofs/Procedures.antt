@@ -42,8 +42,8 @@ pub declaration_to : (w : List Kind) (d : Declaration) → declaration_pack.lang
 declaration_to w d (both {a = x} named (both {w = u} mark g)) =
     let q = made_of (λ kind. declared x kind) (IsPicked kind_of) u d g in
     subst (IsDeclaration (k.Name x ∷ k.Mark m.Colon ∷ u)) q.2 (kind_to x u q.0 q.1) where
-  kind_to : (x : List ℕ) (u : List Kind) (kind : kinds.Kind) → IsPicked kind_of u kind → IsDeclaration (k.Name x ∷ k.Mark m.Colon ∷ u) (declared x kind)
-  kind_to x u kind (picked_as t is) = declaration t is
+      kind_to : (x : List ℕ) (u : List Kind) (kind : kinds.Kind) → IsPicked kind_of u kind → IsDeclaration (k.Name x ∷ k.Mark m.Colon ∷ u) (declared x kind)
+      kind_to x u kind (picked_as t is) = declaration t is
 
 pub declaration_from : (w : List Kind) (d : Declaration) → IsDeclaration w d → declaration_pack.lang w d
 declaration_from w d (declaration {x = x} t {kind = kind} is) = both named (both mark (made (λ y. declared x y) (IsPicked kind_of) (t ∷ []) kind (picked_as t is)))

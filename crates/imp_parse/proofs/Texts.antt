@@ -1,5 +1,5 @@
 -- What the functions answer is what the text is, and each text is one thing.
-use Rattle.std.proofs.Common.{◌≡◌, ◌⊎◌, ℕ, zero, suc, ◌+◌, ◌-◌, ◌<◌, ◌≤◌, inl, inr, List, [], ◌∷◌, ◌++◌, length, take, drop, Option, Some, None, Result, Ok, Err, refl, sym, ap, ◌∙◌, subst, arith}
+use Rattle.std.proofs.Common.{◌≡◌, ◌⊎◌, ℕ, zero, suc, ◌+◌, ◌-◌, ◌<◌, ◌≤◌, Bool, inl, inr, List, [], ◌∷◌, ◌++◌, length, take, drop, Option, Some, None, Result, Ok, Err, refl, sym, ap, ◌∙◌, subst, arith}
 use Rattle.std.specs.Prelude.{IfOk, IfErr, map}
 use Rattle.std.proofs.lemmas.List.{length-map}
 use Rattle.imp_lex.specs.declared.token.Token.{Token}
@@ -101,18 +101,21 @@ module _ {A : Type 0} (G : Language A) (p : Place) (one : (ts : List Kind) (a b 
 
 module _ {A : Type 0} (G : Language A) (on : Kind → Bool) (r : Reader A) (exact : (n : ℕ) → Exact n G on r) (p : Place) where
   -- an answer by the reader, where the budgets were scanned
-  pub text_answer : (text : List ℕ) (tokens : List Token) → lexing.IsLexed 0 text tokens → lexing.IsOnlyAnswer text (Ok tokens) → (deep : Option ℕ) → deep ≡ too_deep p (kinds tokens) → (upto : List Kind) → upto ≡ cut deep (kinds tokens)
-      → (read : Result A Stopped) → Gives (λ x. x) read (finished (r upto)) → (result : Result A ParseError) → result ≡ judged deep (length tokens) read → Answers G p text result
-  text_answer text tokens lexed sole deep is upto cuts read gives result judge =
+  pub text_answer : (text : List ℕ) (tokens : List Token) → lexing.IsLexed 0 text tokens → lexing.IsOnlyAnswer text (Ok tokens) → (slice : List Token) → slice ≡ tokens → (start : Place) → start ≡ p
+      → (deep : Option ℕ) → deep ≡ too_deep start (kinds slice) → (upto : List Kind) → upto ≡ cut deep (kinds slice)
+      → (read : Result A Stopped) → Gives (λ x. x) read (finished (r upto)) → (result : Result A ParseError) → result ≡ judged deep (length slice) read → Answers G p text result
+  text_answer text tokens lexed sole slice whole start here deep is upto cuts read gives result judge =
       let ts : List Kind = kinds tokens in
-      let len : length ts ≡ length tokens = simp length-map in
-      let given : Gives (λ x. x) read (finished (r (cut (too_deep p ts) ts))) = subst (λ q. Gives (λ x. x) read (finished (r q))) (cuts ∙ ap (λ d. cut d ts) is) gives in
-      let same : judged (too_deep p ts) (length ts) read ≡ result = ap (λ d. judged d (length ts) read) (sym is) ∙ ap (λ n. judged deep n read) len ∙ sym judge in
-      subst (Answers G p text) same (lexed_answer G p (one_tree G on r exact) text tokens lexed sole (judged (too_deep p ts) (length ts) read) (judged_answer G on r exact p ts read given))
+      let whole_kinds : kinds slice ≡ ts = ap kinds whole in
+      let first : deep ≡ too_deep p ts = is ∙ ap (λ q. too_deep q (kinds slice)) here ∙ ap (too_deep p) whole_kinds in
+      let len : length slice ≡ length ts = ap length whole ∙ sym (simp length-map) in
+      let given : Gives (λ x. x) read (finished (r (cut (too_deep p ts) ts))) = subst (λ q. Gives (λ x. x) read (finished (r q))) (cuts ∙ ap (cut deep) whole_kinds ∙ ap (λ d. cut d ts) first) gives in
+      let same : result ≡ judged (too_deep p ts) (length ts) read = judge ∙ ap (λ n. judged deep n read) len ∙ ap (λ d. judged d (length ts) read) first in
+      subst (Answers G p text) (sym same) (lexed_answer G p (one_tree G on r exact) text tokens lexed sole (judged (too_deep p ts) (length ts) read) (judged_answer G on r exact p ts read given))
 
   -- ---- each text has one answer
 
-  of_stop : Result A Stop → Result A Stopped
+  abbrev of_stop : Result A Stop → Result A Stopped
   of_stop (Ok x) = Ok x
   of_stop (Err (Unexpected n)) = Err (s.Unexpected n)
   of_stop (Err Out) = Err s.Memory
@@ -123,11 +126,11 @@ module _ {A : Type 0} (G : Language A) (on : Kind → Bool) (r : Reader A) (exac
   gives_stop (Err Out) h = absurd (h refl)
 
   not_memory : (deep : Option ℕ) (total : ℕ) (x : Result A Stop) → (x ≡ Err Out → ⊥) → judged deep total (of_stop x) ≡ Err e.Memory → ⊥
-  not_memory None total (Ok y) h m = cc
-  not_memory None total (Err (Unexpected n)) h m = cc
-  not_memory (Some i) total (Ok y) h m = cc
-  not_memory (Some i) total (Err (Unexpected zero)) h m = cc
-  not_memory (Some i) total (Err (Unexpected (suc n))) h m = cc
+  not_memory None total (Ok y) h m = absurd cc
+  not_memory None total (Err (Unexpected n)) h m = absurd cc
+  not_memory (Some i) total (Ok y) h m = absurd cc
+  not_memory (Some i) total (Err (Unexpected zero)) h m = absurd cc
+  not_memory (Some i) total (Err (Unexpected (suc n))) h m = absurd cc
   not_memory None total (Err Out) h m = h refl
   not_memory (Some i) total (Err Out) h m = h refl
 

@@ -21,7 +21,13 @@ pub(crate) fn begins_with_comma(tokens: &[Token]) -> bool
     ensures is { result ≡ begun is_comma (kinds tokens.now) }
 {
     match tokens {
-        [Token { kind: Kind::Mark(Mark::Comma), .. }, ..] => true,
+        [
+            Token {
+                kind: Kind::Mark(Mark::Comma),
+                ..
+            },
+            ..
+        ] => true,
         _ => false,
     }
 }
@@ -68,9 +74,13 @@ fn arguments(alloc: Global, tokens: &[Token]) -> Result<(Items<Side>, &[Token]),
     ensures shorter { IfOk result (λ x. length x.1.now < length tokens.now) }
 {
     match tokens {
-        [Token { kind: Kind::Mark(Mark::CloseParenthesis), .. }, rest @ ..] => {
-            Ok((Items::new(alloc), rest))
-        }
+        [
+            Token {
+                kind: Kind::Mark(Mark::CloseParenthesis),
+                ..
+            },
+            rest @ ..,
+        ] => { Ok((Items::new(alloc), rest)) }
         _ => some_arguments(alloc, tokens),
     }
 }

@@ -20,7 +20,13 @@ pub(crate) fn side(alloc: Global, tokens: &[Token]) -> Result<(Side, &[Token]), 
     ensures shorter { IfOk result (λ x. length x.1.now < length tokens.now) }
 {
     match tokens {
-        [Token { kind: Kind::Word(Word::Null), .. }, rest @ ..] => Ok((Side::Null, rest)),
+        [
+            Token {
+                kind: Kind::Word(Word::Null),
+                ..
+            },
+            rest @ ..,
+        ] => Ok((Side::Null, rest)),
         _ => {
             let (value, rest) = expression(alloc, tokens)?;
             Ok((Side::Expr(value), rest))
@@ -130,14 +136,26 @@ fn unit_by_front(alloc: Global, tokens: &[Token]) -> Result<(Cond, &[Token]), St
     ensures shorter { IfOk result (λ x. length x.1.now < length tokens.now) }
 {
     match tokens {
-        [Token { kind: Kind::Mark(Mark::Not), .. }, rest @ ..] => {
+        [
+            Token {
+                kind: Kind::Mark(Mark::Not),
+                ..
+            },
+            rest @ ..,
+        ] => {
             let rest = mark(Mark::OpenParenthesis, rest)?;
             let (inner, rest) = condition(alloc, rest)?;
             let rest = mark(Mark::CloseParenthesis, rest)?;
             let opposite = Cond::new(alloc, CondNode::Not(inner))?;
             Ok((opposite, rest))
         }
-        [Token { kind: Kind::Mark(Mark::OpenParenthesis), .. }, rest @ ..] => {
+        [
+            Token {
+                kind: Kind::Mark(Mark::OpenParenthesis),
+                ..
+            },
+            rest @ ..,
+        ] => {
             let (inner, rest) = condition(alloc, rest)?;
             let rest = mark(Mark::CloseParenthesis, rest)?;
             Ok((inner, rest))

@@ -38,11 +38,7 @@ pub(crate) fn sum_tail(
 }
 
 #[cycle(expression)]
-fn sum_by_front(
-    alloc: Global,
-    left: Expr,
-    tokens: &[Token],
-) -> Result<(Expr, &[Token]), Stopped>
+fn sum_by_front(alloc: Global, left: Expr, tokens: &[Token]) -> Result<(Expr, &[Token]), Stopped>
     ensures read { Gives (λ x. (x.0, kinds x.1.now)) result (sum_by left (kinds tokens.now)) }
     ensures shorter { IfOk result (λ x. length x.1.now ≤ length tokens.now) }
 {
@@ -119,26 +115,56 @@ fn factor_by_front(alloc: Global, tokens: &[Token]) -> Result<(Expr, &[Token]), 
     ensures shorter { IfOk result (λ x. length x.1.now < length tokens.now) }
 {
     match tokens {
-        [Token { kind: Kind::Number(n), .. }, rest @ ..] => {
+        [
+            Token {
+                kind: Kind::Number(n),
+                ..
+            },
+            rest @ ..,
+        ] => {
             let number = Expr::new(alloc, ExprNode::Literal(*n))?;
             Ok((number, rest))
         }
-        [Token { kind: Kind::Name(_), .. }, ..] => {
+        [
+            Token {
+                kind: Kind::Name(_),
+                ..
+            },
+            ..
+        ] => {
             let (x, rest) = name(tokens)?;
             let variable = Expr::new(alloc, ExprNode::Variable(x))?;
             Ok((variable, rest))
         }
-        [Token { kind: Kind::Word(Word::Len), .. }, rest @ ..] => {
+        [
+            Token {
+                kind: Kind::Word(Word::Len),
+                ..
+            },
+            rest @ ..,
+        ] => {
             let (x, rest) = name(rest)?;
             let length = Expr::new(alloc, ExprNode::Length(x))?;
             Ok((length, rest))
         }
-        [Token { kind: Kind::Mark(Mark::Minus), .. }, rest @ ..] => {
+        [
+            Token {
+                kind: Kind::Mark(Mark::Minus),
+                ..
+            },
+            rest @ ..,
+        ] => {
             let (inner, rest) = factor(alloc, rest)?;
             let opposite = Expr::new(alloc, ExprNode::Negative(inner))?;
             Ok((opposite, rest))
         }
-        [Token { kind: Kind::Mark(Mark::OpenParenthesis), .. }, rest @ ..] => {
+        [
+            Token {
+                kind: Kind::Mark(Mark::OpenParenthesis),
+                ..
+            },
+            rest @ ..,
+        ] => {
             let (inner, rest) = expression(alloc, rest)?;
             let rest = mark(Mark::CloseParenthesis, rest)?;
             Ok((inner, rest))

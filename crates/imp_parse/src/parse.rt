@@ -29,6 +29,7 @@ fn finish<X: Drop>(value: X, rest: &[Token]) -> Result<X, Stopped>
 }
 
 /// The tokens up to the first that is too deep, with it.
+#[tactic(auto, using(crate::proofs::Texts::kinds_take))]
 fn up_to(deep: Option<usize>, tokens: &[Token]) -> &[Token]
     requires within { IfSome deep (λ i. i < length tokens.now) }
     ensures is { kinds result.now ≡ cut deep (kinds tokens.now) }
@@ -61,7 +62,7 @@ fn judge<X: Drop>(
                 if left == 0 {
                     Err(ParseError::TooDeep(i))
                 } else {
-                    Err(ParseError::Unexpected((i + 1).saturating_sub(left)))
+                    Err(ParseError::Unexpected(i.saturating_sub(left - 1)))
                 }
             }
         },
@@ -76,11 +77,7 @@ fn whole_program(alloc: Global, tokens: &[Token]) -> Result<Program, Stopped>
     finish(program, rest)
 }
 
-fn whole_procedure(
-    alloc: Global,
-    next: u32,
-    tokens: &[Token],
-) -> Result<(Proc, u32), Stopped>
+fn whole_procedure(alloc: Global, next: u32, tokens: &[Token]) -> Result<(Proc, u32), Stopped>
     requires room { next + length tokens.now < 2 ^ 32 }
     ensures read { Gives (λ x. x) result (finished (procedure_at next (kinds tokens.now))) }
 {

@@ -75,9 +75,13 @@ fn parameters(alloc: Global, tokens: &[Token]) -> Result<(Items<Declaration>, &[
     ensures shorter { IfOk result (λ x. length x.1.now < length tokens.now) }
 {
     match tokens {
-        [Token { kind: Kind::Mark(Mark::CloseParenthesis), .. }, rest @ ..] => {
-            Ok((Items::new(alloc), rest))
-        }
+        [
+            Token {
+                kind: Kind::Mark(Mark::CloseParenthesis),
+                ..
+            },
+            rest @ ..,
+        ] => { Ok((Items::new(alloc), rest)) }
         _ => some_parameters(alloc, tokens),
     }
 }
@@ -89,7 +93,13 @@ fn outcome(tokens: &[Token]) -> Result<(Option<Declaration>, &[Token]), Stopped>
     ensures shorter { IfOk result (λ x. length x.1.now ≤ length tokens.now) }
 {
     match tokens {
-        [Token { kind: Kind::Mark(Mark::Arrow), .. }, rest @ ..] => {
+        [
+            Token {
+                kind: Kind::Mark(Mark::Arrow),
+                ..
+            },
+            rest @ ..,
+        ] => {
             let (outcome, rest) = declaration(rest)?;
             Ok((Some(outcome), rest))
         }
@@ -102,7 +112,13 @@ fn begins_local(tokens: &[Token]) -> bool
     ensures is { result ≡ begun begins_local (kinds tokens.now) }
 {
     match tokens {
-        [Token { kind: Kind::Word(Word::Var), .. }, ..] => true,
+        [
+            Token {
+                kind: Kind::Word(Word::Var),
+                ..
+            },
+            ..
+        ] => true,
         _ => false,
     }
 }
@@ -113,7 +129,13 @@ fn local(tokens: &[Token]) -> Result<(Declaration, &[Token]), Stopped>
     ensures shorter { IfOk result (λ x. length x.1.now < length tokens.now) }
 {
     match tokens {
-        [Token { kind: Kind::Word(Word::Var), .. }, rest @ ..] => {
+        [
+            Token {
+                kind: Kind::Word(Word::Var),
+                ..
+            },
+            rest @ ..,
+        ] => {
             let (declaration, rest) = declaration(rest)?;
             let rest = mark(Mark::Semicolon, rest)?;
             Ok((declaration, rest))
@@ -174,9 +196,13 @@ pub(crate) fn procedure(
     ensures numbers { IfOk result (λ x. x.1 + length x.2.now ≤ number + length tokens.now) }
 {
     match tokens {
-        [Token { kind: Kind::Word(Word::Proc), .. }, rest @ ..] => {
-            procedure_behind_word(alloc, number, rest)
-        }
+        [
+            Token {
+                kind: Kind::Word(Word::Proc),
+                ..
+            },
+            rest @ ..,
+        ] => { procedure_behind_word(alloc, number, rest) }
         _ => Err(Stopped::Unexpected(tokens.len())),
     }
 }
@@ -186,7 +212,13 @@ fn begins_procedure(tokens: &[Token]) -> bool
     ensures is { result ≡ begun begins_procedure (kinds tokens.now) }
 {
     match tokens {
-        [Token { kind: Kind::Word(Word::Proc), .. }, ..] => true,
+        [
+            Token {
+                kind: Kind::Word(Word::Proc),
+                ..
+            },
+            ..
+        ] => true,
         _ => false,
     }
 }

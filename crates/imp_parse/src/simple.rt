@@ -66,11 +66,23 @@ fn field_rhs(
     ensures shorter { IfOk result (λ x. length x.1.now < length tokens.now) }
 {
     match tokens {
-        [Token { kind: Kind::Word(Word::Next), .. }, rest @ ..] => {
+        [
+            Token {
+                kind: Kind::Word(Word::Next),
+                ..
+            },
+            rest @ ..,
+        ] => {
             let stmt = action_stmt(alloc, number, Action::ReadNext(target, link))?;
             Ok((stmt, rest))
         }
-        [Token { kind: Kind::Word(Word::Item), .. }, rest @ ..] => {
+        [
+            Token {
+                kind: Kind::Word(Word::Item),
+                ..
+            },
+            rest @ ..,
+        ] => {
             let stmt = action_stmt(alloc, number, Action::ReadItem(target, link))?;
             Ok((stmt, rest))
         }
@@ -91,10 +103,20 @@ fn named_rhs(
     ensures shorter { IfOk result (λ x. length x.1.now ≤ length tokens.now) }
 {
     match tokens {
-        [Token { kind: Kind::Mark(Mark::Dot), .. }, rest @ ..] => {
-            field_rhs(alloc, number, target, source, rest)
-        }
-        [Token { kind: Kind::Mark(Mark::OpenBracket), .. }, rest @ ..] => {
+        [
+            Token {
+                kind: Kind::Mark(Mark::Dot),
+                ..
+            },
+            rest @ ..,
+        ] => { field_rhs(alloc, number, target, source, rest) }
+        [
+            Token {
+                kind: Kind::Mark(Mark::OpenBracket),
+                ..
+            },
+            rest @ ..,
+        ] => {
             let (index, rest) = expression(alloc, rest)?;
             let rest = mark(Mark::CloseBracket, rest)?;
             let stmt = action_stmt(alloc, number, Action::ReadElement(target, source, index))?;
@@ -116,24 +138,54 @@ fn rhs(
     ensures shorter { IfOk result (λ x. length x.1.now < length tokens.now) }
 {
     match tokens {
-        [Token { kind: Kind::Word(Word::Input), .. }, rest @ ..] => {
+        [
+            Token {
+                kind: Kind::Word(Word::Input),
+                ..
+            },
+            rest @ ..,
+        ] => {
             let stmt = action_stmt(alloc, number, Action::Input(target))?;
             Ok((stmt, rest))
         }
-        [Token { kind: Kind::Word(Word::Array), .. }, rest @ ..] => {
+        [
+            Token {
+                kind: Kind::Word(Word::Array),
+                ..
+            },
+            rest @ ..,
+        ] => {
             let (length, rest) = expression(alloc, rest)?;
             let stmt = action_stmt(alloc, number, Action::MakeArray(target, length))?;
             Ok((stmt, rest))
         }
-        [Token { kind: Kind::Word(Word::Null), .. }, rest @ ..] => {
+        [
+            Token {
+                kind: Kind::Word(Word::Null),
+                ..
+            },
+            rest @ ..,
+        ] => {
             let stmt = action_stmt(alloc, number, Action::SetNull(target))?;
             Ok((stmt, rest))
         }
-        [Token { kind: Kind::Word(Word::New), .. }, rest @ ..] => {
+        [
+            Token {
+                kind: Kind::Word(Word::New),
+                ..
+            },
+            rest @ ..,
+        ] => {
             let stmt = action_stmt(alloc, number, Action::MakeCell(target))?;
             Ok((stmt, rest))
         }
-        [Token { kind: Kind::Word(Word::Call), .. }, rest @ ..] => {
+        [
+            Token {
+                kind: Kind::Word(Word::Call),
+                ..
+            },
+            rest @ ..,
+        ] => {
             let (callee, arguments, rest) = invoke(alloc, rest)?;
             let call = Call {
                 target: Some(target),
@@ -143,7 +195,13 @@ fn rhs(
             let stmt = Stmt::new(alloc, StmtId::new(number), StmtNode::Call(call))?;
             Ok((stmt, rest))
         }
-        [Token { kind: Kind::Name(source), .. }, rest @ ..] => {
+        [
+            Token {
+                kind: Kind::Name(source),
+                ..
+            },
+            rest @ ..,
+        ] => {
             let source = source.clone()?;
             named_rhs(alloc, number, target, source, rest)
         }
@@ -162,14 +220,26 @@ fn field(
     ensures shorter { IfOk result (λ x. length x.1.now < length tokens.now) }
 {
     match tokens {
-        [Token { kind: Kind::Word(Word::Next), .. }, rest @ ..] => {
+        [
+            Token {
+                kind: Kind::Word(Word::Next),
+                ..
+            },
+            rest @ ..,
+        ] => {
             let rest = mark(Mark::Equals, rest)?;
             let (target, rest) = name(rest)?;
             let rest = mark(Mark::Semicolon, rest)?;
             let stmt = action_stmt(alloc, number, Action::WriteNext(link, target))?;
             Ok((stmt, rest))
         }
-        [Token { kind: Kind::Word(Word::Item), .. }, rest @ ..] => {
+        [
+            Token {
+                kind: Kind::Word(Word::Item),
+                ..
+            },
+            rest @ ..,
+        ] => {
             let rest = mark(Mark::Equals, rest)?;
             let (value, rest) = expression(alloc, rest)?;
             let rest = mark(Mark::Semicolon, rest)?;
@@ -211,17 +281,31 @@ fn named(
     ensures shorter { IfOk result (λ x. length x.1.now < length tokens.now) }
 {
     match tokens {
-        [Token { kind: Kind::Mark(Mark::Equals), .. }, rest @ ..] => {
+        [
+            Token {
+                kind: Kind::Mark(Mark::Equals),
+                ..
+            },
+            rest @ ..,
+        ] => {
             let (stmt, rest) = rhs(alloc, number, target, rest)?;
             let rest = mark(Mark::Semicolon, rest)?;
             Ok((stmt, rest))
         }
-        [Token { kind: Kind::Mark(Mark::OpenBracket), .. }, rest @ ..] => {
-            element(alloc, number, target, rest)
-        }
-        [Token { kind: Kind::Mark(Mark::Dot), .. }, rest @ ..] => {
-            field(alloc, number, target, rest)
-        }
+        [
+            Token {
+                kind: Kind::Mark(Mark::OpenBracket),
+                ..
+            },
+            rest @ ..,
+        ] => { element(alloc, number, target, rest) }
+        [
+            Token {
+                kind: Kind::Mark(Mark::Dot),
+                ..
+            },
+            rest @ ..,
+        ] => { field(alloc, number, target, rest) }
         _ => Err(Stopped::Unexpected(tokens.len())),
     }
 }
@@ -237,23 +321,47 @@ pub(crate) fn simple(
     ensures shorter { IfOk result (λ x. length x.1.now < length tokens.now) }
 {
     match tokens {
-        [Token { kind: Kind::Word(Word::Skip), .. }, rest @ ..] => {
+        [
+            Token {
+                kind: Kind::Word(Word::Skip),
+                ..
+            },
+            rest @ ..,
+        ] => {
             let rest = mark(Mark::Semicolon, rest)?;
             let stmt = action_stmt(alloc, number, Action::Skip)?;
             Ok((stmt, rest))
         }
-        [Token { kind: Kind::Word(Word::Break), .. }, rest @ ..] => {
+        [
+            Token {
+                kind: Kind::Word(Word::Break),
+                ..
+            },
+            rest @ ..,
+        ] => {
             let rest = mark(Mark::Semicolon, rest)?;
             let stmt = Stmt::new(alloc, StmtId::new(number), StmtNode::Break)?;
             Ok((stmt, rest))
         }
-        [Token { kind: Kind::Word(Word::Assert), .. }, rest @ ..] => {
+        [
+            Token {
+                kind: Kind::Word(Word::Assert),
+                ..
+            },
+            rest @ ..,
+        ] => {
             let (claim, rest) = condition(alloc, rest)?;
             let rest = mark(Mark::Semicolon, rest)?;
             let stmt = action_stmt(alloc, number, Action::Assert(claim))?;
             Ok((stmt, rest))
         }
-        [Token { kind: Kind::Word(Word::Call), .. }, rest @ ..] => {
+        [
+            Token {
+                kind: Kind::Word(Word::Call),
+                ..
+            },
+            rest @ ..,
+        ] => {
             let (callee, arguments, rest) = invoke(alloc, rest)?;
             let rest = mark(Mark::Semicolon, rest)?;
             let call = Call {
@@ -264,7 +372,13 @@ pub(crate) fn simple(
             let stmt = Stmt::new(alloc, StmtId::new(number), StmtNode::Call(call))?;
             Ok((stmt, rest))
         }
-        [Token { kind: Kind::Name(target), .. }, rest @ ..] => {
+        [
+            Token {
+                kind: Kind::Name(target),
+                ..
+            },
+            rest @ ..,
+        ] => {
             let target = target.clone()?;
             named(alloc, number, target, rest)
         }

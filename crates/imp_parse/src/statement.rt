@@ -58,32 +58,34 @@ pub(crate) fn numbered(
 /// A statement from this number, the next number, and the tokens behind it.
 #[cycle(statement)]
 #[tactic(auto, unfolding(crate::specs::StatementReading::statement_by))]
-fn statement(
-    alloc: Global,
-    number: u32,
-    tokens: &[Token],
-) -> Result<(Stmt, u32, &[Token]), Stopped>
+fn statement(alloc: Global, number: u32, tokens: &[Token]) -> Result<(Stmt, u32, &[Token]), Stopped>
     requires room { number + length tokens.now < 2 ^ 32 }
     ensures read { Gives (λ x. ((x.0, x.1), kinds x.2.now)) result (statement_by (fix statements_step) number (kinds tokens.now)) }
     ensures shorter { IfOk result (λ x. length x.2.now < length tokens.now) }
     ensures numbers { IfOk result (λ x. x.1 + length x.2.now ≤ number + length tokens.now) }
 {
     match tokens {
-        [Token { kind: Kind::Word(Word::If), .. }, rest @ ..] => if_stmt(alloc, number, rest),
-        [Token { kind: Kind::Word(Word::While), .. }, rest @ ..] => {
-            while_stmt(alloc, number, rest)
-        }
+        [
+            Token {
+                kind: Kind::Word(Word::If),
+                ..
+            },
+            rest @ ..,
+        ] => if_stmt(alloc, number, rest),
+        [
+            Token {
+                kind: Kind::Word(Word::While),
+                ..
+            },
+            rest @ ..,
+        ] => { while_stmt(alloc, number, rest) }
         _ => numbered(alloc, number, tokens),
     }
 }
 
 /// An if, behind its word.
 #[cycle(statement)]
-fn if_stmt(
-    alloc: Global,
-    number: u32,
-    tokens: &[Token],
-) -> Result<(Stmt, u32, &[Token]), Stopped>
+fn if_stmt(alloc: Global, number: u32, tokens: &[Token]) -> Result<(Stmt, u32, &[Token]), Stopped>
     requires room { number + length tokens.now + 1 < 2 ^ 32 }
     ensures read { Gives (λ x. ((x.0, x.1), kinds x.2.now)) result (if_by (fix statements_step) number (kinds tokens.now)) }
     ensures shorter { IfOk result (λ x. length x.2.now < length tokens.now) }
@@ -94,7 +96,11 @@ fn if_stmt(
     let rest = mark(Mark::CloseParenthesis, rest)?;
     let (then, next, rest) = block(alloc, number + 1, rest)?;
     let (otherwise, next, rest) = else_block(alloc, next, rest)?;
-    let stmt = Stmt::new(alloc, StmtId::new(number), StmtNode::If(test, then, otherwise))?;
+    let stmt = Stmt::new(
+        alloc,
+        StmtId::new(number),
+        StmtNode::If(test, then, otherwise),
+    )?;
     Ok((stmt, next, rest))
 }
 
@@ -120,11 +126,7 @@ fn while_stmt(
 
 /// A block whose statements are numbered from here, the next number, and the tokens behind it.
 #[cycle(statement)]
-fn block(
-    alloc: Global,
-    number: u32,
-    tokens: &[Token],
-) -> Result<(Block, u32, &[Token]), Stopped>
+fn block(alloc: Global, number: u32, tokens: &[Token]) -> Result<(Block, u32, &[Token]), Stopped>
     requires room { number + length tokens.now < 2 ^ 32 }
     ensures read { Gives (λ x. ((x.0, x.1), kinds x.2.now)) result (block_by (fix statements_step) number (kinds tokens.now)) }
     ensures shorter { IfOk result (λ x. length x.2.now < length tokens.now) }
@@ -150,7 +152,13 @@ fn else_block(
     ensures numbers { IfOk result (λ x. x.1 + length x.2.now ≤ number + length tokens.now) }
 {
     match tokens {
-        [Token { kind: Kind::Word(Word::Else), .. }, rest @ ..] => block(alloc, number, rest),
+        [
+            Token {
+                kind: Kind::Word(Word::Else),
+                ..
+            },
+            rest @ ..,
+        ] => block(alloc, number, rest),
         _ => Ok((Block::empty(), number, tokens)),
     }
 }

@@ -11,11 +11,11 @@ each-init c =
     let added : c.push.new.self ≡ c.args.first ∷ [] = c.in_ok-push.ensures.added ∙ ap (λ q. q ++ c.args.first ∷ []) c.new-found.ensures.empty in
     record { read = ap (λ q. with_front q (procedures_at c.args.number (kinds c.args.tokens.now))) added; numbers = omega arith }
 
-pub returns-in_err-one-clause-read : goal.returns-in_err-one-clause-read
-returns-in_err-one-clause-read c =
+pub returns-in_err-one : goal.returns-in_err-one
+returns-in_err-one c =
     let p = err_from_is_err_and c.from_residual-in_err-one.result c.from_residual-in_err-one.ensures.1 in
     let begins : begun begins_procedure (kinds c.each.rest.now) ≡ true = sym c.begins_procedure.ensures.is ∙ c.each-test.true in
-    rw (p.1, p.2) (procedures_stop c.each.next c.each.found (kinds c.each.rest.now) c.in_err-one.field-0.0 (with_front (c.args.first ∷ []) (procedures_at c.args.number (kinds c.args.tokens.now))) begins c.in_err-one.ensures.read c.each.invariant.read)
+    rw (p.1, p.2) (record { read = procedures_stop c.each.next c.each.found (kinds c.each.rest.now) c.in_err-one.field-0.0 (with_front (c.args.first ∷ []) (procedures_at c.args.number (kinds c.args.tokens.now))) begins c.in_err-one.ensures.read c.each.invariant.read })
 
 pub each-preserved : goal.each-preserved
 each-preserved c =
@@ -25,7 +25,7 @@ each-preserved c =
       numbers = omega (arith, c.in_ok-one.ensures.numbers, c.each.invariant.numbers);
     }
 
-pub returns-clause-read : goal.returns-clause-read
-returns-clause-read c =
+pub returns : goal.returns
+returns c =
     let over : begun begins_procedure (kinds c.each.rest.now) ≡ false = sym c.begins_procedure.ensures.is ∙ c.each-test.false in
-    procedures_done c.each.next c.each.found (kinds c.each.rest.now) (with_front (c.args.first ∷ []) (procedures_at c.args.number (kinds c.args.tokens.now))) over c.each.invariant.read
+    record { read = procedures_done c.each.next c.each.found (kinds c.each.rest.now) (with_front (c.args.first ∷ []) (procedures_at c.args.number (kinds c.args.tokens.now))) over c.each.invariant.read }
