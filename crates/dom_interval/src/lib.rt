@@ -1,0 +1,6 @@
+//! Intervals.
+#![tactic(auto)]
+
+mod state;
+
+pub use state::{IntervalState, SlotRange};
