@@ -191,3 +191,127 @@ module _ (l : Layout) (v : Variables) where
       above x y e lo hi p q r one at ne = let no : x ≡ e → ⊥ = λ z. ne (omega (arith, ints)) in omega (arith, ints)
       below : (x y e lo hi : ℤ) → x ≤ℤ e → lo ≤ℤ y → y ≤ℤ hi → lo ≡ hi → e ≡ lo → x ≢ y → x ≤ℤ (e -ℤ pos 1)
       below x y e lo hi p q r one at ne = let no : x ≡ e → ⊥ = λ z. ne (omega (arith, ints)) in omega (arith, ints)
+
+  not_equal-describes : (a b : Option ℕ) (x y : ℤ) (r s : Bounds) (rs : List SlotRange) → IsSide v a x → IsSide v b y → IsRange r → IsRange s → Lies x r → Lies y s → x ≢ y → AllZip FitsSlot l.numbers rs → AllZip Holds rs v.numbers → Describes v (not_equal a b r s rs)
+  not_equal-describes a b x y r s rs d e i j p q ne k h =
+      choice-describes (is_single r && (is_single s && int_eq r.lo s.lo)) Empty _
+      (λ t. let w = and_parts (is_single r) (is_single s && int_eq r.lo s.lo) t in
+      let u = and_parts (is_single s) (int_eq r.lo s.lo) w.1 in
+      ne (one-number x y r s p q ((Decides-int_eq r.lo r.hi).0 w.0) ((Decides-int_eq s.lo s.hi).0 u.0) ((Decides-int_eq r.lo s.lo).0 u.1)))
+      (λ t. after-describes l v (lose_end a r s rs) (lose_end b s r) (lose-fits l a r s rs k) (lose-describes a x y r s rs d i p q ne h)
+      (λ qs m n. lose-describes b y x s r qs e j q p (λ z. ne (sym z)) n))
+    where
+      one-number : (x y : ℤ) (r s : Bounds) → Lies x r → Lies y s → r.lo ≡ r.hi → s.lo ≡ s.hi → r.lo ≡ s.lo → x ≡ y
+      one-number x y r s p q m n o =
+          let a : r.lo ≤ℤ x = p.0 in
+          let b : x ≤ℤ r.hi = p.1 in
+          let c : s.lo ≤ℤ y = q.0 in
+          let d : y ≤ℤ s.hi = q.1 in
+          omega (arith, ints)
+
+  related-describes : (c : Relation) (a b : Option ℕ) (x y : ℤ) (r s : Bounds) (rs : List SlotRange) → IsSide v a x → IsSide v b y → IsRange r → IsRange s → Lies x r → Lies y s → relates c x y ≡ true → AllZip FitsSlot l.numbers rs → AllZip Holds rs v.numbers → Describes v (related c a b r s rs)
+  related-describes Equal a b x y r s rs d e i j p q t k h =
+      let same : y ≡ x = sym ((Decides-int_eq x y).0 t) in
+      equal-describes a b x r s rs d (subst (λ z. IsSide v b z) same e) p (subst (λ z. Lies z s) same q) k h
+  related-describes NotEqual a b x y r s rs d e i j p q t k h =
+      not_equal-describes a b x y r s rs d e i j p q (λ z. let u : int_eq x y ≡ true = (Decides-int_eq x y).1 z in let w : false ≡ true = sym (ap not u) ∙ t in cc) k h
+  related-describes Less a b x y r s rs d e i j p q t k h = let lt : x <ℤ y = grind (arith, ints) in less-describes a b x y r s rs d e i j p q lt k h
+  related-describes AtMost a b x y r s rs d e i j p q t k h = let le : x ≤ℤ y = grind (arith, ints) in at_most-describes a b x y r s rs d e i j p q le k h
+  related-describes Greater a b x y r s rs d e i j p q t k h = let lt : y <ℤ x = grind (arith, ints) in less-describes b a y x s r rs e d j i q p lt k h
+  related-describes AtLeast a b x y r s rs d e i j p q t k h = let le : y ≤ℤ x = grind (arith, ints) in at_most-describes b a y x s r rs e d j i q p le k h
+
+  -- the range of a term that has a value, in one go with what is known of it
+  with-range : (o : Option Bounds) (x : ℤ) (f : Bounds → Intervals) → Covers o x → IfSome o IsRange → ((r : Bounds) → IsRange r → Lies x r → Describes v (f r)) → Describes v (needs o f)
+  with-range None x f c i g = absurd c
+  with-range (Some r) x f c i g = g r i c
+
+  compare-describes : (c : Relation) (a b : Term) (x y : ℤ) (s : Intervals) → fits_term l a ≡ true → fits_term l b ≡ true → AllZip IsNumber l.numbers v.numbers → FitsState l s → value_of v a ≡ Gives x → value_of v b ≡ Gives y → relates c x y ≡ true → Describes v s → Describes v (compare c a b s)
+  compare-describes c a b x y s f g w k m n t h =
+      after-describes l v s (compare_ranges c a b) k h (λ rs u z.
+      with-range (range_of rs a) x _ (range_of-covers l rs v a x f w z m) (range_of-range l rs a f u) (λ r i p.
+      with-range (range_of rs b) y _ (range_of-covers l rs v b y g w z n) (range_of-range l rs b g u) (λ q j o.
+      related-describes c (side_of a) (side_of b) x y r q rs (side_of-is l v a x f w m) (side_of-is l v b y g w n) i j p o t u z)))
+
+-- Joins.
+hull-left : (z : ℤ) (a b : Bounds) → Lies z a → Lies z (hull_of a b)
+hull-left z a b h = let p : a.lo ≤ℤ z = h.0 in let q : z ≤ℤ a.hi = h.1 in (omega (arith, ints, clamps), omega (arith, ints, clamps))
+
+hull-right : (z : ℤ) (a b : Bounds) → Lies z b → Lies z (hull_of a b)
+hull-right z a b h = let p : b.lo ≤ℤ z = h.0 in let q : z ≤ℤ b.hi = h.1 in (omega (arith, ints, clamps), omega (arith, ints, clamps))
+
+hull-fits : (b : Bool) (r s : Bounds) → FitsRange b r → FitsRange b s → FitsRange b (hull_of r s)
+hull-fits b r s h k = record { low = omega (arith, ints, clamps, h.low, k.low); ordered = omega (arith, ints, clamps, h.ordered, k.ordered); high = omega (arith, ints, clamps, h.high, k.high) }
+
+-- slots made of two lists of slots that fit one layout
+pub zip-fits : (f : SlotRange → SlotRange → SlotRange) → ((k : Numeric) (r s : SlotRange) → FitsSlot k r → FitsSlot k s → FitsSlot k (f r s)) → (ks : List Numeric) (rs qs : List SlotRange) → AllZip FitsSlot ks rs → AllZip FitsSlot ks qs → AllZip FitsSlot ks (map (λ p. f p.0 p.1) (zip rs qs))
+zip-fits f keeps [] [] [] h k = tt
+zip-fits f keeps [] [] (q ∷ qs) h k = absurd k
+zip-fits f keeps [] (r ∷ rs) qs h k = absurd h
+zip-fits f keeps (n ∷ ks) [] qs h k = absurd h
+zip-fits f keeps (n ∷ ks) (r ∷ rs) [] h k = absurd k
+zip-fits f keeps (n ∷ ks) (r ∷ rs) (q ∷ qs) h k = (keeps n r q h.0 k.0, zip-fits f keeps ks rs qs h.1 k.1)
+
+pub zip-left : (f : SlotRange → SlotRange → SlotRange) → ((k : Numeric) (r s : SlotRange) (n : Number) → FitsSlot k r → FitsSlot k s → Holds r n → Holds (f r s) n) → (ks : List Numeric) (rs qs : List SlotRange) (ns : List Number) → AllZip FitsSlot ks rs → AllZip FitsSlot ks qs → AllZip Holds rs ns → AllZip Holds (map (λ p. f p.0 p.1) (zip rs qs)) ns
+zip-left f keeps [] [] [] [] h k w = tt
+zip-left f keeps [] [] [] (n ∷ ns) h k w = absurd w
+zip-left f keeps [] [] (q ∷ qs) ns h k w = absurd k
+zip-left f keeps [] (r ∷ rs) qs ns h k w = absurd h
+zip-left f keeps (m ∷ ks) [] qs ns h k w = absurd h
+zip-left f keeps (m ∷ ks) (r ∷ rs) [] ns h k w = absurd k
+zip-left f keeps (m ∷ ks) (r ∷ rs) (q ∷ qs) [] h k w = absurd w
+zip-left f keeps (m ∷ ks) (r ∷ rs) (q ∷ qs) (n ∷ ns) h k w = (keeps m r q n h.0 k.0 w.0, zip-left f keeps ks rs qs ns h.1 k.1 w.1)
+
+pub zip-right : (f : SlotRange → SlotRange → SlotRange) → ((k : Numeric) (r s : SlotRange) (n : Number) → FitsSlot k r → FitsSlot k s → Holds s n → Holds (f r s) n) → (ks : List Numeric) (rs qs : List SlotRange) (ns : List Number) → AllZip FitsSlot ks rs → AllZip FitsSlot ks qs → AllZip Holds qs ns → AllZip Holds (map (λ p. f p.0 p.1) (zip rs qs)) ns
+zip-right f keeps [] [] [] [] h k w = tt
+zip-right f keeps [] [] [] (n ∷ ns) h k w = absurd w
+zip-right f keeps [] [] (q ∷ qs) ns h k w = absurd k
+zip-right f keeps [] (r ∷ rs) qs ns h k w = absurd h
+zip-right f keeps (m ∷ ks) [] qs ns h k w = absurd h
+zip-right f keeps (m ∷ ks) (r ∷ rs) [] ns h k w = absurd k
+zip-right f keeps (m ∷ ks) (r ∷ rs) (q ∷ qs) [] h k w = absurd w
+zip-right f keeps (m ∷ ks) (r ∷ rs) (q ∷ qs) (n ∷ ns) h k w = (keeps m r q n h.0 k.0 w.0, zip-right f keeps ks rs qs ns h.1 k.1 w.1)
+
+hull_slot-fits : (k : Numeric) (r s : SlotRange) → FitsSlot k r → FitsSlot k s → FitsSlot k (hull_slot r s)
+hull_slot-fits k r s h g = (h.0, hull-fits r.is_array r.range s.range h.1 (subst (λ b. FitsRange b s.range) (sym g.0 ∙ h.0) g.1))
+
+pub join-fits : (l : Layout) (s t : Intervals) → FitsState l s → FitsState l t → FitsState l (join s t)
+unfolding join
+join-fits l Empty t h k = k
+join-fits l (Within rs) Empty h k = h
+join-fits l (Within rs) (Within qs) h k = zip-fits hull_slot hull_slot-fits l.numbers rs qs h k
+
+pub join-left : (l : Layout) (v : Variables) (s t : Intervals) → FitsState l s → FitsState l t → Describes v s → Describes v (join s t)
+unfolding join
+join-left l v Empty t h k w = absurd w
+join-left l v (Within rs) Empty h k w = w
+join-left l v (Within rs) (Within qs) h k w = zip-left hull_slot (λ n r s m _ _ e. hull-left (measure m) r.range s.range e) l.numbers rs qs v.numbers h k w
+
+pub join-right : (l : Layout) (v : Variables) (s t : Intervals) → FitsState l s → FitsState l t → Describes v t → Describes v (join s t)
+unfolding join
+join-right l v Empty t h k w = w
+join-right l v (Within rs) Empty h k w = absurd w
+join-right l v (Within rs) (Within qs) h k w = zip-right hull_slot (λ n r s m _ _ e. hull-right (measure m) r.range s.range e) l.numbers rs qs v.numbers h k w
+
+-- Guards.
+compares : (l : Layout) → Compares compare compare_links join l (FitsState l)
+compares l = record {
+  compare_keeps = λ c a b s _ _ h. compare-fits l c a b s h;
+  links_keep = λ same p q s _ _ h. h;
+  join_keeps = join-fits l
+}
+
+tells : (l : Layout) (v : Variables) → AllZip IsNumber l.numbers v.numbers → Tells compare compare_links join l v (FitsState l) (Describes v)
+tells l v w = record {
+  compare_tells = λ c a b x y s f g k m n t h. compare-describes l v c a b x y s f g w k m n t h;
+  links_tell = λ same p q s _ _ _ _ h. h;
+  join_left = join-left l v;
+  join_right = join-right l v
+}
+
+pub assume-fits : (l : Layout) (g : Guard) (b : Bool) (s : Intervals) → fits_guard l g ≡ true → FitsState l s → FitsState l (assume g b s)
+unfolding assume
+assume-fits l g b s f h = assumed-fits compare compare_links join l (FitsState l) (compares l) g b s f h
+
+pub assume-describes : (l : Layout) (v : Variables) (g : Guard) (b : Bool) (s : Intervals) → AllZip IsNumber l.numbers v.numbers → fits_guard l g ≡ true → FitsState l s → truth_of v g ≡ Gives b → Describes v s → Describes v (assume g b s)
+unfolding assume
+assume-describes l v g b s w f k t h = assumed-covers compare compare_links join l v (FitsState l) (Describes v) (compares l) (tells l v w) g b s f k t h

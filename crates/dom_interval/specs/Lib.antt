@@ -9,3 +9,6 @@ pub mod Domain
 pub mod SlotLaws
 pub mod RangeLaws
 pub mod CompareLaws
+pub mod StepLaws
+pub mod CallLaws
+pub mod WidenLaws

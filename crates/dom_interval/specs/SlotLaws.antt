@@ -91,7 +91,7 @@ at-fits (k ∷ ks) [] x h = absurd h
 at-fits (k ∷ ks) (r ∷ rs) zero h = h.0.1
 at-fits (k ∷ ks) (r ∷ rs) (suc x) h = at-fits ks rs x h.1
 
-kind-is : (b : Bool) (k : Numeric) → is_kind b (Some k) ≡ true → k.is_array ≡ b
+pub kind-is : (b : Bool) (k : Numeric) → is_kind b (Some k) ≡ true → k.is_array ≡ b
 kind-is true k h = h
 kind-is false k h = by k.is_array h
   where
@@ -99,7 +99,7 @@ kind-is false k h = by k.is_array h
     by true e = cc
     by false e = refl
 
-kind-none : (b : Bool) → is_kind b None ≡ true → ⊥
+pub kind-none : (b : Bool) → is_kind b None ≡ true → ⊥
 kind-none true h = cc
 kind-none false h = cc
 
