@@ -12,3 +12,4 @@ pub mod CompareLaws
 pub mod StepLaws
 pub mod CallLaws
 pub mod WidenLaws
+pub mod Laws

@@ -1,6 +1,7 @@
 //! Intervals.
 #![tactic(auto)]
 
+mod evaluate;
 mod state;
 
 pub use state::{IntervalState, SlotRange};
