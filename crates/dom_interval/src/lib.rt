@@ -1,6 +1,7 @@
 //! Intervals.
 #![tactic(auto)]
 
+mod compare;
 mod evaluate;
 mod state;
 
