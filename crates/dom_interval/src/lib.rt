@@ -3,6 +3,7 @@
 
 mod compare;
 mod evaluate;
+mod guards;
 mod state;
 
 pub use state::{IntervalState, SlotRange};
