@@ -148,9 +148,10 @@ unfolding assume
 past-empty None = refl
 past-empty (Some c) = assume-empty (checked_guard c) true
 
-post-empty : (e : Effect) → post (Does e) Empty ≡ Empty
+-- nothing comes of Empty
+pub post_empty : (e : Effect) → post (Does e) Empty ≡ Empty
 unfolding post
-post-empty e = ap (λ s. after s (does e)) (past-empty (check_of e))
+post_empty e = ap (λ s. after s (does e)) (past-empty (check_of e))
 
 pub interval_keeps_dead : KeepsDead intervals
-interval_keeps_dead e l ls s f g h = let w = dead-empty s h in ap (post (Does e)) w ∙ post-empty e ∙ sym w
+interval_keeps_dead e l ls s f g h = let w = dead-empty s h in ap (post (Does e)) w ∙ post_empty e ∙ sym w

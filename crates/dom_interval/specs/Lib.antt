@@ -2,6 +2,7 @@ pub mod State
 pub mod View
 pub mod Ranges
 pub mod Operations
+pub mod Lists
 pub mod Widening
 pub mod Covers
 pub mod Text
