@@ -17,7 +17,7 @@ use Rattle.dom_interval.specs.declared.state.SlotRange.{SlotRange}
 
 -- the mark below is not above, and within the extremes
 pub mark_below-bounds : (ms : List ℤ) (e : Bounds) (z : ℤ) → e.lo ≤ℤ z → z ≤ℤ e.hi → (e.lo ≤ℤ mark_below ms e z) × (mark_below ms e z ≤ℤ z)
-mark_below-bounds [] e z p q = (omega (arith, ints), p)
+mark_below-bounds [] e z p q = (omega (arith, ints, clamps), omega (arith, ints, clamps))
 mark_below-bounds (m ∷ ms) e z p q = by (int_le m z && int_le m e.hi) refl (mark_below-bounds ms e z p q)
   where
     by : (b : Bool) → (int_le m z && int_le m e.hi) ≡ b → (e.lo ≤ℤ mark_below ms e z) × (mark_below ms e z ≤ℤ z) → (e.lo ≤ℤ (if b then int_max m (mark_below ms e z) else mark_below ms e z)) × ((if b then int_max m (mark_below ms e z) else mark_below ms e z) ≤ℤ z)
@@ -30,7 +30,7 @@ mark_below-bounds (m ∷ ms) e z p q = by (int_le m z && int_le m e.hi) refl (ma
     by false t h = h
 
 pub mark_above-bounds : (ms : List ℤ) (e : Bounds) (z : ℤ) → e.lo ≤ℤ z → z ≤ℤ e.hi → (z ≤ℤ mark_above ms e z) × (mark_above ms e z ≤ℤ e.hi)
-mark_above-bounds [] e z p q = (q, omega (arith, ints))
+mark_above-bounds [] e z p q = (omega (arith, ints, clamps), omega (arith, ints, clamps))
 mark_above-bounds (m ∷ ms) e z p q = by (int_le z m && int_le e.lo m) refl (mark_above-bounds ms e z p q)
   where
     by : (b : Bool) → (int_le z m && int_le e.lo m) ≡ b → (z ≤ℤ mark_above ms e z) × (mark_above ms e z ≤ℤ e.hi) → (z ≤ℤ (if b then int_min m (mark_above ms e z) else mark_above ms e z)) × ((if b then int_min m (mark_above ms e z) else mark_above ms e z) ≤ℤ e.hi)

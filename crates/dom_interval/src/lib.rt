@@ -7,5 +7,6 @@ mod evaluate;
 mod guards;
 mod state;
 mod statements;
+mod widening;
 
 pub use state::{IntervalState, SlotRange};
