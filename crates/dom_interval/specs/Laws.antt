@@ -11,7 +11,7 @@ use Rattle.concrete_sem.specs.Passing.{first_variables, back}
 use Rattle.concrete_sem.specs.Proper.{IsNumber, IsLink, IsProper}
 use Rattle.domain_laws.specs.declared.verdict.Verdict.TheVariants.{Dead, Safe}
 use Rattle.domain_laws.specs.Checks.{Check, check_of, checked_guard, fault_of}
-use Rattle.domain_laws.specs.Guards.{assumed, past_check, verdict_by}
+use Rattle.domain_laws.specs.Guards.{assumed, past_check, verdict_on}
 use Rattle.domain_laws.specs.CheckLaws.{ChecksTo, FailsCheck, FitsCheck, check-failed, check-fits}
 use Rattle.domain_laws.specs.GuardLaws.{verdict_by-dead, verdict_by-safe}
 use Rattle.domain_laws.specs.Laws.{Fitting, Laws, KeepsDead, fits_act}
@@ -82,6 +82,15 @@ fitting = record {
   leave = λ i l ls s d f h k. state-fits (leave i.returning s d) l ls (leave-fits l i s d f (fits-state s l ls h) (fits-state d i.entering.layout (l ∷ ls) k));
   shed = λ l ls s h. state-fits s l [] (fits-state s l ls h)
 }
+
+pub check_empty : (a : Act) → check a Empty ≡ Dead
+unfolding check dead
+check_empty DoBreak = refl
+check_empty (Does e) = by (check_of e)
+  where
+    by : (o : Option Check) → verdict_on assume dead o Empty ≡ Dead
+    by None = refl
+    by (Some c) = refl
 
 -- a dead state is Empty
 dead-empty : (s : Intervals) → dead s ≡ true → s ≡ Empty
