@@ -102,7 +102,7 @@ best_below-next ms e z best high r i h k q w =
     let p = q ∙ ap (λ y. better_below best m y z) k in
     record {
       told = ap (λ x. int_max x (mark_below (drop (i + 1) ms) e z)) p ∙ (below_step ms e z best i h ∙ w.told);
-      low = rw p (by (int_le m z && int_le m e.hi))
+      low = rw p (by (int_le m z && int_le m e.hi));
     }
   where
     by : (b : Bool) → int_min e.lo z ≤ℤ (if b then int_max (get_or ms i (pos 0)) best else best)
@@ -115,7 +115,7 @@ best_above-next ms e z best low r i h k q w =
     let p = q ∙ ap (λ y. better_above best m y z) k in
     record {
       told = ap (λ x. int_min x (mark_above (drop (i + 1) ms) e z)) p ∙ (above_step ms e z best i h ∙ w.told);
-      high = rw p (by (int_le z m && int_le e.lo m))
+      high = rw p (by (int_le z m && int_le e.lo m));
     }
   where
     by : (b : Bool) → (if b then int_min (get_or ms i (pos 0)) best else best) ≤ℤ int_max e.hi z

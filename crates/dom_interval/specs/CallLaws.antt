@@ -186,8 +186,8 @@ returned-fits : (c l : Layout) (o : Option Returning) (rs ds : List SlotRange) �
 returned-fits c l None rs ds f h k = h
 returned-fits c l (Some (NumericResult to from)) rs ds f h k =
     elim (or_parts (is_int c from && is_int l to) (is_array c from && is_array l to) f) [
-      inl e ↦ let p = and_parts (is_int c from) (is_int l to) e in result-fits false c l rs ds to from p.0 p.1 h k
-    | inr e ↦ let p = and_parts (is_array c from) (is_array l to) e in result-fits true c l rs ds to from p.0 p.1 h k
+      | inl e ↦ let p = and_parts (is_int c from) (is_int l to) e in result-fits false c l rs ds to from p.0 p.1 h k
+      | inr e ↦ let p = and_parts (is_array c from) (is_array l to) e in result-fits true c l rs ds to from p.0 p.1 h k
     ]
 returned-fits c l (Some (LinkResult to from)) rs ds f h k = h
 

@@ -187,8 +187,10 @@ module _ (l : Layout) (v : Variables) where
     where
       apart : (x y lo hi : ℤ) → lo ≤ℤ y → y ≤ℤ hi → lo ≡ hi → y ≡ lo
       apart x y lo hi p q e = omega (arith, ints)
+
       above : (x y e lo hi : ℤ) → e ≤ℤ x → lo ≤ℤ y → y ≤ℤ hi → lo ≡ hi → e ≡ lo → x ≢ y → (e +ℤ pos 1) ≤ℤ x
       above x y e lo hi p q r one at ne = let no : x ≡ e → ⊥ = λ z. ne (omega (arith, ints)) in omega (arith, ints)
+
       below : (x y e lo hi : ℤ) → x ≤ℤ e → lo ≤ℤ y → y ≤ℤ hi → lo ≡ hi → e ≡ lo → x ≢ y → x ≤ℤ (e -ℤ pos 1)
       below x y e lo hi p q r one at ne = let no : x ≡ e → ⊥ = λ z. ne (omega (arith, ints)) in omega (arith, ints)
 
@@ -297,7 +299,7 @@ compares : (l : Layout) → Compares compare compare_links join l (FitsState l)
 compares l = record {
   compare_keeps = λ c a b s _ _ h. compare-fits l c a b s h;
   links_keep = λ same p q s _ _ h. h;
-  join_keeps = join-fits l
+  join_keeps = join-fits l;
 }
 
 tells : (l : Layout) (v : Variables) → AllZip IsNumber l.numbers v.numbers → Tells compare compare_links join l v (FitsState l) (Describes v)
@@ -305,7 +307,7 @@ tells l v w = record {
   compare_tells = λ c a b x y s f g k m n t h. compare-describes l v c a b x y s f g w k m n t h;
   links_tell = λ same p q s _ _ _ _ h. h;
   join_left = join-left l v;
-  join_right = join-right l v
+  join_right = join-right l v;
 }
 
 pub assume-fits : (l : Layout) (g : Guard) (b : Bool) (s : Intervals) → fits_guard l g ≡ true → FitsState l s → FitsState l (assume g b s)

@@ -20,5 +20,5 @@ intervals = record {
   same = intervals_same;
   dead = dead;
   text = text;
-  fits = fits
+  fits = fits;
 }

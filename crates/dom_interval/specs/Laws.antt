@@ -80,7 +80,7 @@ fitting = record {
   widen = λ ms ls s t _ h k. two-fit (widen ms) (widen-empty ms) (widen-fits ms) ls s t h k;
   enter = λ i l ls s f h. state-fits (enter i.entering s) i.entering.layout (l ∷ ls) (enter-fits l i s f (fits-state s l ls h));
   leave = λ i l ls s d f h k. state-fits (leave i.returning s d) l ls (leave-fits l i s d f (fits-state s l ls h) (fits-state d i.entering.layout (l ∷ ls) k));
-  shed = λ l ls s h. state-fits s l [] (fits-state s l ls h)
+  shed = λ l ls s h. state-fits s l [] (fits-state s l ls h);
 }
 
 pub check_empty : (a : Act) → check a Empty ≡ Dead
@@ -135,7 +135,7 @@ interval_laws = record {
   init = λ l inputs _. describes-covers (init l) (record { cells = []; inputs = inputs }) (first_variables l) [] (init-describes l);
   shed = λ l ls s h v vs f p c. describes-covers s h v [] (covers-describes s h v vs c);
   dead_verdict = λ e c l ls s h vs k f g p t d. dead-covers s h vs (check-dead e s t) d;
-  safe_verdict = safe-verdict
+  safe_verdict = safe-verdict;
 }
 
 -- Empty stays Empty

@@ -59,8 +59,8 @@ is_single r = int_eq r.lo r.hi
 abbrev pub lose_end : (a : Option ℕ) → (l r : Bounds) → List SlotRange → Intervals
 lose_end a l r rs =
     if is_single r then
-      (if int_eq l.lo r.lo then cut_side a (l.lo +ℤ pos 1) greatest rs
-      else (if int_eq l.hi r.lo then cut_side a least (l.hi -ℤ pos 1) rs else Within rs))
+    (if int_eq l.lo r.lo then cut_side a (l.lo +ℤ pos 1) greatest rs
+    else (if int_eq l.hi r.lo then cut_side a least (l.hi -ℤ pos 1) rs else Within rs))
     else Within rs
 
 abbrev pub not_equal : (a b : Option ℕ) → (l r : Bounds) → List SlotRange → Intervals

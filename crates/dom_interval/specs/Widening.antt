@@ -29,7 +29,7 @@ better_above best m low z = if int_le z m && int_le low m then int_min m best el
 abbrev pub widen_range : List ℤ → Bounds → Bounds → Bounds → Bounds
 widen_range marks e l r = record {
   lo = if int_le l.lo r.lo then l.lo else mark_below marks e r.lo;
-  hi = if int_le r.hi l.hi then l.hi else mark_above marks e r.hi
+  hi = if int_le r.hi l.hi then l.hi else mark_above marks e r.hi;
 }
 
 abbrev pub widen_slot : List ℤ → SlotRange → SlotRange → SlotRange

@@ -117,11 +117,7 @@ pub fn entered(
 }
 
 /// The caller's slots with the result in its place.
-fn taken(
-    returning: Option<Returning>,
-    slots: Vec<SlotRange>,
-    callee: &[SlotRange],
-) -> IntervalState
+fn taken(returning: Option<Returning>, slots: Vec<SlotRange>, callee: &[SlotRange]) -> IntervalState
     ensures exact { result ≡ operations.returned (taken_of returning) slots.items callee.now }
 {
     match returning {

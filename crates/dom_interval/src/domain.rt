@@ -4,6 +4,7 @@ ghost use Rattle.dom_interval.specs.Domain.{intervals};
 ghost use Rattle.dom_interval.specs.Covers as meaning;
 ghost use Rattle.dom_interval.specs.Laws.{interval_laws, interval_keeps_dead};
 
+use crate::IntervalState;
 use crate::calls::{entered, initial, left};
 use crate::compare::empty;
 use crate::guards::{assumed, copy_of, joined};
@@ -11,7 +12,6 @@ use crate::statements::{behind, is_empty};
 use crate::text::state_text;
 use crate::verdicts::verdict;
 use crate::widening::widened;
-use crate::IntervalState;
 use domain_laws::{Domain, Steps, Verdict};
 use imp_slots::{Layout, SlotCall, SlotCond, SlotStmt};
 use plain_values::{Memory, Text};
@@ -129,21 +129,11 @@ impl Domain for Interval {
         is_empty(s)
     }
 
-    fn check(
-        &self,
-        alloc: Global,
-        stmt: &SlotStmt,
-        s: &IntervalState,
-    ) -> Result<Verdict, Memory> {
+    fn check(&self, alloc: Global, stmt: &SlotStmt, s: &IntervalState) -> Result<Verdict, Memory> {
         Ok(verdict(alloc, stmt, s)?)
     }
 
-    fn text(
-        &self,
-        alloc: Global,
-        layout: &Layout,
-        s: &IntervalState,
-    ) -> Result<Text, Memory> {
+    fn text(&self, alloc: Global, layout: &Layout, s: &IntervalState) -> Result<Text, Memory> {
         state_text(alloc, layout, s)
     }
 

@@ -2,7 +2,6 @@
 ghost use Rattle.std.specs.Prelude.{◌≡◌, IfOk, map};
 ghost use Rattle.std.specs.List.{zip};
 ghost use Rattle.num_bounds.specs.Operations.{hull_of};
-
 ghost use Rattle.dom_interval.specs.Operations as operations;
 
 use crate::compare::{compare, empty, opposite_of, within};
@@ -72,12 +71,7 @@ pub fn joined(
     }
 }
 
-fn compared(
-    relation: Relation,
-    a: &SlotExpr,
-    b: &SlotExpr,
-    s: IntervalState,
-) -> IntervalState
+fn compared(relation: Relation, a: &SlotExpr, b: &SlotExpr, s: IntervalState) -> IntervalState
     ensures exact { result ≡ operations.compare relation a.now b.now s }
 {
     match s.kept {

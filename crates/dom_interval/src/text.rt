@@ -57,11 +57,7 @@ fn put_slot(text: &mut Text, number: &NumericSlot, slot: SlotRange) -> Result<()
 }
 
 /// The slots, with one space between; `any` where there are none.
-fn slots_text(
-    alloc: Global,
-    numbers: &[NumericSlot],
-    slots: &[SlotRange],
-) -> Result<Text, Memory>
+fn slots_text(alloc: Global, numbers: &[NumericSlot], slots: &[SlotRange]) -> Result<Text, Memory>
     ensures value { IfOk result (λ v. v ≡ texts.ranges_text numbers.now slots.now) }
 {
     let mut text = Text::new(alloc);
@@ -80,11 +76,7 @@ fn slots_text(
 
 /// A state's text: `none` where it is empty.
 #[tactic(auto, unfolding(crate::specs::Text::text))]
-pub fn state_text(
-    alloc: Global,
-    layout: &Layout,
-    s: &IntervalState,
-) -> Result<Text, Memory>
+pub fn state_text(alloc: Global, layout: &Layout, s: &IntervalState) -> Result<Text, Memory>
     ensures value { IfOk result (λ v. v ≡ texts.text layout.now s.now) }
 {
     match &s.kept {

@@ -93,11 +93,7 @@ fn index_verdict(
 }
 
 #[tactic(auto, unfolding(crate::specs::Operations::dead))]
-fn claim_verdict(
-    alloc: Global,
-    c: &SlotCond,
-    slots: &Vec<SlotRange>,
-) -> Result<Verdict, AllocError>
+fn claim_verdict(alloc: Global, c: &SlotCond, slots: &Vec<SlotRange>) -> Result<Verdict, AllocError>
     ensures exact { IfOk result (λ v. v ≡ verdict_on operations.assume operations.dead (Some (checks.Claims c.now)) (Within slots.now.items)) }
 {
     let failing = assumed(alloc, c, false, within(copied(slots)?))?;
@@ -133,11 +129,7 @@ fn action_verdict(
 
 /// What a state says of the check of the statement behind it.
 #[tactic(auto, using(crate::specs::Laws::check_empty), unfolding(crate::specs::Operations::check, crate::specs::Operations::dead))]
-pub fn verdict(
-    alloc: Global,
-    stmt: &SlotStmt,
-    s: &IntervalState,
-) -> Result<Verdict, AllocError>
+pub fn verdict(alloc: Global, stmt: &SlotStmt, s: &IntervalState) -> Result<Verdict, AllocError>
     ensures exact { IfOk result (λ v. v ≡ operations.check (act_of stmt.now) s.now) }
 {
     match (stmt, &s.kept) {

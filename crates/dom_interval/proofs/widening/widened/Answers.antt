@@ -18,5 +18,5 @@ returns-in_ok-widened_slots-in-Within-Within c =
           c.within.ensures.exact
           (c.in_ok-widened_slots-in-Within-Within.ensures.exact ∙ (λ i. map (λ p. widen_slot c.args.marks.now p.0 p.1) (zip (c.deref.ensures.value i) (c.deref-in-Within-Within.ensures.value i))))
           (sym (ap intervals_of arm.is-0) ∙ c.l.view_is)
-          (sym (ap intervals_of arm.is-1) ∙ c.r.view_is)
+          (sym (ap intervals_of arm.is-1) ∙ c.r.view_is);
     }
