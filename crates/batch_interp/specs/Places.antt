@@ -30,6 +30,20 @@ if_some (Some a) f = f a
 abbrev pub head_value : {S : Type 0} → Spot S → Option (Value S)
 head_value s = if_some s.head (λ h. Some h.value)
 
+-- the procedures from the q-th down to the first, the last one first
+abbrev pub from : List Routine → (q : ℕ) → List Routine
+from [] q = []
+from (r ∷ earlier) q = if q == length earlier then r ∷ earlier else from earlier q
+
+abbrev pub earlier_of : List Routine → List Routine
+earlier_of [] = []
+earlier_of (r ∷ earlier) = earlier
+
+-- main's layout, the last procedure's
+abbrev pub main_layout : List Routine → Layout
+main_layout [] = record { numbers = []; links = [] }
+main_layout (r ∷ earlier) = r.layout
+
 module _ {S : Type 0} (dom : Operations S) (engine : Engine) where
   module _ (marks : List ℤ) (z : List ℕ) (calls : (n q : ℕ) → Value S → Value S) where
     -- The statements of a block, by their numbers, with what is known at them. A loop's body is taken from the value at
@@ -67,24 +81,10 @@ module _ {S : Type 0} (dom : Operations S) (engine : Engine) where
   value_in rs z a (Head n) = if_some (find n (spots_in rs z a)) head_value
   value_in rs z a (End x) = end_of rs z a
 
-  -- the procedures from the q-th down to the first, the last one first
-  abbrev pub from : List Routine → (q : ℕ) → List Routine
-  from [] q = []
-  from (r ∷ earlier) q = if q == length earlier then r ∷ earlier else from earlier q
-
-  abbrev pub earlier_of : List Routine → List Routine
-  earlier_of [] = []
-  earlier_of (r ∷ earlier) = earlier
-
   -- the procedures and the value in front of the last one's body
   abbrev pub entered : (n : ℕ) → (z : List ℕ) → List Routine × Value S → Option (List Routine × Value S)
   entered n z x =
       if_some (find n (spots_in x.0 z x.1)) (λ s. if_some s.call (λ k. Some (from (earlier_of x.0) k.1, lift (dom.enter k.0.entering) s.before)))
-
-  -- main's layout, the last procedure's
-  abbrev pub main_layout : List Routine → Layout
-  main_layout [] = record { numbers = []; links = [] }
-  main_layout (r ∷ earlier) = r.layout
 
   -- under a chain of call sites, the last first
   abbrev pub entry : List Routine → (z : List ℕ) → Option (List Routine × Value S)
