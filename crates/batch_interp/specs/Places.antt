@@ -1,5 +1,6 @@
 -- The values at a procedure's statements, and at a location under a chain.
 use Rattle.std.specs.Prelude.{ℕ, ◌==◌, ℤ, List, [], ◌∷◌, ◌++◌, length, reverse, Option, Some, None, Bool, true, false, if◌then◌else◌}
+use Rattle.std.specs.Str.{bytes_eq}
 use Rattle.imp_syntax.specs.declared.edit.Location.{Location}
 use Rattle.imp_syntax.specs.declared.edit.Location.TheVariants.{Before, After, Head, End}
 use Rattle.imp_slots.specs.Plain.{Layout, DoBreak, Does, Invoke, Code, Stop, Simple, If, While, Call, Break, Routine}
@@ -70,16 +71,17 @@ module _ {S : Type 0} (dom : Operations S) (engine : Engine) where
   spots_in [] z a = []
   spots_in (r ∷ earlier) z a = spots (marks engine.widening r) z (calls_of dom engine earlier z) r.code a
 
-  abbrev pub end_of : List Routine → (z : List ℕ) → Value S → Option (Value S)
-  end_of [] z a = None
-  end_of (r ∷ earlier) z a = Some (batch dom engine (marks engine.widening r) z (calls_of dom engine earlier z) r.code a).value
+  -- behind the last one's body, if that is its name
+  abbrev pub end_of : List Routine → (z : List ℕ) → Value S → (name : List ℕ) → Option (Value S)
+  end_of [] z a name = None
+  end_of (r ∷ earlier) z a name = if bytes_eq name r.name then Some (batch dom engine (marks engine.widening r) z (calls_of dom engine earlier z) r.code a).value else None
 
   -- the value at a location there
   abbrev pub value_in : List Routine → (z : List ℕ) → Value S → Location → Option (Value S)
   value_in rs z a (Before n) = if_some (find n (spots_in rs z a)) (λ s. Some s.before)
   value_in rs z a (After n) = if_some (find n (spots_in rs z a)) (λ s. Some s.after)
   value_in rs z a (Head n) = if_some (find n (spots_in rs z a)) head_value
-  value_in rs z a (End x) = end_of rs z a
+  value_in rs z a (End name) = end_of rs z a name
 
   -- the procedures and the value in front of the last one's body
   abbrev pub entered : (n : ℕ) → (z : List ℕ) → List Routine × Value S → Option (List Routine × Value S)

@@ -5,3 +5,5 @@ pub mod Fitting
 pub mod Chains
 pub mod Steps
 pub mod Reached
+pub mod Answered
+pub mod Whole

@@ -2,6 +2,8 @@
 use Rattle.std.specs.Prelude.{◌≡◌, ◌<◌, ◌≤◌, ◌+◌, ◌-◌, ◌==◌, ℕ, zero, suc, List, [], ◌∷◌, ◌++◌, length, map, reverse, slice_get, option_map, Option, Some, None, Bool, true, false, if◌then◌else◌, All, ℤ, nat_lt}
 use Rattle.std.proofs.Common.{refl, sym, ap, ◌∙◌, arith, subst, le_of_eq}
 use Rattle.std.proofs.lemmas.List.{reverse-reverse, length-reverse}
+use Rattle.std.specs.Str.{bytes_eq}
+use Rattle.std.proofs.lemmas.Slice.Eq.{bytes_eq-Decides}
 use Rattle.imp_syntax.specs.declared.edit.Location.{Location}
 use Rattle.imp_syntax.specs.declared.edit.Location.TheVariants.{Before, After, Head, End}
 use Rattle.imp_slots.specs.Plain.{Layout, Guard, Effect, Does, Invoke, Code, Stop, Simple, If, While, Call, Break, Routine, code_numbers}
@@ -28,6 +30,9 @@ use Rattle.batch_sound.proofs.Procedures.{by_test, some_inj, look, look_get, loo
 use Rattle.batch_sound.proofs.Places.{Member, here, there, Each, found, found_member, key_member, keys_numbers, are_calls, calls_fit}
 use Rattle.batch_sound.proofs.Chains.{in_extended, in_through, has_member, once_in}
 use Rattle.batch_sound.proofs.Steps.{Kept, Place, Seen, Sub, Block, Loop, Fits, fits_ret, fits_done, fits_do, fits_test, ahead_push, place_of, seen_behind, Stack, bottom, above, Good, good, run_good, self}
+
+same_name : (x : List ℕ) → bytes_eq x x ≡ true
+same_name x = (bytes_eq-Decides x x).1 refl
 
 pub same_in_turn : (program : List Routine) (q : ℕ) → slice_get program q ≡ look (reverse program) q
 same_in_turn program q = sym (look_get (reverse program) q ∙ ap (λ ps. slice_get ps q) (reverse-reverse program))
@@ -117,7 +122,7 @@ module _ {S : Type 0} (dom : Operations S) (engine : Engine) (covers : S → Hea
         (subst Distinct (sym (keys_numbers dom engine (marks engine.widening a.routine) a.z (calls_of dom engine a.earlier a.z) a.routine.code a.first))
         (once_in program (length a.earlier) a.routine checked.numbers_once place_get)) at
 
-    holder_at : (n : ℕ) (x : Spot S) → At a n x → holder n program ≡ Some (length a.earlier)
+    pub holder_at : (n : ℕ) (x : Spot S) → At a n x → holder n program ≡ Some (length a.earlier)
     holder_at n x at = (places program checked (length a.earlier) a.routine place_get).statement n (has_member n (code_numbers a.routine.code) (numbers_of n x at))
 
     -- What is found is what the configuration fits.
@@ -136,7 +141,9 @@ module _ {S : Type 0} (dom : Operations S) (engine : Engine) (covers : S → Hea
 
     pub top_under : (w : Work) (v e u : Value S) → Fits dom engine covers laws keeps program (reverse program) (same_in_turn program) a w v e → (l : Location) → location_of program w ≡ Some l → value_in dom engine (a.routine ∷ a.earlier) a.z a.first l ≡ Some u → Below dom engine covers laws (a.routine.layout ∷ a.below) v u
     top_under (Ret p) v e u (fits_ret i b) l t g =
-        subst (Under (layouts a) v) (some_inj _ _ (at_location l (End a.routine.name) u (sym (name_at p i) ∙ t) g)) b
+        let x = (batch dom engine (marks engine.widening a.routine) a.z (calls_of dom engine a.earlier a.z) a.routine.code a.first).value in
+        let k = subst (λ c. (if c then Some x else None) ≡ Some u) (same_name a.routine.name) (at_location l (End a.routine.name) u (sym (name_at p i) ∙ t) g) in
+        subst (Under (layouts a) v) (some_inj x u k) b
     top_under (Done n o w) v e u (fits_done {x = x} at i b f) l t g = found_value n x (λ s. Some s.after) u v at (at_location l (After n) u t g) (ap Some i)
     top_under (Test n c b w) v e u (fits_test k bu f) l t g = found_value n k.spot head_value u v k.at (at_location l (Head n) u t g) k.head
     top_under (Do Stop w) v e u f l t g = absurd cc

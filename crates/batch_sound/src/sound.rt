@@ -2,10 +2,17 @@
 
 ghost use Rattle.batch_sound.specs.Theorem.{AreAnswersSound};
 
+use concrete_sem::steps_keep_data;
 use domain_laws::Domain;
+use program_chains::{marks_rise, places_are_found};
 
-/// Whatever a run reaches, the answer describes.
+/// Where the answer of a checked program at a location under a call string is a state, the state
+/// describes each configuration of a run that stands there, with call sites of which the string is a
+/// suffix: its last frame alone, under any inputs.
 pub fn answers_are_sound<D: Domain>()
     ensures sound { (d : D) → AreAnswersSound (D.operations d) (D.covers d) }
 {
+    steps_keep_data();
+    marks_rise();
+    places_are_found();
 }
