@@ -5,10 +5,10 @@ use Rattle.std.specs.Str.{bytes_eq}
 use Rattle.std.proofs.lemmas.Slice.Eq.{bytes_eq-Decides}
 use Rattle.imp_syntax.specs.declared.edit.Location.{Location}
 use Rattle.imp_syntax.specs.declared.edit.Location.TheVariants.{Before, After, Head, End}
-use Rattle.imp_slots.specs.Plain.{Layout, Invoke, Code, Routine, code_numbers}
-use Rattle.imp_slots.specs.Fits.{fits_invoke, FitsCall, IsChecked}
+use Rattle.imp_slots.specs.Plain.{Layout, Effect, Invoke, Code, Simple, Routine, code_numbers}
+use Rattle.imp_slots.specs.Fits.{fits_effect, fits_invoke, FitsCall, IsChecked}
 use Rattle.concrete_sem.specs.Values.{Variables, Heap}
-use Rattle.concrete_sem.specs.Steps.{Work, Frame, In, Config}
+use Rattle.concrete_sem.specs.Steps.{Work, Do, Frame, In, Config}
 use Rattle.concrete_sem.specs.Reach.{location_of, sites}
 use Rattle.concrete_sem.specs.Proper.{IsProper}
 use Rattle.concrete_sem.specs.WellFormed.{variables_of}
@@ -18,7 +18,7 @@ use Rattle.program_chains.specs.Claims.{PlacesAreFound}
 use Rattle.domain_laws.specs.Operations.{Operations}
 use Rattle.domain_laws.specs.Laws.{Laws}
 use Rattle.batch_interp.specs.declared.refusal.Refusal.{Refusal}
-use Rattle.batch_interp.specs.declared.refusal.Refusal.TheVariants.{LongString, NoProcedure, NoStatement}
+use Rattle.batch_interp.specs.declared.refusal.Refusal.TheVariants.{LongString, NoProcedure, NoStatement, NoChain}
 use Rattle.batch_interp.specs.Values.{Value, State, Over, lift}
 use Rattle.batch_interp.specs.Batch.{Engine, batch, joined, calls_of}
 use Rattle.batch_interp.specs.Places.{Spot, spots, find, from, earlier_of, main_layout, if_some, head_value, value_in, entered, entry, value_at}
@@ -28,7 +28,7 @@ use Rattle.batch_sound.proofs.Procedures.{by_test, some_inj, look, look_get, loo
 use Rattle.batch_sound.proofs.Places.{Member, here, there, Each, each_more, none_there, found_member}
 use Rattle.batch_sound.proofs.Chains.{in_selected}
 use Rattle.batch_sound.proofs.Fitting.{Callee, callee, SpotFit, spots_fit, block_fit, procedure_fit}
-use Rattle.batch_sound.proofs.Steps.{Kept, Place, Seen, seen_behind, Stack, bottom, above, Good, good}
+use Rattle.batch_sound.proofs.Steps.{Kept, Place, Seen, Block, fits_do, seen_behind, Stack, bottom, above, Good, good}
 use Rattle.batch_sound.proofs.Reached.{same_in_turn, place_get, holder_at, top_under, top_procedure, stack_entry, stack_sites, short, stack_chain}
 
 -- what is taken from an option
@@ -291,3 +291,42 @@ module _ {S : Type 0} (dom : Operations S) (engine : Engine) (covers : S → Hea
       let says = (top_under dom engine covers laws keeps program checked places a known w v e am.value f l tl was).says h (m ∷ ms) r y in
       (summed_under t.place a.routine at t.values u am.value t.sum each am.member).says h (m ∷ []) (keeps.last_alone a.routine.layout a.below h m ms r)
       (says_shed dom engine covers laws a.routine.layout a.below am.value h m ms own.fine r says)
+
+  -- What the answer in front of a simple statement that is about to be done says of the configuration.
+  pub record Described (e : Effect) (s : S) (h : Heap) (m : Variables) : Type 0 where
+    pub layout : Layout
+    pub suits : fits_effect layout e ≡ true
+    pub fits : dom.fits s (layout ∷ []) ≡ true
+    pub proper : IsProper h (m ∷ []) (layout ∷ [])
+    pub covered : covers s h (m ∷ [])
+
+  pub good_described : (h : Heap) (p : ℕ) (m : Variables) (n : ℕ) (x : Effect) (d : Code) (w : Work) (below : List Frame) → Good dom engine covers laws keeps program (reverse program) (same_in_turn program) h (In p m (Do (Simple n x d) w) ∷ below) → (s : S) → answer dom engine program (Before n) [] ≡ Answers (State s) → Described x s h m
+  good_described h p m n x d w below (good {v = v} {e = e} {ms = ms} a known stack r (fits_do b f) y) s g =
+      let t = asked (Before n) [] (State s) g in
+      let i : t.place ≡ length a.earlier = top_procedure dom engine covers laws keeps program checked places a known (Do (Simple n x d) w) v e (fits_do b f) (Before n) refl t.place t.belongs in
+      let at : slice_get program t.place ≡ Some a.routine = ap (slice_get program) i ∙ place_get dom engine covers laws keeps program checked places a known in
+      let each = each_value (FineAt t.place) (value_at dom engine program (Before n)) (selected program t.place []) t.values (chain_fit (Before n) t.place t.belongs) t.all in
+      record {
+        layout = a.routine.layout;
+        suits = b.suits.0;
+        fits = summed_fit t.place a.routine at t.values (State s) t.sum each;
+        proper = keeps.last_alone a.routine.layout a.below h m ms r;
+        covered = good_answered h p m (Do (Simple n x d) w) below (good a known stack r (fits_do b f) y) (Before n) refl [] refl (State s) g;
+      }
+
+  -- Some chain comes to a statement that is about to be done.
+  no_none : (f : List ℕ → Option (Value S)) (zs : List (List ℕ)) (z : List ℕ) → Member z zs → sum_of dom engine (all_values dom engine f zs) ≡ Refuses NoChain → ⊥
+  no_none f zs z m g = by (all_values dom engine f zs) refl g
+    where
+      by : (o : Option (List (Value S))) → all_values dom engine f zs ≡ o → sum_of dom engine o ≡ Refuses NoChain → ⊥
+      by None k g = cc
+      by (Some []) k g = let am = among f zs [] k z m in elim am.member [ ]
+      by (Some (v ∷ vs)) k g = cc
+
+  pub good_chain : (h : Heap) (p : ℕ) (m : Variables) (n : ℕ) (x : Effect) (d : Code) (w : Work) (below : List Frame) → Good dom engine covers laws keeps program (reverse program) (same_in_turn program) h (In p m (Do (Simple n x d) w) ∷ below) → answer dom engine program (Before n) [] ≡ Refuses NoChain → ⊥
+  good_chain h p m n x d w below (good {v = v} {e = e} {ms = ms} a known stack r (fits_do b f) y) g =
+      let mem = stack_chain dom engine covers laws keeps program checked places (length program) _ _ _ _ _ _ stack a.routine a.earlier refl (short dom engine covers laws keeps program checked places below a ms stack) in
+      let sel = in_selected [] a.z (chains program (length a.earlier)) mem refl in
+      let hold = holder_at dom engine covers laws keeps program checked places a known n _ (b.sub.at _ here) in
+      let k = subst (λ o. answer_in dom engine program (Before n) [] (found_or NoStatement o) ≡ Refuses NoChain) hold g in
+      no_none (value_at dom engine program (Before n)) (selected program (length a.earlier) []) a.z sel k

@@ -7,3 +7,5 @@ pub mod Steps
 pub mod Reached
 pub mod Answered
 pub mod Whole
+pub mod Unique
+pub mod Reports

@@ -45,7 +45,7 @@ abbrev pub keys : {A : Type 0} → List (ℕ × A) → List ℕ
 keys [] = []
 keys (x ∷ xs) = x.0 ∷ keys xs
 
-keys_both : {A : Type 0} (xs ys : List (ℕ × A)) → keys (xs ++ ys) ≡ keys xs ++ keys ys
+pub keys_both : {A : Type 0} (xs ys : List (ℕ × A)) → keys (xs ++ ys) ≡ keys xs ++ keys ys
 keys_both [] ys = refl
 keys_both (x ∷ xs) ys = ap (λ k. x.0 ∷ k) (keys_both xs ys)
 

@@ -54,7 +54,7 @@ some_of (Some a) f d e = record { value = a; was = refl; gives = e }
 next_inj : (c d : Config) → Next c ≡ Next d → c ≡ d
 next_inj c d e = cc
 
-stepped : (s : Step) (f : Config → Option Config) (d : Config) → after_step s f ≡ Some d → (b : Config) × (s ≡ Next b) × (f b ≡ Some d)
+pub stepped : (s : Step) (f : Config → Option Config) (d : Config) → after_step s f ≡ Some d → (b : Config) × (s ≡ Next b) × (f b ≡ Some d)
 stepped (Next b) f d e = (b, refl, e)
 stepped (Faulted n k) f d e = absurd cc
 stepped (InputsUsedUp n) f d e = absurd cc

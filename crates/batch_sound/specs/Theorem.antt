@@ -26,3 +26,27 @@ AreAnswersSound {S} dom covers =
     (engine : Engine) (program : List Routine) (l : Location) (string : List ℕ) (s : S) (c : Config) →
     IsChecked program → answer dom engine program l string ≡ Answers (State s) → Reach program l string c →
     covers s (top c).heap (variables_of (top c).frames)
+
+-- Under some inputs a run of the program ends with this fault at statement n.
+pub record EndsWithFault (program : List Routine) (n : ℕ) (k : FaultKind) : Type 0 where
+  pub inputs : List ℤ
+  pub words : All IsWord inputs
+  pub steps : ℕ
+  pub last : Config
+  pub comes : after_steps program steps (start program inputs) ≡ Some last
+  pub faults : step program last ≡ Faulted n k
+
+-- how a run fails a check
+abbrev pub failing : Check → FaultKind
+failing Bounds = Index
+failing Null = NullFault
+failing Assert = Failed
+
+-- what a finding says of runs: none fails a safe check, none comes to a dead statement
+pub record IsFindingSound (program : List Routine) (f : Finding) : Type 0 where
+  pub safe : f.verdict ≡ Safe → EndsWithFault program f.id (failing f.check) → ⊥
+  pub dead : f.verdict ≡ Dead → (c : Config) → Reach program (Before f.id) [] c → ⊥
+
+abbrev pub AreReportsSound : {S : Type 0} → Operations S → Type 0
+AreReportsSound {S} dom =
+    (engine : Engine) (program : List Routine) (f : Finding) → IsChecked program → Contains (report dom engine program) f → IsFindingSound program f
