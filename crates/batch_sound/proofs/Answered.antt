@@ -17,12 +17,12 @@ use Rattle.program_chains.specs.Marks.{marks}
 use Rattle.program_chains.specs.Claims.{PlacesAreFound}
 use Rattle.domain_laws.specs.Operations.{Operations}
 use Rattle.domain_laws.specs.Laws.{Laws}
-use Rattle.batch_interp.specs.declared.refusal.Refusal.{Refusal}
-use Rattle.batch_interp.specs.declared.refusal.Refusal.TheVariants.{LongString, NoProcedure, NoStatement, NoChain}
-use Rattle.batch_interp.specs.Values.{Value, State, Over, lift}
-use Rattle.batch_interp.specs.Batch.{Engine, batch, joined, calls_of}
-use Rattle.batch_interp.specs.Places.{Spot, spots, find, from, earlier_of, main_layout, if_some, head_value, value_in, entered, entry, value_at}
-use Rattle.batch_interp.specs.Answers.{Answer, Refuses, Answers, Found, In as Belongs, Misses, found_or, found_loop, procedure_of, all_values, summed, sum_of, answer_in, answer}
+use Rattle.batch_meaning.specs.declared.refusal.Refusal.{Refusal}
+use Rattle.batch_meaning.specs.declared.refusal.Refusal.TheVariants.{LongString, NoProcedure, NoStatement, NoChain}
+use Rattle.batch_meaning.specs.Values.{Value, State, Over, lift}
+use Rattle.batch_meaning.specs.Batch.{Engine, batch, joined, calls_of}
+use Rattle.batch_meaning.specs.Places.{Spot, spots, find, from, earlier_of, main_layout, if_some, head_value, value_in, entered, entry, value_at}
+use Rattle.batch_meaning.specs.Answers.{Answer, Refuses, Answers, Found, In as Belongs, Misses, found_or, found_loop, procedure_of, all_values, summed, sum_of, answer_in, answer}
 use Rattle.batch_sound.proofs.Values.{Says, Fit, fit_enter, fit_shed, says_shed, EachFit, Below, EachBelow, fit_joined, joined_first, joined_each}
 use Rattle.batch_sound.proofs.Procedures.{by_test, some_inj, look, look_get, look_from, from_look, look_below, from_self, FitBack, fit_back}
 use Rattle.batch_sound.proofs.Places.{Member, here, there, Each, each_more, none_there, found_member}

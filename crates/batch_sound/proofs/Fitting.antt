@@ -8,9 +8,9 @@ use Rattle.program_chains.specs.Marks.{marks, IsRising}
 use Rattle.program_chains.specs.Claims.{MarksRise}
 use Rattle.domain_laws.specs.Operations.{Operations}
 use Rattle.domain_laws.specs.Laws.{Laws}
-use Rattle.batch_interp.specs.Values.{Value, lift, lift2}
-use Rattle.batch_interp.specs.Batch.{Engine, Passed, Fixed, head_of, batch, procedure, calls_of}
-use Rattle.batch_interp.specs.Places.{Spot, spot, spots, if_some, head_value}
+use Rattle.batch_meaning.specs.Values.{Value, lift, lift2}
+use Rattle.batch_meaning.specs.Batch.{Engine, Passed, Fixed, head_of, batch, procedure, calls_of}
+use Rattle.batch_meaning.specs.Places.{Spot, spot, spots, if_some, head_value}
 use Rattle.batch_sound.proofs.Values.{Fit, fit_post, fit_assume, fit_join, fit_enter, fit_leave, fix_is_head, EachFit, fit_both, fit_joined}
 use Rattle.batch_sound.proofs.Procedures.{by_test, some_inj, look, look_get, FitBack}
 use Rattle.batch_sound.proofs.Places.{Each, each_more, each_both, none_there}

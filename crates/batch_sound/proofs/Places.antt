@@ -5,9 +5,9 @@ use Rattle.imp_slots.specs.Plain.{Layout, Invoke, Code, Stop, Simple, If, While,
 use Rattle.imp_slots.specs.Fits.{FitsCall, FitsCode, Absent, Distinct}
 use Rattle.program_chains.specs.Chains.{calls_to}
 use Rattle.domain_laws.specs.Operations.{Operations}
-use Rattle.batch_interp.specs.Values.{Value}
-use Rattle.batch_interp.specs.Batch.{Engine}
-use Rattle.batch_interp.specs.Places.{Spot, spots, find}
+use Rattle.batch_meaning.specs.Values.{Value}
+use Rattle.batch_meaning.specs.Batch.{Engine}
+use Rattle.batch_meaning.specs.Places.{Spot, spots, find}
 use Rattle.batch_sound.proofs.Procedures.{by_test, some_inj}
 
 pub data Member {A : Type 0} : A → List A → Type 0 where

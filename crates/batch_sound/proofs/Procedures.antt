@@ -7,9 +7,9 @@ use Rattle.imp_slots.specs.Plain.{Code, Routine}
 use Rattle.imp_slots.specs.Fits.{FitsCode, FitsRoutine, FitInTurn, IsChecked}
 use Rattle.program_chains.specs.Marks.{marks}
 use Rattle.domain_laws.specs.Operations.{Operations}
-use Rattle.batch_interp.specs.Values.{Value}
-use Rattle.batch_interp.specs.Batch.{Engine, batch, procedure, calls_of}
-use Rattle.batch_interp.specs.Places.{from}
+use Rattle.batch_meaning.specs.Values.{Value}
+use Rattle.batch_meaning.specs.Batch.{Engine, batch, procedure, calls_of}
+use Rattle.batch_meaning.specs.Places.{from}
 
 pub by_test : (a b : ℕ) (P : Bool → Type 0) → (a ≡ b → P true) → (a ≢ b → P false) → P (a == b)
 by_test a b P t f = go (a == b) refl

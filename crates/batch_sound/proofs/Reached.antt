@@ -19,12 +19,12 @@ use Rattle.program_chains.specs.Marks.{marks}
 use Rattle.program_chains.specs.Claims.{PlacesAreFound}
 use Rattle.domain_laws.specs.Operations.{Operations}
 use Rattle.domain_laws.specs.Laws.{Laws}
-use Rattle.batch_interp.specs.Values.{Value, State, Over, lift}
-use Rattle.batch_interp.specs.Batch.{Engine, batch, calls_of}
-use Rattle.batch_interp.specs.Places.{Spot, spots, find, from, main_layout, if_some, head_value, spots_in, end_of, value_in, entered, entry, value_at}
-use Rattle.batch_interp.specs.declared.refusal.Refusal.{Refusal}
-use Rattle.batch_interp.specs.declared.refusal.Refusal.TheVariants.{NoProcedure, NoStatement}
-use Rattle.batch_interp.specs.Answers.{Found, In as Belongs, found_or, found_loop, procedure_of}
+use Rattle.batch_meaning.specs.Values.{Value, State, Over, lift}
+use Rattle.batch_meaning.specs.Batch.{Engine, batch, calls_of}
+use Rattle.batch_meaning.specs.Places.{Spot, spots, find, from, main_layout, if_some, head_value, spots_in, end_of, value_in, entered, entry, value_at}
+use Rattle.batch_meaning.specs.declared.refusal.Refusal.{Refusal}
+use Rattle.batch_meaning.specs.declared.refusal.Refusal.TheVariants.{NoProcedure, NoStatement}
+use Rattle.batch_meaning.specs.Answers.{Found, In as Belongs, found_or, found_loop, procedure_of}
 use Rattle.batch_sound.proofs.Values.{Says, Fit, Below, each_over, fit_enter}
 use Rattle.batch_sound.proofs.Procedures.{by_test, some_inj, look, look_get, look_from, from_self, from_place, length_from, FitBack, fit_back}
 use Rattle.batch_sound.proofs.Places.{Member, here, there, Each, found, found_member, key_member, keys_numbers, are_calls, calls_fit}

@@ -21,12 +21,12 @@ use Rattle.domain_laws.specs.declared.findings.Finding.{Finding}
 use Rattle.domain_laws.specs.Checks.{Check, Within, IsCell, Claims, check_of, fault_of}
 use Rattle.domain_laws.specs.Operations.{Operations}
 use Rattle.domain_laws.specs.Laws.{Laws}
-use Rattle.batch_interp.specs.declared.refusal.Refusal.{Refusal}
-use Rattle.batch_interp.specs.declared.refusal.Refusal.TheVariants.{LongString, NoProcedure, NoStatement, WrongStatement, NoChain}
-use Rattle.batch_interp.specs.Values.{Value, State, Over}
-use Rattle.batch_interp.specs.Batch.{Engine}
-use Rattle.batch_interp.specs.Answers.{Answer, Refuses, Answers, answer}
-use Rattle.batch_interp.specs.Report.{Checked, checked_statements, kind_of, verdict_on, finding, report}
+use Rattle.batch_meaning.specs.declared.refusal.Refusal.{Refusal}
+use Rattle.batch_meaning.specs.declared.refusal.Refusal.TheVariants.{LongString, NoProcedure, NoStatement, WrongStatement, NoChain}
+use Rattle.batch_meaning.specs.Values.{Value, State, Over}
+use Rattle.batch_meaning.specs.Batch.{Engine}
+use Rattle.batch_meaning.specs.Answers.{Answer, Refuses, Answers, answer}
+use Rattle.batch_meaning.specs.Report.{Checked, checked_statements, kind_of, verdict_on, finding, report}
 use Rattle.batch_sound.specs.Theorem.{EndsWithFault, failing, IsFindingSound, AreReportsSound}
 use Rattle.batch_sound.proofs.Procedures.{some_inj}
 use Rattle.batch_sound.proofs.Places.{Member}

@@ -8,8 +8,8 @@ use Rattle.concrete_sem.specs.WellFormed.{StandsIn, whole, behind_simple, then_b
 use Rattle.program_chains.specs.Chains.{has, holder}
 use Rattle.program_chains.specs.Claims.{PlacesAreFound}
 use Rattle.domain_laws.specs.Checks.{Check, check_of}
-use Rattle.batch_interp.specs.Places.{find}
-use Rattle.batch_interp.specs.Report.{Checked, checked_one, checked_in, checked_statements}
+use Rattle.batch_meaning.specs.Places.{find}
+use Rattle.batch_meaning.specs.Report.{Checked, checked_one, checked_in, checked_statements}
 use Rattle.batch_sound.proofs.Procedures.{some_inj}
 use Rattle.batch_sound.proofs.Places.{Member, here, there, in_left, in_right, keys, keys_both, key_member, found}
 use Rattle.batch_sound.proofs.Chains.{has_member, once_in}

@@ -12,9 +12,9 @@ use Rattle.program_chains.specs.Chains.{ends_in}
 use Rattle.program_chains.specs.Claims.{PlacesAreFound}
 use Rattle.domain_laws.specs.Operations.{Operations}
 use Rattle.domain_laws.specs.Laws.{Laws}
-use Rattle.batch_interp.specs.Values.{State}
-use Rattle.batch_interp.specs.Batch.{Engine}
-use Rattle.batch_interp.specs.Answers.{Answers, answer}
+use Rattle.batch_meaning.specs.Values.{State}
+use Rattle.batch_meaning.specs.Batch.{Engine}
+use Rattle.batch_meaning.specs.Answers.{Answers, answer}
 use Rattle.batch_sound.specs.Theorem.{AreAnswersSound}
 use Rattle.batch_sound.proofs.Steps.{Kept, Good}
 use Rattle.batch_sound.proofs.Reached.{same_in_turn, reached_good}

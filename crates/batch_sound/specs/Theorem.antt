@@ -15,10 +15,10 @@ use Rattle.domain_laws.specs.declared.findings.Check.{Check}
 use Rattle.domain_laws.specs.declared.findings.Check.TheVariants.{Bounds, Null, Assert}
 use Rattle.domain_laws.specs.declared.findings.Finding.{Finding}
 use Rattle.domain_laws.specs.Operations.{Operations}
-use Rattle.batch_interp.specs.Values.{State}
-use Rattle.batch_interp.specs.Batch.{Engine}
-use Rattle.batch_interp.specs.Answers.{Answers, answer}
-use Rattle.batch_interp.specs.Report.{report}
+use Rattle.batch_meaning.specs.Values.{State}
+use Rattle.batch_meaning.specs.Batch.{Engine}
+use Rattle.batch_meaning.specs.Answers.{Answers, answer}
+use Rattle.batch_meaning.specs.Report.{report}
 
 -- Where the answer is a state, it describes the last frame of each configuration that a run reaches there.
 abbrev pub AreAnswersSound : {S : Type 0} → Operations S → (S → Heap → List Variables → Type 0) → Type 0

@@ -4,7 +4,7 @@ use Rattle.imp_slots.specs.Plain.{Guard, DoBreak, Does, Invoke, Code, Stop, Simp
 use Rattle.program_chains.specs.declared.widening.Widening.{Widening}
 use Rattle.program_chains.specs.Marks.{marks}
 use Rattle.domain_laws.specs.Operations.{Operations}
-use Rattle.batch_interp.specs.Values.{Value, State, Over, lift, lift2}
+use Rattle.batch_meaning.specs.Values.{Value, State, Over, lift, lift2}
 
 -- How many rounds a loop may take, and how its iterates are made.
 pub record Engine : Type 0 where

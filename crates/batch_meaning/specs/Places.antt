@@ -6,8 +6,8 @@ use Rattle.imp_syntax.specs.declared.edit.Location.TheVariants.{Before, After, H
 use Rattle.imp_slots.specs.Plain.{Layout, DoBreak, Does, Invoke, Code, Stop, Simple, If, While, Call, Break, Routine}
 use Rattle.program_chains.specs.Marks.{marks}
 use Rattle.domain_laws.specs.Operations.{Operations}
-use Rattle.batch_interp.specs.Values.{Value, State, Over, lift, lift2}
-use Rattle.batch_interp.specs.Batch.{Engine, Passed, Fixed, head_of, behind, batch, calls_of}
+use Rattle.batch_meaning.specs.Values.{Value, State, Over, lift, lift2}
+use Rattle.batch_meaning.specs.Batch.{Engine, Passed, Fixed, head_of, behind, batch, calls_of}
 
 -- What is known at a statement: the value in front of it, at its head where it is a loop, behind it; and its call.
 pub record Spot (S : Type 0) : Type 0 where

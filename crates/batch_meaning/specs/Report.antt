@@ -9,11 +9,11 @@ use Rattle.domain_laws.specs.Checks.{Check, Within, IsCell, Claims, check_of}
 use Rattle.domain_laws.specs.declared.findings.Check.{Check as Kind}
 use Rattle.domain_laws.specs.declared.findings.Check.TheVariants.{Bounds, Null, Assert}
 use Rattle.domain_laws.specs.declared.findings.Finding.{Finding}
-use Rattle.batch_interp.specs.Values.{Value, State, Over}
-use Rattle.batch_interp.specs.Batch.{Engine}
-use Rattle.batch_interp.specs.Answers.{Answer, Refuses, Answers, answer}
-use Rattle.batch_interp.specs.declared.refusal.Refusal.{Refusal}
-use Rattle.batch_interp.specs.declared.refusal.Refusal.TheVariants.{LongString, NoProcedure, NoStatement, WrongStatement, NoChain}
+use Rattle.batch_meaning.specs.Values.{Value, State, Over}
+use Rattle.batch_meaning.specs.Batch.{Engine}
+use Rattle.batch_meaning.specs.Answers.{Answer, Refuses, Answers, answer}
+use Rattle.batch_meaning.specs.declared.refusal.Refusal.{Refusal}
+use Rattle.batch_meaning.specs.declared.refusal.Refusal.TheVariants.{LongString, NoProcedure, NoStatement, WrongStatement, NoChain}
 
 -- A statement that has a check.
 pub record Checked : Type 0 where
