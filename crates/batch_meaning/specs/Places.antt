@@ -1,13 +1,13 @@
 -- The values at a procedure's statements, and at a location under a chain.
-use Rattle.std.specs.Prelude.{ℕ, ◌==◌, ℤ, List, [], ◌∷◌, ◌++◌, length, reverse, Option, Some, None, Bool, true, false, if◌then◌else◌}
+use Rattle.std.specs.Prelude.{ℕ, ◌==◌, ℤ, List, [], ◌∷◌, ◌++◌, length, reverse, Option, Some, None, true, false, if◌then◌else◌}
 use Rattle.std.specs.Str.{bytes_eq}
 use Rattle.imp_syntax.specs.declared.edit.Location.{Location}
 use Rattle.imp_syntax.specs.declared.edit.Location.TheVariants.{Before, After, Head, End}
 use Rattle.imp_slots.specs.Plain.{Layout, DoBreak, Does, Invoke, Code, Stop, Simple, If, While, Call, Break, Routine}
 use Rattle.program_chains.specs.Marks.{marks}
 use Rattle.domain_laws.specs.Operations.{Operations}
-use Rattle.batch_meaning.specs.Values.{Value, State, Over, lift, lift2}
-use Rattle.batch_meaning.specs.Batch.{Engine, Passed, Fixed, head_of, behind, batch, calls_of}
+use Rattle.batch_meaning.specs.Values.{Value, State, lift, lift2}
+use Rattle.batch_meaning.specs.Batch.{Engine, Fixed, head_of, behind, batch, calls_of}
 
 -- What is known at a statement: the value in front of it, at its head where it is a loop, behind it; and its call.
 pub record Spot (S : Type 0) : Type 0 where

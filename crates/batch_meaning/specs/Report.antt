@@ -3,16 +3,15 @@ use Rattle.std.specs.Prelude.{ℕ, List, [], ◌∷◌, ◌++◌, map, Option, S
 use Rattle.imp_syntax.specs.declared.edit.Location.TheVariants.{Before}
 use Rattle.imp_slots.specs.Plain.{Effect, Does, Code, Stop, Simple, If, While, Call, Break, Routine}
 use Rattle.domain_laws.specs.declared.verdict.Verdict.{Verdict}
-use Rattle.domain_laws.specs.declared.verdict.Verdict.TheVariants.{Dead, Safe, May}
+use Rattle.domain_laws.specs.declared.verdict.Verdict.TheVariants.{Dead, May}
 use Rattle.domain_laws.specs.Operations.{Operations}
 use Rattle.domain_laws.specs.Checks.{Check, Within, IsCell, Claims, check_of}
 use Rattle.domain_laws.specs.declared.findings.Check.{Check as Kind}
 use Rattle.domain_laws.specs.declared.findings.Check.TheVariants.{Bounds, Null, Assert}
 use Rattle.domain_laws.specs.declared.findings.Finding.{Finding}
-use Rattle.batch_meaning.specs.Values.{Value, State, Over}
+use Rattle.batch_meaning.specs.Values.{State, Over}
 use Rattle.batch_meaning.specs.Batch.{Engine}
 use Rattle.batch_meaning.specs.Answers.{Answer, Refuses, Answers, answer}
-use Rattle.batch_meaning.specs.declared.refusal.Refusal.{Refusal}
 use Rattle.batch_meaning.specs.declared.refusal.Refusal.TheVariants.{LongString, NoProcedure, NoStatement, WrongStatement, NoChain}
 
 -- A statement that has a check.

@@ -1,0 +1,93 @@
+//! The variables of a frame.
+ghost use Rattle.std.specs.Prelude.{◌≡◌, IfOk, IfErr};
+ghost use Rattle.std.specs.Option.{option_copied};
+ghost use Rattle.imp_run.specs.Views.{array_or_none};
+ghost use Rattle.concrete_sem.specs.Values.{number_at, int_at, array_at, link_at, with_number, with_link};
+ghost use Rattle.concrete_sem.specs.Values as plain;
+
+use crate::{Array, Number};
+use plain_values::Memory;
+use std::alloc::Global;
+use std::marker::Model;
+
+/// The variables of a frame, by slots. A link is null or the place of a cell.
+#[derive(Drop)]
+pub struct Variables {
+    numbers: Vec<Number>,
+    links: Vec<Option<usize>>,
+}
+
+impl Model for Variables {
+    ghost use Rattle.concrete_sem.specs.Values as plain;
+
+    ghost Value = { plain.Variables };
+
+    ghost view = { λ a. record { numbers = a.numbers.items; links = a.links.items } };
+}
+
+impl Variables {
+    /// The variables that hold these values.
+    pub fn new(numbers: Vec<Number>, links: Vec<Option<usize>>) -> Variables
+        ensures same { result ≡ record { numbers = numbers.items; links = links.items } }
+    {
+        Variables { numbers, links }
+    }
+
+    /// The int of a slot: 0 where the slot holds none.
+    pub fn int_at(&self, slot: usize) -> i64
+        ensures int { result ≡ int_at self.now slot }
+    {
+        match self.numbers.get(slot) {
+            Some(number) => number.as_int(),
+            None => 0,
+        }
+    }
+
+    /// The array of a slot, if it holds one.
+    pub fn array_at(&self, slot: usize) -> Option<&Array>
+        ensures array { array_or_none (option_copied result) ≡ array_at self.now slot }
+    {
+        match self.numbers.get(slot) {
+            Some(number) => number.as_array(),
+            None => None,
+        }
+    }
+
+    /// A copy of what a numeric slot holds: the int 0 where there is no such slot.
+    pub fn copy_at(&self, slot: usize, alloc: Global) -> Result<Number, Memory>
+        ensures number { IfOk result (λ n. n ≡ number_at self.now slot) }
+    {
+        match self.numbers.get(slot) {
+            Some(number) => Ok(number.clone()?),
+            None => Ok(Number::int(0)),
+        }
+    }
+
+    /// The link of a slot: null where there is no such slot.
+    pub fn link_at(&self, slot: usize) -> Option<usize>
+        ensures link { result ≡ link_at self.now slot }
+    {
+        match self.links.get(slot) {
+            Some(link) => *link,
+            None => None,
+        }
+    }
+
+    /// Sets a numeric slot, if there is one.
+    pub fn set_number(&mut self, slot: usize, number: Number)
+        ensures set { self.new ≡ with_number self.old slot number }
+    {
+        if slot < self.numbers.len() {
+            self.numbers[slot] = number;
+        }
+    }
+
+    /// Sets a link slot, if there is one.
+    pub fn set_link(&mut self, slot: usize, link: Option<usize>)
+        ensures set { self.new ≡ with_link self.old slot link }
+    {
+        if slot < self.links.len() {
+            self.links[slot] = link;
+        }
+    }
+}
