@@ -1,17 +1,16 @@
 -- A configuration lies in the answer at its location under any call string that its chain ends in.
-use Rattle.std.specs.Prelude.{◌≡◌, ◌<◌, ◌+◌, ◌==◌, ℕ, zero, suc, List, [], ◌∷◌, ◌++◌, length, map, reverse, slice_get, Option, Some, None, Bool, true, false, if◌then◌else◌, All, ℤ, nat_lt}
+use Rattle.std.specs.Prelude.{◌≡◌, ℕ, List, [], ◌∷◌, length, map, reverse, slice_get, Option, Some, None, Bool, true, false, if◌then◌else◌, nat_lt}
 use Rattle.std.proofs.Common.{refl, sym, ap, ◌∙◌, arith, subst}
 use Rattle.std.specs.Str.{bytes_eq}
 use Rattle.std.proofs.lemmas.Slice.Eq.{bytes_eq-Decides}
 use Rattle.imp_syntax.specs.declared.edit.Location.{Location}
 use Rattle.imp_syntax.specs.declared.edit.Location.TheVariants.{Before, After, Head, End}
-use Rattle.imp_slots.specs.Plain.{Layout, Effect, Invoke, Code, Simple, Routine, code_numbers}
-use Rattle.imp_slots.specs.Fits.{fits_effect, fits_invoke, FitsCall, IsChecked}
+use Rattle.imp_slots.specs.Plain.{Layout, Effect, Invoke, Code, Simple, Routine}
+use Rattle.imp_slots.specs.Fits.{fits_effect, IsChecked}
 use Rattle.concrete_sem.specs.Values.{Variables, Heap}
-use Rattle.concrete_sem.specs.Steps.{Work, Do, Frame, In, Config}
+use Rattle.concrete_sem.specs.Steps.{Work, Do, Frame, In}
 use Rattle.concrete_sem.specs.Reach.{location_of, sites}
 use Rattle.concrete_sem.specs.Proper.{IsProper}
-use Rattle.concrete_sem.specs.WellFormed.{variables_of}
 use Rattle.program_chains.specs.Chains.{chains, ends_in, selected, holder, named, is_while}
 use Rattle.program_chains.specs.Marks.{marks}
 use Rattle.program_chains.specs.Claims.{PlacesAreFound}
@@ -19,16 +18,16 @@ use Rattle.domain_laws.specs.Operations.{Operations}
 use Rattle.domain_laws.specs.Laws.{Laws}
 use Rattle.batch_meaning.specs.declared.refusal.Refusal.{Refusal}
 use Rattle.batch_meaning.specs.declared.refusal.Refusal.TheVariants.{LongString, NoProcedure, NoStatement, NoChain}
-use Rattle.batch_meaning.specs.Values.{Value, State, Over, lift}
-use Rattle.batch_meaning.specs.Batch.{Engine, batch, joined, calls_of}
-use Rattle.batch_meaning.specs.Places.{Spot, spots, find, from, earlier_of, main_layout, if_some, head_value, value_in, entered, entry, value_at}
-use Rattle.batch_meaning.specs.Answers.{Answer, Refuses, Answers, Found, In as Belongs, Misses, found_or, found_loop, procedure_of, all_values, summed, sum_of, answer_in, answer}
+use Rattle.batch_meaning.specs.Values.{Value, State, lift}
+use Rattle.batch_meaning.specs.Batch.{Engine, calls_of}
+use Rattle.batch_meaning.specs.Places.{Spot, spots, find, from, main_layout, if_some, head_value, value_in, entered, entry, value_at}
+use Rattle.batch_meaning.specs.Answers.{Refuses, Answers, Found, In as Belongs, Misses, found_or, found_loop, procedure_of, all_values, summed, sum_of, answer_in, answer}
 use Rattle.batch_sound.proofs.Values.{Says, Fit, fit_enter, fit_shed, says_shed, EachFit, Below, EachBelow, fit_joined, joined_first, joined_each}
-use Rattle.batch_sound.proofs.Procedures.{by_test, some_inj, look, look_get, look_from, from_look, look_below, from_self, FitBack, fit_back}
+use Rattle.batch_sound.proofs.Procedures.{some_inj, look, look_get, look_from, fit_back}
 use Rattle.batch_sound.proofs.Places.{Member, here, there, Each, each_more, none_there, found_member}
 use Rattle.batch_sound.proofs.Chains.{in_selected}
-use Rattle.batch_sound.proofs.Fitting.{Callee, callee, SpotFit, spots_fit, block_fit, procedure_fit}
-use Rattle.batch_sound.proofs.Steps.{Kept, Place, Seen, Block, fits_do, seen_behind, Stack, bottom, above, Good, good}
+use Rattle.batch_sound.proofs.Fitting.{callee, SpotFit, spots_fit, block_fit, procedure_fit}
+use Rattle.batch_sound.proofs.Steps.{Kept, Place, Seen, fits_do, seen_behind, Stack, bottom, above, Good, good}
 use Rattle.batch_sound.proofs.Reached.{same_in_turn, place_get, holder_at, top_under, top_procedure, stack_entry, stack_sites, short, stack_chain}
 
 -- what is taken from an option

@@ -1,7 +1,7 @@
 -- Chains that runs take are among those of the program.
-use Rattle.std.specs.Prelude.{◌≡◌, ◌==◌, ◌≢◌, ℕ, zero, suc, ◌+◌, List, [], ◌∷◌, ◌++◌, length, map, slice_get, Option, Some, None, Bool, true, false, if◌then◌else◌}
-use Rattle.std.proofs.Common.{refl, sym, ap, ◌∙◌, subst, arith}
-use Rattle.imp_slots.specs.Plain.{Code, Routine, code_numbers}
+use Rattle.std.specs.Prelude.{◌≡◌, ℕ, zero, suc, ◌+◌, List, [], ◌∷◌, ◌++◌, map, slice_get, Some, Bool, true, false, if◌then◌else◌}
+use Rattle.std.proofs.Common.{refl, sym, subst, arith}
+use Rattle.imp_slots.specs.Plain.{Routine, code_numbers}
 use Rattle.imp_slots.specs.Fits.{Absent, Distinct, routine_numbers}
 use Rattle.program_chains.specs.Chains.{calls_to, extended, through, ends_in, ending_in, has}
 use Rattle.batch_sound.proofs.Procedures.{by_test}

@@ -1,7 +1,7 @@
 -- Blocks and procedures keep values that fit.
-use Rattle.std.specs.Prelude.{◌≡◌, ◌==◌, ℕ, ℤ, List, [], ◌∷◌, length, reverse, slice_get, Option, Some, None, Bool, true, false, if◌then◌else◌}
-use Rattle.std.proofs.Common.{refl, sym, ◌∙◌, ap, subst}
-use Rattle.imp_slots.specs.Plain.{Layout, Guard, DoBreak, Does, Invoke, Code, Stop, Simple, If, While, Call, Break, Routine}
+use Rattle.std.specs.Prelude.{◌≡◌, ℕ, ℤ, List, [], ◌∷◌, length, reverse, slice_get, Option, Some, None, true, false, if◌then◌else◌}
+use Rattle.std.proofs.Common.{refl, sym, ◌∙◌, subst}
+use Rattle.imp_slots.specs.Plain.{Layout, DoBreak, Does, Invoke, Code, Stop, Simple, If, While, Call, Break, Routine}
 use Rattle.imp_slots.specs.Fits.{fits_invoke, FitsCall, FitsCode}
 use Rattle.concrete_sem.specs.Values.{Variables, Heap}
 use Rattle.program_chains.specs.Marks.{marks, IsRising}
@@ -9,8 +9,8 @@ use Rattle.program_chains.specs.Claims.{MarksRise}
 use Rattle.domain_laws.specs.Operations.{Operations}
 use Rattle.domain_laws.specs.Laws.{Laws}
 use Rattle.batch_meaning.specs.Values.{Value, lift, lift2}
-use Rattle.batch_meaning.specs.Batch.{Engine, Passed, Fixed, head_of, batch, procedure, calls_of}
-use Rattle.batch_meaning.specs.Places.{Spot, spot, spots, if_some, head_value}
+use Rattle.batch_meaning.specs.Batch.{Engine, Passed, head_of, batch, procedure, calls_of}
+use Rattle.batch_meaning.specs.Places.{Spot, spot, spots, head_value}
 use Rattle.batch_sound.proofs.Values.{Fit, fit_post, fit_assume, fit_join, fit_enter, fit_leave, fix_is_head, EachFit, fit_both, fit_joined}
 use Rattle.batch_sound.proofs.Procedures.{by_test, some_inj, look, look_get, FitBack}
 use Rattle.batch_sound.proofs.Places.{Each, each_more, each_both, none_there}

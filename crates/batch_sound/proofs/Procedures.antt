@@ -2,9 +2,9 @@
 use Rattle.std.specs.Prelude.{◌≡◌, ◌≢◌, ℕ, zero, suc, ◌<◌, ◌≤◌, ◌==◌, List, [], ◌∷◌, ◌++◌, length, reverse, slice_get, Option, Some, None, Bool, true, false, if◌then◌else◌}
 use Rattle.std.proofs.Common.{refl, sym, ap, ◌∙◌, arith, subst}
 use Rattle.std.proofs.lemmas.Bool.Decides.{nat_tests}
-use Rattle.std.proofs.lemmas.List.{reverse-append, reverse-reverse, length-reverse, length-append}
-use Rattle.imp_slots.specs.Plain.{Code, Routine}
-use Rattle.imp_slots.specs.Fits.{FitsCode, FitsRoutine, FitInTurn, IsChecked}
+use Rattle.std.proofs.lemmas.List.{reverse-append, reverse-reverse, length-reverse}
+use Rattle.imp_slots.specs.Plain.{Routine}
+use Rattle.imp_slots.specs.Fits.{FitsCode, FitInTurn, IsChecked}
 use Rattle.program_chains.specs.Marks.{marks}
 use Rattle.domain_laws.specs.Operations.{Operations}
 use Rattle.batch_meaning.specs.Values.{Value}

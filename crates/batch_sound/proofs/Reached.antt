@@ -1,35 +1,34 @@
 -- What batch interpretation finds at a location under a chain is what a configuration that stands there fits.
-use Rattle.std.specs.Prelude.{◌≡◌, ◌<◌, ◌≤◌, ◌+◌, ◌-◌, ◌==◌, ℕ, zero, suc, List, [], ◌∷◌, ◌++◌, length, map, reverse, slice_get, option_map, Option, Some, None, Bool, true, false, if◌then◌else◌, All, ℤ, nat_lt}
+use Rattle.std.specs.Prelude.{◌≡◌, ◌<◌, ◌≤◌, ◌+◌, ℕ, zero, suc, List, [], ◌∷◌, length, reverse, slice_get, option_map, Option, Some, None, Bool, true, false, if◌then◌else◌, All, ℤ}
 use Rattle.std.proofs.Common.{refl, sym, ap, ◌∙◌, arith, subst, le_of_eq}
 use Rattle.std.proofs.lemmas.List.{reverse-reverse, length-reverse}
 use Rattle.std.specs.Str.{bytes_eq}
 use Rattle.std.proofs.lemmas.Slice.Eq.{bytes_eq-Decides}
 use Rattle.imp_syntax.specs.declared.edit.Location.{Location}
 use Rattle.imp_syntax.specs.declared.edit.Location.TheVariants.{Before, After, Head, End}
-use Rattle.imp_slots.specs.Plain.{Layout, Guard, Effect, Does, Invoke, Code, Stop, Simple, If, While, Call, Break, Routine, code_numbers}
-use Rattle.imp_slots.specs.Fits.{fits_invoke, FitsCall, Distinct, IsChecked}
+use Rattle.imp_slots.specs.Plain.{Layout, Invoke, Code, Stop, Simple, If, While, Call, Break, Routine, code_numbers}
+use Rattle.imp_slots.specs.Fits.{Distinct, IsChecked}
 use Rattle.concrete_sem.specs.Values.{Variables, Heap, IsWord}
 use Rattle.concrete_sem.specs.Passing.{first_variables}
-use Rattle.concrete_sem.specs.Steps.{Work, Ret, Do, Done, Test, Frame, In, Config, push, main, started, start}
-use Rattle.concrete_sem.specs.Reach.{first_number, location_of, standing, site, sites, call_sites, after_steps}
-use Rattle.concrete_sem.specs.Proper.{IsProper}
+use Rattle.concrete_sem.specs.Steps.{Work, Ret, Do, Done, Test, Frame, Config, main, started, start}
+use Rattle.concrete_sem.specs.Reach.{location_of, sites, after_steps}
 use Rattle.concrete_sem.specs.WellFormed.{variables_of}
-use Rattle.program_chains.specs.Chains.{calls_to, extended, through, chains_within, chains, ends_in, ending_in, selected, holder, named, is_while}
+use Rattle.program_chains.specs.Chains.{calls_to, extended, through, chains_within, holder, is_while}
 use Rattle.program_chains.specs.Marks.{marks}
 use Rattle.program_chains.specs.Claims.{PlacesAreFound}
 use Rattle.domain_laws.specs.Operations.{Operations}
 use Rattle.domain_laws.specs.Laws.{Laws}
 use Rattle.batch_meaning.specs.Values.{Value, State, Over, lift}
 use Rattle.batch_meaning.specs.Batch.{Engine, batch, calls_of}
-use Rattle.batch_meaning.specs.Places.{Spot, spots, find, from, main_layout, if_some, head_value, spots_in, end_of, value_in, entered, entry, value_at}
+use Rattle.batch_meaning.specs.Places.{Spot, spots, find, from, main_layout, if_some, head_value, value_in, entered, entry}
 use Rattle.batch_meaning.specs.declared.refusal.Refusal.{Refusal}
 use Rattle.batch_meaning.specs.declared.refusal.Refusal.TheVariants.{NoProcedure, NoStatement}
-use Rattle.batch_meaning.specs.Answers.{Found, In as Belongs, found_or, found_loop, procedure_of}
-use Rattle.batch_sound.proofs.Values.{Says, Fit, Below, each_over, fit_enter}
+use Rattle.batch_meaning.specs.Answers.{In as Belongs, found_or, found_loop, procedure_of}
+use Rattle.batch_sound.proofs.Values.{Says, Fit, Below, each_over}
 use Rattle.batch_sound.proofs.Procedures.{by_test, some_inj, look, look_get, look_from, from_self, from_place, length_from, FitBack, fit_back}
-use Rattle.batch_sound.proofs.Places.{Member, here, there, Each, found, found_member, key_member, keys_numbers, are_calls, calls_fit}
+use Rattle.batch_sound.proofs.Places.{Member, here, found, key_member, keys_numbers, are_calls}
 use Rattle.batch_sound.proofs.Chains.{in_extended, in_through, has_member, once_in}
-use Rattle.batch_sound.proofs.Steps.{Kept, Place, Seen, Sub, Block, Loop, Fits, fits_ret, fits_done, fits_do, fits_test, ahead_push, place_of, seen_behind, Stack, bottom, above, Good, good, run_good, self}
+use Rattle.batch_sound.proofs.Steps.{Kept, Place, Seen, Fits, fits_ret, fits_done, fits_do, fits_test, ahead_push, place_of, Stack, bottom, above, Good, good, run_good, self}
 
 same_name : (x : List ℕ) → bytes_eq x x ≡ true
 same_name x = (bytes_eq-Decides x x).1 refl

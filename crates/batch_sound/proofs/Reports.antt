@@ -1,8 +1,7 @@
 -- What reports say of runs.
-use Rattle.std.specs.Prelude.{◌≡◌, ℕ, zero, suc, ℤ, List, [], ◌∷◌, reverse, slice_get, Option, Some, None, Bool, true, false, MatchOption, All, Contains, option_map}
+use Rattle.std.specs.Prelude.{◌≡◌, ℕ, zero, suc, ℤ, List, [], ◌∷◌, reverse, slice_get, Option, Some, None, MatchOption, All, option_map}
 use Rattle.std.proofs.Common.{refl, sym, ap, ◌∙◌, subst}
-use Rattle.imp_syntax.specs.declared.edit.Location.{Location}
-use Rattle.imp_syntax.specs.declared.edit.Location.TheVariants.{Before, After, Head, End}
+use Rattle.imp_syntax.specs.declared.edit.Location.TheVariants.{Before, End}
 use Rattle.imp_slots.specs.Plain.{Effect, Does, Code, Stop, Simple, If, While, Call, Break, Routine}
 use Rattle.imp_slots.specs.Fits.{IsChecked}
 use Rattle.concrete_sem.specs.declared.fault.FaultKind.{FaultKind}
@@ -10,30 +9,28 @@ use Rattle.concrete_sem.specs.Values.{Variables, Heap, Attempt, Gives, Faults, L
 use Rattle.concrete_sem.specs.Evaluation.{truth_of}
 use Rattle.concrete_sem.specs.Effects.{effect_of}
 use Rattle.concrete_sem.specs.Passing.{pass}
-use Rattle.concrete_sem.specs.Steps.{Work, Ret, Do, Done, Test, Frame, In, Config, Step, Next, Faulted, InputsUsedUp, Ended, push, leave_loop, chosen, goes_on, step_at, step_if_some, turn, returns_to, enters, step_frame, step_frames, step, start}
-use Rattle.concrete_sem.specs.Reach.{first_number, location_of, standing, after_step, after_steps, Reach}
-use Rattle.concrete_sem.specs.WellFormed.{StandsIn, IsWork, IsWellFormed, DoTheirWork}
+use Rattle.concrete_sem.specs.Steps.{Work, Ret, Do, Done, Test, Frame, In, Config, Step, Next, Faulted, push, leave_loop, chosen, goes_on, step_at, step_if_some, turn, returns_to, enters, step_frame, step_frames, step, start}
+use Rattle.concrete_sem.specs.Reach.{first_number, location_of, standing, after_steps}
+use Rattle.concrete_sem.specs.WellFormed.{IsWork, IsWellFormed, DoTheirWork}
 use Rattle.concrete_sem.specs.Claims.{StepsKeepForm, StartIsWellFormed}
 use Rattle.program_chains.specs.Claims.{PlacesAreFound}
-use Rattle.domain_laws.specs.declared.verdict.Verdict.{Verdict}
-use Rattle.domain_laws.specs.declared.verdict.Verdict.TheVariants.{Dead, Safe, May}
+use Rattle.domain_laws.specs.declared.verdict.Verdict.TheVariants.{Dead, Safe}
 use Rattle.domain_laws.specs.declared.findings.Finding.{Finding}
-use Rattle.domain_laws.specs.Checks.{Check, Within, IsCell, Claims, check_of, fault_of}
+use Rattle.domain_laws.specs.Checks.{Check, Within, IsCell, Claims, fault_of}
 use Rattle.domain_laws.specs.Operations.{Operations}
 use Rattle.domain_laws.specs.Laws.{Laws}
-use Rattle.batch_meaning.specs.declared.refusal.Refusal.{Refusal}
 use Rattle.batch_meaning.specs.declared.refusal.Refusal.TheVariants.{LongString, NoProcedure, NoStatement, WrongStatement, NoChain}
-use Rattle.batch_meaning.specs.Values.{Value, State, Over}
+use Rattle.batch_meaning.specs.Values.{State, Over}
 use Rattle.batch_meaning.specs.Batch.{Engine}
 use Rattle.batch_meaning.specs.Answers.{Answer, Refuses, Answers, answer}
-use Rattle.batch_meaning.specs.Report.{Checked, checked_statements, kind_of, verdict_on, finding, report}
-use Rattle.batch_sound.specs.Theorem.{EndsWithFault, failing, IsFindingSound, AreReportsSound}
+use Rattle.batch_meaning.specs.Report.{Checked, checked_statements, kind_of, verdict_on, finding}
+use Rattle.batch_sound.specs.Theorem.{failing, AreReportsSound}
 use Rattle.batch_sound.proofs.Procedures.{some_inj}
 use Rattle.batch_sound.proofs.Places.{Member}
 use Rattle.batch_sound.proofs.Steps.{Kept, Good, stepped}
 use Rattle.batch_sound.proofs.Reached.{same_in_turn, reached_good}
 use Rattle.batch_sound.proofs.Answered.{good_described, good_chain}
-use Rattle.batch_sound.proofs.Unique.{Begins, begins, has_check, Made, made}
+use Rattle.batch_sound.proofs.Unique.{Begins, begins, has_check, made}
 
 -- Where a step faults, a statement of that number is about to be done or its condition tested.
 data AtFault (h : Heap) (v : Variables) (n : ℕ) (k : FaultKind) : Work → Type 0 where

@@ -1,14 +1,13 @@
 -- Each configuration of a run is good: its frames fit the values that batch interpretation has at their statements.
-use Rattle.std.specs.Prelude.{◌≡◌, ◌<◌, ◌≤◌, ◌+◌, ◌==◌, ℕ, zero, suc, List, [], ◌∷◌, ◌++◌, length, reverse, slice_get, Option, Some, None, Bool, true, false, if◌then◌else◌, All, ℤ}
+use Rattle.std.specs.Prelude.{◌≡◌, ◌<◌, ◌≤◌, ℕ, zero, suc, List, [], ◌∷◌, ◌++◌, length, reverse, slice_get, Option, Some, None, Bool, true, false}
 use Rattle.std.proofs.Common.{refl, sym, ap, ◌∙◌, arith, subst}
-use Rattle.imp_slots.specs.Plain.{Layout, Guard, Effect, Does, DoBreak, Invoke, Code, Stop, Simple, If, While, Call, Break, Routine}
-use Rattle.imp_slots.specs.Fits.{fits_guard, fits_effect, fits_invoke, FitsCall, FitsCode}
-use Rattle.concrete_sem.specs.declared.fault.FaultKind.{FaultKind}
-use Rattle.concrete_sem.specs.Values.{Variables, Heap, Attempt, Gives, Faults, LacksInput, IsWord}
+use Rattle.imp_slots.specs.Plain.{Layout, Guard, Effect, Does, Invoke, Code, Stop, Simple, If, While, Call, Break, Routine}
+use Rattle.imp_slots.specs.Fits.{fits_guard, fits_invoke, FitsCode}
+use Rattle.concrete_sem.specs.Values.{Variables, Heap, Attempt, Gives, Faults, LacksInput}
 use Rattle.concrete_sem.specs.Evaluation.{truth_of}
 use Rattle.concrete_sem.specs.Effects.{effect_of}
-use Rattle.concrete_sem.specs.Passing.{first_variables, pass, back}
-use Rattle.concrete_sem.specs.Steps.{Work, Ret, Do, Done, Test, Frame, In, Config, Step, Next, Faulted, InputsUsedUp, Ended, push, leave_loop, chosen, goes_on, step_at, step_if_some, turn, returns_to, enters, step_frame, step_frames, step, main, started, start}
+use Rattle.concrete_sem.specs.Passing.{pass, back}
+use Rattle.concrete_sem.specs.Steps.{Work, Ret, Do, Done, Test, Frame, In, Config, Step, Next, Faulted, InputsUsedUp, Ended, push, leave_loop, chosen, goes_on, step_at, step_if_some, turn, returns_to, enters, step_frame, step_frames, step}
 use Rattle.concrete_sem.specs.Reach.{after_step, after_steps}
 use Rattle.concrete_sem.specs.Proper.{IsProper}
 use Rattle.concrete_sem.specs.Keeping.{EffectsKeep, PassingKeeps, ReturnsKeep, LastAloneKeeps, StartKeeps}
@@ -17,12 +16,12 @@ use Rattle.program_chains.specs.Claims.{MarksRise}
 use Rattle.domain_laws.specs.Operations.{Operations}
 use Rattle.domain_laws.specs.Laws.{Laws}
 use Rattle.batch_meaning.specs.Values.{Value, State, Over, lift, lift2}
-use Rattle.batch_meaning.specs.Batch.{Engine, Passed, Fixed, head_of, batch, procedure, calls_of}
+use Rattle.batch_meaning.specs.Batch.{Engine, Passed, head_of, batch, procedure, calls_of}
 use Rattle.batch_meaning.specs.Places.{Spot, spots, from, main_layout, head_value}
-use Rattle.batch_sound.proofs.Values.{Says, Fit, fit_post, fit_assume, fit_join, fit_enter, fit_leave, says_post, says_assume, says_enter, says_leave, EachFit, Below, below_self, below_left, below_right, fix_is_head, EachBelow, each_left, each_right, each_over, fit_joined, joined_first, joined_each}
+use Rattle.batch_sound.proofs.Values.{Says, Fit, fit_post, fit_assume, fit_join, fit_enter, fit_leave, says_post, says_assume, says_enter, says_leave, Below, below_self, below_left, below_right, fix_is_head, EachBelow, each_left, each_right, each_over, fit_joined, joined_first, joined_each}
 use Rattle.batch_sound.proofs.Procedures.{some_inj, look, look_get, look_from, from_look, look_below, length_from, from_behind, from_from, from_place, from_self, FitBack, fit_back_from, procedure_from}
 use Rattle.batch_sound.proofs.Places.{Member, here, there, in_left, in_right}
-use Rattle.batch_sound.proofs.Fitting.{Callee, callee, FitPassed, block_fit, procedure_fit}
+use Rattle.batch_sound.proofs.Fitting.{callee, FitPassed, block_fit, procedure_fit}
 
 -- What steps keep, and that marks rise.
 pub record Kept : Type 0 where

@@ -1,14 +1,13 @@
 -- A number of a checked program belongs to one statement.
-use Rattle.std.specs.Prelude.{◌≡◌, ◌≢◌, ◌==◌, ◌<◌, ◌+◌, ℕ, zero, suc, List, [], ◌∷◌, ◌++◌, length, map, slice_get, slice_index_or, Option, Some, None, Bool, true, false, if◌then◌else◌, Contains, ◌⊎◌}
+use Rattle.std.specs.Prelude.{◌≡◌, ◌<◌, ℕ, zero, suc, List, [], ◌∷◌, ◌++◌, length, map, slice_get, Option, Some, None, Contains, ◌⊎◌}
 use Rattle.std.proofs.Common.{refl, sym, ap, ◌∙◌, subst, arith, inl, inr}
 use Rattle.imp_slots.specs.Plain.{Effect, Code, Stop, Simple, If, While, Call, Break, Routine, code_numbers}
-use Rattle.imp_slots.specs.Fits.{Absent, Distinct, routine_numbers, IsChecked}
+use Rattle.imp_slots.specs.Fits.{Distinct, IsChecked}
 use Rattle.concrete_sem.specs.Reach.{first_number}
 use Rattle.concrete_sem.specs.WellFormed.{StandsIn, whole, behind_simple, then_block, else_block, behind_if, loop_body, behind_loop, behind_call, behind_break}
-use Rattle.program_chains.specs.Chains.{has, holder}
+use Rattle.program_chains.specs.Chains.{holder}
 use Rattle.program_chains.specs.Claims.{PlacesAreFound}
 use Rattle.domain_laws.specs.Checks.{Check, check_of}
-use Rattle.batch_meaning.specs.Places.{find}
 use Rattle.batch_meaning.specs.Report.{Checked, checked_one, checked_in, checked_statements}
 use Rattle.batch_sound.proofs.Procedures.{some_inj}
 use Rattle.batch_sound.proofs.Places.{Member, here, there, in_left, in_right, keys, keys_both, key_member, found}

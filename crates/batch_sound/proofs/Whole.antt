@@ -1,12 +1,11 @@
 -- The whole claim.
 use Rattle.std.specs.Prelude.{◌≡◌, ℕ, List, [], ◌∷◌, reverse, Some, true}
-use Rattle.std.proofs.Common.{refl}
 use Rattle.imp_syntax.specs.declared.edit.Location.{Location}
 use Rattle.imp_slots.specs.Plain.{Routine}
 use Rattle.imp_slots.specs.Fits.{IsChecked}
 use Rattle.concrete_sem.specs.Values.{Variables, Heap}
-use Rattle.concrete_sem.specs.Steps.{Frame, In, Config}
-use Rattle.concrete_sem.specs.Reach.{standing, call_sites, last_alone, Reach}
+use Rattle.concrete_sem.specs.Steps.{Frame, In}
+use Rattle.concrete_sem.specs.Reach.{standing, call_sites, last_alone}
 use Rattle.concrete_sem.specs.WellFormed.{variables_of}
 use Rattle.program_chains.specs.Chains.{ends_in}
 use Rattle.program_chains.specs.Claims.{PlacesAreFound}

@@ -1,5 +1,5 @@
 -- What is claimed of answers and reports.
-use Rattle.std.specs.Prelude.{◌≡◌, ℕ, List, [], Option, Some, All, ℤ, Contains}
+use Rattle.std.specs.Prelude.{◌≡◌, ℕ, List, [], Some, All, ℤ, Contains}
 use Rattle.imp_syntax.specs.declared.edit.Location.{Location}
 use Rattle.imp_syntax.specs.declared.edit.Location.TheVariants.{Before}
 use Rattle.imp_slots.specs.Plain.{Routine}
