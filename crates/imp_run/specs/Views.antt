@@ -1,8 +1,10 @@
 -- What the values of the interpreter say.
-use Rattle.std.specs.Prelude.{ℕ, ℤ, List, [], Result, Ok, Err, Option, Some, None}
+use Rattle.std.specs.Prelude.{◌≡◌, ℕ, ℤ, List, [], Result, Ok, Err, Option, Some, None}
 use Rattle.concrete_sem.specs.declared.fault.FaultKind.{FaultKind}
 use Rattle.concrete_sem.specs.Values as plain
-use Rattle.concrete_sem.specs.Values.{Attempt, Gives, Faults}
+use Rattle.concrete_sem.specs.Values.{Attempt, Gives, Faults, LacksInput}
+use Rattle.imp_run.specs.declared.stop.Stop.{Stop}
+use Rattle.imp_run.specs.declared.stop.Stop.TheVariants.{Fault, NoInput, Memory}
 use Rattle.imp_run.specs.declared.number.NumberNode.{NumberNode}
 use Rattle.imp_run.specs.declared.number.NumberNode.TheVariants.{Int, Array}
 
@@ -19,3 +21,10 @@ attempted (Err k) = Faults k
 abbrev pub array_or_none : Option (List ℤ) → List ℤ
 array_or_none None = []
 array_or_none (Some zs) = zs
+
+-- What came of an attempt, if memory was found: a value that `ok` tells, or why there is none.
+abbrev pub Agrees : {A R : Type 0} → Result R Stop → (R → A) → Attempt A → Type 0
+Agrees (Ok r) ok a = a ≡ Gives (ok r)
+Agrees (Err (Fault k)) ok a = a ≡ Faults k
+Agrees (Err NoInput) ok a = a ≡ LacksInput
+Agrees (Err Memory) ok a = Unit {0}

@@ -2,11 +2,15 @@
 #![tactic(auto)]
 
 mod array;
+mod effects;
 mod evaluate;
+mod heap;
 mod number;
+mod stop;
 mod variables;
 
 pub use array::Array;
 pub use evaluate::{truth_of, value_of};
+pub use heap::{Cell, Heap};
 pub use number::{Number, NumberNode};
 pub use variables::Variables;
