@@ -1,5 +1,5 @@
 -- What checked arithmetic gives.
-use Rattle.std.specs.Prelude.{◌≡◌, ◌≢◌, ◌-◌, ℕ, zero, suc, ◌^◌, ◌<◌, nat_lt, ℤ, pos, negsuc, int_div, int_rem, Option, Some, None, Result, Ok, Err, SomeIff, FitsSigned, Bool, true, false, if◌then◌else◌}
+use Rattle.std.specs.Prelude.{◌≡◌, ◌≢◌, ◌-◌, List, [], ◌∷◌, slice_set, ℕ, zero, suc, ◌^◌, ◌<◌, nat_lt, ℤ, pos, negsuc, int_div, int_rem, Option, Some, None, Result, Ok, Err, SomeIff, FitsSigned, Bool, true, false, if◌then◌else◌}
 use Rattle.std.specs.Int.{w64, IsNonZero, CanDivide}
 use Rattle.std.specs.Ordering.{int_eq}
 use Rattle.std.proofs.Common.{refl, ap, sym, ◌∙◌, subst, arith}
@@ -80,3 +80,9 @@ remainder_none x y f n c = ap (λ o. andthen o (λ q. Gives (int_rem x y))) (quo
 
 pub remainder_some : (x y : ℤ) → y ≢ pos 0 → CanDivide w64 x y → remainder x y ≡ Gives (int_rem x y)
 remainder_some x y n c = ap (λ o. andthen o (λ q. Gives (int_rem x y))) (quotient_some x y n c)
+
+-- a slot that is set twice
+pub set_twice : {A : Type 0} → (xs : List A) (i : ℕ) (a b : A) → slice_set (slice_set xs i a) i b ≡ slice_set xs i b
+set_twice [] i a b = refl
+set_twice (x ∷ xs) zero a b = refl
+set_twice (x ∷ xs) (suc i) a b = ap (λ ys. x ∷ ys) (set_twice xs i a b)

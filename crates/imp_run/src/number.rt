@@ -1,11 +1,12 @@
 //! What a numeric slot holds.
-ghost use Rattle.std.specs.Prelude.{◌≡◌};
+ghost use Rattle.std.specs.Prelude.{◌≡◌, ◌<◌, length, slice_set, IfOk};
 ghost use Rattle.std.specs.Option.{option_copied};
 ghost use Rattle.imp_run.specs.Views.{array_or_none};
 ghost use Rattle.concrete_sem.specs.Values.{as_int, as_array};
 ghost use Rattle.concrete_sem.specs.Values as plain;
 
 use crate::Array;
+use plain_values::Memory;
 use std::alloc::AllocError;
 use std::marker::Model;
 
@@ -69,6 +70,20 @@ impl Number {
         match &self.node {
             NumberNode::Int(_) => None,
             NumberNode::Array(array) => Some(array),
+        }
+    }
+
+    /// The array with an element set, in place where no copy shares it. It fails for want of memory alone.
+    pub fn with_element(self, at: usize, value: i64) -> Result<Number, Memory>
+        requires within { at < length (as_array self) }
+        ensures set { IfOk result (λ n. n ≡ plain.Array (slice_set (as_array self) at value)) }
+    {
+        match self.node {
+            NumberNode::Array(mut array) => {
+                array.set(at, value)?;
+                Ok(Number::array(array))
+            }
+            NumberNode::Int(int) => Ok(Number::int(int)),
         }
     }
 }

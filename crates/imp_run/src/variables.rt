@@ -1,5 +1,5 @@
 //! The variables of a frame.
-ghost use Rattle.std.specs.Prelude.{◌≡◌, IfOk, IfErr};
+ghost use Rattle.std.specs.Prelude.{◌≡◌, ◌<◌, length, slice_set, pos, IfOk};
 ghost use Rattle.std.specs.Option.{option_copied};
 ghost use Rattle.imp_run.specs.Views.{array_or_none};
 ghost use Rattle.concrete_sem.specs.Values.{number_at, int_at, array_at, link_at, with_number, with_link};
@@ -63,6 +63,16 @@ impl Variables {
         }
     }
 
+    /// A copy of the array of a slot: one without elements where the slot holds none.
+    pub fn copy_array(&self, slot: usize, alloc: Global) -> Result<Array, Memory>
+        ensures array { IfOk result (λ a. a ≡ array_at self.now slot) }
+    {
+        match self.array_at(slot) {
+            Some(array) => Ok(array.clone()?),
+            None => Array::zeros(alloc, 0),
+        }
+    }
+
     /// The link of a slot: null where there is no such slot.
     pub fn link_at(&self, slot: usize) -> Option<usize>
         ensures link { result ≡ link_at self.now slot }
@@ -80,6 +90,29 @@ impl Variables {
         if slot < self.numbers.len() {
             self.numbers[slot] = number;
         }
+    }
+
+    /// Takes what a numeric slot holds, and leaves the int 0.
+    fn take_number(&mut self, slot: usize) -> Number
+        ensures number { result ≡ number_at self.old slot }
+        ensures left { self.new ≡ with_number self.old slot (plain.Int (pos 0)) }
+    {
+        if slot < self.numbers.len() {
+            std::mem::replace(&mut self.numbers[slot], Number::int(0))
+        } else {
+            Number::int(0)
+        }
+    }
+
+    /// Sets an element of the array of a slot, in place where no copy shares it. It fails for want of memory alone.
+    #[tactic(auto, using(crate::proofs::Words::set_twice))]
+    pub fn set_element(&mut self, slot: usize, at: usize, value: i64) -> Result<(), Memory>
+        requires within { at < length (array_at self.old slot) }
+        ensures set { IfOk result (λ _. self.new ≡ with_number self.old slot (plain.Array (slice_set (array_at self.old slot) at value))) }
+    {
+        let number = self.take_number(slot).with_element(at, value)?;
+        self.set_number(slot, number);
+        Ok(())
     }
 
     /// Sets a link slot, if there is one.
