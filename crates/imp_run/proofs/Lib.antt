@@ -1,1 +1,4 @@
 pub mod Words
+pub mod Passed
+pub mod Works
+pub mod Frames

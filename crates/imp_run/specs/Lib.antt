@@ -1,1 +1,3 @@
 pub mod Views
+pub mod Items
+pub mod Machine
