@@ -1,3 +1,4 @@
 pub mod Views
 pub mod Items
 pub mod Machine
+pub mod Outcome

@@ -8,12 +8,15 @@ mod evaluate;
 mod heap;
 mod machine;
 mod number;
+mod outcome;
+mod run;
 mod stop;
 mod variables;
 mod work;
 
-pub use array::Array;
-pub use evaluate::{truth_of, value_of};
-pub use heap::{Cell, Heap};
-pub use number::{Number, NumberNode};
-pub use variables::Variables;
+pub use outcome::{End, Outcome};
+
+use array::Array;
+use heap::{Cell, Heap};
+use number::Number;
+use variables::Variables;

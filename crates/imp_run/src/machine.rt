@@ -72,7 +72,7 @@ impl<'a> Machine<'a> {
         action: &SlotAction,
         rest: &'a [SlotNode],
     ) -> Result<Stepped, Memory>
-        ensures step { IfOk result (λ s. (program : List slots.Routine) → step_by program self.old (plain.Do (slots.Simple number (actions.effect_of action.now) (code_of rest.now))) ≡ taken s (config_of self.new)) }
+        ensures step { (program : List slots.Routine) → IfOk result (λ s. step_by program self.old (plain.Do (slots.Simple number (actions.effect_of action.now) (code_of rest.now))) ≡ taken s (config_of self.new)) }
     {
         match effect(alloc, &mut self.heap, &mut self.top.variables, action) {
             Ok(()) => {
@@ -93,7 +93,7 @@ impl<'a> Machine<'a> {
         other: &'a SlotBlock,
         rest: &'a [SlotNode],
     ) -> Result<Stepped, Memory>
-        ensures step { IfOk result (λ s. (program : List slots.Routine) → step_by program self.old (plain.Do (slots.If number condition.now then.now other.now (code_of rest.now))) ≡ taken s (config_of self.new)) }
+        ensures step { (program : List slots.Routine) → IfOk result (λ s. step_by program self.old (plain.Do (slots.If number condition.now then.now other.now (code_of rest.now))) ≡ taken s (config_of self.new)) }
     {
         match truth_of(&self.top.variables, condition) {
             Ok(truth) => {
@@ -115,7 +115,7 @@ impl<'a> Machine<'a> {
         body: &'a SlotBlock,
         rest: &'a [SlotNode],
     ) -> Result<Stepped, Memory>
-        ensures step { IfOk result (λ s. (program : List slots.Routine) → step_by program self.old (plain.Do (slots.While number condition.now body.now (code_of rest.now))) ≡ taken s (config_of self.new)) }
+        ensures step { (program : List slots.Routine) → IfOk result (λ s. step_by program self.old (plain.Do (slots.While number condition.now body.now (code_of rest.now))) ≡ taken s (config_of self.new)) }
     {
         self.top.work.push_block(rest)?;
         self.top.work.push(Item::Test(number, condition, body))?;
@@ -129,7 +129,7 @@ impl<'a> Machine<'a> {
         condition: &'a SlotCond,
         body: &'a SlotBlock,
     ) -> Result<Stepped, Memory>
-        ensures step { IfOk result (λ s. (program : List slots.Routine) → step_by program self.old (plain.Test number condition.now body.now) ≡ taken s (config_of self.new)) }
+        ensures step { (program : List slots.Routine) → IfOk result (λ s. step_by program self.old (plain.Test number condition.now body.now) ≡ taken s (config_of self.new)) }
     {
         match truth_of(&self.top.variables, condition) {
             Ok(true) => {
@@ -147,7 +147,7 @@ impl<'a> Machine<'a> {
 
     /// A break.
     fn leave_loop(&mut self, number: u32, rest: &'a [SlotNode]) -> Result<Stepped, Memory>
-        ensures step { IfOk result (λ s. (program : List slots.Routine) → step_by program self.old (plain.Do (slots.Break number (code_of rest.now))) ≡ taken s (config_of self.new)) }
+        ensures step { (program : List slots.Routine) → IfOk result (λ s. step_by program self.old (plain.Do (slots.Break number (code_of rest.now))) ≡ taken s (config_of self.new)) }
     {
         if self.top.work.leave_loop()? {
             Ok(Stepped::Next)

@@ -83,4 +83,12 @@ impl<'a> Work<'a> {
         }
         Ok(false)
     }
+
+    /// The item on top.
+    #[tactic(auto, using(crate::proofs::Works::top_is, crate::proofs::Works::none_on_top))]
+    pub(crate) fn top(&self) -> Option<&Item<'a>>
+        ensures top { MatchOption result (work_in self.now ≡ plain.Ret 0) (λ i. (w : plain.Work) × (work_in self.now ≡ put i.now w)) }
+    {
+        self.items.last()
+    }
 }
