@@ -2,3 +2,4 @@ pub mod Words
 pub mod Passed
 pub mod Works
 pub mod Frames
+pub mod Fuel

@@ -9,12 +9,13 @@ mod heap;
 mod machine;
 mod number;
 mod outcome;
-mod run;
+mod running;
 mod stop;
 mod variables;
 mod work;
 
 pub use outcome::{End, Outcome};
+pub use running::run;
 
 use array::Array;
 use heap::{Cell, Heap};

@@ -157,7 +157,7 @@ impl<'a> Machine<'a> {
     }
 
     /// The frame of a callee, at its beginning. It fails for want of memory alone.
-    fn entered(
+    pub(crate) fn entered(
         alloc: Global,
         place: usize,
         callee: &'a Routine,
