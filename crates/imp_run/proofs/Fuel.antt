@@ -10,8 +10,11 @@ use Rattle.imp_run.specs.Outcome.{plus}
 abbrev pub more : ℕ → Bool → ℕ
 more k b = if b then k + 1 else k
 
-same_run : (e : RunEnd) (a b : ℕ) → a ≡ b → record { end = e; reached = a } ≡ record { end = e; reached = b }
-same_run e a b h = ap (λ (n : ℕ). record { end = e; reached = n }) h
+abbrev pub made : RunEnd → ℕ → Run
+made e n = record { end = e; reached = n }
+
+same_run : (e : RunEnd) (a b : ℕ) → a ≡ b → made e a ≡ made e b
+same_run e a b h = ap (made e) h
 
 plus_counted : (k : ℕ) (b : Bool) (r : Run) → plus k (counted b r) ≡ plus (more k b) r
 plus_counted k true r = same_run r.end (k + (r.reached + 1)) (k + 1 + r.reached) (omega arith)
@@ -40,20 +43,20 @@ module _ (program : List Routine) (here : Config → Bool) where
   pub goes_next : (k fuel i : ℕ) (c d : Config) (b : Bool) → i < fuel → here c ≡ b → step program c ≡ Next d → plus k (run_from program here (fuel - i) c) ≡ plus (more k b) (run_from program here (fuel - (i + 1)) d)
   goes_next k fuel i c d b h e t = taken_on k fuel i c (Next d) b h e t
 
-  at_end : (k : ℕ) (e : RunEnd) → plus k (ends e) ≡ record { end = e; reached = k }
+  at_end : (k : ℕ) (e : RunEnd) → plus k (ends e) ≡ made e (k)
   at_end k e = same_run e (k + 0) k (omega arith)
 
-  pub goes_fault : (k fuel i : ℕ) (c : Config) (n : ℕ) (x : FaultKind) (b : Bool) → i < fuel → here c ≡ b → step program c ≡ Faulted n x → plus k (run_from program here (fuel - i) c) ≡ record { end = RunFaulted n x; reached = more k b }
+  pub goes_fault : (k fuel i : ℕ) (c : Config) (n : ℕ) (x : FaultKind) (b : Bool) → i < fuel → here c ≡ b → step program c ≡ Faulted n x → plus k (run_from program here (fuel - i) c) ≡ made (RunFaulted n x) (more k b)
   goes_fault k fuel i c n x b h e t = taken_on k fuel i c (Faulted n x) b h e t ∙ at_end (more k b) (RunFaulted n x)
 
-  pub goes_dry : (k fuel i : ℕ) (c : Config) (n : ℕ) (b : Bool) → i < fuel → here c ≡ b → step program c ≡ InputsUsedUp n → plus k (run_from program here (fuel - i) c) ≡ record { end = RunLacksInput n; reached = more k b }
+  pub goes_dry : (k fuel i : ℕ) (c : Config) (n : ℕ) (b : Bool) → i < fuel → here c ≡ b → step program c ≡ InputsUsedUp n → plus k (run_from program here (fuel - i) c) ≡ made (RunLacksInput n) (more k b)
   goes_dry k fuel i c n b h e t = taken_on k fuel i c (InputsUsedUp n) b h e t ∙ at_end (more k b) (RunLacksInput n)
 
-  pub goes_end : (k fuel i : ℕ) (c : Config) (b : Bool) → i < fuel → here c ≡ b → step program c ≡ Ended → plus k (run_from program here (fuel - i) c) ≡ record { end = RunEnded; reached = more k b }
+  pub goes_end : (k fuel i : ℕ) (c : Config) (b : Bool) → i < fuel → here c ≡ b → step program c ≡ Ended → plus k (run_from program here (fuel - i) c) ≡ made RunEnded (more k b)
   goes_end k fuel i c b h e t = taken_on k fuel i c Ended b h e t ∙ at_end (more k b) RunEnded
 
   -- with none
-  pub goes_out : (k fuel i : ℕ) (c : Config) (s : Step) (b : Bool) (e : RunEnd) → fuel ≤ i → here c ≡ b → step program c ≡ s → ends e ≡ end_with_no_fuel program here s → plus k (run_from program here (fuel - i) c) ≡ record { end = e; reached = more k b }
+  pub goes_out : (k fuel i : ℕ) (c : Config) (s : Step) (b : Bool) (e : RunEnd) → fuel ≤ i → here c ≡ b → step program c ≡ s → ends e ≡ end_with_no_fuel program here s → plus k (run_from program here (fuel - i) c) ≡ made e (more k b)
   goes_out k fuel i c s b e h g t r =
       let z : fuel - i ≡ 0 = omega arith in
       ap (λ n. plus k (run_from program here n c)) z
@@ -62,3 +65,7 @@ module _ (program : List Routine) (here : Config → Bool) where
       ∙ ap (λ s. plus (more k b) (end_with_no_fuel program here s)) t
       ∙ ap (plus (more k b)) (sym r)
       ∙ at_end (more k b) e
+
+pub more_le : (k i : ℕ) (b : Bool) → k ≤ i → (if b then k + 1 else k) ≤ i + 1
+more_le k i true h = omega arith
+more_le k i false h = omega arith
