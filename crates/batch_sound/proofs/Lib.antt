@@ -1,1 +1,11 @@
 pub mod Values
+pub mod Procedures
+pub mod Places
+pub mod Fitting
+pub mod Chains
+pub mod Steps
+pub mod Reached
+pub mod Answered
+pub mod Whole
+pub mod Unique
+pub mod Reports

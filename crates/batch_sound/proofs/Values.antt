@@ -11,8 +11,8 @@ use Rattle.concrete_sem.specs.Proper.{IsProper}
 use Rattle.program_chains.specs.Marks.{IsRising}
 use Rattle.domain_laws.specs.Operations.{Operations}
 use Rattle.domain_laws.specs.Laws.{Laws, fits_act}
-use Rattle.batch_interp.specs.Values.{Value, State, Over, lift, lift2}
-use Rattle.batch_interp.specs.Batch.{Engine, Fixed, next_of, settle, iterate, fix, joined}
+use Rattle.batch_meaning.specs.Values.{Value, State, Over, lift, lift2}
+use Rattle.batch_meaning.specs.Batch.{Engine, Fixed, next_of, settle, iterate, fix, joined}
 
 module _ {S : Type 0} (dom : Operations S) (engine : Engine) (covers : S → Heap → List Variables → Type 0) (laws : Laws dom covers) where
   abbrev pub Says : Value S → Heap → List Variables → Type 0

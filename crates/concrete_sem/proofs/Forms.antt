@@ -69,7 +69,7 @@ module _ (program : List Routine) (checked : IsChecked program) where
     stacked : AreStacked program (In p v w ∷ below)
     work : IsWork p routine.code w
     rest : DoTheirWork program below
-    proper : IsProper h (v ∷ variables_of program below) (routine.layout ∷ layouts_of program below)
+    proper : IsProper h (v ∷ variables_of below) (routine.layout ∷ layouts_of program below)
 
   opened : (h : Heap) (p : ℕ) (v : Variables) (w : Work) (below : List Frame) → IsWellFormed program (record { heap = h; frames = In p v w ∷ below }) → Top h p v w below
   opened h p v w below f =
@@ -80,7 +80,7 @@ module _ (program : List Routine) (checked : IsChecked program) where
         stacked = f.stacked;
         work = m.2;
         rest = f.work.1;
-        proper = subst (λ o. IsProper h (v ∷ variables_of program below) (layout_at program o ∷ layouts_of program below)) m.1 f.proper;
+        proper = subst (λ o. IsProper h (v ∷ variables_of below) (layout_at o ∷ layouts_of program below)) m.1 f.proper;
       }
 
   closed : (h : Heap) (p : ℕ) (v : Variables) (w : Work) (below : List Frame) → Top h p v w below → IsWellFormed program (record { heap = h; frames = In p v w ∷ below })
@@ -88,7 +88,7 @@ module _ (program : List Routine) (checked : IsChecked program) where
       record {
         stacked = t.stacked;
         work = (to_match (slice_get program p) (λ r. IsWork p r.code w) t.routine t.at t.work, t.rest);
-        proper = subst (λ o. IsProper h (v ∷ variables_of program below) (layout_at program o ∷ layouts_of program below)) (sym t.at) t.proper;
+        proper = subst (λ o. IsProper h (v ∷ variables_of below) (layout_at o ∷ layouts_of program below)) (sym t.at) t.proper;
       }
 
   same_stack : (p : ℕ) (v u : Variables) (w t : Work) (below : List Frame) → AreStacked program (In p v w ∷ below) → AreStacked program (In p u t ∷ below)
@@ -96,7 +96,7 @@ module _ (program : List Routine) (checked : IsChecked program) where
   same_stack p v u w t (In q x y ∷ below) s = s
 
   -- The frame goes on: its work, or also the heap and its variables, become others.
-  goes : (h k : Heap) (p : ℕ) (v u : Variables) (w t : Work) (below : List Frame) → (x : Top h p v w below) → IsProper k (u ∷ variables_of program below) (x.routine.layout ∷ layouts_of program below) → IsWork p x.routine.code t → IsWellFormed program (goes_on p below k u t)
+  goes : (h k : Heap) (p : ℕ) (v u : Variables) (w t : Work) (below : List Frame) → (x : Top h p v w below) → IsProper k (u ∷ variables_of below) (x.routine.layout ∷ layouts_of program below) → IsWork p x.routine.code t → IsWellFormed program (goes_on p below k u t)
   goes h k p v u w t below x r i = closed k p u t below (record { routine = x.routine; at = x.at; stacked = same_stack p v u w t below x.stacked; work = i; rest = x.rest; proper = r })
 
   goes_same : (h : Heap) (p : ℕ) (v : Variables) (w t : Work) (below : List Frame) → (x : Top h p v w below) → IsWork p x.routine.code t → IsWellFormed program (goes_on p below h v t)
@@ -148,9 +148,9 @@ module _ (program : List Routine) (checked : IsChecked program) where
       let k = callee s m.0 m.1 n i p m.2.0 m.2.1 in
       let same : x.routine ≡ k.routine = some_same x.routine k.routine (sym x.at ∙ k.at) in
       let l : x.routine.layout ≡ i.entering.layout = ap (λ (r : Routine). r.layout) same ∙ k.layout in
-      let r1 = subst (λ l. IsProper h (v ∷ u ∷ variables_of program below) (l ∷ layout_at program (slice_get program s) ∷ layouts_of program below)) l x.proper in
-      let r2 = subst (λ o. IsProper h (v ∷ u ∷ variables_of program below) (i.entering.layout ∷ layout_at program o ∷ layouts_of program below)) m.1 r1 in
-      let r3 = returns_keep i m.0.layout (layouts_of program below) h u v (variables_of program below) k.fits r2 in
+      let r1 = subst (λ l. IsProper h (v ∷ u ∷ variables_of below) (l ∷ layout_at (slice_get program s) ∷ layouts_of program below)) l x.proper in
+      let r2 = subst (λ o. IsProper h (v ∷ u ∷ variables_of below) (i.entering.layout ∷ layout_at o ∷ layouts_of program below)) m.1 r1 in
+      let r3 = returns_keep i m.0.layout (layouts_of program below) h u v (variables_of below) k.fits r2 in
       let y = from_match (slice_get program s) (λ r. IsWork s r.code (Done n (Some i) w)) x.rest.0 in
       let z : m.0 ≡ y.0 = some_same m.0 y.0 (sym m.1 ∙ y.1) in
       well _ d e
@@ -186,9 +186,9 @@ module _ (program : List Routine) (checked : IsChecked program) where
       let k = callee p x.routine x.at n i q r x.work.0 in
       let same : c ≡ k.routine = some_same c k.routine (sym o ∙ k.at) in
       let l : i.entering.layout ≡ c.layout = sym k.layout ∙ ap (λ (r : Routine). r.layout) (sym same) in
-      let r1 = passing_keeps i x.routine.layout (layouts_of program below) h v u (variables_of program below) k.fits g x.proper in
-      let r2 = subst (λ l. IsProper h (u ∷ v ∷ variables_of program below) (l ∷ x.routine.layout ∷ layouts_of program below)) l r1 in
-      let r3 = subst (λ o. IsProper h (u ∷ v ∷ variables_of program below) (c.layout ∷ layout_at program o ∷ layouts_of program below)) (sym x.at) r2 in
+      let r1 = passing_keeps i x.routine.layout (layouts_of program below) h v u (variables_of below) k.fits g x.proper in
+      let r2 = subst (λ l. IsProper h (u ∷ v ∷ variables_of below) (l ∷ x.routine.layout ∷ layouts_of program below)) l r1 in
+      let r3 = subst (λ o. IsProper h (u ∷ v ∷ variables_of below) (c.layout ∷ layout_at o ∷ layouts_of program below)) (sym x.at) r2 in
       let long : p < length program = slice_get_within program p x.routine x.at in
       let d1 = done_work p x.routine.code (Call n i q r) r n (Some i) w x.work.0 refl refl (behind_call x.work.0) x.work.2 x.work.3 in
       let kc = known program q c checked o in
@@ -226,7 +226,7 @@ module _ (program : List Routine) (checked : IsChecked program) where
       by (at_next y o k) =
           let f = code_fits h p v _ below x (Simple n a r) x.work.0 in
           well _ d k
-          (goes h y.0 p v y.1 _ (Done n None (push r w)) below x (effects_keep a x.routine.layout (layouts_of program below) h v (variables_of program below) y f.1.0 o x.proper)
+          (goes h y.0 p v y.1 _ (Done n None (push r w)) below x (effects_keep a x.routine.layout (layouts_of program below) h v (variables_of below) y f.1.0 o x.proper)
           (done_work p x.routine.code (Simple n a r) r n None w x.work.0 refl refl (behind_simple x.work.0) x.work.2 x.work.3))
   keeps_step h p v (Do (If n g t z r) w) below x d e = by (next_of n (truth_of v g) (λ b. Next (goes_on p below h v (push (chosen b t z) (Done n None (push r w))))) d e)
     where

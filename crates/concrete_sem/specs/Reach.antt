@@ -1,5 +1,5 @@
 -- Where a configuration stands, and what runs reach.
-use Rattle.std.specs.Prelude.{◌≡◌, ℕ, zero, suc, ◌==◌, List, [], ◌∷◌, reverse, slice_get, option_map, Option, Some, None, Bool, true, false, if◌then◌else◌, All, ℤ}
+use Rattle.std.specs.Prelude.{◌≡◌, ℕ, zero, suc, List, [], ◌∷◌, reverse, slice_get, option_map, Option, Some, None, true, All, ℤ}
 use Rattle.imp_syntax.specs.declared.edit.Location.{Location}
 use Rattle.imp_syntax.specs.declared.edit.Location.TheVariants.{Before, After, Head, End}
 use Rattle.imp_slots.specs.Plain.{Code, Stop, Simple, If, While, Call, Break, Routine}

@@ -51,6 +51,15 @@ Awaits body (Test n g b w) q = ⊥
 Awaits body (Done n None w) q = ⊥
 Awaits body (Done n (Some i) w) q = (r : Code) × StandsIn body (Call n i q r)
 
+abbrev pub layout_at : Option Routine → Layout
+layout_at None = record { numbers = []; links = [] }
+layout_at (Some r) = r.layout
+
+-- the variables of the frames, the last frame's first
+abbrev pub variables_of : List Frame → List Variables
+variables_of [] = []
+variables_of (In p v w ∷ below) = v ∷ variables_of below
+
 module _ (program : List Routine) where
   -- The frames, the last one first: the first is main's and no other, and each other stands on a caller that awaits it.
   abbrev pub AreStacked : List Frame → Type 0
@@ -63,18 +72,10 @@ module _ (program : List Routine) where
   DoTheirWork [] = Unit {0}
   DoTheirWork (In p v w ∷ below) = MatchOption (slice_get program p) ⊥ (λ r. IsWork p r.code w) × DoTheirWork below
 
-  abbrev pub layout_at : Option Routine → Layout
-  layout_at None = record { numbers = []; links = [] }
-  layout_at (Some r) = r.layout
-
   -- the layouts of the frames' procedures, the last frame's first
   abbrev pub layouts_of : List Frame → List Layout
   layouts_of [] = []
   layouts_of (In p v w ∷ below) = layout_at (slice_get program p) ∷ layouts_of below
-
-  abbrev pub variables_of : List Frame → List Variables
-  variables_of [] = []
-  variables_of (In p v w ∷ below) = v ∷ variables_of below
 
   pub record IsWellFormed (c : Config) : Type 0 where
     pub stacked : AreStacked c.frames

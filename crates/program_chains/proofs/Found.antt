@@ -1,6 +1,5 @@
 -- Statements and procedures are found, and chains go through callers.
 use Rattle.std.specs.Prelude.{◌≡◌, ◌≢◌, ◌==◌, ℕ, zero, suc, ◌+◌, ◌-◌, ◌<◌, ◌≤◌, nat_lt, List, [], ◌∷◌, ◌++◌, length, map, slice_get, Option, Some, None, Bool, true, false, if◌then◌else◌}
-use Rattle.std.specs.Bool.{Decides}
 use Rattle.std.specs.Str.{bytes_eq}
 use Rattle.std.proofs.Common.{refl, sym, ap, ◌∙◌, subst, arith}
 use Rattle.std.proofs.lemmas.Bool.Decides.{nat_tests}
@@ -8,9 +7,9 @@ use Rattle.std.proofs.lemmas.Slice.Eq.{bytes_eq-Decides}
 use Rattle.std.proofs.lemmas.List.{length-append}
 use Rattle.std.proofs.lemmas.Option.{slice_get_within}
 use Rattle.imp_slots.specs.Plain.{Layout, Invoke, Code, Stop, Simple, If, While, Call, Break, Routine, code_numbers}
-use Rattle.imp_slots.specs.Fits.{FitsCall, FitsCode, FitsRoutine, FitInTurn, Absent, Distinct, routine_numbers, IsChecked}
-use Rattle.program_chains.specs.Chains.{calls_to, extended, through, chains_within, chains, has, holder_from, holder, named_from, named}
-use Rattle.program_chains.specs.Claims.{ChainsAreThroughCallers, IsFound, PlacesAreFound}
+use Rattle.imp_slots.specs.Fits.{FitsCall, FitsCode, FitInTurn, Absent, Distinct, routine_numbers, IsChecked}
+use Rattle.program_chains.specs.Chains.{calls_to, extended, through, chains_within, has, holder_from, named_from}
+use Rattle.program_chains.specs.Claims.{ChainsAreThroughCallers, PlacesAreFound}
 
 by_test : (a b : ℕ) (P : Bool → Type 0) → (a ≡ b → P true) → (a ≢ b → P false) → P (a == b)
 by_test a b P t f = go (a == b) refl

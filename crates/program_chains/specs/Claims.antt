@@ -1,5 +1,5 @@
 -- What is claimed of chains, places and marks.
-use Rattle.std.specs.Prelude.{◌≡◌, ◌≢◌, ℕ, suc, ◌<◌, List, length, slice_get, Some, true}
+use Rattle.std.specs.Prelude.{◌≡◌, ℕ, suc, ◌<◌, List, length, slice_get, Some, true}
 use Rattle.imp_slots.specs.Plain.{Routine, code_numbers}
 use Rattle.imp_slots.specs.Fits.{FitsCode, IsChecked}
 use Rattle.program_chains.specs.declared.widening.Widening.{Widening}

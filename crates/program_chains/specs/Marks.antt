@@ -1,5 +1,5 @@
 -- The marks of a procedure, at which widening stops.
-use Rattle.std.specs.Prelude.{ℕ, ℤ, pos, negsuc, neg_ℤ, int_lt, ◌<ℤ◌, FitsSigned, List, [], ◌∷◌, ◌++◌, Option, Some, None, Bool, true, false, if◌then◌else◌}
+use Rattle.std.specs.Prelude.{ℕ, ℤ, pos, negsuc, neg_ℤ, int_lt, ◌<ℤ◌, FitsSigned, List, [], ◌∷◌, ◌++◌, if◌then◌else◌}
 use Rattle.std.specs.Int.{w64}
 use Rattle.imp_slots.specs.Plain.{Term, Literal, Slot, Length, Negative, Binary, Guard, Compare, CompareLinks, Not, And, Or, Effect, Skip, Assert, SetInt, Input, ReadElement, ReadItem, MakeArray, CopyArray, WriteElement, SetNull, MakeCell, CopyLink, ReadNext, WriteNext, WriteItem, Argument, IntArgument, ArrayArgument, LinkArgument, Code, Stop, Simple, If, While, Call, Break, Routine}
 use Rattle.program_chains.specs.declared.widening.Widening.{Widening}

@@ -1,16 +1,18 @@
 -- The report: a verdict on each statement that has a check.
 use Rattle.std.specs.Prelude.{ℕ, List, [], ◌∷◌, ◌++◌, map, Option, Some, None}
 use Rattle.imp_syntax.specs.declared.edit.Location.TheVariants.{Before}
-use Rattle.imp_slots.specs.Plain.{Effect, Code, Stop, Simple, If, While, Call, Break, Routine}
+use Rattle.imp_slots.specs.Plain.{Effect, Does, Code, Stop, Simple, If, While, Call, Break, Routine}
 use Rattle.domain_laws.specs.declared.verdict.Verdict.{Verdict}
-use Rattle.domain_laws.specs.declared.verdict.Verdict.TheVariants.{Dead, Safe, May}
+use Rattle.domain_laws.specs.declared.verdict.Verdict.TheVariants.{Dead, May}
 use Rattle.domain_laws.specs.Operations.{Operations}
-use Rattle.domain_laws.specs.Checks.{Check, check_of}
-use Rattle.batch_interp.specs.Values.{Value, State, Over}
-use Rattle.batch_interp.specs.Batch.{Engine}
-use Rattle.batch_interp.specs.Answers.{Answer, Refuses, Answers, answer}
-use Rattle.batch_interp.specs.declared.refusal.Refusal.{Refusal}
-use Rattle.batch_interp.specs.declared.refusal.Refusal.TheVariants.{LongString, NoProcedure, NoStatement, WrongStatement, NoChain}
+use Rattle.domain_laws.specs.Checks.{Check, Within, IsCell, Claims, check_of}
+use Rattle.domain_laws.specs.declared.findings.Check.{Check as Kind}
+use Rattle.domain_laws.specs.declared.findings.Check.TheVariants.{Bounds, Null, Assert}
+use Rattle.domain_laws.specs.declared.findings.Finding.{Finding}
+use Rattle.batch_meaning.specs.Values.{State, Over}
+use Rattle.batch_meaning.specs.Batch.{Engine}
+use Rattle.batch_meaning.specs.Answers.{Answer, Refuses, Answers, answer}
+use Rattle.batch_meaning.specs.declared.refusal.Refusal.TheVariants.{LongString, NoProcedure, NoStatement, WrongStatement, NoChain}
 
 -- A statement that has a check.
 pub record Checked : Type 0 where
@@ -35,10 +37,11 @@ abbrev pub checked_statements : List Routine → List Checked
 checked_statements [] = []
 checked_statements (r ∷ rs) = checked_in r.code ++ checked_statements rs
 
--- A statement with the verdict on its check.
-pub record Finding : Type 0 where
-  pub statement : Checked
-  pub verdict : Verdict
+-- what a check asks
+abbrev pub kind_of : Check → Kind
+kind_of (Within a e) = Bounds
+kind_of (IsCell p) = Null
+kind_of (Claims g) = Assert
 
 module _ {S : Type 0} (dom : Operations S) (engine : Engine) where
   -- dead where no chain comes to the procedure, may where the value is Over, else what the state says
@@ -49,10 +52,10 @@ module _ {S : Type 0} (dom : Operations S) (engine : Engine) where
   verdict_on e (Refuses NoStatement) = May
   verdict_on e (Refuses WrongStatement) = May
   verdict_on e (Answers (Over n z)) = May
-  verdict_on e (Answers (State s)) = dom.check e s
+  verdict_on e (Answers (State s)) = dom.check (Does e) s
 
   abbrev pub finding : List Routine → Checked → Finding
-  finding program c = record { statement = c; verdict = verdict_on c.effect (answer dom engine program (Before c.number) []) }
+  finding program c = record { id = c.number; check = kind_of c.check; verdict = verdict_on c.effect (answer dom engine program (Before c.number) []) }
 
   abbrev pub report : List Routine → List Finding
   report program = map (finding program) (checked_statements program)

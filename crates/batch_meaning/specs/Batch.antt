@@ -1,10 +1,10 @@
 -- Batch interpretation: the value behind a block from the value in front of it, by recursion on the syntax.
-use Rattle.std.specs.Prelude.{ℕ, zero, suc, nat_lt, ◌==◌, ℤ, List, [], ◌∷◌, ◌++◌, length, Bool, true, false, if◌then◌else◌}
-use Rattle.imp_slots.specs.Plain.{Guard, DoBreak, Does, Invoke, Code, Stop, Simple, If, While, Call, Break, Routine}
+use Rattle.std.specs.Prelude.{ℕ, zero, suc, nat_lt, ◌==◌, ℤ, List, [], ◌∷◌, ◌++◌, length, true, false, if◌then◌else◌}
+use Rattle.imp_slots.specs.Plain.{Guard, DoBreak, Does, Code, Stop, Simple, If, While, Call, Break, Routine}
 use Rattle.program_chains.specs.declared.widening.Widening.{Widening}
 use Rattle.program_chains.specs.Marks.{marks}
 use Rattle.domain_laws.specs.Operations.{Operations}
-use Rattle.batch_interp.specs.Values.{Value, State, Over, lift, lift2}
+use Rattle.batch_meaning.specs.Values.{Value, State, Over, lift, lift2}
 
 -- How many rounds a loop may take, and how its iterates are made.
 pub record Engine : Type 0 where

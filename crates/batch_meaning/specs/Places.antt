@@ -1,12 +1,13 @@
 -- The values at a procedure's statements, and at a location under a chain.
-use Rattle.std.specs.Prelude.{ℕ, ◌==◌, ℤ, List, [], ◌∷◌, ◌++◌, length, reverse, Option, Some, None, Bool, true, false, if◌then◌else◌}
+use Rattle.std.specs.Prelude.{ℕ, ◌==◌, ℤ, List, [], ◌∷◌, ◌++◌, length, reverse, Option, Some, None, true, false, if◌then◌else◌}
+use Rattle.std.specs.Str.{bytes_eq}
 use Rattle.imp_syntax.specs.declared.edit.Location.{Location}
 use Rattle.imp_syntax.specs.declared.edit.Location.TheVariants.{Before, After, Head, End}
 use Rattle.imp_slots.specs.Plain.{Layout, DoBreak, Does, Invoke, Code, Stop, Simple, If, While, Call, Break, Routine}
 use Rattle.program_chains.specs.Marks.{marks}
 use Rattle.domain_laws.specs.Operations.{Operations}
-use Rattle.batch_interp.specs.Values.{Value, State, Over, lift, lift2}
-use Rattle.batch_interp.specs.Batch.{Engine, Passed, Fixed, head_of, behind, batch, calls_of}
+use Rattle.batch_meaning.specs.Values.{Value, State, lift, lift2}
+use Rattle.batch_meaning.specs.Batch.{Engine, Fixed, head_of, behind, batch, calls_of}
 
 -- What is known at a statement: the value in front of it, at its head where it is a loop, behind it; and its call.
 pub record Spot (S : Type 0) : Type 0 where
@@ -29,6 +30,20 @@ if_some (Some a) f = f a
 
 abbrev pub head_value : {S : Type 0} → Spot S → Option (Value S)
 head_value s = if_some s.head (λ h. Some h.value)
+
+-- the procedures from the q-th down to the first, the last one first
+abbrev pub from : List Routine → (q : ℕ) → List Routine
+from [] q = []
+from (r ∷ earlier) q = if q == length earlier then r ∷ earlier else from earlier q
+
+abbrev pub earlier_of : List Routine → List Routine
+earlier_of [] = []
+earlier_of (r ∷ earlier) = earlier
+
+-- main's layout, the last procedure's
+abbrev pub main_layout : List Routine → Layout
+main_layout [] = record { numbers = []; links = [] }
+main_layout (r ∷ earlier) = r.layout
 
 module _ {S : Type 0} (dom : Operations S) (engine : Engine) where
   module _ (marks : List ℤ) (z : List ℕ) (calls : (n q : ℕ) → Value S → Value S) where
@@ -56,35 +71,22 @@ module _ {S : Type 0} (dom : Operations S) (engine : Engine) where
   spots_in [] z a = []
   spots_in (r ∷ earlier) z a = spots (marks engine.widening r) z (calls_of dom engine earlier z) r.code a
 
-  abbrev pub end_of : List Routine → (z : List ℕ) → Value S → Option (Value S)
-  end_of [] z a = None
-  end_of (r ∷ earlier) z a = Some (batch dom engine (marks engine.widening r) z (calls_of dom engine earlier z) r.code a).value
+  -- behind the last one's body, if that is its name
+  abbrev pub end_of : List Routine → (z : List ℕ) → Value S → (name : List ℕ) → Option (Value S)
+  end_of [] z a name = None
+  end_of (r ∷ earlier) z a name = if bytes_eq name r.name then Some (batch dom engine (marks engine.widening r) z (calls_of dom engine earlier z) r.code a).value else None
 
   -- the value at a location there
   abbrev pub value_in : List Routine → (z : List ℕ) → Value S → Location → Option (Value S)
   value_in rs z a (Before n) = if_some (find n (spots_in rs z a)) (λ s. Some s.before)
   value_in rs z a (After n) = if_some (find n (spots_in rs z a)) (λ s. Some s.after)
   value_in rs z a (Head n) = if_some (find n (spots_in rs z a)) head_value
-  value_in rs z a (End x) = end_of rs z a
-
-  -- the procedures from the q-th down to the first, the last one first
-  abbrev pub from : List Routine → (q : ℕ) → List Routine
-  from [] q = []
-  from (r ∷ earlier) q = if q == length earlier then r ∷ earlier else from earlier q
-
-  abbrev pub earlier_of : List Routine → List Routine
-  earlier_of [] = []
-  earlier_of (r ∷ earlier) = earlier
+  value_in rs z a (End name) = end_of rs z a name
 
   -- the procedures and the value in front of the last one's body
   abbrev pub entered : (n : ℕ) → (z : List ℕ) → List Routine × Value S → Option (List Routine × Value S)
   entered n z x =
       if_some (find n (spots_in x.0 z x.1)) (λ s. if_some s.call (λ k. Some (from (earlier_of x.0) k.1, lift (dom.enter k.0.entering) s.before)))
-
-  -- main's layout, the last procedure's
-  abbrev pub main_layout : List Routine → Layout
-  main_layout [] = record { numbers = []; links = [] }
-  main_layout (r ∷ earlier) = r.layout
 
   -- under a chain of call sites, the last first
   abbrev pub entry : List Routine → (z : List ℕ) → Option (List Routine × Value S)

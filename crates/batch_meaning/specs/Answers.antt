@@ -5,11 +5,11 @@ use Rattle.imp_syntax.specs.declared.edit.Location.TheVariants.{Before, After, H
 use Rattle.imp_slots.specs.Plain.{Routine}
 use Rattle.program_chains.specs.Chains.{selected, holder, named, is_while}
 use Rattle.domain_laws.specs.Operations.{Operations}
-use Rattle.batch_interp.specs.Values.{Value, lift}
-use Rattle.batch_interp.specs.Batch.{Engine, joined}
-use Rattle.batch_interp.specs.Places.{if_some, value_at}
-use Rattle.batch_interp.specs.declared.refusal.Refusal.{Refusal}
-use Rattle.batch_interp.specs.declared.refusal.Refusal.TheVariants.{LongString, NoProcedure, NoStatement, WrongStatement, NoChain}
+use Rattle.batch_meaning.specs.Values.{Value, lift}
+use Rattle.batch_meaning.specs.Batch.{Engine, joined}
+use Rattle.batch_meaning.specs.Places.{if_some, value_at}
+use Rattle.batch_meaning.specs.declared.refusal.Refusal.{Refusal}
+use Rattle.batch_meaning.specs.declared.refusal.Refusal.TheVariants.{LongString, NoProcedure, NoStatement, WrongStatement, NoChain}
 
 pub data Answer (S : Type 0) : Type 0 where
   Refuses : Refusal → Answer S

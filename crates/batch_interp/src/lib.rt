@@ -1,6 +1,0 @@
-//! Batch interpretation.
-#![tactic(auto)]
-
-mod refusal;
-
-pub use refusal::Refusal;
