@@ -1,5 +1,5 @@
 -- The slots of a layout, place by place.
-use Rattle.std.proofs.Common.{ℕ, zero, suc, ◌+◌, ◌<◌, ◌≡◌, List, [], ◌∷◌, ◌++◌, length, drop, get_or, pos, refl, ap, arith, add-one, append_assoc, ◌∙◌, sym}
+use Rattle.std.proofs.Common.{ℕ, zero, suc, ◌+◌, ◌<◌, ◌≡◌, List, [], ◌∷◌, ◌++◌, length, drop, get_or, pos, ap, arith, add-one, append_assoc, ◌∙◌, sym}
 use Rattle.imp_slots.specs.Plain.{Numeric}
 use Rattle.num_bounds.specs.Bounds.{Bounds}
 use Rattle.num_bounds.specs.Operations.{single}

@@ -1,11 +1,11 @@
 -- Calls: what a state describes stays described over entering and leaving, and states that fit stay so.
-use Rattle.std.proofs.Common.{◌≡◌, refl, sym, ap, ◌∙◌, subst, ℕ, zero, suc, ◌≤◌, nat_lt, ℤ, pos, ◌≤ℤ◌, Bool, true, false, not, ◌&&◌, ◌||◌, List, [], ◌∷◌, map, drop, length, slice_get, slice_index_or, Option, Some, None, IfSome, arith, if◌then◌else◌, ◌⊎◌, inl, inr}
+use Rattle.std.proofs.Common.{◌≡◌, refl, sym, ap, ◌∙◌, subst, ℕ, nat_lt, ℤ, pos, Bool, true, false, ◌&&◌, ◌||◌, List, [], ◌∷◌, map, drop, length, slice_get, Option, Some, None, IfSome, arith, if◌then◌else◌, ◌⊎◌, inl, inr}
 use Rattle.std.proofs.lemmas.Int.{ints}
 use Rattle.std.proofs.lemmas.Bool.{and_parts}
 use Rattle.std.specs.List.{AllZip}
-use Rattle.imp_slots.specs.Plain.{Numeric, Layout, Term, Argument, IntArgument, ArrayArgument, LinkArgument, Entering, Returning, NumericResult, LinkResult, Invoke}
-use Rattle.imp_slots.specs.Fits.{is_kind, is_int, is_array, is_link, is_side, fits_term, fits_arguments, fits_returning, fits_invoke}
-use Rattle.concrete_sem.specs.Values.{Number, Int, Array, Variables, Attempt, Gives, Faults, LacksInput, andthen, as_array, number_at, array_at, link_at, with_number, with_link}
+use Rattle.imp_slots.specs.Plain.{Numeric, Layout, Argument, IntArgument, ArrayArgument, LinkArgument, Returning, NumericResult, LinkResult, Invoke}
+use Rattle.imp_slots.specs.Fits.{is_kind, is_int, is_array, is_side, fits_term, fits_arguments, fits_returning, fits_invoke}
+use Rattle.concrete_sem.specs.Values.{Number, Int, Array, Variables, Gives, andthen, as_array, number_at, array_at}
 use Rattle.concrete_sem.specs.Evaluation.{value_of, side_at}
 use Rattle.concrete_sem.specs.Passing.{first_number, first_link, first_variables, passed, over, pass, back}
 use Rattle.concrete_sem.specs.Proper.{IsNumber}
@@ -14,12 +14,12 @@ use Rattle.num_bounds.specs.Bounds.{Bounds, IsRange, Within as Lies}
 use Rattle.num_bounds.specs.Operations.{single}
 use Rattle.num_bounds.specs.Meaning.{Covers}
 use Rattle.dom_interval.specs.State.{Intervals, Empty, Within}
-use Rattle.dom_interval.specs.Ranges.{extremes, slot_at, range_at, with_range, range_of, if_range}
-use Rattle.dom_interval.specs.Operations.{after, filled, init, in_front, argument_ranges, entered, enter, returned, leave}
+use Rattle.dom_interval.specs.Ranges.{range_at, with_range, range_of, if_range}
+use Rattle.dom_interval.specs.Operations.{filled, init, in_front, argument_ranges, entered, enter, returned, leave}
 use Rattle.dom_interval.specs.Covers.{measure, Holds}
 use Rattle.dom_interval.specs.SlotLaws.{FitsSlot, FitsRange, range-fits, at-fits, at-kind, at-holds, set-fits, set-holds, array-at, kind-is, kind-none}
 use Rattle.dom_interval.specs.RangeLaws.{range_of-covers, range_of-range}
-use Rattle.dom_interval.specs.CompareLaws.{FitsState, Describes, after-fits, after-describes}
+use Rattle.dom_interval.specs.CompareLaws.{FitsState, Describes}
 use Rattle.dom_interval.specs.declared.state.SlotRange.{SlotRange}
 
 gives-same : {A : Type 0} {a b : A} → Gives a ≡ Gives b → a ≡ b

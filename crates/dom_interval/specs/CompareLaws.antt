@@ -10,16 +10,16 @@ use Rattle.imp_syntax.specs.declared.words.Relation.{Relation}
 use Rattle.imp_syntax.specs.declared.words.Relation.TheVariants.{Equal, NotEqual, Less, AtMost, Greater, AtLeast}
 use Rattle.imp_slots.specs.Plain.{Numeric, Layout, Term, Literal, Slot, Length, Negative, Binary, Guard}
 use Rattle.imp_slots.specs.Fits.{fits_term, fits_guard}
-use Rattle.concrete_sem.specs.Values.{Number, Int, Array, Variables, Attempt, Gives, as_int, as_array, number_at}
+use Rattle.concrete_sem.specs.Values.{Number, Variables, Gives, as_int, as_array, number_at}
 use Rattle.concrete_sem.specs.Evaluation.{value_of, truth_of, relates}
 use Rattle.concrete_sem.specs.Proper.{IsNumber}
 use Rattle.domain_laws.specs.GuardLaws.{Compares, Tells, assumed-fits, assumed-covers}
 use Rattle.num_bounds.specs.Bounds.{Bounds, IsRange, Within as Lies, least, greatest}
-use Rattle.num_bounds.specs.Operations.{cut_of, hull_of, between}
+use Rattle.num_bounds.specs.Operations.{cut_of, hull_of}
 use Rattle.num_bounds.specs.Meaning.{Covers}
 use Rattle.num_bounds.proofs.Ends.{cut-covers, between-left}
 use Rattle.dom_interval.specs.State.{Intervals, Empty, Within}
-use Rattle.dom_interval.specs.Ranges.{extremes, slot_at, range_at, with_range, range_of}
+use Rattle.dom_interval.specs.Ranges.{slot_at, range_at, with_range, range_of}
 use Rattle.dom_interval.specs.Operations.{needs, after, side_of, cut_side, cut_both, less, at_most, equal, is_single, lose_end, not_equal, related, compare, compare_ranges, compare_links, hull_slot, join, assume}
 use Rattle.dom_interval.specs.Covers.{measure, Holds}
 use Rattle.dom_interval.specs.SlotLaws.{FitsSlot, FitsRange, at-fits, at-holds, set-fits, cut-holds, int-at, array-at}

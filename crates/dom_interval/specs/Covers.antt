@@ -1,9 +1,9 @@
 -- Which configurations a state describes, and which states fit the layouts of frames.
-use Rattle.std.specs.Prelude.{Bool, true, false, ◌&&◌, ℤ, pos, ◌≤ℤ◌, int_le, List, [], ◌∷◌, length}
+use Rattle.std.specs.Prelude.{Bool, true, false, ◌&&◌, ℤ, pos, int_le, List, [], ◌∷◌, length}
 use Rattle.std.specs.List.{AllZip}
 use Rattle.imp_slots.specs.Plain.{Numeric, Layout}
 use Rattle.concrete_sem.specs.Values.{Number, Int, Array, Variables, Heap}
-use Rattle.num_bounds.specs.Bounds.{Bounds, Within as Lies}
+use Rattle.num_bounds.specs.Bounds.{Within as Lies}
 use Rattle.dom_interval.specs.State.{Intervals, Empty, Within, bool_same}
 use Rattle.dom_interval.specs.Ranges.{extremes}
 use Rattle.dom_interval.specs.declared.state.SlotRange.{SlotRange}

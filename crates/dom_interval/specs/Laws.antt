@@ -1,26 +1,23 @@
 -- The intervals are a domain.
-use Rattle.std.proofs.Common.{◌≡◌, refl, sym, ap, ◌∙◌, subst, ℕ, ℤ, Bool, true, false, not, ◌&&◌, ◌↔◌, List, [], ◌∷◌, length, All, Option, Some, None}
-use Rattle.std.specs.List.{AllZip}
-use Rattle.imp_syntax.specs.declared.words.Relation.{Relation}
-use Rattle.imp_slots.specs.Plain.{Layout, Guard, Compare, CompareLinks, Not, And, Or, Effect, Act, DoBreak, Does, Invoke}
-use Rattle.imp_slots.specs.Fits.{fits_effect, fits_guard}
-use Rattle.concrete_sem.specs.Values.{Variables, Heap, Gives, Faults}
-use Rattle.concrete_sem.specs.Evaluation.{truth_of}
+use Rattle.std.proofs.Common.{◌≡◌, refl, sym, ap, ◌∙◌, subst, ℤ, Bool, true, false, List, [], ◌∷◌, Option, Some, None}
+use Rattle.imp_slots.specs.Plain.{Layout, Guard, Compare, CompareLinks, Not, And, Or, Effect, Act, DoBreak, Does}
+use Rattle.imp_slots.specs.Fits.{fits_effect}
+use Rattle.concrete_sem.specs.Values.{Variables, Heap, Faults}
 use Rattle.concrete_sem.specs.Effects.{effect_of}
 use Rattle.concrete_sem.specs.Passing.{first_variables, back}
-use Rattle.concrete_sem.specs.Proper.{IsNumber, IsLink, IsProper}
+use Rattle.concrete_sem.specs.Proper.{IsProper}
 use Rattle.domain_laws.specs.declared.verdict.Verdict.TheVariants.{Dead, Safe}
 use Rattle.domain_laws.specs.Checks.{Check, check_of, checked_guard, fault_of}
 use Rattle.domain_laws.specs.Guards.{assumed, past_check, verdict_on}
 use Rattle.domain_laws.specs.CheckLaws.{ChecksTo, FailsCheck, FitsCheck, check-failed, check-fits}
 use Rattle.domain_laws.specs.GuardLaws.{verdict_by-dead, verdict_by-safe}
-use Rattle.domain_laws.specs.Laws.{Fitting, Laws, KeepsDead, fits_act}
-use Rattle.dom_interval.specs.State.{Intervals, Empty, Within, intervals_same, intervals_Decides}
+use Rattle.domain_laws.specs.Laws.{Fitting, Laws, KeepsDead}
+use Rattle.dom_interval.specs.State.{Intervals, Empty, Within, intervals_Decides}
 use Rattle.dom_interval.specs.Operations.{init, after, compare, compare_links, join, assume, does, post, enter, leave, check, dead}
 use Rattle.dom_interval.specs.Widening.{widen}
-use Rattle.dom_interval.specs.Covers.{Holds, covers, fits, fits_slots}
+use Rattle.dom_interval.specs.Covers.{covers, fits}
 use Rattle.dom_interval.specs.Domain.{intervals}
-use Rattle.dom_interval.specs.SlotLaws.{FitsSlot, fits_slots-true, true-fits_slots}
+use Rattle.dom_interval.specs.SlotLaws.{fits_slots-true, true-fits_slots}
 use Rattle.dom_interval.specs.CompareLaws.{FitsState, Describes, join-fits, join-left, join-right, assume-fits, assume-describes}
 use Rattle.dom_interval.specs.StepLaws.{post-fits, post-describes}
 use Rattle.dom_interval.specs.CallLaws.{init-fits, init-describes, enter-fits, enter-describes, leave-fits, leave-describes}

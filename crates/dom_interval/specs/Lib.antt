@@ -14,3 +14,4 @@ pub mod StepLaws
 pub mod CallLaws
 pub mod WidenLaws
 pub mod Laws
+pub mod Convergence

@@ -11,7 +11,7 @@ use Rattle.domain_laws.specs.Checks.{check_of}
 use Rattle.domain_laws.specs.Guards.{assumed, past_check, verdict_by}
 use Rattle.domain_laws.specs.declared.verdict.Verdict.{Verdict}
 use Rattle.dom_interval.specs.State.{Intervals, Empty, Within}
-use Rattle.dom_interval.specs.Ranges.{longest, full, slot_at, range_at, with_range, if_range, range_of}
+use Rattle.dom_interval.specs.Ranges.{longest, full, range_at, with_range, if_range, range_of}
 use Rattle.dom_interval.specs.declared.state.SlotRange.{SlotRange}
 
 -- Empty where a range is needed and there is none

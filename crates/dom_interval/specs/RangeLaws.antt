@@ -1,5 +1,5 @@
 -- The range of an expression holds its value.
-use Rattle.std.proofs.Common.{◌≡◌, ◌≢◌, refl, sym, ap, ◌∙◌, subst, ℕ, ◌<◌, ◌≤◌, ◌^◌, ℤ, pos, negsuc, ◌≤ℤ◌, ◌+ℤ◌, ◌-ℤ◌, ◌*ℤ◌, neg_ℤ, int_div, int_rem, int_lt, unsigned_abs, ◌==◌, Bool, true, false, ◌&&◌, nat_lt, List, length, slice_index_or, Option, Some, None, IfSome, arith, if◌then◌else◌}
+use Rattle.std.proofs.Common.{◌≡◌, ◌≢◌, refl, sym, ap, ◌∙◌, subst, ℕ, ◌<◌, ◌≤◌, ◌^◌, ℤ, pos, negsuc, ◌≤ℤ◌, ◌+ℤ◌, ◌-ℤ◌, ◌*ℤ◌, neg_ℤ, int_div, int_rem, int_lt, unsigned_abs, ◌==◌, Bool, true, false, List, length, Option, Some, None, IfSome, arith, if◌then◌else◌}
 use Rattle.std.proofs.lemmas.Int.{ints}
 use Rattle.std.proofs.lemmas.Bool.{and_parts}
 use Rattle.std.proofs.lemmas.Bool.Decides.{Decides-int_eq}
@@ -8,15 +8,15 @@ use Rattle.std.specs.List.{AllZip}
 use borrow.Author.Tests.{ltb-true}
 use Rattle.imp_syntax.specs.declared.words.Operator.{Operator}
 use Rattle.imp_syntax.specs.declared.words.Operator.TheVariants.{Add, Subtract, Multiply, Divide, Remainder}
-use Rattle.imp_slots.specs.Plain.{Numeric, Layout, Term, Literal, Slot, Length, Negative, Binary}
+use Rattle.imp_slots.specs.Plain.{Layout, Term, Literal, Slot, Length, Negative, Binary}
 use Rattle.imp_slots.specs.Fits.{fits_term}
 use Rattle.concrete_sem.specs.declared.fault.FaultKind.TheVariants.{Overflow, Zero}
-use Rattle.concrete_sem.specs.Values.{Number, Int, Array, Variables, Attempt, Gives, Faults, LacksInput, andthen, as_int, as_array, number_at, is_word, IsWord}
-use Rattle.concrete_sem.specs.Evaluation.{value_of, word as word_of, quotient, remainder, combine}
+use Rattle.concrete_sem.specs.Values.{Variables, Gives, Faults, andthen, as_int, as_array, number_at, is_word, IsWord}
+use Rattle.concrete_sem.specs.Evaluation.{value_of, word as word_of, quotient, combine}
 use Rattle.concrete_sem.specs.Proper.{IsNumber}
 use Rattle.domain_laws.specs.CheckLaws.{andthen-gives}
 use Rattle.num_bounds.specs.Bounds.{Bounds, IsRange, Within as Lies, least, greatest}
-use Rattle.num_bounds.specs.Operations.{single, word, word_if, sums, differences, negations, products, quotients, remainders, remainder_limit, least_remainder, greatest_remainder, magnitude}
+use Rattle.num_bounds.specs.Operations.{word, word_if, sums, differences, negations, products, quotients, remainders, remainder_limit, least_remainder, greatest_remainder, magnitude}
 use Rattle.num_bounds.specs.Meaning.{Covers}
 use Rattle.num_bounds.proofs.Ends.{word-range}
 use Rattle.num_bounds.proofs.Sums.{sums-sound, differences-sound, negations-sound}
@@ -25,7 +25,7 @@ use Rattle.num_bounds.proofs.Quotients.{quotients-sound, quotients-range}
 use Rattle.num_bounds.proofs.Remainders.{remainders-sound}
 use Rattle.dom_interval.specs.Ranges.{range_at, if_range, operation, range_of}
 use Rattle.dom_interval.specs.Covers.{measure, Holds}
-use Rattle.dom_interval.specs.SlotLaws.{FitsSlot, FitsRange, fits-range, at-fits, at-holds, int-at, array-at, word-fits}
+use Rattle.dom_interval.specs.SlotLaws.{FitsSlot, fits-range, at-fits, at-holds, int-at, array-at, word-fits}
 use Rattle.dom_interval.specs.declared.state.SlotRange.{SlotRange}
 
 gives-same : {A : Type 0} {a b : A} → Gives a ≡ Gives b → a ≡ b

@@ -1,11 +1,10 @@
 -- The ranges of slots and of expressions.
-use Rattle.std.specs.Prelude.{ℕ, Bool, true, false, ℤ, pos, negsuc, ◌-ℤ◌, List, [], ◌∷◌, slice_index_or, slice_set, Option, Some, None}
+use Rattle.std.specs.Prelude.{ℕ, Bool, true, false, ℤ, pos, List, slice_index_or, slice_set, Option, Some, None}
 use Rattle.imp_syntax.specs.declared.words.Operator.{Operator}
 use Rattle.imp_syntax.specs.declared.words.Operator.TheVariants.{Add, Subtract, Multiply, Divide, Remainder}
 use Rattle.imp_slots.specs.Plain.{Term, Literal, Slot, Length, Negative, Binary}
 use Rattle.num_bounds.specs.Bounds.{Bounds, least, greatest}
 use Rattle.num_bounds.specs.Operations.{single, word, sums, differences, negations, products, quotients, word_if, remainders}
-use Rattle.dom_interval.specs.State.{Intervals, Empty, Within}
 use Rattle.dom_interval.specs.declared.state.SlotRange.{SlotRange}
 
 -- the greatest length of an array

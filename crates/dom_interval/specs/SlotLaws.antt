@@ -1,15 +1,14 @@
 -- Slots that fit a layout, and slots that hold the values of a frame.
-use Rattle.std.proofs.Common.{◌≡◌, refl, sym, ap, ◌∙◌, subst, ℕ, zero, suc, ◌<◌, ◌≤◌, ◌^◌, ℤ, pos, negsuc, ◌≤ℤ◌, int_le, Bool, true, false, not, ◌&&◌, nat_lt, List, [], ◌∷◌, length, slice_get, slice_index_or, slice_set, Option, Some, None, IfSome, arith, FitsSigned, if◌then◌else◌}
+use Rattle.std.proofs.Common.{◌≡◌, refl, sym, ◌∙◌, ℕ, zero, suc, ◌<◌, ◌≤◌, ◌^◌, ℤ, pos, negsuc, ◌≤ℤ◌, int_le, Bool, true, false, not, ◌&&◌, List, [], ◌∷◌, length, slice_get, slice_index_or, slice_set, Some, None, arith}
 use Rattle.std.proofs.lemmas.Int.{ints}
 use Rattle.std.proofs.lemmas.Bool.{and_parts, and_from}
 use Rattle.std.specs.List.{AllZip}
-use Rattle.std.specs.Int.{w64}
 use borrow.Author.Tests.{ltb-true}
 use Rattle.imp_slots.specs.Plain.{Numeric}
 use Rattle.imp_slots.specs.Fits.{is_kind}
 use Rattle.concrete_sem.specs.Values.{Number, Int, Array, is_word, IsWord}
 use Rattle.concrete_sem.specs.Proper.{IsNumber}
-use Rattle.num_bounds.specs.Bounds.{Bounds, IsRange, Within as Lies, least, greatest}
+use Rattle.num_bounds.specs.Bounds.{Bounds, IsRange, Within as Lies}
 use Rattle.dom_interval.specs.State.{bool_same}
 use Rattle.dom_interval.specs.Ranges.{extremes, slot_at, range_at, with_range, full}
 use Rattle.dom_interval.specs.Covers.{measure, Holds, fits_slot, fits_slots}

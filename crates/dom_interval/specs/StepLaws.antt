@@ -1,33 +1,32 @@
 -- Simple statements: what a state describes stays described, and states that fit stay so.
-use Rattle.std.proofs.Common.{◌≡◌, refl, sym, ap, ◌∙◌, subst, ℕ, zero, suc, ◌<◌, ◌≤◌, ◌^◌, nat_lt, nat_le, ℤ, pos, negsuc, ◌≤ℤ◌, Bool, true, false, not, ◌&&◌, List, [], ◌∷◌, length, replicate, slice_get, slice_index_or, slice_set, All, Option, Some, None, IfSome, arith, if◌then◌else◌}
+use Rattle.std.proofs.Common.{◌≡◌, refl, sym, ap, ◌∙◌, subst, ℕ, zero, suc, ◌≤◌, nat_lt, nat_le, ℤ, pos, negsuc, ◌≤ℤ◌, Bool, true, false, ◌&&◌, List, [], ◌∷◌, length, replicate, slice_get, slice_index_or, slice_set, All, Option, Some, None, IfSome, arith, if◌then◌else◌}
 use Rattle.std.proofs.lemmas.Int.{ints, clamps}
 use Rattle.std.proofs.lemmas.Bool.{and_parts}
 use Rattle.std.proofs.lemmas.List.{length-set, length-replicate}
 use Rattle.std.proofs.lemmas.Bool.Decides.{nat_tests}
 use Rattle.std.specs.Int.{int_max, int_min}
 use Rattle.std.specs.List.{AllZip}
-use Rattle.imp_slots.specs.Plain.{Numeric, Layout, Term, Guard, Effect, Skip, Assert, SetInt, Input, ReadElement, ReadItem, MakeArray, CopyArray, WriteElement, SetNull, MakeCell, CopyLink, ReadNext, WriteNext, WriteItem, Act, DoBreak, Does}
-use Rattle.imp_slots.specs.Fits.{fits_term, fits_guard, fits_effect, is_int, is_array, is_link, is_kind}
+use Rattle.imp_slots.specs.Plain.{Numeric, Layout, Effect, Skip, Assert, SetInt, Input, ReadElement, ReadItem, MakeArray, CopyArray, WriteElement, SetNull, MakeCell, CopyLink, ReadNext, WriteNext, WriteItem, Act, DoBreak, Does}
+use Rattle.imp_slots.specs.Fits.{fits_term, fits_effect, is_int, is_array, is_link, is_kind}
 use Rattle.concrete_sem.specs.declared.fault.FaultKind.TheVariants.{Length as TooLong, Index, Null, Assert as Failed}
-use Rattle.concrete_sem.specs.Values.{Number, Int, Array, Variables, Cell, Heap, Attempt, Gives, Faults, LacksInput, andthen, given_or, as_array, number_at, array_at, link_at, with_number, with_link, IsWord}
+use Rattle.concrete_sem.specs.Values.{Number, Int, Array, Variables, Cell, Heap, Gives, Faults, andthen, given_or, as_array, number_at, array_at, link_at, with_number, with_link, IsWord}
 use Rattle.concrete_sem.specs.Evaluation.{value_of, truth_of}
 use Rattle.concrete_sem.specs.Effects.{effect_of, new_array, element, with_element, cell_of, take_input, with_cell}
-use Rattle.concrete_sem.specs.Proper.{IsNumber, IsCell, IsProper, AreFrames, AreVariables}
+use Rattle.concrete_sem.specs.Proper.{IsNumber, IsCell}
 use Rattle.domain_laws.specs.Checks.{Check, check_of, checked_guard}
 use Rattle.domain_laws.specs.Guards.{past_check}
 use Rattle.domain_laws.specs.Laws.{fits_act}
 use Rattle.domain_laws.specs.CheckLaws.{andthen-gives, ChecksTo, FitsCheck, check-passed, check-fits}
-use Rattle.num_bounds.specs.Bounds.{Bounds, IsRange, Within as Lies, least, greatest}
+use Rattle.num_bounds.specs.Bounds.{Bounds, IsRange, Within as Lies}
 use Rattle.num_bounds.specs.Operations.{cut_of}
-use Rattle.num_bounds.specs.Meaning.{Covers}
 use Rattle.num_bounds.proofs.Ends.{cut-covers, between-left}
 use Rattle.dom_interval.specs.State.{Intervals, Empty, Within}
-use Rattle.dom_interval.specs.Ranges.{extremes, longest, full, slot_at, range_at, with_range, range_of}
-use Rattle.dom_interval.specs.Operations.{needs, after, assume, does, post}
+use Rattle.dom_interval.specs.Ranges.{longest, full, range_at, with_range, range_of}
+use Rattle.dom_interval.specs.Operations.{after, assume, does, post}
 use Rattle.dom_interval.specs.Covers.{measure, Holds}
 use Rattle.dom_interval.specs.SlotLaws.{FitsSlot, FitsRange, range-fits, at-fits, at-kind, at-holds, set-fits, set-holds, array-at}
 use Rattle.dom_interval.specs.RangeLaws.{range_of-covers, range_of-range}
-use Rattle.dom_interval.specs.CompareLaws.{FitsState, Describes, after-fits, after-describes, needs-fits, needs-describes, assume-fits, assume-describes}
+use Rattle.dom_interval.specs.CompareLaws.{FitsState, Describes, after-fits, needs-fits, needs-describes, assume-fits, assume-describes}
 use Rattle.dom_interval.specs.declared.state.SlotRange.{SlotRange}
 
 gives-same : {A : Type 0} {a b : A} → Gives a ≡ Gives b → a ≡ b

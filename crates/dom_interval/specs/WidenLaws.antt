@@ -3,10 +3,9 @@ use Rattle.std.proofs.Common.{◌≡◌, refl, sym, subst, ℤ, ◌≤ℤ◌, �
 use Rattle.std.proofs.lemmas.Int.{ints, clamps}
 use Rattle.std.proofs.lemmas.Bool.{and_parts}
 use Rattle.std.specs.Int.{int_max, int_min}
-use Rattle.std.specs.List.{AllZip}
 use Rattle.imp_slots.specs.Plain.{Numeric, Layout}
 use Rattle.concrete_sem.specs.Values.{Number, Variables}
-use Rattle.num_bounds.specs.Bounds.{Bounds, Within as Lies}
+use Rattle.num_bounds.specs.Bounds.{Bounds}
 use Rattle.dom_interval.specs.State.{Intervals, Empty, Within}
 use Rattle.dom_interval.specs.Ranges.{extremes}
 use Rattle.dom_interval.specs.Widening.{mark_below, mark_above, widen_range, widen_slot, widen}

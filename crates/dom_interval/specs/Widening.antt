@@ -1,5 +1,5 @@
 -- Widening of intervals with marks.
-use Rattle.std.specs.Prelude.{Bool, ◌&&◌, ℤ, int_le, if◌then◌else◌, List, [], ◌∷◌, map}
+use Rattle.std.specs.Prelude.{◌&&◌, ℤ, int_le, if◌then◌else◌, List, [], ◌∷◌, map}
 use Rattle.std.specs.Int.{int_max, int_min}
 use Rattle.std.specs.List.{zip}
 use Rattle.num_bounds.specs.Bounds.{Bounds}

@@ -11,6 +11,8 @@
 //! `||` takes a further copy for each join.
 #![tactic(auto)]
 
+ghost use Rattle.dom_interval.specs.Convergence.{WideningEnds};
+
 mod calls;
 mod compare;
 mod domain;
@@ -24,6 +26,12 @@ mod widening;
 
 pub use domain::Interval;
 pub use state::{IntervalState, SlotRange};
+
+/// A theorem, and no work: a state of v slots changes at most 2v(m + 1) times under widening with m
+/// marks, whatever it is widened with.
+pub fn widening_ends()
+    ensures ends { WideningEnds }
+{}
 
 #[cfg(test)]
 mod tests;

@@ -16,8 +16,8 @@ use Rattle.concrete_sem.specs.Proper.{IsLink}
 use Rattle.imp_slots.specs.Fits.{fits_term, fits_guard, fits_effect, is_int, is_array, is_link}
 use Rattle.std.proofs.lemmas.Bool.{and_parts, and_from}
 use Rattle.imp_slots.specs.Plain as plain
-use Rattle.concrete_sem.specs.Evaluation.{relates, word, quotient, combine, value_of, truth_of, same_link, side_at}
-use Rattle.domain_laws.specs.Checks.{Check, Within, IsCell, Claims, check_of, checked_guard, fault_of, opposite}
+use Rattle.concrete_sem.specs.Evaluation.{relates, word, quotient, combine, value_of, truth_of, same_link}
+use Rattle.domain_laws.specs.Checks.{Check, Within, IsCell, check_of, checked_guard, fault_of, opposite}
 
 not_not : (b : Bool) → not (not b) ≡ b
 not_not true = refl
@@ -74,8 +74,8 @@ combine-faults Multiply x y k h = word-faults (is_word (x *ℤ y)) (x *ℤ y) k 
 combine-faults Divide x y k h = quotient-faults (int_eq y (pos 0)) x y k h
 combine-faults Remainder x y k h =
     elim (andthen-faults (quotient x y) (λ q. Gives (int_rem x y)) k h) [
-      inl e ↦ quotient-faults (int_eq y (pos 0)) x y k e
-    | inr e ↦ cc (e.2)
+      | inl e ↦ quotient-faults (int_eq y (pos 0)) x y k e
+      | inr e ↦ cc (e.2)
     ]
 
 -- terms and guards fail by arithmetic alone
@@ -86,15 +86,15 @@ value-faults v (Slot x) k h = cc
 value-faults v (plain.Length a) k h = cc
 value-faults v (Negative t) k h =
     elim (andthen-faults (value_of v t) (λ x. word (neg_ℤ x)) k h) [
-      inl e ↦ value-faults v t k e
-    | inr e ↦ word-faults (is_word (neg_ℤ e.0)) (neg_ℤ e.0) k e.2
+      | inl e ↦ value-faults v t k e
+      | inr e ↦ word-faults (is_word (neg_ℤ e.0)) (neg_ℤ e.0) k e.2
     ]
 value-faults v (Binary o a b) k h =
     elim (andthen-faults (value_of v a) (λ x. andthen (value_of v b) (λ y. combine o x y)) k h) [
-      inl e ↦ value-faults v a k e
-    | inr e ↦ elim (andthen-faults (value_of v b) (λ y. combine o e.0 y) k e.2) [
-        inl f ↦ value-faults v b k f
-      | inr f ↦ combine-faults o e.0 f.0 k f.2
+      | inl e ↦ value-faults v a k e
+      | inr e ↦ elim (andthen-faults (value_of v b) (λ y. combine o e.0 y) k e.2) [
+        | inl f ↦ value-faults v b k f
+        | inr f ↦ combine-faults o e.0 f.0 k f.2
       ]
     ]
 
@@ -110,27 +110,27 @@ pub truth-faults : (v : Variables) (g : Guard) (k : FaultKind) → truth_of v g 
 unfolding truth_of
 truth-faults v (Compare r a b) k h =
     elim (andthen-faults (value_of v a) (λ x. andthen (value_of v b) (λ y. Gives (relates r x y))) k h) [
-      inl e ↦ value-faults v a k e
-    | inr e ↦ elim (andthen-faults (value_of v b) (λ y. Gives (relates r e.0 y)) k e.2) [
-        inl f ↦ value-faults v b k f
-      | inr f ↦ cc (f.2)
+      | inl e ↦ value-faults v a k e
+      | inr e ↦ elim (andthen-faults (value_of v b) (λ y. Gives (relates r e.0 y)) k e.2) [
+        | inl f ↦ value-faults v b k f
+        | inr f ↦ cc (f.2)
       ]
     ]
 truth-faults v (CompareLinks equal p q) k h = cc
 truth-faults v (Not g) k h =
     elim (andthen-faults (truth_of v g) (λ b. Gives (not b)) k h) [
-      inl e ↦ truth-faults v g k e
-    | inr e ↦ cc (e.2)
+      | inl e ↦ truth-faults v g k e
+      | inr e ↦ cc (e.2)
     ]
 truth-faults v (And g g') k h =
     elim (andthen-faults (truth_of v g) (λ b. if b then truth_of v g' else Gives false) k h) [
-      inl e ↦ truth-faults v g k e
-    | inr e ↦ and_faults (truth_of v g') k e.0 (truth-faults v g' k) e.2
+      | inl e ↦ truth-faults v g k e
+      | inr e ↦ and_faults (truth_of v g') k e.0 (truth-faults v g' k) e.2
     ]
 truth-faults v (Or g g') k h =
     elim (andthen-faults (truth_of v g) (λ b. if b then Gives true else truth_of v g') k h) [
-      inl e ↦ truth-faults v g k e
-    | inr e ↦ or_faults (truth_of v g') k e.0 (truth-faults v g' k) e.2
+      | inl e ↦ truth-faults v g k e
+      | inr e ↦ or_faults (truth_of v g') k e.0 (truth-faults v g' k) e.2
     ]
 
 -- what the check of an index is true of
@@ -209,8 +209,8 @@ cell-none : (cells : List Cell) (l : Option ℕ) (k : FaultKind) → IsLink (len
 cell-none cells None k w h = refl
 cell-none cells (Some j) k w h =
     elim (andthen-faults (given_or Null (slice_get cells j)) (λ c. Gives (j, c)) k h) [
-      inl e ↦ let past = none-past cells j (given-none Null k (slice_get cells j) e) in absurd (omega arith)
-    | inr e ↦ cc (e.2)
+      | inl e ↦ let past = none-past cells j (given-none Null k (slice_get cells j) e) in absurd (omega arith)
+      | inr e ↦ cc (e.2)
     ]
 
 link-in : (n : ℕ) (ls : List (Option ℕ)) (p : ℕ) → All (IsLink n) ls → IsLink n (slice_index_or ls p None)
@@ -276,8 +276,8 @@ no-arithmetic k e f = let h : false ≡ true = sym e ∙ f in cc
 behind-value : {A : Type 0} (v : Variables) (t : Term) (f : ℤ → Attempt A) (k : FaultKind) → arithmetic k ≡ false → andthen (value_of v t) f ≡ Faults k → (z : ℤ) × (value_of v t ≡ Gives z) × (f z ≡ Faults k)
 behind-value v t f k n h =
     elim (andthen-faults (value_of v t) f k h) [
-      inl e ↦ absurd (no-arithmetic k n (value-faults v t k e))
-    | inr e ↦ e
+      | inl e ↦ absurd (no-arithmetic k n (value-faults v t k e))
+      | inr e ↦ e
     ]
 
 -- the first of two things faults where the second gives a value

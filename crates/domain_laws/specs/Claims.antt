@@ -1,5 +1,5 @@
 -- What is claimed of checks and of negation.
-use Rattle.std.specs.Prelude.{◌≡◌, Bool, true, false, not, All, length}
+use Rattle.std.specs.Prelude.{◌≡◌, Bool, true, false, All, length}
 use Rattle.imp_slots.specs.Plain.{Guard, Effect}
 use Rattle.concrete_sem.specs.Values.{Variables, Heap, Gives}
 use Rattle.concrete_sem.specs.Evaluation.{truth_of}

@@ -1,5 +1,5 @@
 -- A domain that assumes comparisons rightly assumes guards rightly, and its verdicts are right.
-use Rattle.std.proofs.Common.{◌≡◌, refl, sym, ap, ◌∙◌, subst, ℕ, ℤ, Option, Some, None, Bool, true, false, not, ◌&&◌, if◌then◌else◌, ◌⊎◌, inl, inr}
+use Rattle.std.proofs.Common.{◌≡◌, refl, sym, ap, ◌∙◌, subst, ℕ, ℤ, Option, Some, None, Bool, true, false, not, if◌then◌else◌, ◌⊎◌, inl, inr}
 use Rattle.std.proofs.lemmas.Bool.{and_parts}
 use Rattle.imp_syntax.specs.declared.words.Relation.{Relation}
 use Rattle.imp_slots.specs.Plain.{Layout, Term, Guard, Compare, CompareLinks, Not, And, Or}
@@ -7,7 +7,6 @@ use Rattle.imp_slots.specs.Fits.{fits_term, fits_guard, is_side}
 use Rattle.concrete_sem.specs.Values.{Variables, Attempt, Gives, Faults, LacksInput, andthen}
 use Rattle.concrete_sem.specs.Evaluation.{value_of, truth_of, relates, same_link, side_at}
 use Rattle.imp_slots.specs.Plain.{Effect, Does}
-use Rattle.domain_laws.specs.declared.verdict.Verdict.{Verdict}
 use Rattle.domain_laws.specs.declared.verdict.Verdict.TheVariants.{Dead, Safe, May}
 use Rattle.domain_laws.specs.Checks.{Check, check_of, checked_guard, opposite, positive}
 use Rattle.domain_laws.specs.Guards.{assumed, verdict_on, verdict_by}
@@ -125,16 +124,16 @@ module _ {S : Type 0} (compare : Relation → Term → Term → S → S) (links 
         let m = assumed-fits l Fits keeps g false s p.0 k in
         let n = assumed-fits l Fits keeps h false s p.1 k in
         elim (one-false (truth_of v g) (truth_of v h) t) [
-          inl e ↦ tells.join_left (assumed compare links join g false s) (assumed compare links join h false s) m n (assumed-covers g false s p.0 k e c)
-        | inr e ↦ tells.join_right (assumed compare links join g false s) (assumed compare links join h false s) m n (assumed-covers h false s p.1 k e c)
+          | inl e ↦ tells.join_left (assumed compare links join g false s) (assumed compare links join h false s) m n (assumed-covers g false s p.0 k e c)
+          | inr e ↦ tells.join_right (assumed compare links join g false s) (assumed compare links join h false s) m n (assumed-covers h false s p.1 k e c)
         ]
     assumed-covers (Or g h) true s f k t c =
         let p = and_parts (fits_guard l g) (fits_guard l h) f in
         let m = assumed-fits l Fits keeps g true s p.0 k in
         let n = assumed-fits l Fits keeps h true s p.1 k in
         elim (one-true (truth_of v g) (truth_of v h) t) [
-          inl e ↦ tells.join_left (assumed compare links join g true s) (assumed compare links join h true s) m n (assumed-covers g true s p.0 k e c)
-        | inr e ↦ tells.join_right (assumed compare links join g true s) (assumed compare links join h true s) m n (assumed-covers h true s p.1 k e c)
+          | inl e ↦ tells.join_left (assumed compare links join g true s) (assumed compare links join h true s) m n (assumed-covers g true s p.0 k e c)
+          | inr e ↦ tells.join_right (assumed compare links join g true s) (assumed compare links join h true s) m n (assumed-covers h true s p.1 k e c)
         ]
     assumed-covers (Or g h) false s f k t c =
         let p = and_parts (fits_guard l g) (fits_guard l h) f in

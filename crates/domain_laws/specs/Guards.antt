@@ -1,8 +1,8 @@
 -- How a domain assumes a guard, from what it does with comparisons: the negation is pushed inwards, both sides of && are
 -- assumed in turn, and || is the join of its sides. What a check makes of it.
-use Rattle.std.specs.Prelude.{◌≡◌, refl, ℕ, Option, Some, None, Bool, true, false, not, if◌then◌else◌}
+use Rattle.std.specs.Prelude.{ℕ, Option, Some, None, Bool, true, false, not, if◌then◌else◌}
 use Rattle.imp_syntax.specs.declared.words.Relation.{Relation}
-use Rattle.imp_slots.specs.Plain.{Term, Guard, Compare, CompareLinks, Not, And, Or, Effect, Act, DoBreak, Does}
+use Rattle.imp_slots.specs.Plain.{Term, Guard, Compare, CompareLinks, Not, And, Or, Act, DoBreak, Does}
 use Rattle.domain_laws.specs.declared.verdict.Verdict.{Verdict}
 use Rattle.domain_laws.specs.declared.verdict.Verdict.TheVariants.{Dead, Safe, May}
 use Rattle.domain_laws.specs.Checks.{Check, check_of, checked_guard, opposite}

@@ -131,21 +131,11 @@ pub trait Domain {
         ensures exact { result ≡ (operations self.now).dead s.now };
 
     /// What the state in front of a statement says of its check.
-    fn check(
-        &self,
-        alloc: Global,
-        stmt: &SlotStmt,
-        s: &Self::State,
-    ) -> Result<Verdict, Memory>
+    fn check(&self, alloc: Global, stmt: &SlotStmt, s: &Self::State) -> Result<Verdict, Memory>
         ensures value { IfOk result (λ v. v ≡ (operations self.now).check (act_of stmt.now) s.now) };
 
     /// The text of a state whose last frame has this layout.
-    fn text(
-        &self,
-        alloc: Global,
-        layout: &Layout,
-        s: &Self::State,
-    ) -> Result<Text, Memory>
+    fn text(&self, alloc: Global, layout: &Layout, s: &Self::State) -> Result<Text, Memory>
         ensures value { IfOk result (λ t. t ≡ (operations self.now).text layout.now s.now) };
 
     /// The same state once more.

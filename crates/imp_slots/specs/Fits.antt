@@ -1,7 +1,7 @@
 -- What a checker guarantees of a program: slots are of the layouts with their kinds, a call is of an earlier procedure with
 -- arguments that fit it, numbers are at least 1 and stand once, and each break has a loop of its procedure around it.
-use Rattle.std.specs.Prelude.{◌≡◌, ◌≢◌, ℕ, ◌^◌, ◌<◌, ◌≤◌, nat_lt, List, [], ◌∷◌, ◌++◌, length, map, drop, slice_get, Option, Some, None, Bool, true, false, not, ◌&&◌, ◌||◌, MatchOption}
-use Rattle.imp_slots.specs.Plain.{Numeric, Layout, Term, Literal, Slot, Length, Negative, Binary, Guard, Compare, CompareLinks, Not, And, Or, Effect, Skip, Assert, SetInt, Input, ReadElement, ReadItem, MakeArray, CopyArray, WriteElement, SetNull, MakeCell, CopyLink, ReadNext, WriteNext, WriteItem, Argument, IntArgument, ArrayArgument, LinkArgument, Entering, Returning, NumericResult, LinkResult, Invoke, Code, Stop, Simple, If, While, Call, Break, Routine, code_numbers}
+use Rattle.std.specs.Prelude.{◌≡◌, ◌≢◌, ℕ, ◌^◌, ◌<◌, nat_lt, List, [], ◌∷◌, ◌++◌, length, map, drop, slice_get, Option, Some, None, Bool, true, false, not, ◌&&◌, ◌||◌, MatchOption}
+use Rattle.imp_slots.specs.Plain.{Numeric, Layout, Term, Literal, Slot, Length, Negative, Binary, Guard, Compare, CompareLinks, Not, And, Or, Effect, Skip, Assert, SetInt, Input, ReadElement, ReadItem, MakeArray, CopyArray, WriteElement, SetNull, MakeCell, CopyLink, ReadNext, WriteNext, WriteItem, Argument, IntArgument, ArrayArgument, LinkArgument, Returning, NumericResult, LinkResult, Invoke, Code, Stop, Simple, If, While, Call, Break, Routine, code_numbers}
 
 -- a numeric slot that is there, an array or an int
 abbrev pub is_kind : (is_array : Bool) → Option Numeric → Bool

@@ -1,4 +1,4 @@
-use Rattle.std.proofs.Common.{◌≡◌, ◌∙◌, sym, ap, List, map, refl, ℤ}
+use Rattle.std.proofs.Common.{◌≡◌, ◌∙◌, sym, ap, List, map, ℤ}
 use Rattle.std.specs.List.{zip}
 use Rattle.dom_interval.specs.State.{Intervals, Within}
 use Rattle.dom_interval.specs.View.{intervals_of}
