@@ -6,3 +6,6 @@ pub mod CodeLemmas
 pub mod FewLemmas
 pub mod EntryLemmas
 pub mod NumberLemmas
+pub mod Lookup
+pub mod FitsTerms
+pub mod FitsActions

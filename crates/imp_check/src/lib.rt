@@ -15,6 +15,7 @@ mod programs;
 mod resolve;
 mod routines;
 mod slots;
+mod sound;
 mod statements;
 mod terms;
 
