@@ -9,3 +9,5 @@ pub mod NumberLemmas
 pub mod Lookup
 pub mod FitsTerms
 pub mod FitsActions
+pub mod FitsBlocks
+pub mod FitsPrograms
