@@ -35,7 +35,7 @@ procedure_sound earlier others p h =
     record {
       new = not_true (is_named earlier p.name) (unless_none (not (is_named earlier p.name)) Redeclared (at_none 0 (unless (not (is_named earlier p.name)) Redeclared) a.0));
       vars = apart [] (variables p) (at_none 0 (variables_fault [] (variables p)) b.0);
-      body = b.1
+      body = b.1;
     }
 
 more_routines : (earlier xs : List Procedure) (p : Procedure) → routines_from earlier (xs ++ p ∷ []) ≡ routines_from earlier xs ++ routine_of (earlier ++ xs) p ∷ []
@@ -50,9 +50,9 @@ more_apart (x ∷ xs) p a b = (a.0, more_apart xs p a.1 b)
 
 routine_fits : (earlier others : List Procedure) (p : Procedure) → EachApart earlier → Sound earlier others p → small_block p.body ≡ true → FitsRoutine (routines_of earlier) (routine_of earlier p)
 routine_fits earlier others p each so s = record {
-    code = block_fits earlier others (variables p) each so.vars false p.body s so.body;
-    no_break = block_keeps (record { earlier = earlier; others = others; variables = variables p }) (record { layout = layout_in p; earlier = earlier }) p.body so.body
-  }
+  code = block_fits earlier others (variables p) each so.vars false p.body s so.body;
+  no_break = block_keeps (record { earlier = earlier; others = others; variables = variables p }) (record { layout = layout_in p; earlier = earlier }) p.body so.body;
+}
 
 fit_in_turn : (earlier ps : List Procedure) → EachApart earlier → small_program ps ≡ true → procedures_fault earlier ps ≡ None → FitInTurn (routines_of earlier) (routines_from earlier ps)
 fit_in_turn earlier [] each s h = tt
@@ -122,5 +122,5 @@ programs_fit ps s h k =
       fit = fit_in_turn [] ps tt s b.0;
       numbers_once = subst (λ (z : List ℕ). Distinct z) (sym (all_numbers [] ps)) k.once;
       no_zero = subst (λ (z : List ℕ). Absent 0 z) (sym (all_numbers [] ps)) k.no_zero;
-      names_once = subst (λ (z : List (List ℕ)). Distinct z) (sym (routine_names [] ps)) (names_once [] ps b.0)
+      names_once = subst (λ (z : List (List ℕ)). Distinct z) (sym (routine_names [] ps)) (names_once [] ps b.0);
     }

@@ -11,3 +11,4 @@ pub mod FitsTerms
 pub mod FitsActions
 pub mod FitsBlocks
 pub mod FitsPrograms
+pub mod SmallLemmas

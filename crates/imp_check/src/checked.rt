@@ -1,5 +1,6 @@
 //! Checked programs.
 ghost use Rattle.std.specs.Prelude.{◌≡◌, IfOk, IfErr, None};
+ghost use Rattle.imp_slots.specs.Fits.{IsChecked};
 ghost use Rattle.imp_check.specs.Programs.{AreNumbered, check_fault};
 ghost use Rattle.imp_check.specs.Slots.{routines_of};
 ghost use Rattle.std.specs.Option.{option_copied};
@@ -9,6 +10,7 @@ ghost use Rattle.imp_check.specs.Refused.{IsRefused};
 use crate::CheckError;
 use crate::entry::Entry;
 use crate::index::{entry_of, index_of};
+use crate::literals::small_program;
 use crate::programs::check_fault;
 use crate::routines::routines_of;
 use imp_slots::Routine;
@@ -68,12 +70,13 @@ pub fn check(alloc: Global, program: Program) -> Result<Checked, CheckError>
     Ok(accept(alloc, program)?)
 }
 
-#[tactic(auto, using(crate::proofs::FewLemmas::few_checked))]
+#[tactic(auto, using(crate::proofs::FewLemmas::few_checked, crate::proofs::FitsPrograms::programs_fit))]
 fn accept(alloc: Global, program: Program) -> Result<Checked, Memory>
     requires numbered { AreNumbered program }
     requires faultless { check_fault program ≡ None }
     ensures is { IfOk result (λ c. c ≡ program) }
 {
+    small_program(program.procs());
     let mut entries = Items::new(alloc);
     let routines = routines_of(alloc, program.procs(), &mut entries)?;
     let index = index_of(alloc, entries.as_slice())?;
@@ -97,9 +100,11 @@ impl Checked {
         &self.parts.program
     }
 
-    /// The procedures over slots, in the order of the text.
+    /// The procedures over slots, in the order of the text. Slots are of the layouts with their kinds, callees stand
+    /// earlier and take their arguments, numbers stand once, and each break has a loop around it.
     pub fn routines(&self) -> &[Routine]
         ensures is { result.now ≡ routines_of self.now }
+        ensures fit { IsChecked (routines_of self.now) }
     {
         self.parts.routines.as_slice()
     }

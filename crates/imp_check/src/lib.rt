@@ -9,13 +9,13 @@ mod entry;
 mod fault;
 mod index;
 mod kinds;
+mod literals;
 mod names;
 mod numbered;
 mod programs;
 mod resolve;
 mod routines;
 mod slots;
-mod sound;
 mod statements;
 mod terms;
 
