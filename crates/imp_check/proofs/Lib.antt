@@ -12,3 +12,4 @@ pub mod FitsActions
 pub mod FitsBlocks
 pub mod FitsPrograms
 pub mod SmallLemmas
+pub mod SiteLemmas

@@ -15,6 +15,7 @@ mod numbered;
 mod programs;
 mod resolve;
 mod routines;
+mod sites;
 mod slots;
 mod statements;
 mod terms;
