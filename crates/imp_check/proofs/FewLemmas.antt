@@ -16,19 +16,19 @@ use Rattle.imp_slots.specs.Plain.{Layout}
 use Rattle.imp_check.specs.Programs.{program_count, deepest, ending_fault, count_numeric, count_links, one_numeric, one_link, variable_fault, variables_fault, procedure_fault, procedures_fault, size_fault, check_fault, name_of, last_of}
 use Rattle.imp_check.specs.Few.{HasFew, EachHasFew, AreFew}
 
-first_none : {A : Type 0} (a b : Option A) → first a b ≡ None → (a ≡ None) × (b ≡ None)
+pub first_none : {A : Type 0} (a b : Option A) → first a b ≡ None → (a ≡ None) × (b ≡ None)
 first_none None b h = (refl, h)
 first_none (Some x) b h = cc
 
-unless_none : (b : Bool) (f : Fault) → unless b f ≡ None → b ≡ true
+pub unless_none : (b : Bool) (f : Fault) → unless b f ≡ None → b ≡ true
 unless_none true f h = refl
 unless_none false f h = cc
 
-at_none : (n : ℕ) (f : Option Fault) → at n f ≡ None → f ≡ None
+pub at_none : (n : ℕ) (f : Option Fault) → at n f ≡ None → f ≡ None
 at_none n None h = refl
 at_none n (Some f) h = cc
 
-in_none : (p : List ℕ) (s : Option Spot) → in_procedure p s ≡ None → s ≡ None
+pub in_none : (p : List ℕ) (s : Option Spot) → in_procedure p s ≡ None → s ≡ None
 in_none p None h = refl
 in_none p (Some s) h = cc
 
@@ -40,7 +40,7 @@ links_more : (xs : List Declaration) (d : Declaration) → count_links (xs ++ d 
 links_more [] d = omega arith
 links_more (x ∷ xs) d = omega (arith, links_more xs d)
 
-unless_lt : (a b : ℕ) (f : Fault) → unless (nat_lt a b) f ≡ None → a < b
+pub unless_lt : (a b : ℕ) (f : Fault) → unless (nat_lt a b) f ≡ None → a < b
 unless_lt a b f h = ltb-true a b (unless_none (nat_lt a b) f h)
 
 variable_few : (seen : List Declaration) (d : Declaration) → variable_fault seen d ≡ None → (count_numeric (seen ++ d ∷ []) < 17) × (count_links (seen ++ d ∷ []) < 9)

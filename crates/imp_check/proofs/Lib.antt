@@ -6,3 +6,10 @@ pub mod CodeLemmas
 pub mod FewLemmas
 pub mod EntryLemmas
 pub mod NumberLemmas
+pub mod Lookup
+pub mod FitsTerms
+pub mod FitsActions
+pub mod FitsBlocks
+pub mod FitsPrograms
+pub mod SmallLemmas
+pub mod SiteLemmas

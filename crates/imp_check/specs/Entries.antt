@@ -1,5 +1,5 @@
 -- What is known of each statement: all statements in the order of the text, with where they stand.
-use Rattle.std.specs.Prelude.{ℕ, suc, List, [], ◌∷◌, ◌++◌, length, Option, Some, None, cond, ◌==◌}
+use Rattle.std.specs.Prelude.{ℕ, zero, suc, Bool, false, List, [], ◌∷◌, ◌++◌, length, Option, Some, None, cond, ◌==◌}
 use Rattle.imp_syntax.specs.Plain.{Statement, Statements, Procedure, number_of}
 use Rattle.imp_syntax.specs.Plain as tree
 use Rattle.imp_slots.specs.ActionViews.{action_of}
@@ -63,3 +63,18 @@ entry_of (e ∷ es) n = cond (number_of e.stmt == n) (Some e) (entry_of es n)
 abbrev pub place_of : ℕ → List Entry → ℕ → Option ℕ
 place_of k [] n = None
 place_of k (e ∷ es) n = cond (number_of e.stmt == n) (Some k) (place_of (suc k) es n)
+
+-- whether a statement calls the procedure at a place
+abbrev pub calls_here : SlotForm → ℕ → Bool
+calls_here (form.Stmt s) p = false
+calls_here (form.Cond c) p = false
+calls_here (form.Call i q) p = q == p
+
+-- the call statements of a procedure, in the order of the text, and those of each of the first procedures
+abbrev pub sites_in : List Entry → ℕ → List ℕ
+sites_in [] p = []
+sites_in (e ∷ es) p = cond (calls_here e.form p) (number_of e.stmt ∷ sites_in es p) (sites_in es p)
+
+abbrev pub sites_below : List Entry → ℕ → List (List ℕ)
+sites_below es zero = []
+sites_below es (suc n) = sites_below es n ++ sites_in es n ∷ []

@@ -12,3 +12,4 @@ pub mod Few
 pub mod Tables
 pub mod Refused
 pub mod Entries
+pub mod Small

@@ -46,6 +46,9 @@ abbrev pub is_named : List Procedure → List ℕ → Bool
 is_named [] f = false
 is_named (p ∷ ps) f = bytes_eq p.name f || is_named ps f
 
+abbrev pub named_in : List Procedure → List ℕ → Option ℕ
+named_in ps f = cond (is_named ps f) (Some (place_named ps f)) None
+
 -- the result of a procedure as a list of variables
 abbrev pub outcomes : Option Declaration → List Declaration
 outcomes None = []

@@ -1,19 +1,24 @@
 //! Checked programs.
-ghost use Rattle.std.specs.Prelude.{◌≡◌, IfOk, IfErr, None};
+ghost use Rattle.std.specs.Prelude.{◌≡◌, ◌<◌, ◌≤◌, [], length, IfOk, IfErr, None};
+ghost use Rattle.imp_slots.specs.Fits.{IsChecked};
 ghost use Rattle.imp_check.specs.Programs.{AreNumbered, check_fault};
 ghost use Rattle.imp_check.specs.Slots.{routines_of};
 ghost use Rattle.std.specs.Option.{option_copied};
-ghost use Rattle.imp_check.specs.Entries.{entries_of, entry_of};
+ghost use Rattle.imp_check.specs.Entries.{entries_of, entry_of, sites_in};
+ghost use Rattle.imp_check.specs.Names.{named_in};
 ghost use Rattle.imp_check.specs.Refused.{IsRefused};
 
 use crate::CheckError;
 use crate::entry::Entry;
 use crate::index::{entry_of, index_of};
+use crate::literals::small_program;
+use crate::names::{is_named, place_named};
 use crate::programs::check_fault;
 use crate::routines::routines_of;
+use crate::sites::sites_below;
 use imp_slots::Routine;
-use imp_syntax::{Program, StmtId};
-use plain_values::{Items, Memory};
+use imp_syntax::{ProcId, Program, StmtId};
+use plain_values::{Items, Memory, Text};
 use std::alloc::{AllocError, Global};
 use std::collections::HashMap;
 use std::marker::Model;
@@ -31,6 +36,7 @@ struct Parts {
     routines: Items<Routine>,
     entries: Items<Entry>,
     index: HashMap<u32, usize>,
+    sites: Items<Items<StmtId>>,
 }
 
 impl Model for Checked {
@@ -68,20 +74,24 @@ pub fn check(alloc: Global, program: Program) -> Result<Checked, CheckError>
     Ok(accept(alloc, program)?)
 }
 
-#[tactic(auto, using(crate::proofs::FewLemmas::few_checked))]
+#[tactic(auto, using(crate::proofs::FewLemmas::few_checked, crate::proofs::FitsPrograms::programs_fit))]
 fn accept(alloc: Global, program: Program) -> Result<Checked, Memory>
     requires numbered { AreNumbered program }
     requires faultless { check_fault program ≡ None }
     ensures is { IfOk result (λ c. c ≡ program) }
 {
+    small_program(program.procs());
     let mut entries = Items::new(alloc);
     let routines = routines_of(alloc, program.procs(), &mut entries)?;
     let index = index_of(alloc, entries.as_slice())?;
+    let count = program.procs().len() as u32;
+    let sites = sites_below(alloc, entries.as_slice(), count)?;
     let parts = Parts {
         program,
         routines,
         entries,
         index,
+        sites,
     };
     let parts = Rc::new(alloc, parts)?;
     Ok(Checked { parts })
@@ -97,11 +107,39 @@ impl Checked {
         &self.parts.program
     }
 
-    /// The procedures over slots, in the order of the text.
+    /// The procedures over slots, in the order of the text. Slots are of the layouts with their kinds, callees stand
+    /// earlier and take their arguments, numbers stand once, and each break has a loop around it.
     pub fn routines(&self) -> &[Routine]
         ensures is { result.now ≡ routines_of self.now }
+        ensures fit { IsChecked (routines_of self.now) }
     {
         self.parts.routines.as_slice()
+    }
+
+    /// The first procedure of a name, or `None` where there is none. It takes time linear in the procedures.
+    #[tactic(auto, using(crate::proofs::FewLemmas::few_checked))]
+    pub fn proc_named(&self, name: &Text) -> Option<ProcId>
+        ensures is { result ≡ named_in self.now name.now }
+    {
+        let procs = self.program().procs();
+        if is_named(procs, name) {
+            Some(ProcId::new(place_named(procs, name) as u32))
+        } else {
+            None
+        }
+    }
+
+    /// The call statements of a procedure, in the order of the text; none for a procedure that is not there. It takes
+    /// constant time.
+    #[tactic(auto, using(crate::proofs::SiteLemmas::below_at, crate::proofs::SiteLemmas::below_past))]
+    pub fn sites(&self, proc: ProcId) -> &[StmtId]
+        ensures is { proc < length self.now → result.now ≡ sites_in (entries_of self.now) proc }
+        ensures none { length self.now ≤ proc → result.now ≡ [] }
+    {
+        match self.parts.sites.get(proc.place() as usize) {
+            Some(sites) => sites.as_slice(),
+            None => &[],
+        }
     }
 
     /// All statements in the order of the text, each with where it stands and with its slots.

@@ -1,4 +1,26 @@
-//! Checking programs.
+//! Checking programs: the first fault of a program, or the program over slots with tables of its statements.
+//!
+//! [`check`] takes a program whose statement numbers are 1 or more and stand once each ([`is_numbered`]
+//! tells). It answers a [`Checked`] exactly where `check_fault` of `specs/Programs.antt` is none, and else that
+//! fault: the first in a fixed order, with its procedure and place.
+//!
+//! - Over the whole program: at most 64 procedures, 10,000 statements, blocks at nesting 32.
+//! - Then of each procedure in turn: its name, its variables one by one (`variable_fault`), its
+//!   statements in the order of the text (`block_fault` of `specs/Statements.antt`). In a statement the names
+//!   come first, then the number of arguments, then kinds (`specs/Kinds.antt`).
+//! - Then over the whole program: `main` comes last and takes nothing; no chain of calls is longer than
+//!   8; there are at most 4,096 chains. A chain to a procedure is a list of calls from `main` to it, and
+//!   `chains_to` of `specs/Chains.antt` lists them all; they are counted by tallies, procedure by procedure.
+//!
+//! A [`Checked`] is seen as its procedures. What it answers is defined over them: `routines_of` of
+//! `specs/Slots.antt` is the program over slots, and it fits ([`Checked::routines`]); `entries_of` of
+//! `specs/Entries.antt` lists all statements, each with its slot form, its procedure, the block that it stands in, the
+//! statement in front of it and the innermost loop around it; `entry_of` finds one by its number, `sites_in`
+//! the calls of a procedure.
+//!
+//! Checking takes time linear in the program, times the variables of a procedure for each name, and
+//! times the procedures for the calls. A copy of a [`Checked`] shares it, and its readers take constant time and no
+//! memory.
 #![tactic(auto)]
 
 mod chains;
@@ -9,11 +31,13 @@ mod entry;
 mod fault;
 mod index;
 mod kinds;
+mod literals;
 mod names;
 mod numbered;
 mod programs;
 mod resolve;
 mod routines;
+mod sites;
 mod slots;
 mod statements;
 mod terms;

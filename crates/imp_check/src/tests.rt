@@ -2,3 +2,4 @@
 mod build;
 mod limits;
 mod orders;
+mod readers;
