@@ -30,9 +30,9 @@ first {T} test (x ∷ xs) =
     by_bool (test x)
     (λ t. inl (x, rw t refl, t, rw t refl))
     (λ f. ⊎_elim
-        (λ h. inl (h.0, rw (f, one_more) h.1, h.2, rw f h.3))
-        (λ h. inr (fails_on test x xs f h.0, rw (f, one_more) (ap suc h.1), rw f h.2))
-        (first test xs))
+    (λ h. inl (h.0, rw (f, one_more) h.1, h.2, rw f h.3))
+    (λ h. inr (fails_on test x xs f h.0, rw (f, one_more) (ap suc h.1), rw f h.2))
+    (first test xs))
 
 -- a state that is added has its first place, or the end
 pub with_state-adds : {T : Type 0} (eq : T → T → Bool) → IsEquivalence eq → TellsApart eq → (states : List T) (state : T) → Adds states (with_state eq states state) state (position_or_len (eq state) states)

@@ -21,11 +21,11 @@ from_passes test i [] n e = cc
 from_passes test i (x ∷ xs) n e =
     by_bool (test x)
     (λ t. let h : Some i ≡ Some n = ap (λ b. cond b (Some i) (position_from test (i + 1) xs)) (sym t) ∙ e in
-        let k : i ≡ n = some_same i n h in
-        (0, omega (arith, k), x, refl, t))
+    let k : i ≡ n = some_same i n h in
+    (0, omega (arith, k), x, refl, t))
     (λ f. let h : position_from test (i + 1) xs ≡ Some n = ap (λ b. cond b (Some i) (position_from test (i + 1) xs)) (sym f) ∙ e in
-        let r : PassesAt test (i + 1) xs n = from_passes test (i + 1) xs n h in
-        (suc r.0, omega (arith, r.1), r.2, r.3, r.4))
+    let r : PassesAt test (i + 1) xs n = from_passes test (i + 1) xs n h in
+    (suc r.0, omega (arith, r.1), r.2, r.3, r.4))
 
 passes_from : {T : Type 0} (test : T → Bool) (i : ℕ) (xs : List T) (k : ℕ) (s : T) → slice_get xs k ≡ Some s → test s ≡ true → (n : ℕ) × (position_from test i xs ≡ Some n)
 passes_from test i [] k s e h = cc
@@ -37,7 +37,7 @@ passes_from test i (x ∷ xs) (suc k) s e h =
     by_bool (test x)
     (λ t. (i, ap (λ b. cond b (Some i) (position_from test (i + 1) xs)) t))
     (λ f. let r : (n : ℕ) × (position_from test (i + 1) xs ≡ Some n) = passes_from test (i + 1) xs k s e h in
-        (r.0, ap (λ b. cond b (Some i) (position_from test (i + 1) xs)) f ∙ r.1))
+    (r.0, ap (λ b. cond b (Some i) (position_from test (i + 1) xs)) f ∙ r.1))
 
 -- the place that is found has an element that passes
 pub position-passes : {T : Type 0} (test : T → Bool) (xs : List T) (n : ℕ) → position test xs ≡ Some n → (s : T) × (slice_get xs n ≡ Some s) × (test s ≡ true)
