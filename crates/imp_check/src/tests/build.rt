@@ -1,7 +1,7 @@
 //! Programs for the tests.
 use crate::{CheckError, check, is_numbered};
 use imp_syntax::{
-    Action, Block, Call, Cond, CondNode, Declaration, Expr, ExprNode, Kind, Number, Proc, Program,
+    Action, Block, Call, Cond, CondNode, Declaration, Expr, ExprNode, Kind, Proc, Program,
     Relation, Side, Stmt, StmtId, StmtNode,
 };
 use plain_values::{Items, Text};
@@ -9,10 +9,6 @@ use std::test::Fail;
 
 pub(crate) fn text(rt: &HostRuntime, name: &str) -> Result<Text, Fail> {
     Ok(Text::from_slice(rt.alloc(), name.as_bytes())?)
-}
-
-pub(crate) fn number(rt: &HostRuntime) -> Result<Expr, Fail> {
-    Ok(Expr::new(rt.alloc(), ExprNode::Literal(Number::new(1)))?)
 }
 
 pub(crate) fn variable(rt: &HostRuntime, name: &str) -> Result<Expr, Fail> {

@@ -2,7 +2,6 @@
 use crate::tests::build::{block, call, compare, proc, program, shown, skip, stmt, text};
 use imp_syntax::{Block, Declaration, Kind, Proc, Relation, StmtNode};
 use plain_values::Items;
-use std::alloc::Global;
 use std::test::Fail;
 
 fn many_procedures(rt: &HostRuntime, count: u32) -> Result<String, Fail> {
@@ -69,61 +68,84 @@ fn many_calls(rt: &HostRuntime, count: u32) -> Result<String, Fail> {
     shown(rt, program(rt, Some(callee), Some(main))?)
 }
 
+/// A procedure that calls another one.
+fn caller(rt: &HostRuntime, name: &str, id: u32, callee: &str) -> Result<Proc, Fail> {
+    let body = block(rt, call(rt, id, None, callee, None)?)?;
+    proc(rt, name, None, None, &[], body)
+}
+
 /// `f1` to `f` of the count, each of which calls the one before, and `main`, which calls the last.
 fn long_chain(rt: &HostRuntime, count: u32) -> Result<String, Fail> {
     let alloc = rt.alloc();
     let mut procs = Items::new(alloc);
     procs.push(proc(rt, "f1", None, None, &[], Block::empty())?)?;
     for i in 1..count {
-        let before = format!(in alloc; "f{i}")?;
         let next = i.saturating_add(1);
+        let before = format!(in alloc; "f{i}")?;
         let name = format!(in alloc; "f{next}")?;
-        let body = block(rt, call(rt, i, None, before.as_str(), None)?)?;
-        procs.push(proc(rt, name.as_str(), None, None, &[], body)?)?;
+        procs.push(caller(rt, name.as_str(), i, before.as_str())?)?;
     }
     let last = format!(in alloc; "f{count}")?;
-    let body = block(rt, call(rt, 1000, None, last.as_str(), None)?)?;
-    procs.push(proc(rt, "main", None, None, &[], body)?)?;
+    procs.push(caller(rt, "main", 1000, last.as_str())?)?;
     shown(rt, procs)
 }
 
 #[test]
-fn sizes(rt: HostRuntime) -> Result<(), Fail> {
-    assert_eq!(rt; many_procedures(&rt, 64)?.as_str(), "fine");
-    assert_eq!(rt;
-        many_procedures(&rt, 65)?.as_str(),
-        "Procedures in main at 0"
-    );
-    assert_eq!(rt; many_statements(&rt, 10_000)?.as_str(), "fine");
-    assert_eq!(rt;
-        many_statements(&rt, 10_001)?.as_str(),
-        "Statements in main at 0"
-    );
-    assert_eq!(rt; nested(&rt, 32)?.as_str(), "fine");
-    assert_eq!(rt; nested(&rt, 33)?.as_str(), "Nesting in main at 0");
+fn procedures(rt: HostRuntime) -> Result<(), Fail> {
+    for (count, want) in [(64, "fine"), (65, "Procedures in main at 0")] {
+        let found = many_procedures(&rt, count)?;
+        assert_eq!(rt; found.as_str(), want);
+    }
+    Ok(())
+}
+
+#[test]
+fn statements(rt: HostRuntime) -> Result<(), Fail> {
+    for (count, want) in [(10_000, "fine"), (10_001, "Statements in main at 0")] {
+        let found = many_statements(&rt, count)?;
+        assert_eq!(rt; found.as_str(), want);
+    }
+    Ok(())
+}
+
+#[test]
+fn nestings(rt: HostRuntime) -> Result<(), Fail> {
+    for (count, want) in [(32, "fine"), (33, "Nesting in main at 0")] {
+        let found = nested(&rt, count)?;
+        assert_eq!(rt; found.as_str(), want);
+    }
     Ok(())
 }
 
 #[test]
 fn variables(rt: HostRuntime) -> Result<(), Fail> {
-    assert_eq!(rt; many_variables(&rt, 16, Kind::Int)?.as_str(), "fine");
-    assert_eq!(rt;
-        many_variables(&rt, 17, Kind::Array)?.as_str(),
-        "Ints in main at 0"
-    );
-    assert_eq!(rt; many_variables(&rt, 8, Kind::List)?.as_str(), "fine");
-    assert_eq!(rt;
-        many_variables(&rt, 9, Kind::List)?.as_str(),
-        "Lists in main at 0"
-    );
+    let table = [
+        (16, Kind::Int, "fine"),
+        (17, Kind::Array, "Ints in main at 0"),
+        (8, Kind::List, "fine"),
+        (9, Kind::List, "Lists in main at 0"),
+    ];
+    for (count, kind, want) in table {
+        let found = many_variables(&rt, count, kind)?;
+        assert_eq!(rt; found.as_str(), want);
+    }
     Ok(())
 }
 
 #[test]
 fn chains(rt: HostRuntime) -> Result<(), Fail> {
-    assert_eq!(rt; many_calls(&rt, 4_095)?.as_str(), "fine");
-    assert_eq!(rt; many_calls(&rt, 4_096)?.as_str(), "Chains in main at 0");
-    assert_eq!(rt; long_chain(&rt, 8)?.as_str(), "fine");
-    assert_eq!(rt; long_chain(&rt, 9)?.as_str(), "Depth in main at 0");
+    for (count, want) in [(4_095, "fine"), (4_096, "Chains in main at 0")] {
+        let found = many_calls(&rt, count)?;
+        assert_eq!(rt; found.as_str(), want);
+    }
+    Ok(())
+}
+
+#[test]
+fn depths(rt: HostRuntime) -> Result<(), Fail> {
+    for (count, want) in [(8, "fine"), (9, "Depth in main at 0")] {
+        let found = long_chain(&rt, count)?;
+        assert_eq!(rt; found.as_str(), want);
+    }
     Ok(())
 }

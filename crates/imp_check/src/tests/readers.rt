@@ -7,7 +7,7 @@ use plain_values::Items;
 use std::test::Fail;
 
 /// `while (i < i) { if (i == i) { break; } call f(i); }`, numbered 1, 2, 3, 4
-fn example(rt: &HostRuntime) -> Result<Option<Checked>, Fail> {
+fn body(rt: &HostRuntime) -> Result<Block, Fail> {
     let alloc = rt.alloc();
     let broken = block(rt, stmt(rt, 3, StmtNode::Break)?)?;
     let cond = compare(rt, "i", Relation::Equal, "i")?;
@@ -16,11 +16,12 @@ fn example(rt: &HostRuntime) -> Result<Option<Checked>, Fail> {
     let argument = Side::Expr(variable(rt, "i")?);
     stmts.push(call(rt, 4, None, "f", Some(argument))?)?;
     let cond = compare(rt, "i", Relation::Less, "i")?;
-    let body = StmtNode::While(cond, Block::new(alloc, stmts)?);
-    let body = block(rt, stmt(rt, 1, body)?)?;
-    let main = proc(rt, "main", None, None, &[("i", Kind::Int)], body)?;
-    let callee = proc(rt, "f", Some(Kind::Int), None, &[], Block::empty())?;
-    let program = Program::new(alloc, program(rt, Some(callee), Some(main))?)?;
+    let node = StmtNode::While(cond, Block::new(alloc, stmts)?);
+    block(rt, stmt(rt, 1, node)?)
+}
+
+fn checked(rt: &HostRuntime, program: Program) -> Result<Option<Checked>, Fail> {
+    let alloc = rt.alloc();
     if !is_numbered(alloc, &program)? {
         return Ok(None);
     }
@@ -28,6 +29,13 @@ fn example(rt: &HostRuntime) -> Result<Option<Checked>, Fail> {
         Ok(checked) => Ok(Some(checked)),
         Err(_) => Ok(None),
     }
+}
+
+fn example(rt: &HostRuntime) -> Result<Option<Checked>, Fail> {
+    let main = proc(rt, "main", None, None, &[("i", Kind::Int)], body(rt)?)?;
+    let callee = proc(rt, "f", Some(Kind::Int), None, &[], Block::empty())?;
+    let procs = program(rt, Some(callee), Some(main))?;
+    checked(rt, Program::new(rt.alloc(), procs)?)
 }
 
 /// What a statement is, as a word.
@@ -41,26 +49,34 @@ fn word(entry: &Entry) -> &'static str {
 }
 
 #[test]
-fn statements(rt: HostRuntime) -> Result<(), Fail> {
+fn forms(rt: HostRuntime) -> Result<(), Fail> {
+    let copy = example(&rt)?.expect(&rt, "a checked program").clone()?;
+    for (number, want) in [
+        (1, "condition"),
+        (2, "condition"),
+        (3, "break"),
+        (4, "call"),
+    ] {
+        let entry = copy.entry(StmtId::new(number)).expect(&rt, "a statement");
+        assert_eq!(rt; word(entry), want);
+    }
+    assert!(rt; copy.entry(StmtId::new(5)).is_none());
+    Ok(())
+}
+
+#[test]
+fn places(rt: HostRuntime) -> Result<(), Fail> {
     let checked = example(&rt)?.expect(&rt, "a checked program");
-    let copy = checked.clone()?;
-    let outer = copy.entry(StmtId::new(1)).expect(&rt, "statement 1");
-    assert_eq!(rt; word(outer), "condition");
-    assert!(rt; outer.around.is_none() && outer.inner.is_none() && outer.front.is_none());
-    let broken = copy.entry(StmtId::new(3)).expect(&rt, "statement 3");
-    assert_eq!(rt; word(broken), "break");
+    let broken = checked.entry(StmtId::new(3)).expect(&rt, "statement 3");
     let then = Around {
         stmt: StmtId::new(2),
         which: Which::Then,
     };
     assert!(rt; broken.around == Some(then));
     assert!(rt; broken.inner == Some(StmtId::new(1)));
-    let called = copy.entry(StmtId::new(4)).expect(&rt, "statement 4");
-    assert_eq!(rt; word(called), "call");
+    let called = checked.entry(StmtId::new(4)).expect(&rt, "statement 4");
     assert!(rt; called.front == Some(StmtId::new(2)));
     assert!(rt; called.proc == ProcId::new(1));
-    assert!(rt; copy.entry(StmtId::new(5)).is_none());
-    assert_eq!(rt; copy.entries().len(), 4);
     Ok(())
 }
 
@@ -72,8 +88,6 @@ fn procedures(rt: HostRuntime) -> Result<(), Fail> {
     assert!(rt; place == ProcId::new(1));
     let sites = checked.sites(ProcId::new(0));
     assert!(rt; sites.first() == Some(&StmtId::new(4)));
-    assert_eq!(rt; sites.len(), 1);
     assert!(rt; checked.sites(place).is_empty());
-    assert_eq!(rt; checked.routines().len(), 2);
     Ok(())
 }
