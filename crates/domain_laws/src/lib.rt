@@ -1,4 +1,17 @@
 //! What a domain of states is: its operations, and the laws that tie them to the meaning of programs.
+//!
+//! [`Domain`] is the trait. Its ghost member `operations` (`specs/Operations.antt`) has the
+//! operations as functions of plain data, and each method's value is the function of its plain
+//! arguments; `covers` says which heaps and variables a state describes. The laws
+//! (`specs/Laws.antt`) say that what is described in front of a step is described behind it, that
+//! states that fit the layouts of frames stay so, and what the verdicts on checks promise.
+//!
+//! `specs/Checks.antt` gives the check of a statement and the negation of a condition, and
+//! `specs/Guards.antt` how a domain assumes a condition from what it does with comparisons. A
+//! domain whose comparisons and joins are right assumes conditions rightly, and its verdicts are
+//! right (`specs/GuardLaws.antt`).
+//!
+//! A trait has no cost of its own: each domain says what its operations cost.
 #![tactic(auto)]
 
 ghost use Rattle.domain_laws.specs.Claims.{PassesFindChecksTrue, FailuresFindChecksFalse, NegationIsExact};
