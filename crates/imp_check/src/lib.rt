@@ -46,6 +46,3 @@ pub use checked::{Checked, check};
 pub use entry::{Around, Entry, SlotForm, Which};
 pub use fault::{CheckError, Fault, Found};
 pub use numbered::is_numbered;
-
-#[cfg(test)]
-mod tests;

@@ -1,5 +1,0 @@
-//! Programs and their first faults.
-mod build;
-mod limits;
-mod orders;
-mod readers;
