@@ -22,6 +22,3 @@ mod store;
 mod work;
 
 pub use running::{End, Outcome, run};
-
-#[cfg(test)]
-mod tests;

@@ -20,6 +20,3 @@ mod request;
 pub use error::ReadError;
 pub use reading::read_request;
 pub use request::{Query, Request};
-
-#[cfg(test)]
-mod tests;
