@@ -1,7 +1,21 @@
 //! Texts with their trees, told by other texts of the same trees, and with their faults.
+ghost use Rattle.std.specs.Prelude.{◌<◌, ◌^◌, length, IfOk};
+
 use crate::{ParseError, parse_cond, parse_proc, parse_program, parse_simple, parse_stmts};
 use std::alloc::Global;
 use std::test::Fail;
+
+/// The bytes of a text that is not long.
+fn bytes_of(text: &str) -> Result<&[u8], ParseError>
+    ensures short { IfOk result (λ bytes. length bytes.now < 2 ^ 31) }
+{
+    let bytes = text.as_bytes();
+    if bytes.len() < 1000000 {
+        Ok(bytes)
+    } else {
+        Err(ParseError::Memory)
+    }
+}
 
 /// The fault, or how a text is read.
 fn fault<T: Drop>(rt: &HostRuntime, read: Result<T, ParseError>) -> Result<String, Fail> {
@@ -81,7 +95,7 @@ fn faults_of_simple_statements(rt: HostRuntime) -> Result<(), Fail> {
         ("assert a;", "Unexpected(2)"),
     ];
     for (text, want) in table {
-        let found = fault(&rt, parse_simple(alloc, text.as_bytes(), 1))?;
+        let found = fault(&rt, parse_simple(alloc, bytes_of(text)?, 1))?;
         assert_eq!(rt; found.as_str(), want, "at {text}");
     }
     Ok(())
@@ -108,7 +122,7 @@ fn faults_of_larger_texts(rt: HostRuntime) -> Result<(), Fail> {
         ("while (a < b) {", "Unexpected(7)"),
     ];
     for (text, want) in statements {
-        let found = fault(&rt, parse_stmts(alloc, text.as_bytes(), 1))?;
+        let found = fault(&rt, parse_stmts(alloc, bytes_of(text)?, 1))?;
         assert_eq!(rt; found.as_str(), want, "at {text}");
     }
     let programs: [(&str, &str); 14] = [
@@ -137,9 +151,9 @@ fn faults_of_larger_texts(rt: HostRuntime) -> Result<(), Fail> {
         ),
     ];
     for (text, want) in programs {
-        let found = fault(&rt, parse_program(alloc, text.as_bytes()))?;
+        let found = fault(&rt, parse_program(alloc, bytes_of(text)?))?;
         assert_eq!(rt; found.as_str(), want, "at {text}");
-        let alone = fault(&rt, parse_proc(alloc, text.as_bytes(), 1000001))?;
+        let alone = fault(&rt, parse_proc(alloc, bytes_of(text)?, 1000001))?;
         if text.len() < 20 {
             assert_eq!(rt; alone.as_str(), want, "alone at {text}");
         }
@@ -155,7 +169,7 @@ fn faults_of_larger_texts(rt: HostRuntime) -> Result<(), Fail> {
         ("a < b || ", "Unexpected(4)"),
     ];
     for (text, want) in conditions {
-        let found = fault(&rt, parse_cond(alloc, text.as_bytes()))?;
+        let found = fault(&rt, parse_cond(alloc, bytes_of(text)?))?;
         assert_eq!(rt; found.as_str(), want, "at {text}");
     }
     Ok(())
@@ -184,30 +198,30 @@ fn budgets(rt: HostRuntime) -> Result<(), Fail> {
     let closes = repeated(alloc, "", "}", 33, "")?;
     let open = "if (0 == 0) {";
     let text = repeated(alloc, "proc main() {", open, 32, closes.as_str())?;
-    let found = fault(&rt, parse_program(alloc, text.as_bytes()))?;
+    let found = fault(&rt, parse_program(alloc, bytes_of(text.as_str())?))?;
     assert_eq!(rt; found.as_str(), "read");
     let closes = repeated(alloc, "", "}", 34, "")?;
     let text = repeated(alloc, "proc main() {", open, 33, closes.as_str())?;
-    let found = fault(&rt, parse_program(alloc, text.as_bytes()))?;
+    let found = fault(&rt, parse_program(alloc, bytes_of(text.as_str())?))?;
     assert_eq!(rt; found.as_str(), "TooDeep(235)");
     let start = "proc main() { var x: int; x = 0";
     let text = repeated(alloc, start, "+ 0", 32, "; }")?;
-    let found = fault(&rt, parse_program(alloc, text.as_bytes()))?;
+    let found = fault(&rt, parse_program(alloc, bytes_of(text.as_str())?))?;
     assert_eq!(rt; found.as_str(), "read");
     let text = repeated(alloc, start, "+ 0", 33, "; }")?;
-    let found = fault(&rt, parse_program(alloc, text.as_bytes()))?;
+    let found = fault(&rt, parse_program(alloc, bytes_of(text.as_str())?))?;
     assert_eq!(rt; found.as_str(), "TooDeep(77)");
     let text = repeated(alloc, start, "+ 0", 33, "; $")?;
-    let found = fault(&rt, parse_program(alloc, text.as_bytes()))?;
+    let found = fault(&rt, parse_program(alloc, bytes_of(text.as_str())?))?;
     assert_eq!(rt; found.as_str(), "Lex(BadByte(132))");
     let text = repeated(alloc, "x = ", "(", 33, "")?;
-    let found = fault(&rt, parse_simple(alloc, text.as_bytes(), 1))?;
+    let found = fault(&rt, parse_simple(alloc, bytes_of(text.as_str())?, 1))?;
     assert_eq!(rt; found.as_str(), "TooDeep(34)");
     let text = repeated(alloc, "x = a ", "+", 33, "")?;
-    let found = fault(&rt, parse_simple(alloc, text.as_bytes(), 1))?;
+    let found = fault(&rt, parse_simple(alloc, bytes_of(text.as_str())?, 1))?;
     assert_eq!(rt; found.as_str(), "Unexpected(4)");
     let text = repeated(alloc, "while (0 < 1", " && 0 < 1", 15, " && 0 == 1) { }")?;
-    let found = fault(&rt, parse_stmts(alloc, text.as_bytes(), 1))?;
+    let found = fault(&rt, parse_stmts(alloc, bytes_of(text.as_str())?, 1))?;
     assert_eq!(rt; found.as_str(), "TooDeep(67)");
     let text = repeated(
         alloc,
@@ -216,7 +230,7 @@ fn budgets(rt: HostRuntime) -> Result<(), Fail> {
         15,
         ") { x = call f(1 + 1, -1); }",
     )?;
-    let found = fault(&rt, parse_stmts(alloc, text.as_bytes(), 1))?;
+    let found = fault(&rt, parse_stmts(alloc, bytes_of(text.as_str())?, 1))?;
     assert_eq!(rt; found.as_str(), "read");
     Ok(())
 }
@@ -253,8 +267,8 @@ fn trees(rt: HostRuntime) -> Result<(), Fail> {
         ("a[1] = 2;", "a[2] = 1;", false),
     ];
     for (left, right, same) in table {
-        let one = parse_simple(alloc, left.as_bytes(), 7)?;
-        let other = parse_simple(alloc, right.as_bytes(), 7)?;
+        let one = parse_simple(alloc, bytes_of(left)?, 7)?;
+        let other = parse_simple(alloc, bytes_of(right)?, 7)?;
         let first = format!(in alloc; "{:?}", one.0)?;
         let second = format!(in alloc; "{:?}", other.0)?;
         assert_eq!(rt;
@@ -265,7 +279,7 @@ fn trees(rt: HostRuntime) -> Result<(), Fail> {
         assert_eq!(rt; one.1, 8);
     }
     let text = "if (a < b) { skip; while (c < d) { skip; } } skip;";
-    let read = parse_stmts(alloc, text.as_bytes(), 3)?;
+    let read = parse_stmts(alloc, bytes_of(text)?, 3)?;
     assert_eq!(rt; read.1, 8);
     let numbered = format!(in alloc; "{:?}", read.0)?;
     let mut found = String::new(alloc);

@@ -28,14 +28,17 @@ outcome_text None = []
 outcome_text (Some d) = codes " -> " ++ declaration_text d
 
 -- a line for each local variable
-abbrev pub locals_text : Bool → List Declaration → List ℕ
-locals_text listing [] = []
-locals_text listing (d ∷ ds) = line listing None (codes "  ") (codes "var " ++ declaration_text d ++ codes ";") ++ locals_text listing ds
+abbrev pub locals_text : Bool → List ℕ → List Declaration → List ℕ
+locals_text listing right [] = []
+locals_text listing right (d ∷ ds) = line listing None right (codes "var " ++ declaration_text d ++ codes ";") ++ locals_text listing right ds
+
+abbrev pub head_text : Procedure → List ℕ
+head_text p = codes "proc " ++ p.name ++ codes "(" ++ declarations_text p.parameters ++ codes ")" ++ outcome_text p.outcome ++ codes " {"
 
 unfoldable pub procedure_text : Bool → Procedure → List ℕ
 procedure_text listing p =
-    line listing None [] (codes "proc " ++ p.name ++ codes "(" ++ declarations_text p.parameters ++ codes ")" ++ outcome_text p.outcome ++ codes " {")
-    ++ locals_text listing p.locals
+    line listing None [] (head_text p)
+    ++ locals_text listing (codes "  ") p.locals
     ++ block_text listing (codes "  ") p.body
     ++ line listing None [] (codes "}")
 
