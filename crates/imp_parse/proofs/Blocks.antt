@@ -1,5 +1,5 @@
 -- The readers of statements are exact.
-use Rattle.std.proofs.Common.{◌≡◌, ℕ, zero, suc, ◌+◌, ◌<◌, ◌≤◌, Bool, true, false, inl, inr, ◌⊎◌, List, [], ◌∷◌, ◌++◌, length, Option, Some, None, Result, Ok, Err, refl, sym, ap, ◌∙◌, subst, arith, append_assoc, length-append}
+use Rattle.std.proofs.Common.{◌≡◌, ℕ, ◌+◌, Bool, true, false, inl, inr, ◌⊎◌, List, [], ◌∷◌, ◌++◌, length, Ok, Err, refl, sym, ap, ◌∙◌, subst, append_assoc}
 use Rattle.std.specs.Prelude.{◌||◌}
 use Rattle.std.proofs.lemmas.List.{append-nil}
 use Rattle.imp_lex.specs.declared.token.Mark.{Mark}
@@ -7,28 +7,26 @@ use Rattle.imp_lex.specs.declared.token.Mark.TheVariants as m
 use Rattle.imp_lex.specs.declared.token.Word.TheVariants as word
 use Rattle.imp_lex.specs.declared.token.Kind.{Kind}
 use Rattle.imp_lex.specs.declared.token.Kind.TheVariants as k
-use Rattle.imp_syntax.specs.Plain as plain
-use Rattle.imp_syntax.specs.Plain.{Condition, Statement, Simple, Break, Call, If, While, Statements, Ends, block_of}
+use Rattle.imp_syntax.specs.Plain.{Condition, Statement, If, While, Statements, Ends, block_of}
 use std.Path.{fun_ext}
 use Rattle.imp_parse.specs.Reading.{mark_at, condition_at}
-use Rattle.imp_parse.specs.Language.{Language, Opens}
-use Rattle.imp_parse.specs.Reader.{Stop, Unexpected, Read, ◌>>=◌, Steps, fix}
-use Rattle.imp_parse.specs.Tables.{same_mark}
+use Rattle.imp_parse.specs.Language.{Language}
+use Rattle.imp_parse.specs.Reader.{Unexpected, Read, ◌>>=◌, fix}
 use Rattle.imp_parse.specs.Grammar.{IsCondition}
 use Rattle.imp_parse.specs.Statements.{IsSimple, skip, break, assert, call, assign, write_element, write_next, write_item, IsStatement, simple, if_, if_else, while, IsBlock, block, IsStatements, none, onward}
 use Rattle.imp_parse.specs.Lists.{Lists, begun, with_front}
-use Rattle.imp_parse.specs.StatementReading.{simple_at, begins_statement, block_by, else_by, if_by, while_by, numbered_at, statement_by, statements_step, statements_at, statement_at}
+use Rattle.imp_parse.specs.StatementReading.{simple_at, begins_statement, block_by, else_by, if_by, while_by, numbered_at, statement_by, statements_step, statements_at}
 use Rattle.imp_parse.specs.declared.error.Stopped.{Stopped}
 use Rattle.imp_parse.specs.Judged.{Fails}
 use Rattle.imp_parse.proofs.Exact.{Free, Exact, Both, both}
 use Rattle.imp_parse.proofs.Pack as packs
 use Rattle.imp_parse.proofs.Pack.{Layer, Calls, strictly, loosely, Pack, Strict, Loose, loose, Nothing, nothing, done, Follows, then, never, until, Arm, Dead, Live, Other, is_other, arm_reader, arm_lang, IsOther, Chosen, live, other, choose, strict_stops, Made, give, made_of, made, made_follows, nothing_is}
-use Rattle.imp_parse.proofs.Layers.{Turn, layer_eq, layer_exact}
+use Rattle.imp_parse.proofs.Layers.{Turn, layer_exact}
 use Rattle.imp_parse.proofs.Chains.{or_first, or_second, free_less}
-use Rattle.imp_parse.proofs.ListLayers.{IsList, ends, more, Listing, layer, list_arm, is_live, turn, goes_on, stops_by, is_done}
-use Rattle.imp_parse.proofs.Singles.{IsMark, mark, a_mark, mark_follows, ended}
+use Rattle.imp_parse.proofs.ListLayers.{IsList, ends, more, Listing, layer, is_live, turn, goes_on, stops_by, is_done}
+use Rattle.imp_parse.proofs.Singles.{IsMark, mark, a_mark, mark_follows}
 use Rattle.imp_parse.proofs.Conditions.{a_condition, junction_on}
-use Rattle.imp_parse.proofs.Simples.{simple_arm, arm_to, arm_from, simple_pack, simple_is}
+use Rattle.imp_parse.proofs.Simples.{simple_arm, arm_to, arm_from, simple_is}
 
 -- ---- the languages
 

@@ -1,30 +1,28 @@
 -- The readers of calls are exact.
-use Rattle.std.proofs.Common.{◌≡◌, ℕ, zero, suc, ◌+◌, ◌<◌, ◌≤◌, Bool, true, false, List, [], ◌∷◌, ◌++◌, length, Option, Some, None, Result, Ok, Err, refl, sym, ap, ◌∙◌, subst, arith, length-append}
+use Rattle.std.proofs.Common.{◌≡◌, ℕ, ◌<◌, Bool, true, false, List, [], ◌∷◌, ◌++◌, length, Ok, Err, refl, sym, ap, subst, arith, length-append}
 use Rattle.std.specs.Prelude.{◌||◌}
 use Rattle.imp_lex.specs.declared.token.Mark.TheVariants as m
-use Rattle.imp_lex.specs.declared.token.Word.TheVariants as word
 use Rattle.imp_lex.specs.declared.token.Kind.{Kind}
 use Rattle.imp_lex.specs.declared.token.Kind.TheVariants as k
-use Rattle.imp_syntax.specs.Plain.{Operand, Null}
+use Rattle.imp_syntax.specs.Plain.{Operand}
 use Rattle.imp_syntax.specs.declared.expr.Side.{Side}
 use Rattle.imp_syntax.specs.Views.{operand_of}
 use Rattle.imp_syntax.specs.ActionViews.{operands_of}
-use Rattle.imp_parse.specs.Language.{Language, Opens}
-use Rattle.imp_parse.specs.Reader.{Stop, Unexpected, Read, ◌>>=◌, Steps, fix}
+use Rattle.imp_parse.specs.Language.{Language}
+use Rattle.imp_parse.specs.Reader.{Unexpected, Read, fix}
 use Rattle.imp_parse.specs.Tables.{same_mark}
 use Rattle.imp_parse.specs.Grammar.{sum, product, negative, number, name, length_of, group, IsSide, null, value}
 use Rattle.imp_parse.specs.Statements.{IsSides, sides_end, sides_more, IsArguments, no_arguments, arguments, IsInvoke, invoke}
-use Rattle.imp_parse.specs.Reading.{mark_at, side_at}
 use Rattle.imp_parse.specs.Lists.{Lists, begun, with_front}
 use Rattle.imp_parse.specs.StatementReading.{is_comma, side_by, sides_step, sides_at, arguments_at, invoke_at}
 use Rattle.imp_parse.specs.declared.error.Stopped.{Stopped}
 use Rattle.imp_parse.specs.Judged.{Fails}
-use Rattle.imp_parse.proofs.Exact.{Free, Exact, Both, both}
-use Rattle.imp_parse.proofs.Pack.{Layer, Calls, Pack, Strict, Loose, loose, Nothing, nothing, done, read, read_some, Follows, then, next, never, Arm, Dead, Live, Other, is_other, arm_reader, arm_lang, IsOther, Chosen, live, other, choose, strict_stops, Made, give, made_of, made}
+use Rattle.imp_parse.proofs.Exact.{Free, Exact, both}
+use Rattle.imp_parse.proofs.Pack.{Layer, Strict, Loose, loose, nothing, done, read, read_some, Follows, then, next, never, Arm, Dead, Live, Other, arm_reader, arm_lang, IsOther, live, other, choose, strict_stops, give, made_of, made}
 use Rattle.imp_parse.proofs.Layers.{Turn, layer_exact, alone, no_calls, alone_exact}
 use Rattle.imp_parse.proofs.Chains.{or_first, or_second, free_less}
-use Rattle.imp_parse.proofs.ListLayers.{IsList, ends, more, Listing, layer, list_arm, is_live, turn, goes_on, stops_by, is_done}
-use Rattle.imp_parse.proofs.Singles.{IsMark, mark, a_mark, IsName, named, a_name, mark_follows, ended}
+use Rattle.imp_parse.proofs.ListLayers.{IsList, ends, more, Listing, layer, is_live, turn, goes_on, stops_by, is_done}
+use Rattle.imp_parse.proofs.Singles.{mark, a_mark, named, a_name, mark_follows, ended}
 use Rattle.imp_parse.proofs.Expressions.{operator_on}
 use Rattle.imp_parse.proofs.Conditions.{a_side, side_some}
 

@@ -1,12 +1,12 @@
 -- A layer of chains of two ranks, over units.
-use Rattle.std.proofs.Common.{◌≡◌, ℕ, zero, suc, ◌+◌, ◌<◌, ◌≤◌, Bool, true, false, List, [], ◌∷◌, ◌++◌, length, Option, Some, None, Result, Ok, Err, refl, sym, ap, ◌∙◌, subst, arith}
+use Rattle.std.proofs.Common.{◌≡◌, Bool, true, false, List, [], ◌∷◌, ◌++◌, Option, Some, None, Ok, refl, sym, ap, ◌∙◌, subst}
 use Rattle.std.specs.Prelude.{is_some, ◌||◌}
 use Rattle.imp_lex.specs.declared.token.Kind.{Kind}
 use Rattle.imp_parse.specs.Language.{Language, Opens}
-use Rattle.imp_parse.specs.Reader.{Read, ◌>>=◌, Steps, fix}
-use Rattle.imp_parse.specs.Reading.{Part, Whole, Inner, High, Low, Parts, tail_by, chain_by, part_by, high_by, low_by, chain_step}
+use Rattle.imp_parse.specs.Reader.{◌>>=◌, Steps, fix}
+use Rattle.imp_parse.specs.Reading.{Part, Whole, Inner, High, Low, Parts, tail_by, chain_by, part_by, chain_step}
 use Rattle.imp_parse.proofs.Exact.{Reader, Free, Both, both}
-use Rattle.imp_parse.proofs.Pack.{Layer, Calls, strictly, loosely, Pack, Strict, Loose, loose, Nothing, nothing, done, call, Follows, then, Arm, Live, Other, is_other, arm_reader, arm_lang, IsOther, Chosen, live, other, chosen_reader, choose}
+use Rattle.imp_parse.proofs.Pack.{Layer, strictly, loosely, Pack, Strict, loose, Nothing, nothing, done, call, Follows, then, Arm, Live, Other, is_other, arm_reader, arm_lang, IsOther, live, other, choose}
 use Rattle.imp_parse.proofs.Layers.{Turn, layer_eq}
 use std.Path.{fun_ext}
 

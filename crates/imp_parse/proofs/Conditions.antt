@@ -1,5 +1,5 @@
 -- The readers of conditions are exact.
-use Rattle.std.proofs.Common.{◌≡◌, ℕ, zero, suc, ◌+◌, ◌<◌, ◌≤◌, Bool, true, false, List, [], ◌∷◌, ◌++◌, length, Option, Some, None, Result, Ok, Err, refl, sym, ap, ◌∙◌, subst, arith, length-append}
+use Rattle.std.proofs.Common.{◌≡◌, ℕ, ◌<◌, Bool, false, List, [], ◌∷◌, ◌++◌, length, Some, refl, sym, subst, arith, length-append}
 use Rattle.std.specs.Prelude.{is_some, ◌||◌}
 use Rattle.std.proofs.lemmas.List.{append-nil}
 use Rattle.imp_lex.specs.declared.token.Mark.TheVariants as m
@@ -8,16 +8,16 @@ use Rattle.imp_lex.specs.declared.token.Kind.{Kind}
 use Rattle.imp_lex.specs.declared.token.Kind.TheVariants as k
 use Rattle.imp_syntax.specs.declared.words.Relation.{Relation}
 use Rattle.imp_syntax.specs.declared.words.Relation.TheVariants as r
-use Rattle.imp_syntax.specs.Plain.{Expression, Literal, Variable, Length, Negative, Binary, Operand, Null, Value, Condition, Compare, Not, And, Or}
+use Rattle.imp_syntax.specs.Plain.{Expression, Literal, Operand, Null, Value, Condition, Compare, Not, And, Or}
 use Rattle.imp_parse.specs.Language.{Language, Opens}
-use Rattle.imp_parse.specs.Reader.{Stop, Unexpected, Out, Read, ◌>>=◌, Steps, fix}
-use Rattle.imp_parse.specs.Tables.{additive, multiplicative, relation_of, and_of, or_of, same_mark}
-use Rattle.imp_parse.specs.Grammar.{IsExpression, sum, sum_ends, IsTerm, product, product_ends, IsFactor, negative, number, name, length_of, group, IsSide, null, value, begins_group, IsCondition, disjunction, IsOr, or_ends, or_more, IsConjunction, conjunction, IsAnd, and_ends, and_more, IsUnit, opposite, grouped, compare}
-use Rattle.imp_parse.specs.Reading.{Part, Whole, Inner, High, Low, Parts, expression_at, value_at, side_at, compare_at, grouped_by, unit_by, condition_step, condition_at, and_by, or_by}
-use Rattle.imp_parse.proofs.Exact.{Reader, Free, Exact, Both, both, another}
-use Rattle.imp_parse.proofs.Pack.{Layer, Calls, strictly, loosely, Pack, Strict, Loose, loose, Nothing, nothing, done, nothing_follows, call, read, Follows, then, next, never, Arm, Live, Other, is_other, arm_lang, IsOther, Chosen, live, other, choose, strict_stops, Good, until}
+use Rattle.imp_parse.specs.Reader.{◌>>=◌, fix}
+use Rattle.imp_parse.specs.Tables.{relation_of, and_of, or_of, same_mark}
+use Rattle.imp_parse.specs.Grammar.{IsExpression, sum, sum_ends, product, product_ends, negative, number, name, length_of, group, IsSide, null, value, begins_group, IsCondition, disjunction, IsOr, or_ends, or_more, IsConjunction, conjunction, IsAnd, and_ends, and_more, IsUnit, opposite, grouped, compare}
+use Rattle.imp_parse.specs.Reading.{Part, Whole, Inner, High, Low, Parts, expression_at, side_at, unit_by, condition_step, condition_at, and_by, or_by}
+use Rattle.imp_parse.proofs.Exact.{Free, Exact, Both, both}
+use Rattle.imp_parse.proofs.Pack.{Layer, Strict, Loose, loose, Nothing, nothing, done, nothing_follows, call, read, Follows, then, next, Arm, Live, Other, IsOther, live, other, choose, strict_stops}
 use Rattle.imp_parse.proofs.Layers.{Turn, layer_eq, layer_exact, alone, no_calls, alone_exact}
-use Rattle.imp_parse.proofs.Chains.{Tail, ends, more, Chains, high_on, low_on, layer, turn, whole_eq, high_eq, low_eq}
+use Rattle.imp_parse.proofs.Chains.{Tail, ends, more, Chains, low_on, layer, turn, whole_eq, high_eq, low_eq}
 use Rattle.imp_parse.proofs.Singles.{IsMark, mark, a_mark, IsPicked, picked_as, a_relation}
 use Rattle.imp_parse.proofs.Expressions.{operator_on, expression_exact}
 

@@ -1,5 +1,5 @@
 -- Readers that are exact for a language.
-use Rattle.std.proofs.Common.{◌≡◌, ℕ, zero, suc, ◌+◌, ◌<◌, ◌≤◌, Bool, true, false, List, [], ◌∷◌, ◌++◌, length, Result, Ok, Err, refl, sym, ap, ◌∙◌, subst, arith, append_assoc, length-append}
+use Rattle.std.proofs.Common.{◌≡◌, ℕ, suc, ◌+◌, ◌<◌, ◌≤◌, Bool, false, List, [], ◌∷◌, ◌++◌, length, Result, Ok, Err, refl, sym, ap, ◌∙◌, subst, arith, append_assoc, length-append}
 use Rattle.imp_lex.specs.declared.token.Kind.{Kind}
 use Rattle.imp_parse.specs.Language.{Language, Opens}
 use Rattle.imp_parse.specs.Reader.{Stop, Unexpected, Out, Read, ◌>>=◌}

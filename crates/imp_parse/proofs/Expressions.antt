@@ -1,5 +1,5 @@
 -- The readers of expressions are exact.
-use Rattle.std.proofs.Common.{◌≡◌, ℕ, zero, suc, ◌+◌, ◌<◌, ◌≤◌, Bool, true, false, List, [], ◌∷◌, ◌++◌, length, Option, Some, None, Result, Ok, Err, refl, sym, ap, ◌∙◌, subst, arith, length-append}
+use Rattle.std.proofs.Common.{◌≡◌, ℕ, Bool, false, List, [], ◌∷◌, ◌++◌, Some, refl, sym, subst}
 use Rattle.std.specs.Prelude.{is_some, ◌||◌}
 use Rattle.std.proofs.lemmas.List.{append-nil}
 use Rattle.imp_lex.specs.declared.token.Mark.TheVariants as m
@@ -8,16 +8,15 @@ use Rattle.imp_lex.specs.declared.token.Kind.{Kind}
 use Rattle.imp_lex.specs.declared.token.Kind.TheVariants as k
 use Rattle.imp_syntax.specs.declared.words.Operator.{Operator}
 use Rattle.imp_syntax.specs.Plain.{Expression, Literal, Variable, Length, Negative, Binary}
-use Rattle.imp_parse.specs.Language.{Language, Opens}
-use Rattle.imp_parse.specs.Reader.{Stop, Unexpected, Out, Read, ◌>>=◌, Steps, fix}
+use Rattle.imp_parse.specs.Reader.{◌>>=◌, fix}
 use Rattle.imp_parse.specs.Tables.{additive, multiplicative, same_mark}
 use Rattle.imp_parse.specs.Grammar.{IsExpression, sum, IsSum, sum_ends, sum_more, IsTerm, product, IsProduct, product_ends, product_more, IsFactor, negative, number, name, length_of, group}
-use Rattle.imp_parse.specs.Reading.{Part, Whole, Inner, High, Low, Parts, factor_by, expression_step, expression_at, factor_at, product_at, sum_at, term_at, product_by, sum_by}
-use Rattle.imp_parse.proofs.Exact.{Reader, Free, Exact, Both, both}
-use Rattle.imp_parse.proofs.Pack.{Layer, Calls, strictly, loosely, Pack, Strict, Loose, loose, Nothing, nothing, done, call, Follows, then, next, never, Arm, Live, Other, is_other, arm_lang, IsOther, Chosen, live, other, choose, strict_stops, Good, until}
+use Rattle.imp_parse.specs.Reading.{Part, Whole, Inner, High, Low, Parts, factor_by, expression_step, expression_at, product_at, sum_at, product_by, sum_by}
+use Rattle.imp_parse.proofs.Exact.{Free, Exact, Both, both}
+use Rattle.imp_parse.proofs.Pack.{Layer, Strict, loose, Nothing, nothing, done, call, then, next, never, Arm, Live, Other, live, other, choose, strict_stops}
 use Rattle.imp_parse.proofs.Layers.{Turn, layer_eq, layer_exact}
 use Rattle.imp_parse.proofs.Chains.{Tail, ends, more, Chains, high_on, low_on, layer, turn, whole_eq, high_eq, low_eq}
-use Rattle.imp_parse.proofs.Singles.{IsMark, mark, a_mark, IsName, named, a_name}
+use Rattle.imp_parse.proofs.Singles.{IsMark, mark, a_mark, named, a_name}
 
 -- ---- the languages
 

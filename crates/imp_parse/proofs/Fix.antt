@@ -1,9 +1,9 @@
 -- A reader that calls itself at fewer tokens is what its step makes of it.
-use Rattle.std.proofs.Common.{◌≡◌, ℕ, zero, suc, ◌<◌, ◌≤◌, Bool, true, false, cond, ltb, List, [], ◌∷◌, length, Result, Ok, Err, refl, sym, ap, ◌∙◌, arith, inl, inr}
-use Rattle.std.proofs.lemmas.Bool.{cases_lt, lt-ltb, ltb-false, le-ltb}
+use Rattle.std.proofs.Common.{◌≡◌, ℕ, zero, suc, ◌<◌, ◌≤◌, List, length, Err, refl, sym, ap, ◌∙◌, arith, inl, inr}
+use Rattle.std.proofs.lemmas.Bool.{cases_lt, lt-ltb, le-ltb}
 use std.Path.{fun_ext}
 use Rattle.imp_lex.specs.declared.token.Kind.{Kind}
-use Rattle.imp_parse.specs.Reader.{Stop, Out, Read, ◌>>=◌, within, bounded, Steps, turns, fix}
+use Rattle.imp_parse.specs.Reader.{Out, Read, within, bounded, Steps, turns, fix}
 
 pub within_fewer : {A : Type 0} (ts : List Kind) (read : List Kind → Read A) (rest : List Kind) → length rest < length ts → within ts read rest ≡ read rest
 within_fewer ts read rest lt = rw (lt-ltb (length rest) (length ts) lt) refl

@@ -13,8 +13,8 @@ use Rattle.imp_parse.specs.Language.{Language, Opens, IsStuck}
 use Rattle.imp_parse.specs.Reader.{Stop, Unexpected, Out, Read}
 use Rattle.imp_parse.specs.Limits.{role_of, next, exceeds, too_deep}
 use Rattle.imp_parse.specs.Answer.{Fits, IsTokenAnswer}
-use Rattle.imp_parse.specs.Judged.{Gives, finished, cut, stuck_before, judged}
-use Rattle.imp_parse.proofs.Exact.{SameFirst, Reader, Took, Stuck, Explained, Exact}
+use Rattle.imp_parse.specs.Judged.{Gives, finished, cut, judged}
+use Rattle.imp_parse.proofs.Exact.{SameFirst, Reader, Explained, Exact}
 
 -- ---- lists
 

@@ -1,12 +1,12 @@
 -- A layer of readers that call one another is exact, and is what its step makes of it.
-use Rattle.std.proofs.Common.{◌≡◌, ℕ, zero, suc, ◌+◌, ◌<◌, ◌≤◌, Bool, true, false, cond, ltb, List, [], ◌∷◌, length, Result, Ok, Err, refl, sym, ap, ◌∙◌, subst, arith}
+use Rattle.std.proofs.Common.{◌≡◌, ℕ, zero, suc, Bool, true, false, cond, ltb, List, length, Err, sym, ◌∙◌, subst, arith}
 use std.Path.{fun_ext}
 use Rattle.imp_lex.specs.declared.token.Kind.{Kind}
-use Rattle.imp_parse.specs.Language.{Language, Opens}
-use Rattle.imp_parse.specs.Reader.{Stop, Unexpected, Out, Read, ◌>>=◌, within, bounded, Steps, turns, fix}
+use Rattle.imp_parse.specs.Language.{Language}
+use Rattle.imp_parse.specs.Reader.{Out, bounded, Steps, turns, fix}
 use Rattle.imp_parse.proofs.Fix.{fix_eq, within_fewer}
 use Rattle.imp_parse.proofs.Exact.{Reader, Exact, another, nothing_exact, fewer}
-use Rattle.imp_parse.proofs.Pack.{Layer, Calls, Below, Keeps, Agree, Good, strictly, loosely, Pack}
+use Rattle.imp_parse.proofs.Pack.{Layer, Calls, Below, Keeps, Agree, Good, strictly, Pack}
 
 -- the step of a layer, call by call: no call stands at its front, and what it reads is the call's language
 pub record Turn (L : Layer) (F : Steps L.Call L.Value) (i : L.Call) : Type 1 where

@@ -1,16 +1,15 @@
 -- A layer of lists, whose items are told by their first token.
-use Rattle.std.proofs.Common.{◌≡◌, ℕ, zero, suc, ◌+◌, ◌<◌, ◌≤◌, Bool, true, false, cond, List, [], ◌∷◌, ◌++◌, length, Result, Ok, Err, refl, sym, ap, ◌∙◌, subst, arith, append_assoc}
+use Rattle.std.proofs.Common.{◌≡◌, Bool, true, false, cond, List, [], ◌∷◌, ◌++◌, length, Ok, Err, refl, sym, ap, ◌∙◌, subst, append_assoc}
 use Rattle.std.proofs.lemmas.List.{append-nil}
-use Rattle.std.specs.Prelude.{not}
 use Rattle.imp_lex.specs.declared.token.Kind.{Kind}
-use Rattle.imp_parse.specs.Language.{Language, Opens}
+use Rattle.imp_parse.specs.Language.{Language}
 use Rattle.imp_parse.specs.Reader.{Stop, Unexpected, Read, ◌>>=◌, Steps, fix}
 use Rattle.imp_parse.specs.Lists.{Lists, begun, more_by, list_step, with_front}
 use Rattle.imp_parse.specs.declared.error.Stopped.{Stopped}
 use Rattle.imp_parse.specs.declared.error.Stopped.TheVariants as stopped
 use Rattle.imp_parse.specs.Judged.{Fails}
-use Rattle.imp_parse.proofs.Exact.{Reader, Free, Both, both}
-use Rattle.imp_parse.proofs.Pack.{Layer, Calls, strictly, loosely, Pack, Strict, Loose, loose, Nothing, nothing, done, nothing_follows, nothing_is, call, Follows, then, Arm, Dead, Live, Other, is_other, arm_reader, arm_lang, IsOther, Chosen, live, other, chosen_reader, choose}
+use Rattle.imp_parse.proofs.Exact.{Free, both}
+use Rattle.imp_parse.proofs.Pack.{Layer, strictly, loosely, Pack, Loose, loose, Nothing, nothing, done, nothing_follows, nothing_is, call, Follows, then, Arm, Dead, Live, Other, is_other, arm_reader, arm_lang, IsOther, live, other, choose}
 use Rattle.imp_parse.proofs.Layers.{Turn, layer_eq}
 
 -- lists of items, each with the state before and after it

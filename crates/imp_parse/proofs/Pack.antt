@@ -1,11 +1,11 @@
 -- Readers that may call those of one layer, together with their language and what is proved of them, as one value.
-use Rattle.std.proofs.Common.{◌≡◌, ℕ, zero, suc, ◌+◌, ◌<◌, ◌≤◌, Bool, true, false, List, [], ◌∷◌, ◌++◌, length, Option, Some, None, Result, Ok, Err, refl, sym, ap, ◌∙◌, subst, arith, append_assoc, length-append}
+use Rattle.std.proofs.Common.{◌≡◌, ℕ, suc, ◌+◌, ◌<◌, ◌≤◌, Bool, true, false, List, [], ◌∷◌, ◌++◌, length, Option, Some, None, Ok, Err, refl, sym, ap, ◌∙◌, subst, arith, length-append}
 use Rattle.std.proofs.lemmas.List.{append-nil}
 use Rattle.std.specs.Prelude.{IfOk}
 use Rattle.imp_lex.specs.declared.token.Kind.{Kind}
 use Rattle.imp_parse.specs.Language.{Language, Opens}
-use Rattle.imp_parse.specs.Reader.{Stop, Unexpected, Out, Read, ◌>>=◌, pick_at, picked}
-use Rattle.imp_parse.proofs.Exact.{SameFirst, by_first, by_none, same_behind, Reader, Free, Took, Stuck, Explained, Exact, seq, Both, both, seq_exact, fewer, after_first, stuck_here, stuck_first, stuck_end}
+use Rattle.imp_parse.specs.Reader.{Unexpected, Out, Read, ◌>>=◌, pick_at, picked}
+use Rattle.imp_parse.proofs.Exact.{SameFirst, same_behind, Reader, Free, Took, Explained, Exact, seq, Both, both, seq_exact, fewer, after_first, stuck_first, stuck_end}
 
 -- a reader that calls itself: at what, what it answers, and the language of each call
 pub record Layer : Type 1 where

@@ -1,7 +1,5 @@
 -- The readers of procedures and programs are exact.
-use Rattle.std.proofs.Common.{◌≡◌, ℕ, zero, suc, ◌+◌, ◌<◌, ◌≤◌, Bool, true, false, List, [], ◌∷◌, ◌++◌, length, Option, Some, None, Result, Ok, Err, refl, sym, ap, ◌∙◌, subst, arith, append_assoc, length-append}
-use Rattle.std.specs.Prelude.{◌||◌}
-use Rattle.std.proofs.lemmas.List.{append-nil}
+use Rattle.std.proofs.Common.{◌≡◌, ℕ, ◌<◌, Bool, true, false, List, [], ◌∷◌, ◌++◌, length, Option, Some, None, Ok, Err, refl, sym, ap, ◌∙◌, subst, arith, append_assoc}
 use Rattle.imp_lex.specs.declared.token.Mark.TheVariants as m
 use Rattle.imp_lex.specs.declared.token.Word.TheVariants as word
 use Rattle.imp_lex.specs.declared.token.Kind.{Kind}
@@ -9,22 +7,21 @@ use Rattle.imp_lex.specs.declared.token.Kind.TheVariants as k
 use Rattle.imp_syntax.specs.declared.words.Kind as kinds
 use Rattle.imp_syntax.specs.declared.words.Kind.TheVariants as v
 use Rattle.imp_syntax.specs.declared.words.Declaration.{Declaration}
-use Rattle.imp_syntax.specs.Plain.{Statement, Procedure, Ends, block_of}
+use Rattle.imp_syntax.specs.Plain.{Statement, Procedure, block_of}
 use Rattle.imp_parse.specs.Language.{Language, Opens}
-use Rattle.imp_parse.specs.Reader.{Stop, Unexpected, Read, ◌>>=◌, Steps, fix}
+use Rattle.imp_parse.specs.Reader.{Unexpected, Read, fix}
 use Rattle.imp_parse.specs.Tables.{same_mark, kind_of}
-use Rattle.imp_parse.specs.Statements.{IsStatements, none}
 use Rattle.imp_parse.specs.Programs.{IsDeclaration, declaration, IsDeclarations, declarations_end, declarations_more, IsParameters, no_parameters, parameters, IsOutcome, no_outcome, outcome, IsLocals, locals_end, locals_more, IsProcedure, procedure, IsProcedures, procedures_end, procedures_more, IsProgram, program}
 use Rattle.imp_parse.specs.Lists.{Lists, begun, with_front}
-use Rattle.imp_parse.specs.StatementReading.{is_comma, begins_statement, statements_at}
-use Rattle.imp_parse.specs.ProgramReading.{kind_at, declaration_at, declaration_by, declarations_step, declarations_at, parameters_at, outcome_at, begins_local, local_by, locals_step, locals_at, procedure_behind, procedure_at, begins_procedure, procedures_step, procedures_at, program_at}
+use Rattle.imp_parse.specs.StatementReading.{is_comma, begins_statement}
+use Rattle.imp_parse.specs.ProgramReading.{declaration_at, declaration_by, declarations_step, declarations_at, parameters_at, outcome_at, begins_local, local_by, locals_step, locals_at, procedure_at, begins_procedure, procedures_step, procedures_at, program_at}
 use Rattle.imp_parse.specs.declared.error.Stopped.{Stopped}
 use Rattle.imp_parse.specs.Judged.{Fails}
 use Rattle.imp_parse.proofs.Exact.{Free, Exact, Both, both}
-use Rattle.imp_parse.proofs.Pack.{Layer, Calls, strictly, loosely, Pack, Strict, Loose, loose, Nothing, nothing, done, read, read_some, one, Follows, then, next, never, until, free_never, Arm, Dead, Live, Other, is_other, arm_reader, arm_lang, IsOther, Chosen, live, other, choose, strict_stops, Made, give, made_of, made}
+use Rattle.imp_parse.proofs.Pack.{Layer, strictly, loosely, Pack, Strict, Loose, loose, Nothing, nothing, done, read, read_some, one, Follows, then, next, never, until, free_never, Arm, Dead, Live, Other, arm_reader, arm_lang, IsOther, live, other, choose, strict_stops, Made, give, made_of, made}
 use Rattle.imp_parse.proofs.Layers.{Turn, layer_exact, alone, no_calls, alone_exact}
-use Rattle.imp_parse.proofs.ListLayers.{IsList, ends, more, Listing, layer, list_arm, is_live, turn, goes_on, stops_by, is_done}
-use Rattle.imp_parse.proofs.Singles.{IsMark, mark, a_mark, mark_follows, ended, refused, IsName, named, a_name, IsPicked, picked_as, picked_single}
+use Rattle.imp_parse.proofs.ListLayers.{IsList, ends, more, Listing, layer, is_live, turn, goes_on, stops_by, is_done}
+use Rattle.imp_parse.proofs.Singles.{IsMark, mark, a_mark, mark_follows, ended, refused, named, a_name, IsPicked, picked_as, picked_single}
 use Rattle.imp_parse.proofs.Blocks.{StatementsIn, some_statements, statements_on, statements_first}
 
 -- ---- a declaration

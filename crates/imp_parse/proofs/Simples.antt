@@ -1,5 +1,5 @@
 -- The readers of simple statements are exact.
-use Rattle.std.proofs.Common.{◌≡◌, ℕ, zero, suc, ◌+◌, ◌<◌, ◌≤◌, Bool, true, false, List, [], ◌∷◌, ◌++◌, length, Option, Some, None, Result, Ok, Err, refl, sym, ap, ◌∙◌, subst, arith, length-append}
+use Rattle.std.proofs.Common.{◌≡◌, ℕ, ◌<◌, Bool, true, false, List, [], ◌∷◌, ◌++◌, length, Some, None, refl, sym, subst, arith}
 use Rattle.std.specs.Prelude.{◌||◌}
 use Rattle.imp_lex.specs.declared.token.Mark.TheVariants as m
 use Rattle.imp_lex.specs.declared.token.Word.TheVariants as word
@@ -8,22 +8,21 @@ use Rattle.imp_lex.specs.declared.token.Kind.TheVariants as k
 use Rattle.imp_syntax.specs.declared.words.Operator.{Operator}
 use Rattle.imp_syntax.specs.Plain as plain
 use Rattle.imp_syntax.specs.Plain.{Expression, Literal, Operand, Condition, Statement, Simple, Break, Call}
-use Rattle.imp_parse.specs.Language.{Language, Opens}
-use Rattle.imp_parse.specs.Reader.{Stop, Unexpected, Read, ◌>>=◌}
+use Rattle.imp_parse.specs.Language.{Opens}
 use Rattle.imp_parse.specs.Tables.{additive, multiplicative, same_mark}
 use Rattle.imp_parse.specs.Grammar.{IsExpression, sum, IsSum, sum_ends, sum_more, product, IsProduct, product_ends, product_more, negative, number, name, length_of, group}
 use Rattle.imp_parse.specs.Statements.{IsInvoke, IsAssigned, input, array, null, new, outcome, next, item, element, value, IsSimple, skip, break, assert, call, assign, write_element, write_next, write_item}
 use Rattle.imp_parse.specs.Reading.{product_at, sum_at}
 use Rattle.imp_parse.specs.StatementReading.{field_rhs_at, named_rhs_at, rhs_at, field_at, named_at, simple_at}
-use Rattle.imp_parse.proofs.Exact.{Free, Exact, Both, both}
+use Rattle.imp_parse.proofs.Exact.{Free, Exact, both}
 use Rattle.imp_parse.proofs.Pack as packs
 use Rattle.imp_parse.proofs.Pack.{Layer, Calls, Pack, Strict, Loose, loose, Nothing, nothing, done, read, read_some, Follows, then, never, until, Arm, Dead, Live, Other, is_other, arm_lang, IsOther, Chosen, live, other, choose, strict_stops, Made, give, made_of, made, made_follows}
 use Rattle.imp_parse.proofs.Layers.{alone, no_calls, alone_exact}
 use Rattle.imp_parse.proofs.Chains.{high_on, low_follows, or_second}
-use Rattle.imp_parse.proofs.Singles.{IsMark, mark, a_mark, IsName, named, a_name, mark_follows, ended, refused}
+use Rattle.imp_parse.proofs.Singles.{mark, a_mark, named, a_name, mark_follows, ended, refused}
 use Rattle.imp_parse.proofs.Expressions.{chains, operator_on, product_exact, sum_exact}
 use Rattle.imp_parse.proofs.Conditions.{an_expression, a_condition, junction_on}
-use Rattle.imp_parse.proofs.Calls.{a_call, invoke_some}
+use Rattle.imp_parse.proofs.Calls.{a_call}
 
 -- ---- what is assigned: behind a name
 

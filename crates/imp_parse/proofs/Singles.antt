@@ -1,17 +1,16 @@
 -- Readers of one token.
-use Rattle.std.proofs.Common.{◌≡◌, ℕ, Bool, true, false, cond, List, [], ◌∷◌, Option, Some, None, refl, sym, ap, ◌∙◌, subst}
+use Rattle.std.proofs.Common.{◌≡◌, ℕ, Bool, true, false, cond, List, [], ◌∷◌, Option, Some, None, refl, sym, ap, subst}
 use denote.Enum.Bare.{same_true, true_same}
 use Rattle.imp_lex.specs.contracts.token.Mark.{the_type}
 use Rattle.imp_lex.specs.declared.token.Mark.{Mark}
 use Rattle.imp_lex.specs.declared.token.Mark.TheVariants as m
-use Rattle.imp_lex.specs.declared.token.Word.TheVariants as word
 use Rattle.imp_lex.specs.declared.token.Kind.{Kind}
 use Rattle.imp_lex.specs.declared.token.Kind.TheVariants as k
 use Rattle.imp_syntax.specs.declared.words.Relation.{Relation}
 use Rattle.imp_syntax.specs.declared.words.Relation.TheVariants as r
 use Rattle.imp_parse.specs.Tables.{is_mark, same_mark, name_of, relation_of}
 use Rattle.imp_parse.proofs.Pack.{Layer, Strict, Loose, loose, Single, never, one, Follows, give}
-use Rattle.imp_parse.proofs.Exact.{Free, Both, both}
+use Rattle.imp_parse.proofs.Exact.{Both, both}
 use Rattle.imp_parse.specs.Language.{Language}
 
 -- the text is this mark

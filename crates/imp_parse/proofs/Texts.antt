@@ -1,6 +1,6 @@
 -- What the functions answer is what the text is, and each text is one thing.
-use Rattle.std.proofs.Common.{◌≡◌, ◌⊎◌, ℕ, zero, suc, ◌+◌, ◌-◌, ◌<◌, ◌≤◌, Bool, inl, inr, List, [], ◌∷◌, ◌++◌, length, take, drop, Option, Some, None, Result, Ok, Err, refl, sym, ap, ◌∙◌, subst, arith}
-use Rattle.std.specs.Prelude.{IfOk, IfErr, map}
+use Rattle.std.proofs.Common.{◌≡◌, ◌⊎◌, ℕ, zero, suc, ◌+◌, ◌≤◌, Bool, inl, inr, List, [], ◌∷◌, length, take, Option, Some, None, Result, Ok, Err, refl, sym, ap, ◌∙◌, subst, arith}
+use Rattle.std.specs.Prelude.{IfOk, IfErr}
 use Rattle.std.proofs.lemmas.List.{length-map}
 use Rattle.imp_lex.specs.declared.token.Token.{Token}
 use Rattle.imp_lex.specs.declared.token.Kind.{Kind}
@@ -14,7 +14,7 @@ use Rattle.imp_parse.specs.declared.error.ParseError.TheVariants as e
 use Rattle.imp_parse.specs.declared.limits.Place.{Place}
 use Rattle.imp_parse.specs.Kinds.{kinds}
 use Rattle.imp_parse.specs.Language.{Language}
-use Rattle.imp_parse.specs.Reader.{Stop, Unexpected, Out, Read}
+use Rattle.imp_parse.specs.Reader.{Stop, Unexpected, Out}
 use Rattle.imp_parse.specs.Limits.{too_deep}
 use Rattle.imp_parse.specs.Answer.{IsTokenAnswer, IsAnswer, OfTokens, HasTree, IsFault, IsOnlyAnswer, HasOneAnswer}
 use Rattle.imp_parse.specs.Judged.{Gives, finished, cut, judged, of_lex}

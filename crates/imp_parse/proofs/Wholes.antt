@@ -1,14 +1,13 @@
 -- The readers of whole texts are exact.
-use Rattle.std.proofs.Common.{◌≡◌, ℕ, ◌+◌, List, [], ◌∷◌, refl, sym, ap, ◌∙◌, subst}
+use Rattle.std.proofs.Common.{◌≡◌, ℕ, ◌+◌, List, refl, sym, ap, subst}
 use Rattle.imp_lex.specs.declared.token.Kind.{Kind}
-use Rattle.imp_syntax.specs.Plain.{Statement, Statements, Procedure, block_of}
-use Rattle.imp_parse.specs.Reader.{Read, ◌>>=◌}
-use Rattle.imp_parse.specs.Statements.{IsSimple, IsStatements}
-use Rattle.imp_parse.specs.StatementReading.{simple_at, numbered_at, statements_at, body_at}
+use Rattle.imp_syntax.specs.Plain.{Statement, Statements, block_of}
+use Rattle.imp_parse.specs.Statements.{IsSimple}
+use Rattle.imp_parse.specs.StatementReading.{simple_at, numbered_at, body_at}
 use Rattle.imp_parse.specs.Languages.{SimpleText, BodyText}
 use Rattle.imp_parse.proofs.Exact.{Exact}
-use Rattle.imp_parse.proofs.Pack.{Loose, loose, read_some, never, give, Made, made_of, made}
-use Rattle.imp_parse.proofs.Layers.{alone, no_calls, alone_exact}
+use Rattle.imp_parse.proofs.Pack.{Loose, read_some, never, give, made_of, made}
+use Rattle.imp_parse.proofs.Layers.{alone, alone_exact}
 use Rattle.imp_parse.proofs.Simples.{simple_exact, simple_some}
 use Rattle.imp_parse.proofs.Blocks.{StatementsIn, statements_on, some_statements}
 

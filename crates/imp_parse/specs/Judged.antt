@@ -7,7 +7,7 @@ use Rattle.imp_parse.specs.declared.error.Stopped.{Stopped}
 use Rattle.imp_parse.specs.declared.error.Stopped.TheVariants as s
 use Rattle.imp_parse.specs.declared.error.ParseError.{ParseError}
 use Rattle.imp_parse.specs.declared.error.ParseError.TheVariants as e
-use Rattle.imp_parse.specs.Reader.{Stop, Unexpected, Out, Read}
+use Rattle.imp_parse.specs.Reader.{Stop, Unexpected, Read}
 
 -- the error is where reading stops, or want of memory
 abbrev pub Fails : {A : Type 0} → Stopped → Result A Stop → Type 0

@@ -1,5 +1,5 @@
 -- Languages: which lists of tokens spell which values, and where a list of tokens stops to begin one.
-use Rattle.std.specs.Prelude.{◌≡◌, ℕ, ◌+◌, ◌≤◌, ◌<◌, List, [], ◌∷◌, ◌++◌, length, take}
+use Rattle.std.specs.Prelude.{◌≡◌, ℕ, ◌+◌, ◌≤◌, ◌<◌, List, ◌++◌, length, take}
 use Rattle.imp_lex.specs.declared.token.Kind.{Kind}
 
 -- these tokens spell this value

@@ -1,6 +1,5 @@
 -- The five languages that are read, and where each begins.
-use Rattle.std.specs.Prelude.{◌≡◌, ℕ, ◌+◌, false, List}
-use Rattle.imp_lex.specs.declared.token.Kind.{Kind}
+use Rattle.std.specs.Prelude.{◌≡◌, ℕ, ◌+◌, List}
 use Rattle.imp_syntax.specs.Plain.{Condition, Statement, Statements, Procedure, block_of}
 use Rattle.imp_parse.specs.Language.{Language}
 use Rattle.imp_parse.specs.Grammar.{IsCondition}

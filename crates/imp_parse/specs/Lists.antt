@@ -1,5 +1,5 @@
 -- Reading lists: items that are told by their first token, each with the state behind it.
-use Rattle.std.specs.Prelude.{◌≡◌, ℕ, Bool, false, List, [], ◌∷◌, ◌++◌, Result, Ok, Err, if◌then◌else◌}
+use Rattle.std.specs.Prelude.{Bool, false, List, [], ◌∷◌, ◌++◌, Ok, if◌then◌else◌}
 use Rattle.imp_lex.specs.declared.token.Kind.{Kind}
 use Rattle.imp_parse.specs.Reader.{Read, ◌>>=◌, Steps}
 

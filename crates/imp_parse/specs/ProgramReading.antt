@@ -1,5 +1,5 @@
 -- Reading procedures and programs from left to right, with one token ahead.
-use Rattle.std.specs.Prelude.{◌≡◌, ℕ, zero, suc, ◌+◌, Bool, true, false, List, [], ◌∷◌, length, Result, Ok, Err, Option, Some, None}
+use Rattle.std.specs.Prelude.{ℕ, suc, Bool, true, false, List, [], ◌∷◌, length, Ok, Err, Option, Some, None}
 use Rattle.imp_lex.specs.declared.token.Mark.TheVariants as m
 use Rattle.imp_lex.specs.declared.token.Word.TheVariants as word
 use Rattle.imp_lex.specs.declared.token.Kind.{Kind}
@@ -7,7 +7,7 @@ use Rattle.imp_lex.specs.declared.token.Kind.TheVariants as k
 use Rattle.imp_syntax.specs.declared.words.Kind as kinds
 use Rattle.imp_syntax.specs.declared.words.Declaration.{Declaration}
 use Rattle.imp_syntax.specs.Plain.{Procedure, block_of}
-use Rattle.imp_parse.specs.Reader.{Stop, Unexpected, Read, ◌>>=◌, pick_at, Steps, fix}
+use Rattle.imp_parse.specs.Reader.{Unexpected, Read, ◌>>=◌, pick_at, Steps, fix}
 use Rattle.imp_parse.specs.Tables.{kind_of}
 use Rattle.imp_parse.specs.Reading.{mark_at, name_at}
 use Rattle.imp_parse.specs.Lists.{Lists, list_step, with_front}

@@ -1,5 +1,5 @@
 -- Reading expressions and conditions from left to right, with one token ahead.
-use Rattle.std.specs.Prelude.{◌≡◌, ℕ, zero, suc, List, [], ◌∷◌, length, Result, Ok, Err, Option, Some, None}
+use Rattle.std.specs.Prelude.{ℕ, suc, List, [], ◌∷◌, length, Ok, Err, Option, Some, None}
 use Rattle.imp_lex.specs.declared.token.Mark.{Mark}
 use Rattle.imp_lex.specs.declared.token.Mark.TheVariants as m
 use Rattle.imp_lex.specs.declared.token.Word.TheVariants as w
@@ -7,7 +7,7 @@ use Rattle.imp_lex.specs.declared.token.Kind.{Kind}
 use Rattle.imp_lex.specs.declared.token.Kind.TheVariants as k
 use Rattle.imp_syntax.specs.declared.words.Relation.{Relation}
 use Rattle.imp_syntax.specs.Plain.{Expression, Literal, Variable, Length, Negative, Binary, Operand, Null, Value, Condition, Compare, Not, And, Or}
-use Rattle.imp_parse.specs.Reader.{Stop, Unexpected, Out, Read, ◌>>=◌, pick_at, Steps, fix}
+use Rattle.imp_parse.specs.Reader.{Unexpected, Read, ◌>>=◌, pick_at, Steps, fix}
 use Rattle.imp_parse.specs.Tables.{is_mark, name_of, additive, multiplicative, relation_of, and_of, or_of}
 
 abbrev pub mark_at : Mark → List Kind → Read (Unit {0})

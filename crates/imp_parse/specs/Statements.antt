@@ -1,5 +1,5 @@
 -- The grammar of statements: which tokens spell which statements, one case for each production. A statement's number stands before its tokens, the next number last.
-use Rattle.std.specs.Prelude.{◌≡◌, ℕ, ◌+◌, List, [], ◌∷◌, ◌++◌, Option, Some, None}
+use Rattle.std.specs.Prelude.{ℕ, ◌+◌, List, [], ◌∷◌, ◌++◌, Some, None}
 use Rattle.imp_lex.specs.declared.token.Mark.TheVariants as m
 use Rattle.imp_lex.specs.declared.token.Word.TheVariants as word
 use Rattle.imp_lex.specs.declared.token.Kind.{Kind}

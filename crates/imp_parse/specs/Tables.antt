@@ -1,5 +1,5 @@
 -- What single tokens are.
-use Rattle.std.specs.Prelude.{ℕ, Bool, true, false, List, Option, Some, None, if◌then◌else◌}
+use Rattle.std.specs.Prelude.{ℕ, Bool, List, Option, Some, None, if◌then◌else◌}
 use denote.Enum.Bare.{sameb}
 use Rattle.imp_lex.specs.contracts.token.Mark.{the_type}
 use Rattle.imp_lex.specs.declared.token.Mark.{Mark}

@@ -1,4 +1,4 @@
-use Rattle.std.proofs.Common.{◌≡◌, ◌≤◌, [], ◌∷◌, length, ℕ}
+use Rattle.std.proofs.Common.{◌≡◌, ◌≤◌, [], ◌∷◌, length}
 use Rattle.imp_syntax.specs.Views.{operand_of}
 use Rattle.imp_syntax.specs.ActionViews.{operands_of}
 use Rattle.imp_parse.specs.Kinds.{kinds}

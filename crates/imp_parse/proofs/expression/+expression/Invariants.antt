@@ -1,4 +1,4 @@
-use Rattle.std.proofs.Common.{length, ℕ, ◌+◌, ◌*◌}
+use Rattle.std.proofs.Common.{length, ◌+◌, ◌*◌}
 use Rattle.imp_parse.proofs.expression.+expression.Given as goal
 
 abbrev pub decreases-expression : goal.decreases-expression

@@ -1,13 +1,11 @@
-use Rattle.std.proofs.Common.{◌≡◌, ◌+◌, ◌≤◌, ◌<◌, length, sym, ap, ◌∙◌, arith}
 use Rattle.std.proofs.lemmas.Result.{err_from_is_err_and}
 use Rattle.imp_parse.specs.Kinds.{kinds}
 use Rattle.imp_parse.specs.Languages.{ConditionText}
 use Rattle.imp_parse.specs.Limits.{inside}
-use Rattle.imp_parse.proofs.Pack.{never}
 use Rattle.imp_parse.specs.Reading.{condition_at}
 use Rattle.imp_parse.proofs.Conditions.{condition_exact, junction_on}
 use Rattle.imp_parse.proofs.Judge.{one_tree}
-use Rattle.imp_parse.proofs.Texts.{few_tokens, Answers, lex_answer, text_answer}
+use Rattle.imp_parse.proofs.Texts.{Answers, lex_answer, text_answer}
 use Rattle.imp_parse.proofs.parse.parse_cond.Goals as goal
 
 pub returns-in_err-found-clause-only : goal.returns-in_err-found-clause-only

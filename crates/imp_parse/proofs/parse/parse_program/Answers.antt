@@ -1,9 +1,8 @@
-use Rattle.std.proofs.Common.{◌≡◌, ◌+◌, ◌≤◌, ◌<◌, length, sym, ap, ◌∙◌, arith}
+use Rattle.std.proofs.Common.{◌≡◌, ◌+◌, ◌≤◌, ◌<◌, length, ap, arith}
 use Rattle.std.proofs.lemmas.Result.{err_from_is_err_and}
 use Rattle.imp_parse.specs.Kinds.{kinds}
 use Rattle.imp_parse.specs.Languages.{ProgramText}
 use Rattle.imp_parse.specs.Limits.{outside}
-use Rattle.imp_parse.proofs.Pack.{never}
 use Rattle.imp_parse.specs.ProgramReading.{program_at, begins_procedure}
 use Rattle.imp_parse.proofs.Procedures.{program_exact}
 use Rattle.imp_parse.proofs.Judge.{one_tree}

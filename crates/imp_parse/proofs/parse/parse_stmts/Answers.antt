@@ -1,9 +1,8 @@
-use Rattle.std.proofs.Common.{◌≡◌, ◌+◌, ◌≤◌, ◌<◌, length, sym, ap, ◌∙◌, arith}
+use Rattle.std.proofs.Common.{◌≡◌, ◌+◌, ◌≤◌, ◌<◌, length, ap, arith}
 use Rattle.std.proofs.lemmas.Result.{err_from_is_err_and}
 use Rattle.imp_parse.specs.Kinds.{kinds}
 use Rattle.imp_parse.specs.Languages.{BodyText}
 use Rattle.imp_parse.specs.Limits.{inside}
-use Rattle.imp_parse.proofs.Pack.{never}
 use Rattle.imp_parse.specs.StatementReading.{body_at}
 use Rattle.imp_parse.proofs.Wholes.{body_exact}
 use Rattle.imp_parse.proofs.Blocks.{statements_on}

@@ -1,4 +1,4 @@
-use Rattle.std.proofs.Common.{◌≡◌, ◌≤◌, [], ◌∷◌, length, ℕ}
+use Rattle.std.proofs.Common.{◌≡◌, ◌≤◌, [], ◌∷◌, length}
 use Rattle.imp_parse.specs.Kinds.{kinds}
 use Rattle.imp_parse.specs.Lists.{with_front}
 use Rattle.imp_parse.specs.ProgramReading.{declarations_at}

@@ -1,7 +1,7 @@
-use Rattle.std.proofs.Common.{◌≡◌, ◌++◌, ◌∷◌, [], sym, ap, ◌∙◌, true, false, arith}
+use Rattle.std.proofs.Common.{◌≡◌, sym, ◌∙◌, true, false, arith}
 use Rattle.std.proofs.lemmas.Result.{err_from_is_err_and}
 use Rattle.imp_parse.specs.Kinds.{kinds}
-use Rattle.imp_parse.specs.Lists.{begun, with_front}
+use Rattle.imp_parse.specs.Lists.{begun}
 use Rattle.imp_parse.specs.ProgramReading.{begins_local, locals_at}
 use Rattle.imp_parse.proofs.Procedures.{locals_go_on, locals_stop, locals_done}
 use Rattle.imp_parse.proofs.procedure.locals.Goals as goal

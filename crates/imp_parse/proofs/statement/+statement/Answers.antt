@@ -1,7 +1,7 @@
-use Rattle.std.proofs.Common.{◌≡◌, ◌++◌, ◌∷◌, [], sym, ap, ◌∙◌, true, false, arith}
+use Rattle.std.proofs.Common.{◌≡◌, sym, ◌∙◌, true, false, arith}
 use Rattle.std.proofs.lemmas.Result.{err_from_is_err_and}
 use Rattle.imp_parse.specs.Kinds.{kinds}
-use Rattle.imp_parse.specs.Lists.{begun, with_front}
+use Rattle.imp_parse.specs.Lists.{begun}
 use Rattle.imp_parse.specs.StatementReading.{begins_statement, statements_at}
 use Rattle.imp_parse.proofs.Blocks.{statements_go_on, statements_stop, statements_done}
 use Rattle.imp_parse.proofs.statement.+statement.Goals as goal
