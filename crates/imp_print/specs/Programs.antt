@@ -32,8 +32,12 @@ abbrev pub locals_text : Bool → List ℕ → List Declaration → List ℕ
 locals_text listing right [] = []
 locals_text listing right (d ∷ ds) = line listing None right (codes "var " ++ declaration_text d ++ codes ";") ++ locals_text listing right ds
 
+abbrev pub signature_text : Procedure → List ℕ
+signature_text p = codes "proc " ++ p.name ++ codes "(" ++ declarations_text p.parameters ++ codes ")"
+
+-- a procedure's first line
 abbrev pub head_text : Procedure → List ℕ
-head_text p = codes "proc " ++ p.name ++ codes "(" ++ declarations_text p.parameters ++ codes ")" ++ outcome_text p.outcome ++ codes " {"
+head_text p = signature_text p ++ outcome_text p.outcome ++ codes " {"
 
 unfoldable pub procedure_text : Bool → Procedure → List ℕ
 procedure_text listing p =

@@ -58,19 +58,24 @@ line listing n right text = margin listing n ++ right ++ text ++ codes "\n"
 abbrev pub deeper : List ℕ → List ℕ
 deeper right = right ++ codes "  "
 
+-- no statement stands in it
+abbrev pub is_empty : Statements → Bool
+is_empty Ends = true
+is_empty (Starts s ss) = false
+
+-- the end of an if, whose else is empty or not: an else that is not empty, and the last brace
+abbrev pub else_text : Bool → List ℕ → Bool → List ℕ → List ℕ
+else_text listing right true otherwise = line listing None right (codes "}")
+else_text listing right false otherwise = line listing None right (codes "} else {") ++ otherwise ++ line listing None right (codes "}")
+
 abbrev mutual
   pub statement_text : Bool → List ℕ → Statement → List ℕ
   statement_text listing right (Simple n a) = line listing (Some n) right (action_text a ++ codes ";")
   statement_text listing right (Break n) = line listing (Some n) right (codes "break;")
   statement_text listing right (Call n x f es) = line listing (Some n) right (call_text x f es ++ codes ";")
-  statement_text listing right (If n c t e) = line listing (Some n) right (codes "if (" ++ condition_text c ++ codes ") {") ++ block_text listing (deeper right) t ++ else_text listing right e
+  statement_text listing right (If n c t e) = line listing (Some n) right (codes "if (" ++ condition_text c ++ codes ") {") ++ block_text listing (deeper right) t ++ else_text listing right (is_empty e) (block_text listing (deeper right) e)
   statement_text listing right (While n c b) = line listing (Some n) right (codes "while (" ++ condition_text c ++ codes ") {") ++ block_text listing (deeper right) b ++ line listing None right (codes "}")
 
   pub block_text : Bool → List ℕ → Statements → List ℕ
   block_text listing right Ends = []
   block_text listing right (Starts s ss) = statement_text listing right s ++ block_text listing right ss
-
-  -- the end of an if: an else that is not empty, and the last brace
-  pub else_text : Bool → List ℕ → Statements → List ℕ
-  else_text listing right Ends = line listing None right (codes "}")
-  else_text listing right (Starts s ss) = line listing None right (codes "} else {") ++ (statement_text listing (deeper right) s ++ block_text listing (deeper right) ss) ++ line listing None right (codes "}")

@@ -1,7 +1,7 @@
 //! Procedures, programs and the public texts.
 ghost use Rattle.std.specs.Prelude.{◌≡◌, [], ◌++◌, ◌≤◌, codes, IfOk, OnOk, None, false, true};
 ghost use Rattle.imp_print.specs.Programs as of_programs;
-ghost use Rattle.imp_print.specs.Programs.{head_text, procedure_text};
+ghost use Rattle.imp_print.specs.Programs.{signature_text, head_text, procedure_text};
 ghost use Rattle.imp_print.specs.Statements.{line, spaces, statement_text};
 
 use crate::declarations::{put_declarations, put_locals, put_outcome};
@@ -10,6 +10,17 @@ use crate::statements::{begin_line, put_block, put_line, put_stmt};
 use imp_syntax::{Proc, Program, Stmt};
 use plain_values::{Memory, Text};
 use std::alloc::Global;
+
+/// Adds a procedure's name and parameters.
+fn put_signature(text: &mut Text, procedure: &Proc) -> Result<(), Memory>
+    ensures added { OnOk result (text.new ≡ text.old ++ signature_text procedure.now) }
+{
+    text.append(b"proc ")?;
+    text.append(procedure.name().as_slice())?;
+    text.append(b"(")?;
+    put_declarations(text, procedure.parameters())?;
+    text.append(b")")
+}
 
 /// Adds a procedure's first line.
 fn put_head(
@@ -21,11 +32,7 @@ fn put_head(
     ensures added { OnOk result (text.new ≡ text.old ++ line listing None outermost.now (head_text procedure.now)) }
 {
     begin_line(text, listing, None, outermost)?;
-    text.append(b"proc ")?;
-    text.append(procedure.name().as_slice())?;
-    text.append(b"(")?;
-    put_declarations(text, procedure.parameters())?;
-    text.append(b")")?;
+    put_signature(text, procedure)?;
     put_outcome(text, procedure)?;
     text.append(b" {\n")
 }

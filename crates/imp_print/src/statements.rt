@@ -1,7 +1,7 @@
 //! Statements and blocks.
 ghost use Rattle.std.specs.Prelude.{◌≡◌, ◌++◌, codes, IfOk, OnOk};
 ghost use Rattle.imp_syntax.specs.Plain.{number_of};
-ghost use Rattle.imp_print.specs.Statements.{margin, line, deeper, statement_text, block_text, else_text};
+ghost use Rattle.imp_print.specs.Statements.{margin, line, deeper, is_empty, else_text, statement_text, block_text};
 
 use crate::expressions::put_cond;
 use crate::lines::{put_action, put_call, put_margin};
@@ -87,15 +87,22 @@ pub(crate) fn put_stmt(
     }
 }
 
+fn is_empty(block: &Block) -> bool
+    ensures is { result ≡ is_empty block.now }
+{
+    block.is_empty()
+}
+
 /// Adds the end of an if: an else that is not empty, and the last brace.
 #[cycle(put_stmt)]
 fn put_else(text: &mut Text, listing: bool, right: &Text, otherwise: &Block) -> Result<(), Memory>
-    ensures added { OnOk result (text.new ≡ text.old ++ else_text listing right.now otherwise.now) }
+    ensures added { OnOk result (text.new ≡ text.old ++ else_text listing right.now (is_empty otherwise.now) (block_text listing (deeper right.now) otherwise.now)) }
 {
-    if !otherwise.is_empty() {
-        put_line(text, listing, None, right, b"} else {")?;
-        put_block(text, listing, &deeper(right)?, otherwise)?;
+    if is_empty(otherwise) {
+        return put_line(text, listing, None, right, b"}");
     }
+    put_line(text, listing, None, right, b"} else {")?;
+    put_block(text, listing, &deeper(right)?, otherwise)?;
     put_line(text, listing, None, right, b"}")
 }
 
