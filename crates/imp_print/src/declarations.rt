@@ -26,10 +26,7 @@ fn put_declaration(text: &mut Text, declaration: &Declaration) -> Result<(), Mem
 }
 
 /// Adds declarations with commas between.
-pub(crate) fn put_declarations(
-    text: &mut Text,
-    declarations: &[Declaration],
-) -> Result<(), Memory>
+pub(crate) fn put_declarations(text: &mut Text, declarations: &[Declaration]) -> Result<(), Memory>
     ensures added { OnOk result (text.new ≡ text.old ++ declarations_text declarations.now) }
 {
     match declarations {
