@@ -37,12 +37,7 @@ fn element(variables: &Variables, slot: usize, index: i64) -> Result<i64, FaultK
 }
 
 /// Sets an element of a slot's array at an index.
-fn set_element(
-    variables: &mut Variables,
-    slot: usize,
-    index: i64,
-    value: i64,
-) -> Result<(), Stop>
+fn set_element(variables: &mut Variables, slot: usize, index: i64, value: i64) -> Result<(), Stop>
     ensures element { Agrees result (λ _. variables.new) (andthen (with_element (array_at variables.old slot) index value) (λ zs. Gives (with_number variables.old slot (plain.Array zs)))) }
 {
     if index < 0 {

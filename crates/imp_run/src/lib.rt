@@ -24,12 +24,11 @@ mod stop;
 mod variables;
 mod work;
 
-pub use outcome::{End, Outcome};
-pub use running::run;
-
 use array::Array;
 use heap::{Cell, Heap};
 use number::Number;
+pub use outcome::{End, Outcome};
+pub use running::run;
 use variables::Variables;
 
 #[cfg(test)]

@@ -223,7 +223,12 @@ impl<'a> Machine<'a> {
         match caller.work.pop() {
             Some(Item::Done(number, Some(call))) => {
                 caller.work.push(Item::Done(number, Some(call)))?;
-                take_back(alloc, call.returning(), &mut caller.variables, &self.top.variables)?;
+                take_back(
+                    alloc,
+                    call.returning(),
+                    &mut caller.variables,
+                    &self.top.variables,
+                )?;
                 self.top = caller;
                 Ok(Stepped::Next)
             }

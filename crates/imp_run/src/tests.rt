@@ -1,6 +1,9 @@
 use super::*;
 use concrete_sem::FaultKind;
-use imp_slots::{Argument, Entering, Layout, NumericSlot, Returning, Routine, SlotAction, SlotBlock, SlotCall, SlotCond, SlotCondNode, SlotExpr, SlotExprNode, SlotNode};
+use imp_slots::{
+    Argument, Entering, Layout, NumericSlot, Returning, Routine, SlotAction, SlotBlock, SlotCall,
+    SlotCond, SlotCondNode, SlotExpr, SlotExprNode, SlotNode,
+};
 use imp_syntax::{Location, Operator, Relation, StmtId};
 use plain_values::{Items, Text};
 use std::alloc::Global;
@@ -16,11 +19,21 @@ fn slot(alloc: Global, slot: u32) -> Result<SlotExpr, Fail> {
     Ok(SlotExpr::new(alloc, SlotExprNode::Slot(slot))?)
 }
 
-fn binary(alloc: Global, operator: Operator, left: SlotExpr, right: SlotExpr) -> Result<SlotExpr, Fail> {
+fn binary(
+    alloc: Global,
+    operator: Operator,
+    left: SlotExpr,
+    right: SlotExpr,
+) -> Result<SlotExpr, Fail> {
     Ok(SlotExpr::new(alloc, SlotExprNode::Binary(operator, left, right))?)
 }
 
-fn compare(alloc: Global, relation: Relation, left: SlotExpr, right: SlotExpr) -> Result<SlotCond, Fail> {
+fn compare(
+    alloc: Global,
+    relation: Relation,
+    left: SlotExpr,
+    right: SlotExpr,
+) -> Result<SlotCond, Fail> {
     Ok(SlotCond::new(alloc, SlotCondNode::Compare(relation, left, right))?)
 }
 
@@ -55,7 +68,12 @@ fn main_of(alloc: Global, block: Vec<SlotNode>) -> Result<Vec<Routine>, Fail> {
 }
 
 /// How the run without inputs ends, and how often it stands at the location.
-fn outcome(alloc: Global, program: &[Routine], fuel: u32, at: Location) -> Result<(End, u64), Fail> {
+fn outcome(
+    alloc: Global,
+    program: &[Routine],
+    fuel: u32,
+    at: Location,
+) -> Result<(End, u64), Fail> {
     let outcome = run(alloc, program, &[], fuel as u64, Some(&at))?;
     Ok((outcome.end, outcome.reached))
 }
@@ -69,11 +87,20 @@ fn id(number: u32) -> StmtId {
 fn a_sum_too_great(rt: HostRuntime) -> Result<(), Fail> {
     let alloc = rt.alloc();
     let greatest = literal(alloc, 9_223_372_036_854_775_807)?;
-    let block = vec![in alloc; SlotNode::Simple(1, SlotAction::SetInt(0, greatest)), increment(alloc, 2, 0)?]?;
+    let block = vec![in alloc;
+        SlotNode::Simple(1, SlotAction::SetInt(0, greatest)),
+        increment(alloc, 2, 0)?,
+    ]?;
     let program = main_of(alloc, block)?;
     let fault = End::Fault(id(2), FaultKind::Overflow);
-    assert_eq!(rt; outcome(alloc, &program, 3, Location::After(id(1)))?, (fault, 1));
-    assert_eq!(rt; outcome(alloc, &program, 2, Location::After(id(1)))?, (End::FuelUsedUp, 1));
+    assert_eq!(rt;
+        outcome(alloc, &program, 3, Location::After(id(1)))?,
+        (fault, 1)
+    );
+    assert_eq!(rt;
+        outcome(alloc, &program, 2, Location::After(id(1)))?,
+        (End::FuelUsedUp, 1)
+    );
     Ok(())
 }
 
@@ -86,10 +113,17 @@ fn a_loop_of_ten_rounds(rt: HostRuntime) -> Result<(), Fail> {
     let block = vec![in alloc;
         SlotNode::Simple(1, SlotAction::SetInt(1, literal(alloc, 10)?)),
         SlotNode::Simple(2, SlotAction::SetInt(0, literal(alloc, 0)?)),
-        SlotNode::While(3, less, body)]?;
+        SlotNode::While(3, less, body),
+    ]?;
     let program = main_of(alloc, block)?;
-    assert_eq!(rt; outcome(alloc, &program, 37, Location::Head(id(3)))?, (End::Ended, 11));
-    assert_eq!(rt; outcome(alloc, &program, 36, Location::Head(id(3)))?, (End::FuelUsedUp, 11));
+    assert_eq!(rt;
+        outcome(alloc, &program, 37, Location::Head(id(3)))?,
+        (End::Ended, 11)
+    );
+    assert_eq!(rt;
+        outcome(alloc, &program, 36, Location::Head(id(3)))?,
+        (End::FuelUsedUp, 11)
+    );
     let end = Location::End(Text::from_slice(alloc, b"main")?);
     assert_eq!(rt; outcome(alloc, &program, 37, end)?, (End::Ended, 1));
     Ok(())
@@ -102,11 +136,18 @@ fn next_of_null(rt: HostRuntime) -> Result<(), Fail> {
     let block = vec![in alloc;
         SlotNode::Simple(1, SlotAction::MakeCell(0)),
         SlotNode::Simple(2, SlotAction::ReadNext(1, 0)),
-        SlotNode::Simple(3, SlotAction::ReadNext(1, 1))]?;
+        SlotNode::Simple(3, SlotAction::ReadNext(1, 1)),
+    ]?;
     let program = main_of(alloc, block)?;
     let null = End::Fault(id(3), FaultKind::Null);
-    assert_eq!(rt; outcome(alloc, &program, 5, Location::Before(id(3)))?, (null, 1));
-    assert_eq!(rt; outcome(alloc, &program, 4, Location::Before(id(3)))?, (End::FuelUsedUp, 1));
+    assert_eq!(rt;
+        outcome(alloc, &program, 5, Location::Before(id(3)))?,
+        (null, 1)
+    );
+    assert_eq!(rt;
+        outcome(alloc, &program, 4, Location::Before(id(3)))?,
+        (End::FuelUsedUp, 1)
+    );
     Ok(())
 }
 
@@ -114,15 +155,26 @@ fn next_of_null(rt: HostRuntime) -> Result<(), Fail> {
 #[test]
 fn a_loop_that_is_left(rt: HostRuntime) -> Result<(), Fail> {
     let alloc = rt.alloc();
-    let always = compare(alloc, Relation::Equal, literal(alloc, 0)?, literal(alloc, 0)?)?;
+    let always = compare(
+        alloc,
+        Relation::Equal,
+        literal(alloc, 0)?,
+        literal(alloc, 0)?,
+    )?;
     let five = compare(alloc, Relation::Equal, slot(alloc, 0)?, literal(alloc, 5)?)?;
     let then = SlotBlock::new(alloc, vec![in alloc; SlotNode::Break(4)]?)?;
     let other = SlotBlock::new(alloc, Vec::new(alloc))?;
     let body = vec![in alloc; increment(alloc, 2, 0)?, SlotNode::If(3, five, then, other)]?;
     let block = vec![in alloc; SlotNode::While(1, always, SlotBlock::new(alloc, body)?)]?;
     let program = main_of(alloc, block)?;
-    assert_eq!(rt; outcome(alloc, &program, 1000, Location::Before(id(4)))?, (End::Ended, 1));
-    assert_eq!(rt; outcome(alloc, &program, 1000, Location::After(id(3)))?, (End::Ended, 4));
+    assert_eq!(rt;
+        outcome(alloc, &program, 1000, Location::Before(id(4)))?,
+        (End::Ended, 1)
+    );
+    assert_eq!(rt;
+        outcome(alloc, &program, 1000, Location::After(id(3)))?,
+        (End::Ended, 4)
+    );
     Ok(())
 }
 
@@ -148,7 +200,8 @@ fn a_call_that_writes_an_array(rt: HostRuntime) -> Result<(), Fail> {
         SlotNode::Call(4, call, 0),
         SlotNode::Simple(5, SlotAction::ReadElement(0, 2, literal(alloc, 0)?)),
         SlotNode::Simple(6, SlotAction::Assert(both)),
-        SlotNode::Simple(7, SlotAction::Input(0))]?;
+        SlotNode::Simple(7, SlotAction::Input(0)),
+    ]?;
     let mut program = Vec::new(alloc);
     program.push(routine(alloc, b"f", callee)?)?;
     program.push(routine(alloc, b"main", block)?)?;
