@@ -1,4 +1,0 @@
-pub mod Views
-pub mod Items
-pub mod Machine
-pub mod Outcome
