@@ -1,5 +1,5 @@
 //! Domains.
-ghost use Rattle.std.specs.Prelude.{◌≡◌, ℕ, ◌+◌, ◌≤◌, IfOk, Bool, List, string_bytes};
+ghost use Rattle.std.specs.Prelude.{◌≡◌, ℕ, ◌+◌, ◌≤◌, IfOk, Bool, List};
 ghost use Rattle.imp_slots.specs.ActionViews.{act_of};
 ghost use Rattle.concrete_sem.specs.Values.{Heap, Variables};
 ghost use Rattle.domain_laws.specs.Operations.{Operations};
@@ -7,7 +7,7 @@ ghost use Rattle.domain_laws.specs.Laws.{Laws, KeepsDead};
 
 use crate::Verdict;
 use imp_slots::{Layout, SlotCall, SlotCond, SlotStmt};
-use plain_values::Memory;
+use plain_values::{Memory, Text};
 use std::alloc::Global;
 use std::hash::Hash;
 use std::sync::ledger::Ledger;
@@ -145,8 +145,8 @@ pub trait Domain {
         alloc: Global,
         layout: &Layout,
         s: &Self::State,
-    ) -> Result<String, Memory>
-        ensures value { IfOk result (λ t. string_bytes t ≡ (operations self.now).text layout.now s.now) };
+    ) -> Result<Text, Memory>
+        ensures value { IfOk result (λ t. t ≡ (operations self.now).text layout.now s.now) };
 
     /// The same state once more.
     fn copy(&self, alloc: Global, s: &Self::State) -> Result<Self::State, Memory>

@@ -2,3 +2,4 @@ pub mod Numbers
 pub mod Kinds
 pub mod Front
 pub mod Lexing
+pub mod Names

@@ -84,7 +84,7 @@ fn begins_comment(b: u8, rest: &[u8]) -> bool
     }
 }
 
-fn is_letter(b: u8) -> bool
+pub(crate) fn is_letter(b: u8) -> bool
     ensures is { result ≡ is_letter b }
 {
     (b'A' <= b && b <= b'Z') || (b'a' <= b && b <= b'z') || b == b'_'
@@ -97,7 +97,7 @@ fn is_digit(b: u8) -> bool
 }
 
 /// How many bytes at the front go on with a word.
-fn word_run(bytes: &[u8]) -> usize
+pub(crate) fn word_run(bytes: &[u8]) -> usize
     ensures is { result ≡ run is_word bytes.now }
     ensures within { result ≤ length bytes.now }
 {

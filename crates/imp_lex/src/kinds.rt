@@ -8,7 +8,7 @@ use plain_values::{Memory, Text};
 use std::alloc::Global;
 
 /// The most bytes of a name.
-const MOST_NAME_BYTES: usize = 32;
+pub(crate) const MOST_NAME_BYTES: usize = 32;
 
 /// The greatest number.
 const GREATEST: u64 = 9_223_372_036_854_775_807;
@@ -29,7 +29,7 @@ pub(crate) fn word_kind(alloc: Global, word: &[u8]) -> Result<Option<Kind>, Memo
 }
 
 #[tactic(auto, unfolding(crate::specs::Kinds::reserved_word))]
-fn reserved_word(word: &[u8]) -> Option<Word>
+pub(crate) fn reserved_word(word: &[u8]) -> Option<Word>
     ensures is { result ≡ reserved_word word.now }
 {
     if is(word, b"proc") {

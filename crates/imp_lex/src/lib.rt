@@ -18,11 +18,13 @@ mod error;
 mod front;
 mod kinds;
 mod lexer;
+mod names;
 mod number;
 mod token;
 
 pub use error::LexError;
 pub use lexer::tokens;
+pub use names::is_name;
 pub use number::Number;
 pub use token::{Kind, Mark, Span, Token, Word};
 

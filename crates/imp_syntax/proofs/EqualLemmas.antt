@@ -1,5 +1,5 @@
 -- Blocks are found equal statement by statement exactly where their codes are.
-use Rattle.std.proofs.Common.{ℕ, zero, suc, ◌≤◌, get_or, drop-cons, add-one, ◌≡◌, ◌+◌, ◌<◌, ◌&&◌, ◌==◌, Bool, true, false, List, [], ◌∷◌, length, drop, refl, ap, ◌∙◌, arith}
+use Rattle.std.proofs.Common.{ℕ, zero, suc, ◌≤◌, get_or, drop-cons, add-one, ◌≡◌, ◌+◌, ◌<◌, ◌&&◌, Bool, true, false, List, [], ◌∷◌, length, drop, refl, ap, ◌∙◌, arith}
 use Rattle.plain_values.specs.Equal.{code_same, list_to}
 use Rattle.std.specs.Cmp.Lexicographic.{pointwise}
 use Rattle.imp_syntax.specs.Plain.{Statement, block_of}

@@ -1,5 +1,5 @@
 -- What hashes are fed of the rest of a list.
-use Rattle.std.proofs.Common.{ℕ, drop-cons, add-one, ◌≡◌, ◌+◌, ◌<◌, ◌++◌, get_or, List, ◌∷◌, length, drop, refl}
+use Rattle.std.proofs.Common.{ℕ, drop-cons, add-one, ◌≡◌, ◌+◌, ◌<◌, ◌++◌, get_or, List, length, drop, refl}
 use Rattle.std.specs.Hash as fed
 use Rattle.imp_syntax.specs.Views.{operand_of}
 use Rattle.imp_syntax.specs.ActionViews.{operands_of}

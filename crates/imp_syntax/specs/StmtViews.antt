@@ -1,5 +1,5 @@
 -- Statements as plain data. Their blocks are plain already.
-use Rattle.std.specs.Prelude.{ℕ, List, Option, Some, None, Vec}
+use Rattle.std.specs.Prelude.{ℕ, Option, Some, None, Vec}
 use Rattle.std.specs.Global.{Global}
 use Rattle.imp_syntax.specs.Plain as plain
 use Rattle.imp_syntax.specs.Plain.{Statement, Statements, Ends, block_of}

@@ -1,1 +1,3 @@
 pub mod NumberLemmas
+pub mod FindLemmas
+pub mod AddLemmas

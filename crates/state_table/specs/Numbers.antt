@@ -1,5 +1,5 @@
 -- The numbers of a table's states: a state's number is its place in the list.
-use Rattle.std.specs.Prelude.{◌≡◌, ℕ, Bool, true, List, [], ◌∷◌, ◌++◌, Some, slice_get, if◌then◌else◌}
+use Rattle.std.specs.Prelude.{◌≡◌, ℕ, Bool, true, List, [], ◌∷◌, ◌++◌, Some, slice_get, length, if◌then◌else◌, ◌⊎◌}
 use Rattle.std.specs.List.{list_any}
 
 -- the table with a state: as it is where an equal one is there, else with the state at its end
@@ -21,3 +21,7 @@ AreOnce {T} eq states = (m n : ℕ) (s t : T) → slice_get states m ≡ Some s 
 -- `==` tells any two values apart that are not the same
 abbrev pub TellsApart : {T : Type 0} → (T → T → Bool) → Type 0
 TellsApart {T} eq = (x y : T) → eq x y ≡ true → x ≡ y
+
+-- a state has the number n: as before, or at the end where it had none
+abbrev pub Adds : {T : Type 0} → List T → List T → T → ℕ → Type 0
+Adds old new state n = ((slice_get old n ≡ Some state) × (new ≡ old)) ⊎ (((m : ℕ) → slice_get old m ≡ Some state → ⊥) × (n ≡ length old) × (new ≡ old ++ state ∷ []))

@@ -1,11 +1,11 @@
 //! The table.
 
-ghost use Rattle.std.specs.Prelude.{◌≡◌, ℕ, ◌<◌, ◌↔◌, true, List, [], length, Option, Some, slice_get, IfOk, OnErr, OnOk, IsTrue};
+ghost use Rattle.std.specs.Prelude.{◌≡◌, ℕ, ◌<◌, ◌^◌, ◌↔◌, true, List, [], length, Option, Some, slice_get, position, IfOk, IfSome, OnErr, OnOk, IsTrue};
 ghost use Rattle.std.specs.List.{position_or_len};
-ghost use Rattle.state_table.specs.Numbers.{with_state, IsNumberOf, KeepsNumbers, AreOnce, TellsApart};
+ghost use Rattle.state_table.specs.Numbers.{with_state, IsNumberOf, KeepsNumbers, AreOnce, TellsApart, Adds};
 
-use crate::memory::Memory;
 use indexmap::IndexSet;
+use plain_values::Memory;
 use std::alloc::Global;
 use std::hash::Hash;
 use std::marker::Model;
@@ -55,12 +55,26 @@ impl<T: Eq + Hash + Drop> Table<T> {
         ensures number { IfOk result (λ n. n ≡ position_or_len (T.eq state) self.old) }
         ensures equal { IfOk result (IsNumberOf T.eq self.new state) }
         ensures same { TellsApart T.eq → IfOk result (λ n. slice_get self.new n ≡ Some state) }
+        ensures adds { TellsApart T.eq → IfOk result (Adds self.old self.new state) }
+        ensures small { IfOk result (λ n. n < 2 ^ 63) }
         ensures once { AreOnce T.eq self.new }
         ensures kept { KeepsNumbers self.old self.new }
         ensures err { OnErr result (self.new ≡ self.old) }
     {
         let (number, _new) = self.states.insert_full(state)?;
+        let _count = self.states.len();
         Ok(number)
+    }
+
+    /// The number of a state, or `None` where no equal one is there. It takes no memory.
+    pub fn find(&self, state: &T) -> Option<usize>
+        ensures number { result ≡ position (T.eq state.now) self.now }
+        ensures same { TellsApart T.eq → IfSome result (λ n. slice_get self.now n ≡ Some state.now) }
+        ensures small { IfSome result (λ n. n < 2 ^ 63) }
+        ensures found { (n : ℕ) (s : T) → slice_get self.now n ≡ Some s → T.eq state.now s ≡ true → result ≡ Some n }
+    {
+        let _states = self.states.len();
+        self.states.get_index_of(state)
     }
 
     /// The state under a number.

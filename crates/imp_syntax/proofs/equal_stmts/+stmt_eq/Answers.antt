@@ -1,5 +1,5 @@
-use Rattle.std.proofs.Common.{arith, rules, ap, length, ◌≡◌, ◌<◌}
-use Rattle.imp_syntax.specs.Plain.{block_of, block_size}
+use Rattle.std.proofs.Common.{arith, rules, ap, length, ◌<◌}
+use Rattle.imp_syntax.specs.Plain.{block_size}
 use Rattle.imp_syntax.specs.Blocks.{member_smaller}
 use Rattle.imp_syntax.proofs.equal_stmts.+stmt_eq.Goals as goal
 

@@ -1,0 +1,214 @@
+-- What the functions of Names owe, over the steps and names that are kept.
+use Rattle.std.proofs.Common.{◌≡◌, ℕ, zero, suc, ◌≤◌, ◌<◌, List, [], ◌∷◌, ◌++◌, length, map, Bool, true, Option, Some, None, slice_get, IfSome, ◌⊎◌, ⊎_elim, inl, inr, refl, sym, ap, ap₂, ◌∙◌, subst, arith, length-append}
+use Rattle.std.specs.Option.{option_map}
+use Rattle.std.proofs.lemmas.List.{length-map, map-append}
+use Rattle.std.proofs.lemmas.Option.{slice_get_within, slice_get-map}
+use Rattle.state_table.specs.Numbers as table
+use Rattle.cell_names.specs.declared.frame.Frame.{Frame}
+use Rattle.cell_names.specs.declared.path.Step.{Step}
+use Rattle.cell_names.specs.declared.path.Name.{Name}
+use Rattle.cell_names.specs.Paths.{CellName, or_root, path_at, paths_from, paths_of, name_in}
+use Rattle.cell_names.specs.Known.{Known, known_of, KeepsNumbers, IsOnce, Adds, StepsWithin, NamesWithin, IsKept}
+use Rattle.cell_names.proofs.PathLemmas.{within, path_by, path-of-step, path-of-root, paths_of-length, path_at-kept, paths_from-append, append-keeps, append-last}
+use Rattle.cell_names.proofs.OnceLemmas.{step-of-path, paths-once, names-same}
+
+some_same : {A : Type 0} (x y : A) → Some x ≡ Some y → x ≡ y
+some_same x y h = cc
+
+abbrev pub step_of : ℕ → Frame → Step
+step_of before frame = record { before = before; frame = frame }
+
+pub same_some : {A : Type 0} (r : Option A) (x y : A) → r ≡ Some x → r ≡ Some y → x ≡ y
+same_some r x y p q = some_same x y (sym p ∙ q)
+
+pub not_some : {A P : Type 0} (r : Option A) (x : A) → r ≡ None → r ≡ Some x → P
+not_some r x p q = absurd (cc)
+
+pub if_some : {A : Type 0} (P Q : A → Type 0) → ((x : A) → P x → Q x) → (r : Option A) → IfSome r P → IfSome r Q
+if_some P Q f None h = h
+if_some P Q f (Some x) h = f x h
+
+-- what stands in a list with one thing more at its end
+snoc-at : {A : Type 0} (xs : List A) (x : A) (k : ℕ) (y : A) → slice_get (xs ++ x ∷ []) k ≡ Some y → (slice_get xs k ≡ Some y) ⊎ ((k ≡ length xs) × (x ≡ y))
+snoc-at [] x zero y at = inr (refl, some_same x y at)
+snoc-at [] x (suc k) y at = cc
+snoc-at (z ∷ xs) x zero y at = inl at
+snoc-at (z ∷ xs) x (suc k) y at = ⊎_elim (λ a. inl a) (λ a. inr (ap suc a.0, a.1)) (snoc-at xs x k y at)
+
+-- what holds of all and of one thing more holds of all behind it
+all-added : {A : Type 0} (P : A → Type 0) (xs ys : List A) (x : A) (n : ℕ) → Adds xs ys x n → P x → ((k : ℕ) (y : A) → slice_get xs k ≡ Some y → P y) → (k : ℕ) (y : A) → slice_get ys k ≡ Some y → P y
+all-added P xs ys x n added here all k y at =
+    ⊎_elim
+    (λ a. all k y (ap (λ v. slice_get v k) (sym a.1) ∙ at))
+    (λ a. ⊎_elim (λ b. all k y b) (λ b. subst P b.1 here) (snoc-at xs x k y (ap (λ v. slice_get v k) (sym a.2) ∙ at)))
+    added
+
+map-places : {A B : Type 0} (f g : A → B) (xs : List A) → ((n : ℕ) (x : A) → slice_get xs n ≡ Some x → f x ≡ g x) → map f xs ≡ map g xs
+map-places f g [] h = refl
+map-places f g (x ∷ xs) h = ap₂ ◌∷◌ (h 0 x refl) (map-places f g xs (λ n y at. h (suc n) y at))
+
+module _ (steps : List Step) (names : List Name) (kept : IsKept steps names) where
+  abbrev pub ps : List (List Frame)
+  ps = paths_of steps
+
+  pub ps-once : IsOnce ps
+  ps-once m n w p q = paths-once steps kept.steps_within kept.steps_once w m n p q
+
+  pub path-found : (s : Step) (n : ℕ) → slice_get steps n ≡ Some s → slice_get ps (suc n) ≡ Some (path_by ps s)
+  path-found s n at = path-of-step steps kept.steps_within n s at
+
+  pub step-found : (s : Step) (n : ℕ) → s.before < length ps → slice_get ps n ≡ Some (path_by ps s) → (k : ℕ) × (n ≡ suc k) × (slice_get steps k ≡ Some s)
+  step-found s n h at =
+      let a : (k : ℕ) × (x : Step) × (n ≡ suc k) × (slice_get steps k ≡ Some x) × (x.frame ≡ s.frame) × (slice_get ps x.before ≡ Some (path_at ps s.before)) = step-of-path steps kept.steps_within n s.frame (path_at ps s.before) at in
+      let b : (w : List Frame) × (slice_get ps s.before ≡ Some w) = within ps s.before h in
+      let v : path_at ps s.before ≡ b.0 = ap or_root b.1 in
+      let before : a.1.before ≡ s.before = ps-once a.1.before s.before (path_at ps s.before) a.5 (b.1 ∙ ap Some (sym v)) in
+      let make : ℕ → Frame → Step = λ n f. record { before = n; frame = f } in
+      let same : a.1 ≡ s = ap₂ make before a.4 in
+      (a.0, a.2, a.3 ∙ ap Some same)
+
+  pub name-found : (x : Name) (n : ℕ) → slice_get names n ≡ Some x → slice_get (map (name_in ps) names) n ≡ Some (name_in ps x)
+  name-found x n at = slice_get-map (name_in ps) names n ∙ ap (option_map (name_in ps)) at
+
+  name-at : (o : Option Name) (c : CellName) → option_map (name_in ps) o ≡ Some c → (y : Name) × (o ≡ Some y) × (name_in ps y ≡ c)
+  name-at None c e = cc
+  name-at (Some y) c e = (y, refl, some_same (name_in ps y) c e)
+
+  name-of : (n : ℕ) (c : CellName) → slice_get (map (name_in ps) names) n ≡ Some c → (y : Name) × (slice_get names n ≡ Some y) × (name_in ps y ≡ c)
+  name-of n c at = name-at (slice_get names n) c (sym (slice_get-map (name_in ps) names n) ∙ at)
+
+  name-within : (x : Name) (n : ℕ) → slice_get names n ≡ Some x → x.path < length ps
+  name-within x n at = let low : x.path ≤ length steps = kept.names_within n x at in omega (arith, low, paths_of-length steps)
+
+  pub name-path : (x : Name) (n : ℕ) → slice_get names n ≡ Some x → x.path < length ps
+  name-path x n at = name-within x n at
+
+  pub name-known : (x : Name) (n : ℕ) → x.path < length ps → slice_get (map (name_in ps) names) n ≡ Some (name_in ps x) → slice_get names n ≡ Some x
+  name-known x n h at =
+      let r : (y : Name) × (slice_get names n ≡ Some y) × (name_in ps y ≡ name_in ps x) = name-of n (name_in ps x) at in
+      r.1 ∙ ap Some (names-same ps ps-once r.0 x (name-within r.0 n r.1) h r.2)
+
+  pub names-once : IsOnce (map (name_in ps) names)
+  names-once m n c p q =
+      let a : (y : Name) × (slice_get names m ≡ Some y) × (name_in ps y ≡ c) = name-of m c p in
+      let b : (y : Name) × (slice_get names n ≡ Some y) × (name_in ps y ≡ c) = name-of n c q in
+      let same : b.0 ≡ a.0 = names-same ps ps-once b.0 a.0 (name-within b.0 n b.1) (name-within a.0 m a.1) (b.2 ∙ sym a.2) in
+      kept.names_once m n a.0 a.1 (b.1 ∙ ap Some same)
+
+  pub names-add : (x : Name) (more : List Name) (n : ℕ) → x.path < length ps → Adds names more x n → Adds (map (name_in ps) names) (map (name_in ps) more) (name_in ps x) n
+  names-add x more n h added =
+      ⊎_elim
+      (λ a. inl (name-found x n a.0, ap (map (name_in ps)) a.1))
+      (λ a. inr ((λ m e. a.0 m (name-known x m h e)), a.1 ∙ sym (length-map names (name_in ps)), ap (map (name_in ps)) a.2 ∙ map-append (name_in ps) names (x ∷ [])))
+      added
+
+  pub names-kept : (x : Name) (more : List Name) (n : ℕ) → x.path < length ps → IsOnce more → Adds names more x n → IsKept steps more
+  names-kept x more n h once added =
+      record {
+        steps_within = kept.steps_within;
+        steps_once = kept.steps_once;
+        names_once = once;
+        names_within = all-added (λ y. y.path ≤ length steps) names more x n added (omega (arith, h, paths_of-length steps)) (λ k y at. kept.names_within k y at);
+      }
+
+  pub steps-kept : (s : Step) (more : List Step) (n : ℕ) → s.before < length ps → IsOnce more → Adds steps more s n → IsKept more names
+  steps-kept s more n h once added =
+      let low : s.before ≤ length steps = omega (arith, h, paths_of-length steps) in
+      ⊎_elim
+      (λ a. subst (λ v. IsKept v names) (sym a.1) kept)
+      (λ a. subst (λ v. IsOnce v → IsKept v names) (sym a.2)
+      (λ o. record {
+        steps_once = o;
+        names_once = kept.names_once;
+        names_within = (λ k y at. let l : y.path ≤ length steps = kept.names_within k y at in omega (arith, l, length-append steps (s ∷ [])));
+        steps_within = (λ k y at. ⊎_elim (λ b. kept.steps_within k y b) (λ b. let e : y.before ≡ s.before = ap (λ (z : Step). z.before) (sym b.1) in omega (arith, e, b.0, low)) (snoc-at steps s k y at));
+      }) once)
+      added
+
+  more-paths : (s : Step) (n : ℕ) → s.before < length ps → ((m : ℕ) → slice_get steps m ≡ Some s → ⊥) → n ≡ length steps → Adds ps (paths_of (steps ++ s ∷ [])) (path_by ps s) (suc n)
+  more-paths s n h absent end = inr ((λ m e. let r = step-found s m h e in absent r.0 r.2), ap suc end ∙ sym (paths_of-length steps), paths_from-append ([] ∷ []) steps s)
+
+  pub paths-add : (s : Step) (more : List Step) (n : ℕ) → s.before < length ps → Adds steps more s n → Adds ps (paths_of more) (path_by ps s) (suc n)
+  paths-add s more n h added =
+      ⊎_elim
+      (λ a. inl (path-found s n a.0, ap paths_of a.1))
+      (λ a. subst (λ v. Adds ps (paths_of v) (path_by ps s) (suc n)) (sym a.2) (more-paths s n h a.0 a.1))
+      added
+
+  pub names-same-paths : (s : Step) (more : List Step) (n : ℕ) → Adds steps more s n → map (name_in (paths_of more)) names ≡ map (name_in ps) names
+  names-same-paths s more n added =
+      ⊎_elim
+      (λ a. ap (λ v. map (name_in (paths_of v)) names) a.1)
+      (λ a. subst (λ v. map (name_in (paths_of v)) names ≡ map (name_in ps) names) (sym a.2)
+      (map-places (name_in (paths_of (steps ++ s ∷ []))) (name_in ps) names
+      (λ k x at. ap (λ w. let c : CellName = record { path = w; point = x.point } in c)
+      (ap (λ v. path_at v x.path) (paths_from-append ([] ∷ []) steps s) ∙ sym (path_at-kept ps (ps ++ path_by ps s ∷ []) (append-keeps ps (path_by ps s ∷ [])) x.path (name-within x k at))))))
+      added
+
+  pub root-path : path_at ps 0 ≡ []
+  root-path = ap or_root (path-of-root steps)
+
+  pub last-path : (s : Step) (n : ℕ) → slice_get steps n ≡ Some s → path_at ps (suc n) ≡ path_by ps s
+  last-path s n at = ap or_root (path-found s n at)
+
+  pub step-before : (s : Step) (n : ℕ) → slice_get steps n ≡ Some s → s.before ≤ n
+  step-before s n at = kept.steps_within n s at
+
+-- The same of what contracts see, `known`, in place of the fields.
+module _ (steps : List Step) (names : List Name) (kept : IsKept steps names) (known : Known) (is : known_of steps names ≡ known) where
+  paths-are : paths_of steps ≡ known.paths
+  paths-are = ap (λ (k : Known). k.paths) is
+
+  names-are : map (name_in (paths_of steps)) names ≡ known.names
+  names-are = ap (λ (k : Known). k.names) is
+
+  along : (P : Known → Type 0) → P (known_of steps names) → P known
+  along P h = subst P is h
+
+  back : (P : Known → Type 0) → P known → P (known_of steps names)
+  back P h = subst P (sym is) h
+
+  pub known-paths-once : IsOnce known.paths
+  known-paths-once = along (λ k. IsOnce k.paths) (ps-once steps names kept)
+
+  pub known-names-once : IsOnce known.names
+  known-names-once = along (λ k. IsOnce k.names) (names-once steps names kept)
+
+  pub known-path : (s : Step) (n : ℕ) → slice_get steps n ≡ Some s → slice_get known.paths (suc n) ≡ Some (path_by known.paths s)
+  known-path s n at = along (λ k. slice_get k.paths (suc n) ≡ Some (path_by k.paths s)) (path-found steps names kept s n at)
+
+  pub known-step : (s : Step) (n : ℕ) → s.before < length known.paths → slice_get known.paths n ≡ Some (path_by known.paths s) → (k : ℕ) × (n ≡ suc k) × (slice_get steps k ≡ Some s)
+  known-step s n h at = step-found steps names kept s n (back (λ k. s.before < length k.paths) h) (back (λ k. slice_get k.paths n ≡ Some (path_by k.paths s)) at)
+
+  pub known-name : (x : Name) (n : ℕ) → slice_get names n ≡ Some x → slice_get known.names n ≡ Some (name_in known.paths x)
+  known-name x n at = along (λ k. slice_get k.names n ≡ Some (name_in k.paths x)) (name-found steps names kept x n at)
+
+  pub known-name-path : (x : Name) (n : ℕ) → slice_get names n ≡ Some x → x.path < length known.paths
+  known-name-path x n at = along (λ k. x.path < length k.paths) (name-path steps names kept x n at)
+
+  pub known-found : (x : Name) (n : ℕ) → x.path < length known.paths → slice_get known.names n ≡ Some (name_in known.paths x) → slice_get names n ≡ Some x
+  known-found x n h at = name-known steps names kept x n (back (λ k. x.path < length k.paths) h) (back (λ k. slice_get k.names n ≡ Some (name_in k.paths x)) at)
+
+  pub known-add : (x : Name) (more : List Name) (n : ℕ) → x.path < length known.paths → Adds names more x n → Adds known.names (map (name_in (paths_of steps)) more) (name_in known.paths x) n
+  known-add x more n h added = along (λ k. Adds k.names (map (name_in (paths_of steps)) more) (name_in k.paths x) n) (names-add steps names kept x more n (back (λ k. x.path < length k.paths) h) added)
+
+  pub known-add-kept : (x : Name) (more : List Name) (n : ℕ) → x.path < length known.paths → IsOnce more → Adds names more x n → IsKept steps more
+  known-add-kept x more n h once added = names-kept steps names kept x more n (back (λ k. x.path < length k.paths) h) once added
+
+  pub known-step-kept : (s : Step) (more : List Step) (n : ℕ) → s.before < length known.paths → IsOnce more → Adds steps more s n → IsKept more names
+  known-step-kept s more n h once added = steps-kept steps names kept s more n (back (λ k. s.before < length k.paths) h) once added
+
+  pub known-path-add : (s : Step) (more : List Step) (n : ℕ) → s.before < length known.paths → Adds steps more s n → Adds known.paths (paths_of more) (path_by known.paths s) (suc n)
+  known-path-add s more n h added = along (λ k. Adds k.paths (paths_of more) (path_by k.paths s) (suc n)) (paths-add steps names kept s more n (back (λ k. s.before < length k.paths) h) added)
+
+  pub known-same-names : (s : Step) (more : List Step) (n : ℕ) → Adds steps more s n → map (name_in (paths_of more)) names ≡ known.names
+  known-same-names s more n added = names-same-paths steps names kept s more n added ∙ names-are
+
+  pub known-root : path_at known.paths 0 ≡ []
+  known-root = along (λ k. path_at k.paths 0 ≡ []) (root-path steps names kept)
+
+  pub known-last : (s : Step) (n : ℕ) → slice_get steps n ≡ Some s → path_at known.paths (suc n) ≡ path_by known.paths s
+  known-last s n at = along (λ k. path_at k.paths (suc n) ≡ path_by k.paths s) (last-path steps names kept s n at)
+
+  pub known-length : length known.paths ≡ suc (length steps)
+  known-length = along (λ k. length k.paths ≡ suc (length steps)) (paths_of-length steps)

@@ -1,0 +1,4 @@
+pub mod Telling
+pub mod PathLemmas
+pub mod OnceLemmas
+pub mod KeptLemmas

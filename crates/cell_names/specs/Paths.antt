@@ -1,0 +1,32 @@
+-- Paths, their last frame first, and the numbered steps that make them.
+use Rattle.std.specs.Prelude.{ℕ, ◌≤◌, List, [], ◌∷◌, ◌++◌, Option, Some, None, slice_get}
+use Rattle.cell_names.specs.declared.frame.Frame.{Frame}
+use Rattle.cell_names.specs.declared.frame.Point.{Point}
+use Rattle.cell_names.specs.declared.path.Name.{Name}
+use Rattle.cell_names.specs.declared.path.Step.{Step}
+
+-- the name of a cell: its path, the last frame first, and its point
+pub record CellName : Type 0 where
+  pub path : List Frame
+  pub point : Point
+
+-- the path at a place, and the empty one past the end
+abbrev pub or_root : Option (List Frame) → List Frame
+or_root (Some path) = path
+or_root None = []
+
+abbrev pub path_at : List (List Frame) → ℕ → List Frame
+path_at paths n = or_root (slice_get paths n)
+
+-- these paths, and then those of the steps, each from a path in front of it
+abbrev pub paths_from : List (List Frame) → List Step → List (List Frame)
+paths_from paths [] = paths
+paths_from paths (s ∷ steps) = paths_from (paths ++ (s.frame ∷ path_at paths s.before) ∷ []) steps
+
+-- the paths of the steps, behind the empty one
+abbrev pub paths_of : List Step → List (List Frame)
+paths_of steps = paths_from ([] ∷ []) steps
+
+-- a name whose path has a number
+abbrev pub name_in : List (List Frame) → Name → CellName
+name_in paths name = record { path = path_at paths name.path; point = name.point }

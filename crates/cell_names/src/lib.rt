@@ -1,0 +1,79 @@
+//! The names of cells: a path, and a point of the block that the path leads to.
+//!
+//! A path is a list of [`Frame`]s from `main`: into a call of a procedure, or into a round of a loop.
+//! [`Names`] keeps each path once, as its last frame and the path before it, and each name once. So a
+//! path is one number, which all cells of a block share, and a name is three. The number of a path or
+//! of a name is its place in a list that is only added to: a name has one number and a number one name.
+//!
+//! Contracts see the paths and the names as lists, a path as the list of its frames, the last one first.
+//! Finding or adding a path or a name hashes three numbers and takes constant time on average; finding
+//! takes no memory.
+#![tactic(auto)]
+
+ghost use Rattle.plain_values.specs.Claims.{IsDecided};
+
+mod frame;
+mod names;
+mod path;
+
+pub use frame::{Frame, Point};
+pub use names::Names;
+pub use path::{Name, PathId};
+
+/// `==` tells frames, points and names apart exactly where they are not the same.
+pub fn equality_decides()
+    ensures frames { IsDecided ⟦<Frame as PartialEq>⟧.eq }
+    ensures points { IsDecided ⟦<Point as PartialEq>⟧.eq }
+    ensures names { IsDecided ⟦<Name as PartialEq>⟧.eq }
+{}
+
+#[cfg(test)]
+mod tests {
+    use super::*;
+    use imp_syntax::StmtId;
+    use std::test::Fail;
+
+    #[test]
+    fn numbers_of_names(rt: HostRuntime) -> Result<(), Fail> {
+        let alloc = rt.alloc();
+        let mut names = Names::new(alloc);
+        assert!(rt; names.is_empty());
+        let (call, head) = (StmtId::new(4), StmtId::new(2));
+        let root = PathId::root();
+        assert!(rt; names.find_path(root, Frame::InCall(call)).is_none());
+        let inside = names.add_path(root, Frame::InCall(call))?;
+        let round = names.add_path(inside, Frame::InLoop(head, 3))?;
+        assert_eq!(rt; names.add_path(root, Frame::InCall(call))?, inside);
+        assert_eq!(rt;
+            names.find_path(inside, Frame::InLoop(head, 3)),
+            Some(round)
+        );
+        assert_eq!(rt;
+            names.last_frame(round),
+            Some((inside, Frame::InLoop(head, 3)))
+        );
+        assert_eq!(rt; names.last_frame(root), None);
+        let entry = Name {
+            path: inside,
+            point: Point::Entry,
+        };
+        let body = Name {
+            path: round,
+            point: Point::Body,
+        };
+        assert_eq!(rt; names.add(entry)?, 0);
+        assert_eq!(rt; names.add(body)?, 1);
+        assert_eq!(rt; names.add(entry)?, 0);
+        assert_eq!(rt; names.find(&body), Some(1));
+        assert_eq!(rt;
+            names.find(&Name {
+                path: root,
+                point: Point::Entry
+            }),
+            None
+        );
+        assert_eq!(rt; names.len(), 2);
+        assert_eq!(rt; names.get(1), body);
+        Ok(())
+    }
+}

@@ -1,0 +1,133 @@
+//! Names and their numbers.
+ghost use Rattle.std.specs.Prelude.{◌≡◌, ℕ, ◌<◌, ◌↔◌, [], ◌∷◌, length, Some, slice_get, IfOk, IfSome, IfNone, OnErr, IsTrue};
+ghost use Rattle.cell_names.specs.Paths.{path_at, name_in};
+ghost use Rattle.cell_names.specs.Known.{Adds, IsOnce};
+
+use crate::frame::Frame;
+use crate::path::{Name, PathId, Step};
+use plain_values::Memory;
+use state_table::Table;
+use std::alloc::Global;
+use std::marker::Model;
+
+/// Paths and names, each under one number.
+#[derive(Drop)]
+pub struct Names {
+    steps: Table<Step>,
+    names: Table<Name>,
+}
+
+impl Model for Names {
+    ghost use Rattle.cell_names.specs.Known.{Known, known_of, IsKept};
+
+    ghost Value = { Known };
+
+    ghost view = { λ a. known_of a.steps a.names };
+
+    ghost invariant = { λ a. IsKept a.steps a.names };
+}
+
+impl Names {
+    /// The empty path alone, and no names. It takes no memory yet.
+    pub fn new(alloc: Global) -> Names
+        ensures paths { result.paths ≡ [] ∷ [] }
+        ensures names { result.names ≡ [] }
+    {
+        Names {
+            steps: Table::new(alloc),
+            names: Table::new(alloc),
+        }
+    }
+
+    /// How many names there are.
+    pub fn len(&self) -> usize
+        ensures count { result ≡ length self.now.names }
+    {
+        self.names.len()
+    }
+
+    /// Whether there are no names.
+    pub fn is_empty(&self) -> bool
+        ensures empty { IsTrue result ↔ (length self.now.names ≡ 0) }
+    {
+        self.names.is_empty()
+    }
+
+    /// The path that goes on from another one by a frame, or `None` where it has no number.
+    /// It takes no memory.
+    pub fn find_path(&self, before: PathId, frame: Frame) -> Option<PathId>
+        requires there { before < length self.now.paths }
+        ensures path { IfSome result (λ n. slice_get self.now.paths n ≡ Some (frame ∷ path_at self.now.paths before)) }
+        ensures found { (n : ℕ) → slice_get self.now.paths n ≡ Some (frame ∷ path_at self.now.paths before) → result ≡ Some n }
+    {
+        let step = Step { before, frame };
+        match self.steps.find(&step) {
+            Some(number) => Some(PathId::after(number)),
+            None => None,
+        }
+    }
+
+    /// The path that goes on from another one by a frame, with a new number where it had none.
+    pub fn add_path(&mut self, before: PathId, frame: Frame) -> Result<PathId, Memory>
+        requires there { before < length self.old.paths }
+        ensures path { IfOk result (Adds self.old.paths self.new.paths (frame ∷ path_at self.old.paths before)) }
+        ensures names { self.new.names ≡ self.old.names }
+        ensures err { OnErr result (self.new ≡ self.old) }
+    {
+        let number = self.steps.intern(Step { before, frame })?;
+        Ok(PathId::after(number))
+    }
+
+    /// The number of a name, or `None` where it has none. It takes no memory.
+    pub fn find(&self, name: &Name) -> Option<usize>
+        requires there { name.now.path < length self.now.paths }
+        ensures name { IfSome result (λ n. slice_get self.now.names n ≡ Some (name_in self.now.paths name.now)) }
+        ensures found { (n : ℕ) → slice_get self.now.names n ≡ Some (name_in self.now.paths name.now) → result ≡ Some n }
+    {
+        self.names.find(name)
+    }
+
+    /// The number of a name, a new one where it had none.
+    pub fn add(&mut self, name: Name) -> Result<usize, Memory>
+        requires there { name.path < length self.old.paths }
+        ensures name { IfOk result (Adds self.old.names self.new.names (name_in self.old.paths name)) }
+        ensures paths { self.new.paths ≡ self.old.paths }
+        ensures err { OnErr result (self.new ≡ self.old) }
+    {
+        let Name { path, point } = name;
+        let number = self.names.intern(Name { path, point })?;
+        Ok(number)
+    }
+
+    /// The name that has a number.
+    pub fn get(&self, number: usize) -> Name
+        requires there { number < length self.now.names }
+        ensures name { slice_get self.now.names number ≡ Some (name_in self.now.paths result) }
+        ensures path { result.path < length self.now.paths }
+    {
+        *self.names.get(number)
+    }
+
+    /// A path's last frame, and the path before it; `None` for the empty path.
+    pub fn last_frame(&self, path: PathId) -> Option<(PathId, Frame)>
+        requires there { path < length self.now.paths }
+        ensures empty { IfNone result (path_at self.now.paths path ≡ []) }
+        ensures last { IfSome result (λ r. path_at self.now.paths path ≡ r.1 ∷ path_at self.now.paths r.0) }
+        ensures before { IfSome result (λ r. r.0 < path) }
+    {
+        let steps = &self.steps;
+        if path.number() == 0 {
+            return None;
+        }
+        let step = steps.get(path.number() - 1);
+        Some((step.before, step.frame))
+    }
+
+    /// A path has one number, and a name has one number.
+    pub fn numbers_are_one(&self)
+        ensures paths { IsOnce self.now.paths }
+        ensures names { IsOnce self.now.names }
+    {
+        let _steps = &self.steps;
+    }
+}

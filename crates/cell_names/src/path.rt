@@ -1,0 +1,58 @@
+//! Paths by their numbers, and names.
+use crate::frame::{Frame, Point};
+use std::marker::Model;
+
+/// A path, by its number. The empty path, at the start of `main`, has the number 0.
+#[derive(Clone, Copy, Debug, PartialEq, Eq, Hash)]
+pub struct PathId {
+    number: usize,
+}
+
+impl Model for PathId {
+    ghost use Rattle.std.specs.Prelude.{ℕ};
+
+    ghost Value = { ℕ };
+
+    ghost view = { λ a. a.number };
+
+    ghost inverse = { λ number. record { number = number } };
+}
+
+ghost use Rattle.std.specs.Prelude.{◌≡◌, suc, ◌<◌, ◌^◌};
+
+impl PathId {
+    /// The empty path.
+    pub fn root() -> PathId
+        ensures is { result ≡ 0 }
+    {
+        PathId { number: 0 }
+    }
+
+    /// The path of a step: the one behind the empty path and the steps before.
+    pub(crate) fn after(step: usize) -> PathId
+        requires small { step < 2 ^ 63 }
+        ensures is { result ≡ suc step }
+    {
+        PathId { number: step + 1 }
+    }
+
+    pub(crate) fn number(self) -> usize
+        ensures is { result ≡ self }
+    {
+        self.number
+    }
+}
+
+/// The name of a cell: a path that some [`Names`](crate::Names) gave, and a point.
+#[derive(Clone, Copy, Debug, PartialEq, Eq, Hash)]
+pub struct Name {
+    pub path: PathId,
+    pub point: Point,
+}
+
+/// A path that is not empty: the path before its last frame, and that frame.
+#[derive(Clone, Copy, Debug, PartialEq, Eq, Hash)]
+pub(crate) struct Step {
+    pub(crate) before: PathId,
+    pub(crate) frame: Frame,
+}

@@ -1,0 +1,89 @@
+//! The ranges of expressions.
+ghost use Rattle.std.specs.Prelude.{◌≡◌, ◌<◌, ◌^◌, pos, false};
+ghost use Rattle.dom_interval.specs.Ranges.{slot_at, range_at, range_of, operation, extremes};
+
+use crate::SlotRange;
+use imp_slots::{SlotExpr, SlotExprNode};
+use imp_syntax::Operator;
+use num_bounds::Range;
+
+/// The greatest length of an array.
+pub const LONGEST: i64 = 1_000_000;
+
+/// The full range.
+pub fn full() -> Range
+    ensures exact { result ≡ extremes false }
+{
+    Range::from_ends(i64::MIN, i64::MAX)
+}
+
+/// The ends that a slot's range stays within.
+pub fn extremes_of(is_array: bool) -> Range
+    ensures exact { result ≡ extremes is_array }
+{
+    if is_array {
+        Range::from_ends(0, LONGEST)
+    } else {
+        full()
+    }
+}
+
+/// The slot at a place, an int of the full range where there is none.
+pub fn slot(slots: &[SlotRange], x: u32) -> SlotRange
+    ensures exact { result ≡ slot_at slots.now x }
+{
+    let x = x as usize;
+    if x < slots.len() {
+        slots[x]
+    } else {
+        SlotRange {
+            is_array: false,
+            range: full(),
+        }
+    }
+}
+
+/// The range of a slot.
+pub fn range(slots: &[SlotRange], x: u32) -> Range
+    ensures exact { result ≡ range_at slots.now x }
+{
+    slot(slots, x).range
+}
+
+fn literal(n: u64) -> Range
+    requires small { n < 2 ^ 63 }
+    ensures exact { result ≡ record { lo = pos n; hi = pos n } }
+{
+    let n = n as i64;
+    Range::from_ends(n, n)
+}
+
+fn operate(operator: Operator, a: Range, b: Range) -> Option<Range>
+    ensures exact { result ≡ operation operator a b }
+{
+    match operator {
+        Operator::Add => a.add(b),
+        Operator::Subtract => a.sub(b),
+        Operator::Multiply => a.mul(b),
+        Operator::Divide => a.quot(b),
+        Operator::Remainder => a.rem(b),
+    }
+}
+
+/// The range of an expression, or `None` where it has no value.
+#[tactic(auto, unfolding(crate::specs::Ranges::range_of))]
+pub fn evaluate(slots: &[SlotRange], expr: &SlotExpr) -> Option<Range>
+    ensures exact { result ≡ range_of slots.now expr.now }
+{
+    match expr.node() {
+        SlotExprNode::Literal(n) => Some(literal(n.value())),
+        SlotExprNode::Slot(x) => Some(range(slots, *x)),
+        SlotExprNode::Length(a) => Some(range(slots, *a)),
+        SlotExprNode::Negative(e) => evaluate(slots, e)?.neg(),
+        SlotExprNode::Binary(operator, a, b) => {
+            let a = evaluate(slots, a)?;
+            let b = evaluate(slots, b)?;
+            operate(*operator, a, b)
+        }
+    }
+}

@@ -1,0 +1,252 @@
+//! States by hand.
+ghost use Rattle.std.specs.Prelude.{◌≡◌, ◌<◌};
+
+use crate::compare::{related, within};
+use crate::statements::behind;
+use crate::text::state_text;
+use crate::widening::widened;
+use crate::{Interval, IntervalState, SlotRange};
+use domain_laws::{Domain, Steps, Verdict};
+use imp_lex::Number;
+use imp_slots::{
+    Layout, NumericSlot, SlotAction, SlotCond, SlotCondNode, SlotExpr, SlotExprNode, SlotStmt,
+};
+use imp_syntax::{Operator, Relation};
+use num_bounds::Range;
+use plain_values::{Items, Text};
+use std::alloc::Global;
+use std::marker::Brand;
+use std::sync::ledger::{Blank, Ledger};
+use std::test::Fail;
+
+const MIN: i64 = i64::MIN;
+
+const MAX: i64 = i64::MAX;
+
+/// Ints `x`, `y`, `z` and an array `a`.
+fn layout(alloc: Global) -> Result<Layout, Fail> {
+    let mut numbers = Items::new(alloc);
+    for (name, is_array) in [("x", false), ("y", false), ("z", false), ("a", true)] {
+        let name = Text::from_slice(alloc, name.as_bytes())?;
+        numbers.push(NumericSlot::new(name, is_array))?;
+    }
+    Ok(Layout::new(alloc, numbers, Items::new(alloc))?)
+}
+
+fn slot(x: u32, alloc: Global) -> Result<SlotExpr, Fail> {
+    Ok(SlotExpr::new(alloc, SlotExprNode::Slot(x))?)
+}
+
+fn number(n: u32, alloc: Global) -> Result<SlotExpr, Fail> {
+    Ok(SlotExpr::new(alloc, SlotExprNode::Literal(Number::new(u64::from(n))))?)
+}
+
+fn binary(o: Operator, a: SlotExpr, b: SlotExpr, alloc: Global) -> Result<SlotExpr, Fail> {
+    Ok(SlotExpr::new(alloc, SlotExprNode::Binary(o, a, b))?)
+}
+
+/// The state of ints with these ranges.
+fn state(alloc: Global, ranges: &[(i64, i64)]) -> Result<IntervalState, Fail> {
+    let mut slots = Vec::new(alloc);
+    for (lo, hi) in ranges {
+        let range = Range::new(*lo, *hi).ok_or("empty")?;
+        slots.push(SlotRange {
+            is_array: false,
+            range,
+        })?;
+    }
+    Ok(within(slots))
+}
+
+/// Behind one statement after another, from all 0.
+fn shown<L: Ledger>(alloc: Global, blank: Blank, actions: &[SlotAction]) -> Result<Text, Fail>
+    requires name { blank.name ≡ L.name }
+    requires parts { blank.parts ≡ L.parts }
+    requires some { 0 < blank.parts }
+{
+    let mut steps = Steps::<L>::new(blank);
+    let layout = layout(alloc)?;
+    let mut s = Interval.init(alloc, &layout, &mut steps)?;
+    for action in actions {
+        let stmt = SlotStmt::Simple(action.clone()?);
+        s = Interval.post(alloc, &stmt, &s, &mut steps)?;
+    }
+    Ok(Interval.text(alloc, &layout, &s)?)
+}
+
+fn after(alloc: Global, actions: &[SlotAction]) -> Result<Text, Fail> {
+    shown::<Brand>(alloc, Blank::new(1), actions)
+}
+
+#[test]
+fn remainders_and_quotients(rt: HostRuntime) -> Result<(), Fail> {
+    let alloc = rt.alloc();
+    let ten = binary(
+        Operator::Remainder,
+        slot(0, alloc)?,
+        number(10, alloc)?,
+        alloc,
+    )?;
+    let hundred = binary(
+        Operator::Divide,
+        number(100, alloc)?,
+        slot(0, alloc)?,
+        alloc,
+    )?;
+    let actions = [
+        SlotAction::Input(0),
+        SlotAction::SetInt(1, ten),
+        SlotAction::SetInt(2, hundred),
+    ];
+    let text = after(alloc, &actions)?;
+    let want = "x=[min,max] y=[-9,9] z=[-100,100] #a=[0,0]";
+    assert_eq!(rt; text.as_slice(), want.as_bytes());
+    Ok(())
+}
+
+#[test]
+fn arrays(rt: HostRuntime) -> Result<(), Fail> {
+    let alloc = rt.alloc();
+    let two = [
+        SlotAction::Input(0),
+        SlotAction::MakeArray(3, slot(0, alloc)?),
+    ];
+    let text = after(alloc, &two)?;
+    let want = "x=[min,max] y=[0,0] z=[0,0] #a=[0,1000000]";
+    assert_eq!(rt; text.as_slice(), want.as_bytes());
+    let three = [
+        SlotAction::Input(0),
+        SlotAction::MakeArray(3, slot(0, alloc)?),
+        SlotAction::ReadElement(0, 3, slot(0, alloc)?),
+    ];
+    let text = after(alloc, &three)?;
+    let want = "x=[min,max] y=[0,0] z=[0,0] #a=[1,1000000]";
+    assert_eq!(rt; text.as_slice(), want.as_bytes());
+    Ok(())
+}
+
+#[test]
+fn overflow(rt: HostRuntime) -> Result<(), Fail> {
+    let alloc = rt.alloc();
+    let most = SlotExpr::new(
+        alloc,
+        SlotExprNode::Literal(Number::new(9223372036854775807)),
+    )?;
+    let more = binary(Operator::Add, slot(0, alloc)?, number(1, alloc)?, alloc)?;
+    let actions = [SlotAction::SetInt(0, most), SlotAction::SetInt(0, more)];
+    assert_eq!(rt; after(alloc, &actions)?.as_slice(), "none".as_bytes());
+    Ok(())
+}
+
+/// The text of a state of the ints `x` and `y`.
+fn pair_text(alloc: Global, s: &IntervalState) -> Result<Text, Fail> {
+    let mut numbers = Items::new(alloc);
+    numbers.push(NumericSlot::new(Text::from_slice(alloc, b"x")?, false))?;
+    numbers.push(NumericSlot::new(Text::from_slice(alloc, b"y")?, false))?;
+    let layout = Layout::new(alloc, numbers, Items::new(alloc))?;
+    Ok(state_text(alloc, &layout, s)?)
+}
+
+/// What `x` in a relation to `y` leaves of their ranges.
+fn compared(alloc: Global, r: Relation, x: (i64, i64), y: (i64, i64)) -> Result<Text, Fail> {
+    let x = SlotRange {
+        is_array: false,
+        range: Range::new(x.0, x.1).ok_or("empty")?,
+    };
+    let y = SlotRange {
+        is_array: false,
+        range: Range::new(y.0, y.1).ok_or("empty")?,
+    };
+    let mut slots = Vec::new(alloc);
+    slots.push(x)?;
+    slots.push(y)?;
+    let s = related(r, Some(0), Some(1), x.range, y.range, slots);
+    pair_text(alloc, &s)
+}
+
+#[test]
+fn relations(rt: HostRuntime) -> Result<(), Fail> {
+    let alloc = rt.alloc();
+    let table = [
+        (Relation::Less, (0, 5), (5, 9), "x=[0,5] y=[5,9]"),
+        (Relation::Less, (0, 9), (0, 9), "x=[0,8] y=[1,9]"),
+        (Relation::Less, (3, 3), (3, 3), "none"),
+        (
+            Relation::Less,
+            (MIN, MAX),
+            (MIN, MAX),
+            "x=[min,9223372036854775806] y=[-9223372036854775807,max]",
+        ),
+        (Relation::AtMost, (3, 3), (3, 3), "x=[3,3] y=[3,3]"),
+        (Relation::AtMost, (4, 9), (0, 3), "none"),
+        (Relation::Greater, (0, 9), (0, 9), "x=[1,9] y=[0,8]"),
+        (Relation::AtLeast, (0, 3), (2, 9), "x=[2,3] y=[2,3]"),
+        (Relation::Equal, (0, 3), (2, 9), "x=[2,3] y=[2,3]"),
+        (Relation::Equal, (0, 1), (2, 3), "none"),
+        (Relation::NotEqual, (0, 3), (0, 0), "x=[1,3] y=[0,0]"),
+        (Relation::NotEqual, (0, 3), (3, 3), "x=[0,2] y=[3,3]"),
+        (Relation::NotEqual, (0, 3), (1, 1), "x=[0,3] y=[1,1]"),
+        (Relation::NotEqual, (1, 1), (0, 1), "x=[1,1] y=[0,0]"),
+        (Relation::NotEqual, (7, 7), (7, 7), "none"),
+    ];
+    for (relation, x, y, want) in table {
+        let text = compared(alloc, relation, x, y)?;
+        assert_eq!(rt;
+            text.as_slice(),
+            want.as_bytes(),
+            "{relation:?} of {x:?} and {y:?}"
+        );
+    }
+    Ok(())
+}
+
+#[test]
+fn widening(rt: HostRuntime) -> Result<(), Fail> {
+    let alloc = rt.alloc();
+    let marks: &[i64] = &[-10, -1, 0, 1, 10];
+    let none: &[i64] = &[];
+    let table = [
+        (none, (0, 0), (0, 1), "x=[0,max] y=[0,0]"),
+        (none, (0, 0), (-1, 0), "x=[min,0] y=[0,0]"),
+        (marks, (0, 0), (0, 5), "x=[0,10] y=[0,0]"),
+        (marks, (0, 0), (-5, 0), "x=[-10,0] y=[0,0]"),
+        (marks, (0, 0), (-11, 11), "x=[min,max] y=[0,0]"),
+        (marks, (0, 9), (2, 3), "x=[0,9] y=[0,0]"),
+        (marks, (0, 1), (0, 10), "x=[0,10] y=[0,0]"),
+    ];
+    for (marks, l, r, want) in table {
+        let l = state(alloc, &[l, (0, 0)])?;
+        let r = state(alloc, &[r, (0, 0)])?;
+        let text = pair_text(alloc, &widened(alloc, marks, &l, &r)?)?;
+        assert_eq!(rt; text.as_slice(), want.as_bytes());
+    }
+    Ok(())
+}
+
+#[test]
+fn verdicts(rt: HostRuntime) -> Result<(), Fail> {
+    let alloc = rt.alloc();
+    let table = [
+        ((1, 5), (6, 9), Verdict::Safe),
+        ((1, 5), (3, 9), Verdict::May),
+        ((4, 5), (1, 3), Verdict::May),
+    ];
+    for (x, y, want) in table {
+        let less = SlotCondNode::Compare(Relation::Less, slot(0, alloc)?, slot(1, alloc)?);
+        let claim = SlotStmt::Simple(SlotAction::Assert(SlotCond::new(alloc, less)?));
+        let s = state(alloc, &[x, y])?;
+        assert_eq!(rt; Interval.check(alloc, &claim, &s)?, want);
+        assert!(rt; Interval.copy(alloc, &s)? == s);
+        assert!(rt; !Interval.dead(&s));
+    }
+    Ok(())
+}
+
+#[test]
+fn breaks(rt: HostRuntime) -> Result<(), Fail> {
+    let alloc = rt.alloc();
+    let s = state(alloc, &[(0, 0)])?;
+    let s = behind(alloc, &SlotStmt::Break, &s)?;
+    assert!(rt; Interval.dead(&s));
+    Ok(())
+}

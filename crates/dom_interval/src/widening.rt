@@ -1,0 +1,183 @@
+//! Widening.
+ghost use Rattle.std.specs.Prelude.{◌≡◌, ◌<◌, ◌≤ℤ◌, pos, int_le, if◌then◌else◌, slice_index_or, length, IfOk, map};
+ghost use Rattle.std.specs.List.{zip};
+ghost use Rattle.std.specs.Int.{int_max, int_min};
+ghost use Rattle.dom_interval.specs.Widening as widening;
+ghost use Rattle.dom_interval.specs.Widening.{better_below, better_above};
+
+use crate::compare::within;
+use crate::evaluate::extremes_of;
+use crate::guards::copy_of;
+use crate::state::Kept;
+use crate::{IntervalState, SlotRange};
+use num_bounds::Range;
+use std::alloc::{AllocError, Global};
+use std::marker::Model;
+
+/// An end of a range.
+#[derive(Clone, Copy)]
+struct End {
+    value: i64,
+}
+
+impl Model for End {
+    ghost use Rattle.std.specs.Prelude.{ℤ};
+
+    ghost Value = { ℤ };
+
+    ghost view = { λ a. a.value };
+
+    ghost inverse = { λ z. record { value = z } };
+}
+
+/// The better one of the best so far and the mark at a place.
+fn nearer_below(best: End, marks: &[i64], i: usize, high: End, end: End) -> End
+    requires within { i < length marks.now }
+    ensures exact { result ≡ better_below best (slice_index_or marks.now i (pos 0)) high end }
+{
+    let mark = marks[i];
+    if mark <= end.value && mark <= high.value {
+        End {
+            value: mark.max(best.value),
+        }
+    } else {
+        best
+    }
+}
+
+fn nearer_above(best: End, marks: &[i64], i: usize, low: End, end: End) -> End
+    requires within { i < length marks.now }
+    ensures exact { result ≡ better_above best (slice_index_or marks.now i (pos 0)) low end }
+{
+    let mark = marks[i];
+    if end.value <= mark && low.value <= mark {
+        End {
+            value: mark.min(best.value),
+        }
+    } else {
+        best
+    }
+}
+
+fn low_extreme(extremes: Range, end: End) -> End
+    ensures exact { result ≡ int_min extremes.lo end }
+{
+    End {
+        value: extremes.lo().min(end.value),
+    }
+}
+
+fn high_extreme(extremes: Range, end: End) -> End
+    ensures exact { result ≡ int_max extremes.hi end }
+{
+    End {
+        value: extremes.hi().max(end.value),
+    }
+}
+
+fn low_of(range: Range) -> End
+    ensures exact { result ≡ range.lo }
+    ensures ordered { range.lo ≤ℤ range.hi }
+{
+    End { value: range.lo() }
+}
+
+fn high_of(range: Range) -> End
+    ensures exact { result ≡ range.hi }
+    ensures ordered { range.lo ≤ℤ range.hi }
+{
+    End { value: range.hi() }
+}
+
+/// The greatest mark within the extremes that is not above the end, or the low extreme.
+fn mark_below(marks: &[i64], extremes: Range, end: End) -> End
+    ensures exact { result ≡ widening.mark_below marks.now extremes end }
+{
+    let high = high_of(extremes);
+    let mut best = low_extreme(extremes, end);
+    for i in 0..marks.len() {
+        best = nearer_below(best, marks, i, high, end);
+    }
+    best
+}
+
+/// The least mark within the extremes that is not below the end, or the high extreme.
+fn mark_above(marks: &[i64], extremes: Range, end: End) -> End
+    ensures exact { result ≡ widening.mark_above marks.now extremes end }
+{
+    let low = low_of(extremes);
+    let mut best = high_extreme(extremes, end);
+    for i in 0..marks.len() {
+        best = nearer_above(best, marks, i, low, end);
+    }
+    best
+}
+
+fn low_end(marks: &[i64], extremes: Range, l: End, r: End) -> End
+    ensures exact { result ≡ (if int_le l r then l else widening.mark_below marks.now extremes r) }
+{
+    if l.value <= r.value {
+        l
+    } else {
+        mark_below(marks, extremes, r)
+    }
+}
+
+fn high_end(marks: &[i64], extremes: Range, l: End, r: End) -> End
+    ensures exact { result ≡ (if int_le r l then l else widening.mark_above marks.now extremes r) }
+{
+    if r.value <= l.value {
+        l
+    } else {
+        mark_above(marks, extremes, r)
+    }
+}
+
+fn between(low: End, high: End) -> Range
+    requires ordered { low ≤ℤ high }
+    ensures exact { result ≡ record { lo = low; hi = high } }
+{
+    Range::from_ends(low.value, high.value)
+}
+
+fn widened_range(marks: &[i64], extremes: Range, l: Range, r: Range) -> Range
+    ensures exact { result ≡ widening.widen_range marks.now extremes l r }
+{
+    let low = low_end(marks, extremes, low_of(l), low_of(r));
+    let high = high_end(marks, extremes, high_of(l), high_of(r));
+    between(low, high)
+}
+
+fn widened_slots(
+    alloc: Global,
+    marks: &[i64],
+    left: &[SlotRange],
+    right: &[SlotRange],
+) -> Result<Vec<SlotRange>, AllocError>
+    ensures exact { IfOk result (λ v. v.items ≡ map (λ p. widening.widen_slot marks.now p.0 p.1) (zip left.now right.now)) }
+{
+    left.iter()
+        .zip(right.iter())
+        .map(|(a, b)| SlotRange {
+            is_array: a.is_array,
+            range: widened_range(marks, extremes_of(a.is_array), a.range, b.range),
+        })
+        .collect(alloc)
+}
+
+/// The next iterate: an end that the right state does not pass stays, any other goes to a mark.
+#[tactic(auto, unfolding(crate::specs::Widening::widen))]
+pub fn widened(
+    alloc: Global,
+    marks: &[i64],
+    l: &IntervalState,
+    r: &IntervalState,
+) -> Result<IntervalState, AllocError>
+    ensures exact { IfOk result (λ t. t ≡ widening.widen marks.now l.now r.now) }
+{
+    match (&l.kept, &r.kept) {
+        (Kept::Within(a), Kept::Within(b)) => Ok(within(widened_slots(alloc, marks, a, b)?)),
+        (Kept::Empty, _) => copy_of(r),
+        (_, Kept::Empty) => copy_of(l),
+    }
+}

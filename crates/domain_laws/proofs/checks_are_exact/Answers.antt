@@ -1,0 +1,5 @@
+use Rattle.domain_laws.specs.CheckLaws.{check-passed, check-failed}
+use Rattle.domain_laws.proofs.checks_are_exact.Goals as goal
+
+pub returns : goal.returns
+returns c = record { passed = check-passed; failed = check-failed }

@@ -1,0 +1,67 @@
+-- Slots.
+use Rattle.std.proofs.Common.{ℕ, zero, suc, sym, ◌∙◌, slice_get, Some, None, ◌≡◌, ◌+◌, ◌<◌, ◌≤◌, List, [], ◌∷◌, ◌++◌, length, map, drop, refl, ap, arith, add-one, drop-cons, get_or}
+use Rattle.imp_syntax.specs.declared.words.Declaration.{Declaration}
+use Rattle.imp_syntax.specs.declared.words.Kind.{Kind}
+use Rattle.imp_syntax.specs.declared.words.Kind.TheVariants.{Int, Array, List as OfLinks}
+use Rattle.imp_syntax.specs.Plain.{Procedure}
+use Rattle.imp_syntax.specs.Views.{operand_of}
+use Rattle.imp_syntax.specs.ActionViews.{operands_of}
+use Rattle.imp_syntax.specs.declared.expr.Side.{Side}
+use Rattle.imp_slots.specs.Plain.{Numeric, Layout, Argument}
+use Rattle.imp_slots.specs.CallViews.{argument_of}
+use Rattle.imp_slots.specs.declared.calls.Argument as declared
+use Rattle.imp_check.specs.Programs.{count_numeric, count_links, one_numeric, one_link}
+use Rattle.imp_check.specs.Slots.{with_numeric, with_link, numerics, links, argument_in, arguments_in, layout_in}
+
+length_with : (k : Kind) (x : List ℕ) (ns : List Numeric) → length (with_numeric k x ns) ≡ one_numeric k + length ns
+length_with Int x ns = omega arith
+length_with Array x ns = omega arith
+length_with OfLinks x ns = omega arith
+
+pub length_numerics : (ds : List Declaration) → length (numerics ds) ≡ count_numeric ds
+length_numerics [] = refl
+length_numerics (d ∷ ds) = omega (arith, length_with d.kind d.name (numerics ds), length_numerics ds)
+
+length_with_link : (k : Kind) (x : List ℕ) (ls : List (List ℕ)) → length (with_link k x ls) ≡ one_link k + length ls
+length_with_link Int x ls = omega arith
+length_with_link Array x ls = omega arith
+length_with_link OfLinks x ls = omega arith
+
+pub length_links : (ds : List Declaration) → length (links ds) ≡ count_links ds
+length_links [] = refl
+length_links (d ∷ ds) = omega (arith, length_with_link d.kind d.name (links ds), length_links ds)
+
+pub numerics_step : (ds : List Declaration) (i : ℕ) (d : Declaration) → i < length ds → d ≡ get_or ds i d → numerics (drop i ds) ≡ with_numeric d.kind d.name (numerics (drop (i + 1) ds))
+numerics_step ds i d h e = rw (drop-cons ds i d, add-one, ← e) refl
+
+pub arguments_step : (l : Layout) (es : List Side) (i : ℕ) (e : Side) → i < length es → e ≡ get_or es i e → arguments_in l (operands_of (drop i es)) ≡ argument_in l (operand_of e) ∷ arguments_in l (operands_of (drop (i + 1) es))
+arguments_step l es i e h p = rw (drop-cons es i e, add-one, ← p) refl
+
+pub argument_added : (xs : List declared.Argument) (x : declared.Argument) (ys : List Argument) → map argument_of (xs ++ x ∷ []) ++ ys ≡ map argument_of xs ++ argument_of x ∷ ys
+argument_added [] x ys = refl
+argument_added (y ∷ xs) x ys = ap (λ (zs : List Argument). argument_of y ∷ zs) (argument_added xs x ys)
+
+pub callee_there : (ps : List Procedure) (i : ℕ) (q : Procedure) → i < length ps → q ≡ get_or ps i q → slice_get ps i ≡ Some q
+callee_there [] i q h e = absurd (omega arith)
+callee_there (p ∷ ps) zero q h e = ap Some (sym e)
+callee_there (p ∷ ps) (suc i) q h e = callee_there ps i q (omega arith) e
+
+pub callee_gone : (ps : List Procedure) (i : ℕ) → length ps ≤ i → slice_get ps i ≡ None
+callee_gone [] i h = refl
+callee_gone (p ∷ ps) zero h = absurd (omega arith)
+callee_gone (p ∷ ps) (suc i) h = callee_gone ps i (omega arith)
+
+layout_at : (ps : List Procedure) (i : ℕ) (q : Procedure) (l : Layout) → i < length ps → q ≡ get_or ps i q → l ≡ get_or (map layout_in ps) i l → l ≡ layout_in q
+layout_at [] i q l h e g = absurd (omega arith)
+layout_at (p ∷ ps) zero q l h e g = g ∙ ap layout_in (sym e)
+layout_at (p ∷ ps) (suc i) q l h e g = layout_at ps i q l (omega arith) e g
+
+pub layout_there : (ps : List Procedure) (ls : List Layout) (i : ℕ) (q : Procedure) (l : Layout) → ls ≡ map layout_in ps → i < length ps → q ≡ get_or ps i q → l ≡ get_or ls i l → l ≡ layout_in q
+layout_there ps ls i q l k h e g = layout_at ps i q l h e (g ∙ ap (λ (z : List Layout). get_or z i l) k)
+
+map_length : (ps : List Procedure) → length (map layout_in ps) ≡ length ps
+map_length [] = refl
+map_length (p ∷ ps) = ap suc (map_length ps)
+
+pub known_length : (ps : List Procedure) (ls : List Layout) → ls ≡ map layout_in ps → length ls ≡ length ps
+known_length ps ls k = ap length k ∙ map_length ps

@@ -1,0 +1,7 @@
+use Rattle.std.proofs.Common.{◌≡◌, drop}
+use Rattle.imp_check.specs.Names.{procedure_named}
+use Rattle.imp_check.proofs.names.procedure_named.Given as goal
+
+-- what is left has the answer
+abbrev pub invariant-loop-proc : goal.invariant-loop-proc
+invariant-loop-proc l = procedure_named (drop l.proc-index l.procs) l.name ≡ procedure_named l.procs l.name

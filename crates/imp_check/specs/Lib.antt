@@ -1,0 +1,14 @@
+pub mod Faults
+pub mod Names
+pub mod Kinds
+pub mod Statements
+pub mod Chains
+pub mod Programs
+pub mod ScopeCode
+pub mod Tallies
+pub mod Slots
+pub mod FrameCode
+pub mod Few
+pub mod Tables
+pub mod Refused
+pub mod Entries

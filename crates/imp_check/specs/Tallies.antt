@@ -1,0 +1,27 @@
+-- How many chains there are, and how long the longest is, each up to 2^32 - 1.
+use Rattle.std.specs.Prelude.{ℕ, ◌+◌, ◌-◌, ◌*◌, ◌^◌, List, [], ◌∷◌, min, max, length, Bool, true, false, ◌||◌, nat_lt, cond}
+use Rattle.imp_syntax.specs.Plain.{Procedure}
+use Rattle.imp_check.specs.Chains.{chains_to, all_chains}
+use Rattle.imp_check.specs.Programs.{longest}
+use Rattle.imp_check.specs.declared.chains.Tally.{Tally}
+
+abbrev pub capped : ℕ → ℕ
+capped n = min n (2 ^ 32 - 1)
+
+unfoldable pub tally_of : List (List ℕ) → Tally
+tally_of ws = record { count = capped (length ws); longest = capped (longest ws) }
+
+unfoldable pub added : Tally → Tally → Tally
+added a b = record { count = capped (a.count + b.count); longest = max a.longest b.longest }
+
+abbrev pub none : Tally
+none = record { count = 0; longest = 0 }
+
+-- the chains of a tally, each with each of so many calls behind it
+unfoldable pub called : Tally → ℕ → Tally
+called t n = cond (nat_lt 0 t.count) (cond (nat_lt 0 n) (record { count = capped (t.count * n); longest = capped (t.longest + 1) }) none) none
+
+-- the chains to each procedure
+abbrev pub tallies_of : List Procedure → List Tally
+tallies_of [] = []
+tallies_of (p ∷ later) = tally_of (chains_to p.name later) ∷ tallies_of later

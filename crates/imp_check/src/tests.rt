@@ -1,0 +1,4 @@
+//! Programs and their first faults.
+mod build;
+mod limits;
+mod orders;

@@ -1,0 +1,16 @@
+pub mod Fix
+pub mod Exact
+pub mod Pack
+pub mod Layers
+pub mod Chains
+pub mod Singles
+pub mod Expressions
+pub mod Conditions
+pub mod ListLayers
+pub mod Calls
+pub mod Simples
+pub mod Blocks
+pub mod Procedures
+pub mod Judge
+pub mod Wholes
+pub mod Texts

@@ -1,0 +1,15 @@
+pub mod Language
+pub mod Reader
+pub mod Tables
+pub mod Grammar
+pub mod Reading
+pub mod Statements
+pub mod Programs
+pub mod Lists
+pub mod StatementReading
+pub mod ProgramReading
+pub mod Kinds
+pub mod Limits
+pub mod Answer
+pub mod Judged
+pub mod Languages

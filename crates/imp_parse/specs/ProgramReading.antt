@@ -1,0 +1,99 @@
+-- Reading procedures and programs from left to right, with one token ahead.
+use Rattle.std.specs.Prelude.{◌≡◌, ℕ, zero, suc, ◌+◌, Bool, true, false, List, [], ◌∷◌, length, Result, Ok, Err, Option, Some, None}
+use Rattle.imp_lex.specs.declared.token.Mark.TheVariants as m
+use Rattle.imp_lex.specs.declared.token.Word.TheVariants as word
+use Rattle.imp_lex.specs.declared.token.Kind.{Kind}
+use Rattle.imp_lex.specs.declared.token.Kind.TheVariants as k
+use Rattle.imp_syntax.specs.declared.words.Kind as kinds
+use Rattle.imp_syntax.specs.declared.words.Declaration.{Declaration}
+use Rattle.imp_syntax.specs.Plain.{Procedure, block_of}
+use Rattle.imp_parse.specs.Reader.{Stop, Unexpected, Read, ◌>>=◌, pick_at, Steps, fix}
+use Rattle.imp_parse.specs.Tables.{kind_of}
+use Rattle.imp_parse.specs.Reading.{mark_at, name_at}
+use Rattle.imp_parse.specs.Lists.{Lists, list_step, with_front}
+use Rattle.imp_parse.specs.StatementReading.{is_comma, statements_at}
+
+abbrev pub kind_at : List Kind → Read kinds.Kind
+kind_at ts = pick_at kind_of ts
+
+unfoldable pub declaration_at : List Kind → Read Declaration
+declaration_at ts = do
+  x ← name_at ts
+  z ← mark_at m.Colon x.1
+  t ← kind_at z.1
+  Ok (record { name = x.0; kind = t.0 }, t.1)
+
+abbrev pub declaration_by : Lists Declaration (Unit {0}) → Unit {0} → List Kind → Read (Declaration × Unit {0})
+declaration_by lists s ts = mark_at m.Comma ts >>= λ z. declaration_at z.1 >>= λ d. Ok ((d.0, tt), d.1)
+
+unfoldable pub declarations_step : Steps (Unit {0}) (List Declaration × Unit {0})
+declarations_step = list_step is_comma declaration_by
+
+abbrev pub declarations_at : List Kind → Read (List Declaration × Unit {0})
+declarations_at ts = fix declarations_step tt ts
+
+abbrev pub some_parameters_at : List Kind → Read (List Declaration)
+some_parameters_at ts = do
+  d ← declaration_at ts
+  ds ← with_front (d.0 ∷ []) (declarations_at d.1)
+  z ← mark_at m.CloseParenthesis ds.1
+  Ok (ds.0.0, z.1)
+
+unfoldable pub parameters_at : List Kind → Read (List Declaration)
+parameters_at [] = some_parameters_at []
+parameters_at (k.Mark m.CloseParenthesis ∷ rest) = Ok ([], rest)
+parameters_at (t ∷ rest) = some_parameters_at (t ∷ rest)
+
+unfoldable pub outcome_at : List Kind → Read (Option Declaration)
+outcome_at [] = Ok (None, [])
+outcome_at (k.Mark m.Arrow ∷ rest) = declaration_at rest >>= λ d. Ok (Some d.0, d.1)
+outcome_at (t ∷ rest) = Ok (None, t ∷ rest)
+
+abbrev pub begins_local : Kind → Bool
+begins_local (k.Word word.Var) = true
+begins_local t = false
+
+abbrev pub local_by : Lists Declaration (Unit {0}) → Unit {0} → List Kind → Read (Declaration × Unit {0})
+local_by lists s [] = Err (Unexpected 0)
+local_by lists s (k.Word word.Var ∷ rest) = declaration_at rest >>= λ d. mark_at m.Semicolon d.1 >>= λ z. Ok ((d.0, tt), z.1)
+local_by lists s (t ∷ rest) = Err (Unexpected (suc (length rest)))
+
+unfoldable pub locals_step : Steps (Unit {0}) (List Declaration × Unit {0})
+locals_step = list_step begins_local local_by
+
+abbrev pub locals_at : List Kind → Read (List Declaration × Unit {0})
+locals_at ts = fix locals_step tt ts
+
+-- a procedure behind its first word
+abbrev pub procedure_behind : ℕ → List Kind → Read (Procedure × ℕ)
+procedure_behind n ts = do
+  x ← name_at ts
+  a ← mark_at m.OpenParenthesis x.1
+  ps ← parameters_at a.1
+  o ← outcome_at ps.1
+  b ← mark_at m.OpenBrace o.1
+  ls ← locals_at b.1
+  ss ← statements_at n ls.1
+  z ← mark_at m.CloseBrace ss.1
+  Ok ((record { name = x.0; parameters = ps.0; outcome = o.0; locals = ls.0.0; body = block_of ss.0.0 }, ss.0.1), z.1)
+
+unfoldable pub procedure_at : ℕ → List Kind → Read (Procedure × ℕ)
+procedure_at n [] = Err (Unexpected 0)
+procedure_at n (k.Word word.Proc ∷ rest) = procedure_behind n rest
+procedure_at n (t ∷ rest) = Err (Unexpected (suc (length rest)))
+
+abbrev pub begins_procedure : Kind → Bool
+begins_procedure (k.Word word.Proc) = true
+begins_procedure t = false
+
+unfoldable pub procedures_step : Steps ℕ (List Procedure × ℕ)
+procedures_step = list_step begins_procedure (λ lists n ts. procedure_at n ts)
+
+abbrev pub procedures_at : ℕ → List Kind → Read (List Procedure × ℕ)
+procedures_at n ts = fix procedures_step n ts
+
+unfoldable pub program_at : List Kind → Read (List Procedure)
+program_at ts = do
+  p ← procedure_at 1 ts
+  ps ← with_front (p.0.0 ∷ []) (procedures_at p.0.1 p.1)
+  Ok (ps.0.0, ps.1)

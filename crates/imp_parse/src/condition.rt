@@ -1,0 +1,183 @@
+//! Conditions.
+ghost use Rattle.std.specs.Prelude.{◌≡◌, ◌<◌, ◌≤◌, length, IfOk};
+ghost use Rattle.imp_syntax.specs.Views.{operand_of};
+ghost use Rattle.imp_parse.specs.Kinds.{kinds};
+ghost use Rattle.imp_parse.specs.Judged.{Gives};
+ghost use Rattle.imp_parse.specs.Reader.{fix};
+ghost use Rattle.imp_parse.specs.Reading.{side_at, compare_at, condition_step, unit_by, unit_at, condition_at, conjunction_at, and_at, and_by, or_at, or_by};
+ghost use Rattle.imp_parse.specs.Tables.{and_of, or_of};
+
+use crate::error::Stopped;
+use crate::expression::expression;
+use crate::marks::{mark, relation};
+use imp_lex::{Kind, Mark, Token, Word};
+use imp_syntax::{Cond, CondNode, Side};
+use std::alloc::Global;
+
+/// A side of a comparison or an argument, and the tokens behind it.
+pub(crate) fn side(alloc: Global, tokens: &[Token]) -> Result<(Side, &[Token]), Stopped>
+    ensures read { Gives (λ x. (operand_of x.0, kinds x.1.now)) result (side_at (kinds tokens.now)) }
+    ensures shorter { IfOk result (λ x. length x.1.now < length tokens.now) }
+{
+    match tokens {
+        [
+            Token {
+                kind: Kind::Word(Word::Null),
+                ..
+            },
+            rest @ ..,
+        ] => Ok((Side::Null, rest)),
+        _ => {
+            let (value, rest) = expression(alloc, tokens)?;
+            Ok((Side::Expr(value), rest))
+        }
+    }
+}
+
+fn compare(alloc: Global, tokens: &[Token]) -> Result<(Cond, &[Token]), Stopped>
+    ensures read { Gives (λ x. (x.0, kinds x.1.now)) result (compare_at (kinds tokens.now)) }
+    ensures shorter { IfOk result (λ x. length x.1.now < length tokens.now) }
+{
+    let (left, rest) = side(alloc, tokens)?;
+    let (relation, rest) = relation(rest)?;
+    let (right, rest) = side(alloc, rest)?;
+    let comparison = Cond::new(alloc, CondNode::Compare(relation, left, right))?;
+    Ok((comparison, rest))
+}
+
+/// A condition, and the tokens behind it.
+#[cycle(condition)]
+#[tactic(auto, using(crate::proofs::Conditions::condition_eq))]
+pub(crate) fn condition(alloc: Global, tokens: &[Token]) -> Result<(Cond, &[Token]), Stopped>
+    ensures read { Gives (λ x. (x.0, kinds x.1.now)) result (condition_at (kinds tokens.now)) }
+    ensures shorter { IfOk result (λ x. length x.1.now < length tokens.now) }
+{
+    let (first, rest) = conjunction(alloc, tokens)?;
+    or_tail(alloc, first, rest)
+}
+
+/// What stands behind conjunctions that make `left`.
+#[cycle(condition)]
+#[tactic(auto, using(crate::proofs::Conditions::or_eq))]
+fn or_tail(alloc: Global, left: Cond, tokens: &[Token]) -> Result<(Cond, &[Token]), Stopped>
+    ensures read { Gives (λ x. (x.0, kinds x.1.now)) result (or_at left (kinds tokens.now)) }
+    ensures shorter { IfOk result (λ x. length x.1.now ≤ length tokens.now) }
+{
+    or_by_front(alloc, left, tokens)
+}
+
+#[cycle(condition)]
+fn or_by_front(alloc: Global, left: Cond, tokens: &[Token]) -> Result<(Cond, &[Token]), Stopped>
+    ensures read { Gives (λ x. (x.0, kinds x.1.now)) result (or_by left (kinds tokens.now)) }
+    ensures shorter { IfOk result (λ x. length x.1.now ≤ length tokens.now) }
+{
+    match tokens {
+        [] => Ok((left, tokens)),
+        [token, rest @ ..] => match or_of(&token.kind) {
+            None => Ok((left, tokens)),
+            Some(_) => {
+                let (right, rest) = conjunction(alloc, rest)?;
+                let either = Cond::new(alloc, CondNode::Or(left, right))?;
+                or_tail(alloc, either, rest)
+            }
+        },
+    }
+}
+
+#[cycle(condition)]
+fn conjunction(alloc: Global, tokens: &[Token]) -> Result<(Cond, &[Token]), Stopped>
+    ensures read { Gives (λ x. (x.0, kinds x.1.now)) result (conjunction_at (kinds tokens.now)) }
+    ensures shorter { IfOk result (λ x. length x.1.now < length tokens.now) }
+{
+    let (first, rest) = unit(alloc, tokens)?;
+    and_tail(alloc, first, rest)
+}
+
+/// What stands behind units that make `left`.
+#[cycle(condition)]
+#[tactic(auto, using(crate::proofs::Conditions::and_eq))]
+fn and_tail(alloc: Global, left: Cond, tokens: &[Token]) -> Result<(Cond, &[Token]), Stopped>
+    ensures read { Gives (λ x. (x.0, kinds x.1.now)) result (and_at left (kinds tokens.now)) }
+    ensures shorter { IfOk result (λ x. length x.1.now ≤ length tokens.now) }
+{
+    and_by_front(alloc, left, tokens)
+}
+
+#[cycle(condition)]
+fn and_by_front(alloc: Global, left: Cond, tokens: &[Token]) -> Result<(Cond, &[Token]), Stopped>
+    ensures read { Gives (λ x. (x.0, kinds x.1.now)) result (and_by left (kinds tokens.now)) }
+    ensures shorter { IfOk result (λ x. length x.1.now ≤ length tokens.now) }
+{
+    match tokens {
+        [] => Ok((left, tokens)),
+        [token, rest @ ..] => match and_of(&token.kind) {
+            None => Ok((left, tokens)),
+            Some(_) => {
+                let (right, rest) = unit(alloc, rest)?;
+                let both = Cond::new(alloc, CondNode::And(left, right))?;
+                and_tail(alloc, both, rest)
+            }
+        },
+    }
+}
+
+#[cycle(condition)]
+#[tactic(auto, using(crate::proofs::Conditions::unit_eq))]
+fn unit(alloc: Global, tokens: &[Token]) -> Result<(Cond, &[Token]), Stopped>
+    ensures read { Gives (λ x. (x.0, kinds x.1.now)) result (unit_at (kinds tokens.now)) }
+    ensures shorter { IfOk result (λ x. length x.1.now < length tokens.now) }
+{
+    unit_by_front(alloc, tokens)
+}
+
+#[cycle(condition)]
+fn unit_by_front(alloc: Global, tokens: &[Token]) -> Result<(Cond, &[Token]), Stopped>
+    ensures read { Gives (λ x. (x.0, kinds x.1.now)) result (unit_by (fix condition_step) (kinds tokens.now)) }
+    ensures shorter { IfOk result (λ x. length x.1.now < length tokens.now) }
+{
+    match tokens {
+        [
+            Token {
+                kind: Kind::Mark(Mark::Not),
+                ..
+            },
+            rest @ ..,
+        ] => {
+            let rest = mark(Mark::OpenParenthesis, rest)?;
+            let (inner, rest) = condition(alloc, rest)?;
+            let rest = mark(Mark::CloseParenthesis, rest)?;
+            let opposite = Cond::new(alloc, CondNode::Not(inner))?;
+            Ok((opposite, rest))
+        }
+        [
+            Token {
+                kind: Kind::Mark(Mark::OpenParenthesis),
+                ..
+            },
+            rest @ ..,
+        ] => {
+            let (inner, rest) = condition(alloc, rest)?;
+            let rest = mark(Mark::CloseParenthesis, rest)?;
+            Ok((inner, rest))
+        }
+        _ => compare(alloc, tokens),
+    }
+}
+
+fn and_of(kind: &Kind) -> Option<()>
+    ensures is { result ≡ and_of kind.now }
+{
+    match kind {
+        Kind::Mark(Mark::And) => Some(()),
+        _ => None,
+    }
+}
+
+fn or_of(kind: &Kind) -> Option<()>
+    ensures is { result ≡ or_of kind.now }
+{
+    match kind {
+        Kind::Mark(Mark::Or) => Some(()),
+        _ => None,
+    }
+}

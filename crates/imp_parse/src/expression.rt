@@ -1,0 +1,195 @@
+//! Expressions.
+ghost use Rattle.std.specs.Prelude.{◌≡◌, ◌<◌, ◌≤◌, length, IfOk};
+ghost use Rattle.imp_parse.specs.Kinds.{kinds};
+ghost use Rattle.imp_parse.specs.Judged.{Gives};
+ghost use Rattle.imp_parse.specs.Reading.{expression_at, term_at, factor_by, factor_at, product_by, product_at, sum_by, sum_at, expression_step};
+ghost use Rattle.imp_parse.specs.Reader.{fix};
+ghost use Rattle.imp_parse.specs.Tables.{additive, multiplicative};
+
+use crate::error::Stopped;
+use crate::marks::{mark, name};
+use imp_lex::{Kind, Mark, Token, Word};
+use imp_syntax::{Expr, ExprNode, Operator};
+use std::alloc::Global;
+
+/// An expression, and the tokens behind it.
+#[cycle(expression)]
+#[tactic(auto, using(crate::proofs::Expressions::expression_eq))]
+pub(crate) fn expression(alloc: Global, tokens: &[Token]) -> Result<(Expr, &[Token]), Stopped>
+    ensures read { Gives (λ x. (x.0, kinds x.1.now)) result (expression_at (kinds tokens.now)) }
+    ensures shorter { IfOk result (λ x. length x.1.now < length tokens.now) }
+{
+    let (first, rest) = term(alloc, tokens)?;
+    sum_tail(alloc, first, rest)
+}
+
+/// What stands behind terms that make `left`.
+#[cycle(expression)]
+#[tactic(auto, using(crate::proofs::Expressions::sum_eq))]
+pub(crate) fn sum_tail(
+    alloc: Global,
+    left: Expr,
+    tokens: &[Token],
+) -> Result<(Expr, &[Token]), Stopped>
+    ensures read { Gives (λ x. (x.0, kinds x.1.now)) result (sum_at left (kinds tokens.now)) }
+    ensures shorter { IfOk result (λ x. length x.1.now ≤ length tokens.now) }
+{
+    sum_by_front(alloc, left, tokens)
+}
+
+#[cycle(expression)]
+fn sum_by_front(alloc: Global, left: Expr, tokens: &[Token]) -> Result<(Expr, &[Token]), Stopped>
+    ensures read { Gives (λ x. (x.0, kinds x.1.now)) result (sum_by left (kinds tokens.now)) }
+    ensures shorter { IfOk result (λ x. length x.1.now ≤ length tokens.now) }
+{
+    match tokens {
+        [] => Ok((left, tokens)),
+        [token, rest @ ..] => match additive(&token.kind) {
+            None => Ok((left, tokens)),
+            Some(operator) => {
+                let (right, rest) = term(alloc, rest)?;
+                let sum = Expr::new(alloc, ExprNode::Binary(operator, left, right))?;
+                sum_tail(alloc, sum, rest)
+            }
+        },
+    }
+}
+
+#[cycle(expression)]
+fn term(alloc: Global, tokens: &[Token]) -> Result<(Expr, &[Token]), Stopped>
+    ensures read { Gives (λ x. (x.0, kinds x.1.now)) result (term_at (kinds tokens.now)) }
+    ensures shorter { IfOk result (λ x. length x.1.now < length tokens.now) }
+{
+    let (first, rest) = factor(alloc, tokens)?;
+    product_tail(alloc, first, rest)
+}
+
+/// What stands behind factors that make `left`.
+#[cycle(expression)]
+#[tactic(auto, using(crate::proofs::Expressions::product_eq))]
+pub(crate) fn product_tail(
+    alloc: Global,
+    left: Expr,
+    tokens: &[Token],
+) -> Result<(Expr, &[Token]), Stopped>
+    ensures read { Gives (λ x. (x.0, kinds x.1.now)) result (product_at left (kinds tokens.now)) }
+    ensures shorter { IfOk result (λ x. length x.1.now ≤ length tokens.now) }
+{
+    product_by_front(alloc, left, tokens)
+}
+
+#[cycle(expression)]
+fn product_by_front(
+    alloc: Global,
+    left: Expr,
+    tokens: &[Token],
+) -> Result<(Expr, &[Token]), Stopped>
+    ensures read { Gives (λ x. (x.0, kinds x.1.now)) result (product_by left (kinds tokens.now)) }
+    ensures shorter { IfOk result (λ x. length x.1.now ≤ length tokens.now) }
+{
+    match tokens {
+        [] => Ok((left, tokens)),
+        [token, rest @ ..] => match multiplicative(&token.kind) {
+            None => Ok((left, tokens)),
+            Some(operator) => {
+                let (right, rest) = factor(alloc, rest)?;
+                let product = Expr::new(alloc, ExprNode::Binary(operator, left, right))?;
+                product_tail(alloc, product, rest)
+            }
+        },
+    }
+}
+
+#[cycle(expression)]
+#[tactic(auto, using(crate::proofs::Expressions::factor_eq))]
+fn factor(alloc: Global, tokens: &[Token]) -> Result<(Expr, &[Token]), Stopped>
+    ensures read { Gives (λ x. (x.0, kinds x.1.now)) result (factor_at (kinds tokens.now)) }
+    ensures shorter { IfOk result (λ x. length x.1.now < length tokens.now) }
+{
+    factor_by_front(alloc, tokens)
+}
+
+#[cycle(expression)]
+fn factor_by_front(alloc: Global, tokens: &[Token]) -> Result<(Expr, &[Token]), Stopped>
+    ensures read { Gives (λ x. (x.0, kinds x.1.now)) result (factor_by (fix expression_step) (kinds tokens.now)) }
+    ensures shorter { IfOk result (λ x. length x.1.now < length tokens.now) }
+{
+    match tokens {
+        [
+            Token {
+                kind: Kind::Number(n),
+                ..
+            },
+            rest @ ..,
+        ] => {
+            let number = Expr::new(alloc, ExprNode::Literal(*n))?;
+            Ok((number, rest))
+        }
+        [
+            Token {
+                kind: Kind::Name(_),
+                ..
+            },
+            ..
+        ] => {
+            let (x, rest) = name(tokens)?;
+            let variable = Expr::new(alloc, ExprNode::Variable(x))?;
+            Ok((variable, rest))
+        }
+        [
+            Token {
+                kind: Kind::Word(Word::Len),
+                ..
+            },
+            rest @ ..,
+        ] => {
+            let (x, rest) = name(rest)?;
+            let length = Expr::new(alloc, ExprNode::Length(x))?;
+            Ok((length, rest))
+        }
+        [
+            Token {
+                kind: Kind::Mark(Mark::Minus),
+                ..
+            },
+            rest @ ..,
+        ] => {
+            let (inner, rest) = factor(alloc, rest)?;
+            let opposite = Expr::new(alloc, ExprNode::Negative(inner))?;
+            Ok((opposite, rest))
+        }
+        [
+            Token {
+                kind: Kind::Mark(Mark::OpenParenthesis),
+                ..
+            },
+            rest @ ..,
+        ] => {
+            let (inner, rest) = expression(alloc, rest)?;
+            let rest = mark(Mark::CloseParenthesis, rest)?;
+            Ok((inner, rest))
+        }
+        _ => Err(Stopped::Unexpected(tokens.len())),
+    }
+}
+
+fn additive(kind: &Kind) -> Option<Operator>
+    ensures is { result ≡ additive kind.now }
+{
+    match kind {
+        Kind::Mark(Mark::Plus) => Some(Operator::Add),
+        Kind::Mark(Mark::Minus) => Some(Operator::Subtract),
+        _ => None,
+    }
+}
+
+fn multiplicative(kind: &Kind) -> Option<Operator>
+    ensures is { result ≡ multiplicative kind.now }
+{
+    match kind {
+        Kind::Mark(Mark::Star) => Some(Operator::Multiply),
+        Kind::Mark(Mark::Slash) => Some(Operator::Divide),
+        Kind::Mark(Mark::Percent) => Some(Operator::Remainder),
+        _ => None,
+    }
+}

@@ -1,0 +1,109 @@
+//! Single tokens that are wanted.
+ghost use Rattle.std.specs.Prelude.{◌≡◌, ◌<◌, length, IfOk};
+ghost use Rattle.imp_parse.specs.Kinds.{kinds};
+ghost use Rattle.imp_parse.specs.Judged.{Gives};
+ghost use Rattle.imp_parse.specs.Reading.{mark_at, name_at, relation_at};
+ghost use Rattle.imp_parse.specs.ProgramReading.{kind_at};
+ghost use Rattle.imp_parse.specs.Tables.{relation_of, kind_of};
+
+use crate::error::Stopped;
+use imp_lex::{Kind, Mark, Token, Word};
+use imp_syntax::{Kind as VariableKind, Relation};
+use plain_values::Text;
+
+/// The tokens behind the wanted mark.
+#[tactic(auto, unfolding(crate::specs::Tables::same_mark))]
+pub(crate) fn mark(wanted: Mark, tokens: &[Token]) -> Result<&[Token], Stopped>
+    ensures read { Gives (λ r. (tt, kinds r.now)) result (mark_at wanted (kinds tokens.now)) }
+    ensures shorter { IfOk result (λ r. length r.now < length tokens.now) }
+{
+    match tokens {
+        [
+            Token {
+                kind: Kind::Mark(found),
+                ..
+            },
+            rest @ ..,
+        ] => {
+            if *found == wanted {
+                Ok(rest)
+            } else {
+                Err(Stopped::Unexpected(tokens.len()))
+            }
+        }
+        _ => Err(Stopped::Unexpected(tokens.len())),
+    }
+}
+
+/// A name, and the tokens behind it.
+pub(crate) fn name(tokens: &[Token]) -> Result<(Text, &[Token]), Stopped>
+    ensures read { Gives (λ x. (x.0, kinds x.1.now)) result (name_at (kinds tokens.now)) }
+    ensures shorter { IfOk result (λ x. length x.1.now < length tokens.now) }
+{
+    match tokens {
+        [
+            Token {
+                kind: Kind::Name(name),
+                ..
+            },
+            rest @ ..,
+        ] => {
+            let name = name.clone()?;
+            Ok((name, rest))
+        }
+        _ => Err(Stopped::Unexpected(tokens.len())),
+    }
+}
+
+/// A relation, and the tokens behind it.
+pub(crate) fn relation(tokens: &[Token]) -> Result<(Relation, &[Token]), Stopped>
+    ensures read { Gives (λ x. (x.0, kinds x.1.now)) result (relation_at (kinds tokens.now)) }
+    ensures shorter { IfOk result (λ x. length x.1.now < length tokens.now) }
+{
+    match tokens {
+        [] => Err(Stopped::Unexpected(0)),
+        [token, rest @ ..] => match relation_of(&token.kind) {
+            Some(relation) => Ok((relation, rest)),
+            None => Err(Stopped::Unexpected(tokens.len())),
+        },
+    }
+}
+
+fn relation_of(kind: &Kind) -> Option<Relation>
+    ensures is { result ≡ relation_of kind.now }
+{
+    match kind {
+        Kind::Mark(Mark::EqualTo) => Some(Relation::Equal),
+        Kind::Mark(Mark::NotEqualTo) => Some(Relation::NotEqual),
+        Kind::Mark(Mark::Less) => Some(Relation::Less),
+        Kind::Mark(Mark::AtMost) => Some(Relation::AtMost),
+        Kind::Mark(Mark::Greater) => Some(Relation::Greater),
+        Kind::Mark(Mark::AtLeast) => Some(Relation::AtLeast),
+        _ => None,
+    }
+}
+
+/// The kind of a variable, and the tokens behind it.
+pub(crate) fn variable_kind(tokens: &[Token]) -> Result<(VariableKind, &[Token]), Stopped>
+    ensures read { Gives (λ x. (x.0, kinds x.1.now)) result (kind_at (kinds tokens.now)) }
+    ensures shorter { IfOk result (λ x. length x.1.now < length tokens.now) }
+{
+    match tokens {
+        [] => Err(Stopped::Unexpected(0)),
+        [token, rest @ ..] => match kind_of(&token.kind) {
+            Some(kind) => Ok((kind, rest)),
+            None => Err(Stopped::Unexpected(tokens.len())),
+        },
+    }
+}
+
+fn kind_of(kind: &Kind) -> Option<VariableKind>
+    ensures is { result ≡ kind_of kind.now }
+{
+    match kind {
+        Kind::Word(Word::Int) => Some(VariableKind::Int),
+        Kind::Word(Word::Array) => Some(VariableKind::Array),
+        Kind::Word(Word::List) => Some(VariableKind::List),
+        _ => None,
+    }
+}

@@ -1,0 +1,259 @@
+//! Procedures and programs.
+ghost use Rattle.std.specs.Prelude.{◌≡◌, [], ◌∷◌, ◌+◌, ◌^◌, ◌<◌, ◌≤◌, length, IfOk};
+ghost use Rattle.imp_parse.specs.Kinds.{kinds};
+ghost use Rattle.imp_parse.specs.Judged.{Gives};
+ghost use Rattle.imp_parse.specs.Lists.{begun, with_front};
+ghost use Rattle.imp_parse.specs.Reader.{fix};
+ghost use Rattle.imp_parse.specs.ProgramReading.{declaration_at, declaration_by, declarations_step, declarations_at, some_parameters_at, parameters_at, outcome_at, begins_local, local_by, locals_step, locals_at, procedure_behind, procedure_at, begins_procedure, procedures_at, program_at};
+
+use crate::call::begins_with_comma;
+use crate::error::Stopped;
+use crate::marks::{mark, name, variable_kind};
+use crate::statement::statements;
+use imp_lex::{Kind, Mark, Token, Word};
+use imp_syntax::{Block, Declaration, Proc, Program};
+use plain_values::Items;
+use std::alloc::Global;
+
+/// A name and its kind, and the tokens behind them.
+#[tactic(auto, unfolding(crate::specs::ProgramReading::declaration_at))]
+fn declaration(tokens: &[Token]) -> Result<(Declaration, &[Token]), Stopped>
+    ensures read { Gives (λ x. (x.0, kinds x.1.now)) result (declaration_at (kinds tokens.now)) }
+    ensures shorter { IfOk result (λ x. length x.1.now < length tokens.now) }
+{
+    let (name, rest) = name(tokens)?;
+    let rest = mark(Mark::Colon, rest)?;
+    let (kind, rest) = variable_kind(rest)?;
+    Ok((Declaration { name, kind }, rest))
+}
+
+fn next_declaration(tokens: &[Token]) -> Result<(Declaration, &[Token]), Stopped>
+    ensures read { Gives (λ x. ((x.0, tt), kinds x.1.now)) result (declaration_by (fix declarations_step) tt (kinds tokens.now)) }
+    ensures shorter { IfOk result (λ x. length x.1.now < length tokens.now) }
+{
+    let rest = mark(Mark::Comma, tokens)?;
+    declaration(rest)
+}
+
+/// The first declaration and those behind commas, and the tokens behind them.
+fn declarations(
+    alloc: Global,
+    first: Declaration,
+    tokens: &[Token],
+) -> Result<(Items<Declaration>, &[Token]), Stopped>
+    ensures read { Gives (λ x. ((x.0, tt), kinds x.1.now)) result (with_front (first ∷ []) (declarations_at (kinds tokens.now))) }
+    ensures shorter { IfOk result (λ x. length x.1.now ≤ length tokens.now) }
+{
+    let mut found = Items::new(alloc);
+    found.push(first)?;
+    let mut rest = tokens;
+    'each: while begins_with_comma(rest) {
+        let (one, left) = next_declaration(rest)?;
+        found.push(one)?;
+        rest = left;
+    }
+    Ok((found, rest))
+}
+
+fn some_parameters(
+    alloc: Global,
+    tokens: &[Token],
+) -> Result<(Items<Declaration>, &[Token]), Stopped>
+    ensures read { Gives (λ x. (x.0, kinds x.1.now)) result (some_parameters_at (kinds tokens.now)) }
+    ensures shorter { IfOk result (λ x. length x.1.now < length tokens.now) }
+{
+    let (first, rest) = declaration(tokens)?;
+    let (all, rest) = declarations(alloc, first, rest)?;
+    let rest = mark(Mark::CloseParenthesis, rest)?;
+    Ok((all, rest))
+}
+
+/// The parameters up to `)`, and the tokens behind it.
+#[tactic(auto, unfolding(crate::specs::ProgramReading::parameters_at))]
+fn parameters(alloc: Global, tokens: &[Token]) -> Result<(Items<Declaration>, &[Token]), Stopped>
+    ensures read { Gives (λ x. (x.0, kinds x.1.now)) result (parameters_at (kinds tokens.now)) }
+    ensures shorter { IfOk result (λ x. length x.1.now < length tokens.now) }
+{
+    match tokens {
+        [
+            Token {
+                kind: Kind::Mark(Mark::CloseParenthesis),
+                ..
+            },
+            rest @ ..,
+        ] => { Ok((Items::new(alloc), rest)) }
+        _ => some_parameters(alloc, tokens),
+    }
+}
+
+/// The result behind `->`, if there is one, and the tokens behind it.
+#[tactic(auto, unfolding(crate::specs::ProgramReading::outcome_at))]
+fn outcome(tokens: &[Token]) -> Result<(Option<Declaration>, &[Token]), Stopped>
+    ensures read { Gives (λ x. (x.0, kinds x.1.now)) result (outcome_at (kinds tokens.now)) }
+    ensures shorter { IfOk result (λ x. length x.1.now ≤ length tokens.now) }
+{
+    match tokens {
+        [
+            Token {
+                kind: Kind::Mark(Mark::Arrow),
+                ..
+            },
+            rest @ ..,
+        ] => {
+            let (outcome, rest) = declaration(rest)?;
+            Ok((Some(outcome), rest))
+        }
+        _ => Ok((None, tokens)),
+    }
+}
+
+/// Whether `var` is the first token.
+fn begins_local(tokens: &[Token]) -> bool
+    ensures is { result ≡ begun begins_local (kinds tokens.now) }
+{
+    match tokens {
+        [
+            Token {
+                kind: Kind::Word(Word::Var),
+                ..
+            },
+            ..
+        ] => true,
+        _ => false,
+    }
+}
+
+/// A local variable from `var` on, and the tokens behind it.
+fn local(tokens: &[Token]) -> Result<(Declaration, &[Token]), Stopped>
+    ensures read { Gives (λ x. ((x.0, tt), kinds x.1.now)) result (local_by (fix locals_step) tt (kinds tokens.now)) }
+    ensures shorter { IfOk result (λ x. length x.1.now < length tokens.now) }
+{
+    match tokens {
+        [
+            Token {
+                kind: Kind::Word(Word::Var),
+                ..
+            },
+            rest @ ..,
+        ] => {
+            let (declaration, rest) = declaration(rest)?;
+            let rest = mark(Mark::Semicolon, rest)?;
+            Ok((declaration, rest))
+        }
+        _ => Err(Stopped::Unexpected(tokens.len())),
+    }
+}
+
+/// Local variables, and the tokens behind them.
+fn locals(alloc: Global, tokens: &[Token]) -> Result<(Items<Declaration>, &[Token]), Stopped>
+    ensures read { Gives (λ x. ((x.0, tt), kinds x.1.now)) result (locals_at (kinds tokens.now)) }
+    ensures shorter { IfOk result (λ x. length x.1.now ≤ length tokens.now) }
+{
+    let mut found = Items::new(alloc);
+    let mut rest = tokens;
+    'each: while begins_local(rest) {
+        let (one, left) = local(rest)?;
+        found.push(one)?;
+        rest = left;
+    }
+    Ok((found, rest))
+}
+
+/// A procedure behind its first word.
+fn procedure_behind_word(
+    alloc: Global,
+    number: u32,
+    tokens: &[Token],
+) -> Result<(Proc, u32, &[Token]), Stopped>
+    requires room { number + length tokens.now < 2 ^ 32 }
+    ensures read { Gives (λ x. ((x.0, x.1), kinds x.2.now)) result (procedure_behind number (kinds tokens.now)) }
+    ensures shorter { IfOk result (λ x. length x.2.now < length tokens.now) }
+    ensures numbers { IfOk result (λ x. x.1 + length x.2.now ≤ number + length tokens.now) }
+{
+    let (name, rest) = name(tokens)?;
+    let rest = mark(Mark::OpenParenthesis, rest)?;
+    let (parameters, rest) = parameters(alloc, rest)?;
+    let (outcome, rest) = outcome(rest)?;
+    let rest = mark(Mark::OpenBrace, rest)?;
+    let (locals, rest) = locals(alloc, rest)?;
+    let (stmts, next, rest) = statements(alloc, number, rest)?;
+    let rest = mark(Mark::CloseBrace, rest)?;
+    let body = Block::new(alloc, stmts)?;
+    let procedure = Proc::new(alloc, name, parameters, outcome, locals, body)?;
+    Ok((procedure, next, rest))
+}
+
+/// A procedure whose statements are numbered from here, the next number, and the tokens behind it.
+#[tactic(auto, unfolding(crate::specs::ProgramReading::procedure_at))]
+pub(crate) fn procedure(
+    alloc: Global,
+    number: u32,
+    tokens: &[Token],
+) -> Result<(Proc, u32, &[Token]), Stopped>
+    requires room { number + length tokens.now < 2 ^ 32 }
+    ensures read { Gives (λ x. ((x.0, x.1), kinds x.2.now)) result (procedure_at number (kinds tokens.now)) }
+    ensures shorter { IfOk result (λ x. length x.2.now < length tokens.now) }
+    ensures numbers { IfOk result (λ x. x.1 + length x.2.now ≤ number + length tokens.now) }
+{
+    match tokens {
+        [
+            Token {
+                kind: Kind::Word(Word::Proc),
+                ..
+            },
+            rest @ ..,
+        ] => { procedure_behind_word(alloc, number, rest) }
+        _ => Err(Stopped::Unexpected(tokens.len())),
+    }
+}
+
+/// Whether `proc` is the first token.
+fn begins_procedure(tokens: &[Token]) -> bool
+    ensures is { result ≡ begun begins_procedure (kinds tokens.now) }
+{
+    match tokens {
+        [
+            Token {
+                kind: Kind::Word(Word::Proc),
+                ..
+            },
+            ..
+        ] => true,
+        _ => false,
+    }
+}
+
+/// The first procedure and those behind it, the next number, and the tokens behind them.
+fn procedures(
+    alloc: Global,
+    first: Proc,
+    number: u32,
+    tokens: &[Token],
+) -> Result<(Items<Proc>, u32, &[Token]), Stopped>
+    requires room { number + length tokens.now < 2 ^ 32 }
+    ensures read { Gives (λ x. ((x.0, x.1), kinds x.2.now)) result (with_front (first ∷ []) (procedures_at number (kinds tokens.now))) }
+{
+    let mut found = Items::new(alloc);
+    found.push(first)?;
+    let mut next = number;
+    let mut rest = tokens;
+    'each: while begins_procedure(rest) {
+        let (one, after, left) = procedure(alloc, next, rest)?;
+        found.push(one)?;
+        next = after;
+        rest = left;
+    }
+    Ok((found, next, rest))
+}
+
+/// A program, numbered from 1, and the tokens behind it.
+#[tactic(auto, unfolding(crate::specs::ProgramReading::program_at))]
+pub(crate) fn program(alloc: Global, tokens: &[Token]) -> Result<(Program, &[Token]), Stopped>
+    requires room { length tokens.now + 1 < 2 ^ 32 }
+    ensures read { Gives (λ x. (x.0, kinds x.1.now)) result (program_at (kinds tokens.now)) }
+{
+    let (first, next, rest) = procedure(alloc, 1, tokens)?;
+    let (all, _, rest) = procedures(alloc, first, next, rest)?;
+    let program = Program::new(alloc, all)?;
+    Ok((program, rest))
+}

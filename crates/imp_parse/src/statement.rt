@@ -1,0 +1,188 @@
+//! Statements and blocks.
+ghost use Rattle.std.specs.Prelude.{◌≡◌, ◌+◌, ◌^◌, ◌<◌, ◌≤◌, length, IfOk};
+ghost use Rattle.imp_parse.specs.Kinds.{kinds};
+ghost use Rattle.imp_parse.specs.Judged.{Gives};
+ghost use Rattle.imp_parse.specs.Lists.{begun};
+ghost use Rattle.imp_parse.specs.Reader.{fix};
+ghost use Rattle.imp_parse.specs.StatementReading.{begins_statement, statements_step, statements_at, numbered_at, if_by, while_by, block_by, else_by, statement_by};
+
+use crate::condition::condition;
+use crate::error::Stopped;
+use crate::marks::mark;
+use crate::simple::simple;
+use imp_lex::{Kind, Mark, Token, Word};
+use imp_syntax::{Block, Stmt, StmtId, StmtNode};
+use plain_values::Items;
+use std::alloc::Global;
+
+/// Whether a statement begins with the first token.
+fn begins_statement(tokens: &[Token]) -> bool
+    ensures is { result ≡ begun begins_statement (kinds tokens.now) }
+{
+    match tokens {
+        [] => false,
+        [token, ..] => begins(&token.kind),
+    }
+}
+
+fn begins(kind: &Kind) -> bool
+    ensures is { result ≡ begins_statement kind.now }
+{
+    match kind {
+        Kind::Name(_) => true,
+        Kind::Word(Word::Skip) => true,
+        Kind::Word(Word::Break) => true,
+        Kind::Word(Word::Assert) => true,
+        Kind::Word(Word::Call) => true,
+        Kind::Word(Word::If) => true,
+        Kind::Word(Word::While) => true,
+        _ => false,
+    }
+}
+
+/// A simple statement of this number, the next number, and the tokens behind it.
+pub(crate) fn numbered(
+    alloc: Global,
+    number: u32,
+    tokens: &[Token],
+) -> Result<(Stmt, u32, &[Token]), Stopped>
+    requires room { number + length tokens.now < 2 ^ 32 }
+    ensures read { Gives (λ x. ((x.0, x.1), kinds x.2.now)) result (numbered_at number (kinds tokens.now)) }
+    ensures shorter { IfOk result (λ x. length x.2.now < length tokens.now) }
+    ensures numbers { IfOk result (λ x. x.1 + length x.2.now ≤ number + length tokens.now) }
+{
+    let (stmt, rest) = simple(alloc, number, tokens)?;
+    Ok((stmt, number + 1, rest))
+}
+
+/// A statement from this number, the next number, and the tokens behind it.
+#[cycle(statement)]
+#[tactic(auto, unfolding(crate::specs::StatementReading::statement_by))]
+fn statement(alloc: Global, number: u32, tokens: &[Token]) -> Result<(Stmt, u32, &[Token]), Stopped>
+    requires room { number + length tokens.now < 2 ^ 32 }
+    ensures read { Gives (λ x. ((x.0, x.1), kinds x.2.now)) result (statement_by (fix statements_step) number (kinds tokens.now)) }
+    ensures shorter { IfOk result (λ x. length x.2.now < length tokens.now) }
+    ensures numbers { IfOk result (λ x. x.1 + length x.2.now ≤ number + length tokens.now) }
+{
+    match tokens {
+        [
+            Token {
+                kind: Kind::Word(Word::If),
+                ..
+            },
+            rest @ ..,
+        ] => if_stmt(alloc, number, rest),
+        [
+            Token {
+                kind: Kind::Word(Word::While),
+                ..
+            },
+            rest @ ..,
+        ] => { while_stmt(alloc, number, rest) }
+        _ => numbered(alloc, number, tokens),
+    }
+}
+
+/// An if, behind its word.
+#[cycle(statement)]
+fn if_stmt(alloc: Global, number: u32, tokens: &[Token]) -> Result<(Stmt, u32, &[Token]), Stopped>
+    requires room { number + length tokens.now + 1 < 2 ^ 32 }
+    ensures read { Gives (λ x. ((x.0, x.1), kinds x.2.now)) result (if_by (fix statements_step) number (kinds tokens.now)) }
+    ensures shorter { IfOk result (λ x. length x.2.now < length tokens.now) }
+    ensures numbers { IfOk result (λ x. x.1 + length x.2.now ≤ number + length tokens.now) }
+{
+    let rest = mark(Mark::OpenParenthesis, tokens)?;
+    let (test, rest) = condition(alloc, rest)?;
+    let rest = mark(Mark::CloseParenthesis, rest)?;
+    let (then, next, rest) = block(alloc, number + 1, rest)?;
+    let (otherwise, next, rest) = else_block(alloc, next, rest)?;
+    let stmt = Stmt::new(
+        alloc,
+        StmtId::new(number),
+        StmtNode::If(test, then, otherwise),
+    )?;
+    Ok((stmt, next, rest))
+}
+
+/// A while, behind its word.
+#[cycle(statement)]
+fn while_stmt(
+    alloc: Global,
+    number: u32,
+    tokens: &[Token],
+) -> Result<(Stmt, u32, &[Token]), Stopped>
+    requires room { number + length tokens.now + 1 < 2 ^ 32 }
+    ensures read { Gives (λ x. ((x.0, x.1), kinds x.2.now)) result (while_by (fix statements_step) number (kinds tokens.now)) }
+    ensures shorter { IfOk result (λ x. length x.2.now < length tokens.now) }
+    ensures numbers { IfOk result (λ x. x.1 + length x.2.now ≤ number + length tokens.now) }
+{
+    let rest = mark(Mark::OpenParenthesis, tokens)?;
+    let (test, rest) = condition(alloc, rest)?;
+    let rest = mark(Mark::CloseParenthesis, rest)?;
+    let (body, next, rest) = block(alloc, number + 1, rest)?;
+    let stmt = Stmt::new(alloc, StmtId::new(number), StmtNode::While(test, body))?;
+    Ok((stmt, next, rest))
+}
+
+/// A block whose statements are numbered from here, the next number, and the tokens behind it.
+#[cycle(statement)]
+fn block(alloc: Global, number: u32, tokens: &[Token]) -> Result<(Block, u32, &[Token]), Stopped>
+    requires room { number + length tokens.now < 2 ^ 32 }
+    ensures read { Gives (λ x. ((x.0, x.1), kinds x.2.now)) result (block_by (fix statements_step) number (kinds tokens.now)) }
+    ensures shorter { IfOk result (λ x. length x.2.now < length tokens.now) }
+    ensures numbers { IfOk result (λ x. x.1 + length x.2.now ≤ number + length tokens.now) }
+{
+    let rest = mark(Mark::OpenBrace, tokens)?;
+    let (stmts, next, rest) = statements(alloc, number, rest)?;
+    let rest = mark(Mark::CloseBrace, rest)?;
+    let block = Block::new(alloc, stmts)?;
+    Ok((block, next, rest))
+}
+
+/// `else` and a block, or the empty block where no `else` stands.
+#[cycle(statement)]
+fn else_block(
+    alloc: Global,
+    number: u32,
+    tokens: &[Token],
+) -> Result<(Block, u32, &[Token]), Stopped>
+    requires room { number + length tokens.now < 2 ^ 32 }
+    ensures read { Gives (λ x. ((x.0, x.1), kinds x.2.now)) result (else_by (fix statements_step) number (kinds tokens.now)) }
+    ensures shorter { IfOk result (λ x. length x.2.now ≤ length tokens.now) }
+    ensures numbers { IfOk result (λ x. x.1 + length x.2.now ≤ number + length tokens.now) }
+{
+    match tokens {
+        [
+            Token {
+                kind: Kind::Word(Word::Else),
+                ..
+            },
+            rest @ ..,
+        ] => block(alloc, number, rest),
+        _ => Ok((Block::empty(), number, tokens)),
+    }
+}
+
+/// Statements from this number, the next number, and the tokens behind them.
+#[cycle(statement)]
+pub(crate) fn statements(
+    alloc: Global,
+    number: u32,
+    tokens: &[Token],
+) -> Result<(Items<Stmt>, u32, &[Token]), Stopped>
+    requires room { number + length tokens.now < 2 ^ 32 }
+    ensures read { Gives (λ x. ((x.0, x.1), kinds x.2.now)) result (statements_at number (kinds tokens.now)) }
+    ensures shorter { IfOk result (λ x. length x.2.now ≤ length tokens.now) }
+    ensures numbers { IfOk result (λ x. x.1 + length x.2.now ≤ number + length tokens.now) }
+{
+    let mut found = Items::new(alloc);
+    let mut next = number;
+    let mut rest = tokens;
+    'each: while begins_statement(rest) {
+        let (one, after, left) = statement(alloc, next, rest)?;
+        found.push(one)?;
+        next = after;
+        rest = left;
+    }
+    Ok((found, next, rest))
+}

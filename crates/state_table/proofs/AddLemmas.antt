@@ -1,0 +1,43 @@
+-- A state that is added has its first place, or the end.
+use Rattle.std.proofs.Common.{◌≡◌, ℕ, zero, suc, ◌+◌, Bool, true, false, cond, List, [], ◌∷◌, ◌++◌, length, Option, Some, None, slice_get, ◌⊎◌, inl, inr, ⊎_elim, refl, sym, ap, ◌∙◌, subst, arith}
+use Rattle.std.specs.Cmp.{IsEquivalence}
+use Rattle.std.specs.List.{list_any, position_or_len}
+use Rattle.state_table.specs.Numbers.{with_state, TellsApart, Adds}
+
+by_bool : {P : Type 0} (b : Bool) → (b ≡ true → P) → (b ≡ false → P) → P
+by_bool true f g = f refl
+by_bool false f g = g refl
+
+apart : {A : Type 0} (b : Bool) → b ≡ true → b ≡ false → A
+apart b h k = cc
+
+-- the first place that passes, or none
+abbrev First : {T : Type 0} → (T → Bool) → List T → Type 0
+First {T} test xs =
+    ((s : T) × (slice_get xs (position_or_len test xs) ≡ Some s) × (test s ≡ true) × (list_any test xs ≡ true))
+    ⊎ (((m : ℕ) (s : T) → slice_get xs m ≡ Some s → test s ≡ false) × (position_or_len test xs ≡ length xs) × (list_any test xs ≡ false))
+
+one_more : (n : ℕ) → 1 + n ≡ suc n
+one_more n = omega arith
+
+fails_on : {T : Type 0} (test : T → Bool) (x : T) (xs : List T) → test x ≡ false → ((m : ℕ) (s : T) → slice_get xs m ≡ Some s → test s ≡ false) → (m : ℕ) (s : T) → slice_get (x ∷ xs) m ≡ Some s → test s ≡ false
+fails_on test x xs f h zero s e = let is : x ≡ s = cc in ap test (sym is) ∙ f
+fails_on test x xs f h (suc m) s e = h m s e
+
+first : {T : Type 0} (test : T → Bool) (xs : List T) → First test xs
+first test [] = inr ((λ m s e. cc), refl, refl)
+first {T} test (x ∷ xs) =
+    by_bool (test x)
+    (λ t. inl (x, rw t refl, t, rw t refl))
+    (λ f. ⊎_elim
+        (λ h. inl (h.0, rw (f, one_more) h.1, h.2, rw f h.3))
+        (λ h. inr (fails_on test x xs f h.0, rw (f, one_more) (ap suc h.1), rw f h.2))
+        (first test xs))
+
+-- a state that is added has its first place, or the end
+pub with_state-adds : {T : Type 0} (eq : T → T → Bool) → IsEquivalence eq → TellsApart eq → (states : List T) (state : T) → Adds states (with_state eq states state) state (position_or_len (eq state) states)
+with_state-adds {T} eq law tells states state =
+    ⊎_elim
+    (λ h. inl (h.1 ∙ ap Some (sym (tells state h.0 h.2)), rw h.3 refl))
+    (λ h. inr ((λ m e. apart (eq state state) (law.refl state) (h.0 m state e)), h.1, rw h.2 refl))
+    (first (eq state) states)
