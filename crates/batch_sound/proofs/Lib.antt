@@ -9,3 +9,4 @@ pub mod Answered
 pub mod Whole
 pub mod Unique
 pub mod Reports
+pub mod Example
