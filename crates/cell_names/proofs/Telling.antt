@@ -34,7 +34,7 @@ point_tells (Post a) (Post b) h = ap Post (grind (arith, nat_tests))
 point_tells (Iterate a c) (Iterate b d) h = ap₂ Iterate (grind (arith, nat_tests)) (grind (arith, nat_tests))
 point_tells (Fix a) (Fix b) h = ap Fix (grind (arith, nat_tests))
 point_tells (Exit a) (Exit b) h = ap Exit (grind (arith, nat_tests))
-point_tells (Leap a) (Leap b) h = ap Leap (grind (arith, nat_tests))
+point_tells (Leap a c) (Leap b d) h = ap₂ Leap (grind (arith, nat_tests)) (grind (arith, nat_tests))
 point_tells _ _ h = cc
 
 pub step_tells : TellsApart step_impl.ghosts.eq

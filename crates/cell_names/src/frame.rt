@@ -29,6 +29,7 @@ pub enum Point {
     Fix(StmtId),
     /// Behind a loop with breaks of its own, from its condition alone.
     Exit(StmtId),
-    /// The same joined with what leaves the loop by its breaks up to this one, which is not its last.
-    Leap(StmtId),
+    /// The same joined with what leaves the loop by its breaks up to this one, which is not its last: the
+    /// loop, and the break.
+    Leap(StmtId, StmtId),
 }

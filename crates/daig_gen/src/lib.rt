@@ -16,6 +16,7 @@ mod turns;
 
 pub use error::Memory;
 pub use generate::{script, source};
+pub use pieces::Kind;
 
 #[cfg(test)]
 mod tests {

@@ -6,9 +6,9 @@ ghost use Rattle.daig_gen.specs.Pieces.{kind_of, statements_of, variable_text, c
 use itoa::Buffer;
 use std::alloc::AllocError;
 
-/// What a piece is.
+/// What a piece of a source is, as the definitions of generated texts speak of it.
 #[derive(Clone, Copy)]
-pub(crate) enum Kind {
+pub enum Kind {
     /// A constant is assigned.
     Constant,
     /// A variable and a constant are added.

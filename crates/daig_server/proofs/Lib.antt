@@ -1,5 +1,7 @@
-pub mod NumberLemmas
-pub mod RequestLemmas
-pub mod ReplyLemmas
-pub mod SoundLemmas
+pub mod NumberingLemmas
+pub mod EntryLemmas
+pub mod FewLemmas
+pub mod LineLemmas
 pub mod ServeLemmas
+pub mod SoundLemmas
+pub mod AnswerLemmas

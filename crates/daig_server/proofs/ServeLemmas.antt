@@ -1,12 +1,17 @@
 -- From how the program ends to what its status says.
-use Rattle.std.proofs.Common.{◌≡◌, ◌≢◌, ℕ, ◌<◌, ◌≤◌, ◌^◌, ◌++◌, ◌⊎◌, inl, inr, List, [], length, Bool, true, false, nat_le, Option, Some, None, IfSome, if◌then◌else◌, append-nil, length-append, sym, ◌∙◌, ap, refl, arith}
-use Rattle.io_edge.specs.Outside.{Rose, Lacks}
+use Rattle.std.proofs.Common.{◌≡◌, ◌≢◌, ℕ, ◌<◌, ◌≤◌, ◌^◌, ◌++◌, ◌⊎◌, inl, inr, List, [], length, Bool, true, false, nat_le, Option, Some, None, Result, Ok, Err, IfSome, if◌then◌else◌, append-nil, length-append, sym, ◌∙◌, ap, refl, arith}
+use Rattle.io_edge.specs.Outside.{Rose}
+use Rattle.imp_syntax.specs.Plain.{Procedure}
+use Rattle.batch_meaning.specs.Batch.{Engine}
 use Rattle.script_loop.specs.Replies.{ReadBytes}
-use Rattle.straight_line.specs.Plain.{PlainProgram}
-use Rattle.straight_line.specs.Reading.{program_of}
+use Rattle.request_json.specs.declared.reply.Refusal.{Refusal}
+use Rattle.command_words.specs.declared.job.Job.{Job}
+use Rattle.daig_server.specs.declared.task.Task.{Task}
 use Rattle.daig_server.specs.declared.status.Status.{Status}
 use Rattle.daig_server.specs.declared.status.Status.TheVariants.{Done, Words, Source, Script, Sink, Memory, Files, LongScript, LongFile}
-use Rattle.daig_server.specs.Output.{Output, program_output, file_output, words_output, most_source}
+use Rattle.daig_server.specs.Jobs.{task_of, settings_of, file_of, engine_of}
+use Rattle.daig_server.specs.Sources.{Reading, source_of}
+use Rattle.daig_server.specs.Output.{Output, source_output, file_output, output, most_source, IsProgram, LacksFile}
 use Rattle.daig_server.specs.Ends.{code_of, Fits, Wrote, WroteAll}
 
 -- a status of this number is this one
@@ -65,72 +70,70 @@ is_long_script Memory e = absurd (omega (arith, e))
 is_long_script Files e = absurd (omega (arith, e))
 is_long_script LongFile e = absurd (omega (arith, e))
 
--- an output of status 9 or 7 has no bytes
-program_speaks : (p : Option PlainProgram) (script : List ℕ) → (program_output p script).status < 7
-program_speaks None script = omega arith
-program_speaks (Some p) script = omega arith
+-- a source that is refused or a program ends below 7
+source_speaks : (task : Task) (engine : Engine) (source : Result (List Procedure) Refusal) (script : List ℕ) → (source_output task engine source script).status < 7
+source_speaks task engine (Err why) script = omega arith
+source_speaks task engine (Ok program) script = omega arith
 
-source_quiet : (short : Bool) (p : Option PlainProgram) (script : List ℕ) →
-    let output = if short then program_output p script else record { status = 9; bytes = [] } in 7 ≤ output.status → output.bytes ≡ []
-source_quiet true p script late = absurd (omega (arith, program_speaks p script, late))
-source_quiet false p script late = refl
+-- from status 7 on nothing is written
+source_quiet : (short : Bool) (task : Task) (engine : Engine) (source : Result (List Procedure) Refusal) (script : List ℕ) →
+    let given = if short then source_output task engine source script else record { status = 9; bytes = [] } in 7 ≤ given.status → given.bytes ≡ []
+source_quiet true task engine source script late = absurd (omega (arith, source_speaks task engine source script, late))
+source_quiet false task engine source script late = refl
 
-file_quiet : (file : Option (List ℕ)) (script : List ℕ) → 7 ≤ (file_output file script).status → (file_output file script).bytes ≡ []
-file_quiet None script late = refl
-file_quiet (Some source) script late = source_quiet (nat_le (length source) most_source) (program_of source) script late
+file_quiet : (reading : Reading) (task : Task) (engine : Engine) (file : Option (List ℕ)) (script : List ℕ) → 7 ≤ (file_output reading task engine file script).status → (file_output reading task engine file script).bytes ≡ []
+file_quiet reading task engine None script late = refl
+file_quiet reading task engine (Some source) script late = source_quiet (nat_le (length source) most_source) task engine (source_of reading source) script late
 
-pub quiet_output : (name : Option (List ℕ)) (folder : List ℕ → Option (List ℕ)) (script : List ℕ) →
-    7 ≤ (words_output name folder script).status → (words_output name folder script).bytes ≡ []
-quiet_output None folder script late = absurd (omega (arith, late))
-quiet_output (Some name) folder script late = file_quiet (folder name) script late
+pub quiet_output : (reading : Reading) (job : Option Job) (folder : List ℕ → Option (List ℕ)) (script : List ℕ) →
+    7 ≤ (output reading job folder script).status → (output reading job folder script).bytes ≡ []
+quiet_output reading None folder script late = absurd (omega (arith, late))
+quiet_output reading (Some job) folder script late = file_quiet reading (task_of job) (engine_of (settings_of job)) (folder (file_of job)) script late
 
--- a name that the folder lacks gives status 7
-pub lacking_output : (name : Option (List ℕ)) (told : Option (List ℕ → Option (List ℕ))) (folder : List ℕ → Option (List ℕ)) (script : List ℕ) →
-    (name ≡ None → ⊥) → told ≡ Some folder → IfSome name (Lacks told) →
-    (words_output name folder script).status ≡ 7
-lacking_output None told folder script some is lacks = absurd (some refl)
-lacking_output (Some name) told folder script some is lacks =
-    let none : folder name ≡ None = rw is at lacks in rw none refl
+-- a file that the folder lacks gives status 7
+pub lacking_output : (reading : Reading) (job : Option Job) (told : Option (List ℕ → Option (List ℕ))) (folder : List ℕ → Option (List ℕ)) (script : List ℕ) →
+    told ≡ Some folder → LacksFile told job → (output reading job folder script).status ≡ 7
+lacking_output reading None told folder script is lacks = absurd lacks
+lacking_output reading (Some job) told folder script is lacks =
+    let none : folder (file_of job) ≡ None = rw is at lacks in rw none refl
 
 -- what was written at status 0
-pub wrote_done : (s : Status) (output : Output) (script taken : List ℕ) (rest written : Option (List ℕ)) →
-    code_of s ≡ 0 → Wrote s output script taken rest written → (output.status ≡ 0) × (written ≡ Some (taken ++ output.bytes))
-wrote_done s output script taken rest written is wrote =
-    let all : WroteAll 0 output taken written = rw (is_done s is) at wrote in (all.same, all.all)
+pub wrote_done : (s : Status) (given : Output) (script taken : List ℕ) (rest written : Option (List ℕ)) →
+    code_of s ≡ 0 → Wrote s given script taken rest written → (given.status ≡ 0) × (written ≡ Some (taken ++ given.bytes))
+wrote_done s given script taken rest written is wrote =
+    let all : WroteAll 0 given taken written = rw (is_done s is) at wrote in (all.same, all.all)
 
 -- at the end of all without a fault
-pub wrote_complete : (s : Status) (words : Option (List ℕ)) (told : Option (List ℕ → Option (List ℕ))) (folder : List ℕ → Option (List ℕ)) (script taken : List ℕ) (rest written : Option (List ℕ))
+pub wrote_complete : (s : Status) (reading : Reading) (job : Option Job) (told : Option (List ℕ → Option (List ℕ))) (folder : List ℕ → Option (List ℕ)) (script taken : List ℕ) (rest written : Option (List ℕ))
     (files_before files_after script_before script_after sink_before sink_after : ℕ) →
     told ≡ Some folder →
     (Rose files_before files_after → ⊥) → (Rose script_before script_after → ⊥) → (Rose sink_before sink_after → ⊥) →
     length script < 2 ^ 40 → code_of s ≢ 6 →
     (s ≡ Script → Rose script_before script_after) → (s ≡ Sink → Rose sink_before sink_after) →
-    (s ≡ Files → (Rose files_before files_after) ⊎ (IfSome words (Lacks told))) →
+    (s ≡ Files → (Rose files_before files_after) ⊎ (LacksFile told job)) →
     (s ≡ LongScript → ReadBytes (2 ^ 40) script rest) →
-    (words ≡ None → (s ≡ Words) ⊎ (s ≡ Sink)) →
-    Fits s (words_output words folder script).status →
-    Wrote s (words_output words folder script) script taken rest written →
-    (code_of s ≡ (words_output words folder script).status) × (written ≡ Some (taken ++ (words_output words folder script).bytes))
-wrote_complete Done words told folder script taken rest written fb fa sb sa ob oa is nf ns nw short out script_fails sink_fails files_fail long named fits wrote = (sym wrote.same, wrote.all)
-wrote_complete Words words told folder script taken rest written fb fa sb sa ob oa is nf ns nw short out script_fails sink_fails files_fail long named fits wrote = (sym wrote.same, wrote.all)
-wrote_complete Source words told folder script taken rest written fb fa sb sa ob oa is nf ns nw short out script_fails sink_fails files_fail long named fits wrote = (sym wrote.same, wrote.all)
-wrote_complete Script words told folder script taken rest written fb fa sb sa ob oa is nf ns nw short out script_fails sink_fails files_fail long named fits wrote = absurd (ns (script_fails refl))
-wrote_complete Sink words told folder script taken rest written fb fa sb sa ob oa is nf ns nw short out script_fails sink_fails files_fail long named fits wrote = absurd (nw (sink_fails refl))
-wrote_complete Memory words told folder script taken rest written fb fa sb sa ob oa is nf ns nw short out script_fails sink_fails files_fail long named fits wrote = absurd (out refl)
-wrote_complete Files words told folder script taken rest written fb fa sb sa ob oa is nf ns nw short out script_fails sink_fails files_fail long named fits wrote =
+    Fits s (output reading job folder script).status →
+    Wrote s (output reading job folder script) script taken rest written →
+    (code_of s ≡ (output reading job folder script).status) × (written ≡ Some (taken ++ (output reading job folder script).bytes))
+wrote_complete Done reading job told folder script taken rest written fb fa sb sa ob oa is nf ns nw short out script_fails sink_fails files_fail long fits wrote = (sym wrote.same, wrote.all)
+wrote_complete Words reading job told folder script taken rest written fb fa sb sa ob oa is nf ns nw short out script_fails sink_fails files_fail long fits wrote = (sym wrote.same, wrote.all)
+wrote_complete Source reading job told folder script taken rest written fb fa sb sa ob oa is nf ns nw short out script_fails sink_fails files_fail long fits wrote = (sym wrote.same, wrote.all)
+wrote_complete Script reading job told folder script taken rest written fb fa sb sa ob oa is nf ns nw short out script_fails sink_fails files_fail long fits wrote = absurd (ns (script_fails refl))
+wrote_complete Sink reading job told folder script taken rest written fb fa sb sa ob oa is nf ns nw short out script_fails sink_fails files_fail long fits wrote = absurd (nw (sink_fails refl))
+wrote_complete Memory reading job told folder script taken rest written fb fa sb sa ob oa is nf ns nw short out script_fails sink_fails files_fail long fits wrote = absurd (out refl)
+wrote_complete Files reading job told folder script taken rest written fb fa sb sa ob oa is nf ns nw short out script_fails sink_fails files_fail long fits wrote =
     elim (files_fail refl) [
       | inl rose ↦ absurd (nf rose)
       | inr lacks ↦
-          let some : words ≡ None → ⊥ = λ none. elim (named none) [ inl w ↦ cc | inr w ↦ cc ] in
-          let status : (words_output words folder script).status ≡ 7 = lacking_output words told folder script some is lacks in
-          let quiet : (words_output words folder script).bytes ≡ [] = quiet_output words folder script (omega (arith, status)) in
+          let status : (output reading job folder script).status ≡ 7 = lacking_output reading job told folder script is lacks in
+          let quiet : (output reading job folder script).bytes ≡ [] = quiet_output reading job folder script (omega (arith, status)) in
           (sym status, wrote ∙ ap Some (sym (append-nil taken)) ∙ ap (λ xs. Some (taken ++ xs)) (sym quiet))
     ]
-wrote_complete LongScript words told folder script taken rest written fb fa sb sa ob oa is nf ns nw short out script_fails sink_fails files_fail long named fits wrote =
+wrote_complete LongScript reading job told folder script taken rest written fb fa sb sa ob oa is nf ns nw short out script_fails sink_fails files_fail long fits wrote =
     let read = long refl in
     absurd (omega (arith, short, read.many, ap length read.split, length-append read.read read.left))
-wrote_complete LongFile words told folder script taken rest written fb fa sb sa ob oa is nf ns nw short out script_fails sink_fails files_fail long named fits wrote =
-    let quiet : (words_output words folder script).bytes ≡ [] = quiet_output words folder script (omega (arith, fits)) in
+wrote_complete LongFile reading job told folder script taken rest written fb fa sb sa ob oa is nf ns nw short out script_fails sink_fails files_fail long fits wrote =
+    let quiet : (output reading job folder script).bytes ≡ [] = quiet_output reading job folder script (omega (arith, fits)) in
     (sym fits, wrote ∙ ap Some (sym (append-nil taken)) ∙ ap (λ xs. Some (taken ++ xs)) (sym quiet))
 
 -- where the status of the output is 9
@@ -144,3 +147,15 @@ long_file_ends Memory status fits is = inr (inl refl)
 long_file_ends Files status fits is = inr (inr refl)
 long_file_ends LongScript status fits is = absurd (omega (arith, fits, is))
 long_file_ends LongFile status fits is = inl refl
+
+-- a source that is refused is no program
+pub refused_not_read : (source : Result (List Procedure) Refusal) (why : Refusal) (program : List Procedure) → source ≡ Err why → source ≡ Ok program → ⊥
+refused_not_read source why program refused read = cc
+
+-- the source of an accepted program, where the files are told and the file was loaded
+pub accepted_source : (reading : Reading) (told : Option (List ℕ → Option (List ℕ))) (folder : List ℕ → Option (List ℕ)) (name file : List ℕ) (program : List Procedure) →
+    told ≡ Some folder → IfSome told (λ files. files name ≡ Some file) → IsProgram reading (folder name) program → source_of reading file ≡ Ok program
+accepted_source reading told folder name file program is bytes accepted =
+    let here : folder name ≡ Some file = rw is at bytes in
+    let found : IsProgram reading (Some file) program = rw here at accepted in
+    found.1

@@ -1,12 +1,15 @@
 -- How the program ends: by a status, with what was read and written.
-use Rattle.std.specs.Prelude.{◌≡◌, ℕ, ◌<◌, ◌++◌, List, Option, Some}
-use Rattle.script_loop.specs.Lines.{all_lines}
-use Rattle.script_loop.specs.Replies.{AnsweredRead, WrotePrefix, WroteLines}
-use Rattle.straight_line.specs.Plain.{PlainProgram}
+use Rattle.std.specs.Prelude.{◌≡◌, ℕ, ◌<◌, ◌++◌, ◌⊎◌, List, [], ◌∷◌, Option, Some}
+use Rattle.imp_syntax.specs.Plain.{Procedure}
+use Rattle.dom_interval.specs.Domain.{intervals}
+use Rattle.batch_meaning.specs.Batch.{Engine}
+use Rattle.script_loop.specs.Replies.{AnsweredRead, WrotePrefix}
 use Rattle.daig_server.specs.declared.status.Status.{Status}
 use Rattle.daig_server.specs.declared.status.Status.TheVariants.{Done, Words, Source, Script, Sink, Memory, Files, LongScript, LongFile}
+use Rattle.daig_server.specs.declared.task.Task.TheVariants.{Serve}
+use Rattle.daig_server.specs.Held.{Held}
 use Rattle.daig_server.specs.Reply.{server}
-use Rattle.daig_server.specs.Output.{Output, program_output}
+use Rattle.daig_server.specs.Output.{Output, held_by, program_bytes}
 
 -- the number of a status
 abbrev pub code_of : Status → ℕ
@@ -20,17 +23,24 @@ code_of Files = 7
 code_of LongScript = 8
 code_of LongFile = 9
 
--- The replies to the lines whose LF was read are written, and no more; the output is that of a program.
-pub record WroteRead (output : Output) (script taken : List ℕ) (rest written : Option (List ℕ)) : Type 0 where
-  pub program : PlainProgram
-  pub is : output ≡ program_output (Some program) script
-  pub answered : AnsweredRead server program script taken rest written
+-- no bytes, or some of which the last is LF
+abbrev pub IsWholeLines : List ℕ → Type 0
+IsWholeLines bytes = (bytes ≡ []) ⊎ ((front : List ℕ) × (bytes ≡ front ++ 10 ∷ []))
 
--- Nothing is written, or the replies to the first lines of a program's script, each whole.
-pub data WroteWholeLines (output : Output) (script taken : List ℕ) (written : Option (List ℕ)) : Type 0 where
-  nothing : written ≡ Some taken → WroteWholeLines output script taken written
-  lines : (program : PlainProgram) → output ≡ program_output (Some program) script →
-      WroteLines server program (all_lines script) taken written → WroteWholeLines output script taken written
+-- A prefix of the bytes was written, and it has whole lines alone.
+pub record WroteWholeLines (bytes taken : List ℕ) (output : Option (List ℕ)) : Type 0 where
+  pub sent : List ℕ
+  pub unsent : List ℕ
+  pub split : bytes ≡ sent ++ unsent
+  pub written : output ≡ Some (taken ++ sent)
+  pub whole : IsWholeLines sent
+
+-- A program is served: the replies to the lines whose LF was read are written, and no more.
+pub record WroteRead (output : Output) (script taken : List ℕ) (rest written : Option (List ℕ)) : Type 0 where
+  pub held : Held
+  pub succeeds : output.status ≡ 0
+  pub is : output.bytes ≡ program_bytes Serve held script
+  pub answered : AnsweredRead (server intervals) held script taken rest written
 
 -- The output was written, and the status is that of the output.
 pub record WroteAll (status : ℕ) (output : Output) (taken : List ℕ) (written : Option (List ℕ)) : Type 0 where
@@ -56,7 +66,7 @@ Wrote Words output script taken rest written = WroteAll 2 output taken written
 Wrote Source output script taken rest written = WroteAll 3 output taken written
 Wrote Script output script taken rest written = WroteRead output script taken rest written
 Wrote Sink output script taken rest written = WrotePrefix output.bytes taken written
-Wrote Memory output script taken rest written = WroteWholeLines output script taken written
+Wrote Memory output script taken rest written = WroteWholeLines output.bytes taken written
 Wrote Files output script taken rest written = written ≡ Some taken
 Wrote LongScript output script taken rest written = WroteRead output script taken rest written
 Wrote LongFile output script taken rest written = written ≡ Some taken

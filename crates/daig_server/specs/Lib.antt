@@ -1,6 +1,9 @@
-pub mod Request
-pub mod Refusals
+pub mod Sources
+pub mod Names
+pub mod Questions
+pub mod Held
 pub mod Reply
+pub mod Jobs
 pub mod Output
 pub mod Ends
 pub mod Sound

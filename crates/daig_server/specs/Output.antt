@@ -1,31 +1,25 @@
 -- What the program writes, and the status that it ends with.
-use Rattle.std.specs.Prelude.{ℕ, ◌==◌, ◌&&◌, not, nat_le, List, [], ◌∷◌, ◌++◌, length, Bool, false, Option, Some, None, codes, if◌then◌else◌}
-use Rattle.std.specs.Str.{bytes_eq}
-use Rattle.serde_json.specs.Data.{object, member, no_members, string, number, unsigned}
+use Rattle.std.specs.Prelude.{◌≡◌, ◌≤◌, ℕ, nat_le, List, [], ◌∷◌, ◌++◌, length, Option, Some, None, Result, Ok, Err, codes, if◌then◌else◌}
+use Rattle.imp_syntax.specs.Plain.{Procedure}
+use Rattle.dom_interval.specs.Domain.{intervals}
+use Rattle.batch_meaning.specs.Batch.{Engine}
+use Rattle.io_edge.specs.Outside.{Lacks}
 use Rattle.script_loop.specs.Lines.{all_lines}
 use Rattle.script_loop.specs.Replies.{replies}
-use Rattle.straight_line.specs.Plain.{PlainProgram}
-use Rattle.straight_line.specs.Reading.{program_of}
-use Rattle.daig_server.specs.Reply.{reply_text, server}
-
-abbrev pub begins_with_dash : List ℕ → Bool
-begins_with_dash [] = false
-begins_with_dash (byte ∷ bytes) = byte == 45
-
--- The file that the words name: there are three words, the second is `serve`, and the third does
--- not begin with `-`. The first is the program's own name.
-abbrev pub file_word : List (List ℕ) → Option (List ℕ)
-file_word (program ∷ command ∷ file ∷ []) =
-    if bytes_eq command (codes "serve") && not (begins_with_dash file) then Some file else None
-file_word words = None
+use Rattle.request_json.specs.declared.reply.Reply.TheVariants as r
+use Rattle.request_json.specs.declared.reply.Refusal.{Refusal}
+use Rattle.request_json.specs.Replies.{reply_text}
+use Rattle.command_words.specs.declared.job.Job.{Job}
+use Rattle.daig_server.specs.declared.task.Task.{Task}
+use Rattle.daig_server.specs.declared.task.Task.TheVariants.{Serve, Batch}
+use Rattle.daig_server.specs.Sources.{Reading, source_of}
+use Rattle.daig_server.specs.Held.{Held}
+use Rattle.daig_server.specs.Reply.{server, listing, report_reply}
+use Rattle.daig_server.specs.Jobs.{task_of, settings_of, file_of, engine_of}
 
 -- the line that is written where the words are not taken
 unfoldable pub usage : List ℕ
 usage = codes "usage: daig serve|batch|gen [OPTIONS] [FILE]" ++ 10 ∷ []
-
--- the line that is written where the source is refused
-unfoldable pub source_refusal : List ℕ
-source_refusal = reply_text (object (member (codes "at") (number (unsigned 0)) (member (codes "name") (string (codes "Unexpected")) (member (codes "refused") (number (unsigned 7)) no_members))))
 
 -- the most bytes of a source
 abbrev pub most_source : ℕ
@@ -36,21 +30,46 @@ pub record Output : Type 0 where
   pub status : ℕ
   pub bytes : List ℕ
 
--- the replies to the lines of the script, or the refusal of the source
-abbrev pub program_output : Option PlainProgram → List ℕ → Output
-program_output None script = record { status = 3; bytes = source_refusal }
-program_output (Some program) script = record { status = 0; bytes = replies server program (all_lines script) }
+-- the program, and how its loops are interpreted
+abbrev pub held_by : Engine → List Procedure → Held
+held_by engine program = record { engine = engine; program = program }
+
+-- the listing, then the line of the report
+unfoldable pub batch_bytes : Held → List ℕ
+batch_bytes held = listing held.program ++ reply_text (report_reply intervals held)
+
+-- serve: the replies to the lines of the script; batch: the listing and the report; both by intervals
+abbrev pub program_bytes : Task → Held → List ℕ → List ℕ
+program_bytes Serve held script = replies (server intervals) held (all_lines script)
+program_bytes Batch held script = batch_bytes held
+
+-- a source that is refused, or a program
+abbrev pub source_output : Task → Engine → Result (List Procedure) Refusal → List ℕ → Output
+source_output task engine (Err why) script = record { status = 3; bytes = reply_text (r.Refused why) }
+source_output task engine (Ok program) script = record { status = 0; bytes = program_bytes task (held_by engine program) script }
 
 -- a file that is absent, too long, or a source
-abbrev pub file_output : Option (List ℕ) → List ℕ → Output
-file_output None script = record { status = 7; bytes = [] }
-file_output (Some source) script =
-    if nat_le (length source) most_source then program_output (program_of source) script else record { status = 9; bytes = [] }
+abbrev pub file_output : Reading → Task → Engine → Option (List ℕ) → List ℕ → Output
+file_output reading task engine None script = record { status = 7; bytes = [] }
+file_output reading task engine (Some source) script =
+    if nat_le (length source) most_source then source_output task engine (source_of reading source) script else record { status = 9; bytes = [] }
 
-abbrev pub words_output : Option (List ℕ) → (List ℕ → Option (List ℕ)) → List ℕ → Output
-words_output None files script = record { status = 2; bytes = usage }
-words_output (Some name) files script = file_output (files name) script
+-- what the job that the words name, the files and the script give
+abbrev pub output : Reading → Option Job → (List ℕ → Option (List ℕ)) → List ℕ → Output
+output reading None files script = record { status = 2; bytes = usage }
+output reading (Some job) files script = file_output reading (task_of job) (engine_of (settings_of job)) (files (file_of job)) script
 
--- what the words, the files and the script give
-abbrev pub output : List (List ℕ) → (List ℕ → Option (List ℕ)) → List ℕ → Output
-output words files script = words_output (file_word words) files script
+-- the file is there, and the program without faults that it is
+abbrev pub IsProgram : Reading → Option (List ℕ) → List Procedure → Type 0
+IsProgram reading None program = ⊥
+IsProgram reading (Some source) program = (length source ≤ most_source) × (source_of reading source ≡ Ok program)
+
+-- the words name a job, and its file is this program
+abbrev pub IsAccepted : Reading → Option Job → (List ℕ → Option (List ℕ)) → List Procedure → Type 0
+IsAccepted reading None files program = ⊥
+IsAccepted reading (Some job) files program = IsProgram reading (files (file_of job)) program
+
+-- the files are told, and the job's file is not among them
+abbrev pub LacksFile : Option (List ℕ → Option (List ℕ)) → Option Job → Type 0
+LacksFile files None = ⊥
+LacksFile files (Some job) = Lacks files (file_of job)

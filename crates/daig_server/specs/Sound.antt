@@ -1,23 +1,35 @@
--- Sound answers: what is claimed of the reply to a line.
-use Rattle.std.specs.Prelude.{◌≡◌, ℕ, ◌⊎◌, List, Some}
-use Rattle.straight_line.specs.declared.state.Range.{Range}
-use Rattle.straight_line.specs.Plain.{PlainProgram}
-use Rattle.straight_line.specs.Interval.{state_after}
-use Rattle.straight_line.specs.Claims.{CoversRuns}
-use Rattle.straight_line.specs.Text.{text_of}
-use Rattle.daig_server.specs.Request.{statement_asked}
-use Rattle.daig_server.specs.Reply.{refusal, state_reply, reply_to}
+-- Sound answers and reports: what is claimed of the lines of a program.
+use Rattle.std.specs.Prelude.{◌≡◌, ℕ, List, Result, Ok, Contains}
+use Rattle.imp_syntax.specs.declared.edit.Location.{Location}
+use Rattle.imp_check.specs.Slots.{routines_of}
+use Rattle.concrete_sem.specs.Values.{Variables, Heap}
+use Rattle.concrete_sem.specs.Steps.{Config}
+use Rattle.concrete_sem.specs.Reach.{top, Reach}
+use Rattle.concrete_sem.specs.WellFormed.{variables_of}
+use Rattle.domain_laws.specs.declared.findings.Finding.{Finding}
+use Rattle.domain_laws.specs.Operations.{Operations}
+use Rattle.batch_meaning.specs.Values.{State}
+use Rattle.batch_meaning.specs.Answers.{Answers, answer}
+use Rattle.batch_meaning.specs.Report.{report}
+use Rattle.batch_sound.specs.Theorem.{IsFindingSound}
+use Rattle.request_json.specs.declared.request.Request.TheVariants as q
+use Rattle.request_json.specs.declared.reply.Reply.TheVariants as r
+use Rattle.request_json.specs.Requests.{request_of}
+use Rattle.daig_server.specs.Held.{Held}
+use Rattle.daig_server.specs.Reply.{layout_at, line_reply}
 
--- The line asks for the state after a statement, its reply holds that state's text, and the state
--- covers every configuration that a run of the program reaches after the statement.
-pub record Covered (program : PlainProgram) (line : List ℕ) : Type 0 where
-  pub statement : ℕ
-  pub state : List Range
-  pub asked : statement_asked line ≡ Some statement
-  pub answer : state_after program statement ≡ Some state
-  pub reply : reply_to program line ≡ state_reply (text_of program state)
-  pub covers : CoversRuns program statement state
+-- The line is answered by the text of this state, and the state describes each configuration that a run of the program
+-- reaches at the location, with call sites of which the string is a suffix: its last frame alone, under any inputs.
+pub record IsDescribed {S : Type 0} (dom : Operations S) (covers : S → Heap → List Variables → Type 0) (held : Held) (line : List ℕ) (l : Location) (string : List ℕ) (s : S) : Type 0 where
+  pub reply : line_reply dom held line ≡ r.State (dom.text (layout_at (routines_of held.program) l) s)
+  pub describes : (c : Config) → Reach (routines_of held.program) l string c → covers s (top c).heap (variables_of (top c).frames)
 
--- The line is refused, or it is answered by a state that covers the runs.
-abbrev pub IsSound : PlainProgram → List ℕ → Type 0
-IsSound program line = (reply_to program line ≡ refusal 2) ⊎ ((reply_to program line ≡ refusal 4) ⊎ Covered program line)
+-- Where the line asks for a state and the answer is one, the runs are described.
+abbrev pub IsSound : {S : Type 0} → Operations S → (S → Heap → List Variables → Type 0) → Held → List ℕ → Type 0
+IsSound {S} dom covers held line =
+    (l : Location) (string : List ℕ) (s : S) → request_of line ≡ Ok (q.State (record { at = l; string = string })) →
+    answer dom held.engine (routines_of held.program) l string ≡ Answers (State s) → IsDescribed dom covers held line l string s
+
+-- No run fails a check that the report calls safe, and none comes to a statement that it calls dead.
+abbrev pub IsReportSound : {S : Type 0} → Operations S → Held → Type 0
+IsReportSound dom held = (f : Finding) → Contains (report dom held.engine (routines_of held.program)) f → IsFindingSound (routines_of held.program) f

@@ -2,17 +2,21 @@
 //!
 //! [`serve`] is the top call. What it writes and answers is `output` of `specs/Output.antt`, a
 //! function of the words, the files and the script; for each status a clause says when it comes and
-//! what was written. Each line that is answered by a state is answered soundly (`specs/Sound.antt`).
+//! what was written. Each line that is answered by a state is answered soundly, and so is each report
+//! (`specs/Sound.antt`).
+//!
+//! A program is answered by intervals, each line by interpreting the program from nothing. The reply to
+//! a line is `line_reply` of `specs/Reply.antt`; a source is read by `source_of` of `specs/Sources.antt`.
 #![tactic(auto)]
 
+mod answers;
 mod replies;
-mod request;
 mod run;
+mod server;
 mod serving;
-mod sound;
+mod source;
 mod status;
-mod words;
+mod task;
 
-pub use replies::{Server, reply};
 pub use serving::serve;
-pub use sound::replies_are_sound;
+pub use source::texts_are_read;

@@ -1,129 +1,146 @@
-//! The replies as text.
-ghost use Rattle.std.specs.Prelude.{◌≡◌, ◌<◌, ◌++◌, IfOk, OnOk};
-ghost use Rattle.std.specs.Char.{digit_char};
-ghost use Rattle.json.specs.Print.{escape_byte};
-ghost use Rattle.daig_server.specs.Reply.{refusal, reply_to, state_reply};
-ghost use Rattle.daig_server.specs.Refusals.{number_of_refusal};
+//! Replies that need no domain.
+ghost use Rattle.std.specs.Prelude.{◌≡◌, ◌<◌, ◌+◌, ◌^◌, length, IfOk};
+ghost use Rattle.std.specs.Option.{option_copied};
+ghost use Rattle.imp_syntax.specs.Plain.{program_numbers};
+ghost use Rattle.imp_check.specs.Slots.{routines_of};
+ghost use Rattle.imp_run.specs.Outcome as of_runs;
+ghost use Rattle.daig_server.specs.Names.{word_of_fault};
+ghost use Rattle.daig_server.specs.Reply.{question_refusal, end_of, reached_at, run_reply, asked_run, program_reply, listing};
 
-use crate::request::statement_asked;
-use script_loop::{Answerer, Memory};
+use batch_meaning::Refusal as Question;
+use call_contexts::place_of;
+use concrete_sem::FaultKind;
+use imp_check::Checked;
+use imp_print::{numbered_text, program_text};
+use imp_run::{End, run};
+use imp_slots::Routine;
+use imp_syntax::Location;
+use plain_values::{Memory, Text};
+use request_json::{FaultName, Refusal, Reply, RunEnd};
 use std::alloc::Global;
-use std::marker::Model;
-use straight_line::{Program, state_after, state_text};
 
-/// The hexadecimal digit of a number below 16.
-fn hex_digit(number: u8) -> u8
-    requires { number < 16 }
-    ensures digit { result ≡ digit_char number }
+/// Why a location has no answer.
+pub(crate) fn question_refusal(why: Question) -> Refusal
+    ensures refusal { result ≡ question_refusal why }
 {
-    if number < 10 {
-        b'0' + number
-    } else {
-        b'a' + (number - 10)
+    match why {
+        Question::LongString => Refusal::LongString,
+        Question::NoProcedure => Refusal::NoProcedure,
+        Question::NoStatement => Refusal::NoStatement,
+        Question::WrongStatement => Refusal::WrongStatement,
+        Question::NoChain => Refusal::NoChain,
     }
 }
 
-/// Adds what stands in a JSON text for the byte.
-#[tactic(auto, unfolding(json::specs::Print::escape_byte))]
-fn push_escaped(line: &mut Vec<u8>, byte: u8) -> Result<(), Memory>
-    ensures escaped { OnOk result (line.new.items ≡ line.old.items ++ escape_byte byte) }
+/// The word of a run's fault.
+fn word_of_fault(fault: FaultKind) -> FaultName
+    ensures word { result ≡ word_of_fault fault }
 {
-    match byte {
-        b'"' | b'\\' => line.extend_from_slice(&[b'\\', byte])?,
-        8 => line.extend_from_slice(b"\\b")?,
-        9 => line.extend_from_slice(b"\\t")?,
-        10 => line.extend_from_slice(b"\\n")?,
-        12 => line.extend_from_slice(b"\\f")?,
-        13 => line.extend_from_slice(b"\\r")?,
-        0..32 => {
-            let digits = [hex_digit(byte / 16), hex_digit(byte % 16)];
-            line.extend_from_slice(b"\\u00")?;
-            line.extend_from_slice(&digits)?;
-        }
-        _ => line.push(byte)?,
+    match fault {
+        FaultKind::Overflow => FaultName::Overflow,
+        FaultKind::Zero => FaultName::Zero,
+        FaultKind::Length => FaultName::Length,
+        FaultKind::Index => FaultName::Index,
+        FaultKind::Null => FaultName::Null,
+        FaultKind::Assert => FaultName::Assert,
     }
-    Ok(())
 }
 
-/// The reply that carries a state's text.
-fn state_reply(alloc: Global, text: &[u8]) -> Result<Vec<u8>, Memory>
-    ensures reply { IfOk result (λ v. v.items ≡ state_reply text.now) }
+/// How a run ended.
+fn end_of(end: &End) -> RunEnd
+    ensures end { result ≡ end_of (of_runs.end_of end.now) }
 {
-    let mut line = Vec::from_slice(alloc, b"{\"state\":\"")?;
-    for byte in text {
-        push_escaped(&mut line, *byte)?;
+    match end {
+        End::Ended => RunEnd::Ended,
+        End::Fault(id, fault) => RunEnd::Fault {
+            fault: word_of_fault(*fault),
+            id: *id,
+        },
+        End::InputsUsedUp(id) => RunEnd::Inputs(*id),
+        End::FuelUsedUp => RunEnd::Fuel,
     }
-    line.extend_from_slice(b"\"}\n")?;
-    Ok(line)
 }
 
-/// The refusal of this number.
-fn refusal_reply(alloc: Global, cause: Refusal) -> Result<Vec<u8>, Memory>
-    ensures reply { IfOk result (λ v. v.items ≡ refusal (number_of_refusal cause)) }
+/// How often a run stood at the location, if one was asked for.
+fn reached_at(at: Option<&Location>, reached: u64) -> Option<u64>
+    ensures reached { result ≡ reached_at (option_copied at.entry) reached }
 {
-    match cause {
-        Refusal::Line => Ok(Vec::from_slice(alloc, b"{\"refused\":2}\n")?),
-        Refusal::Statement => Ok(Vec::from_slice(alloc, b"{\"refused\":4}\n")?),
+    match at {
+        Some(_) => Some(reached),
+        None => None,
     }
 }
 
-/// Why a line gets no state.
-#[derive(Clone, Copy, Debug, Drop, PartialEq, Eq)]
-enum Refusal {
-    /// The line is not taken.
-    Line,
-    /// There is no such statement.
-    Statement,
-}
-
-/// The server of one program: it answers each line by the program alone.
-#[derive(Drop)]
-pub struct Server {
-    program: Program,
-}
-
-impl Model for Server {
-    ghost use Rattle.straight_line.specs.Plain.{PlainProgram};
-
-    ghost Value = { PlainProgram };
-
-    ghost view = { λ s. s.program };
-}
-
-impl Server {
-    /// The server of this program.
-    pub fn new(program: Program) -> Server
-        ensures program { result ≡ program }
-    {
-        Server { program }
-    }
-}
-
-impl Answerer for Server {
-    ghost use Rattle.daig_server.specs.Reply.{server};
-
-    ghost machine = { server };
-
-    fn answer(&mut self, alloc: Global, line: &[u8]) -> Result<Vec<u8>, Memory> {
-        reply(alloc, &self.program, line)
-    }
-}
-
-/// The reply to a line. Takes time linear in the line and in the program.
-pub fn reply(alloc: Global, program: &Program, line: &[u8]) -> Result<Vec<u8>, Memory>
-    ensures reply { IfOk result (λ v. v.items ≡ reply_to program.now line.now) }
+/// The procedures over slots, of which there are few.
+#[tactic(auto, using(crate::proofs::FewLemmas::few_routines))]
+fn routines(program: &Checked) -> &[Routine]
+    ensures is { result.now ≡ routines_of program.now }
+    ensures few { length result.now < 65 }
 {
-    let Some(statement) = statement_asked(alloc, line)? else {
-        return refusal_reply(alloc, Refusal::Line);
-    };
-    let Ok(answer) = state_after(alloc, program, statement) else {
-        return Err(Memory);
-    };
-    let Some(state) = answer else {
-        return refusal_reply(alloc, Refusal::Statement);
-    };
-    let Ok(text) = state_text(alloc, program, &state) else {
-        return Err(Memory);
-    };
-    state_reply(alloc, text.as_slice())
+    let _tree = program.program();
+    program.routines()
+}
+
+/// A run with these inputs and so many steps at most.
+#[tactic(auto, unfolding(crate::specs::Reply::run_reply))]
+fn run_reply(
+    alloc: Global,
+    program: &Checked,
+    inputs: &[i64],
+    fuel: u32,
+    at: Option<&Location>,
+) -> Result<Reply, Memory>
+    ensures reply { IfOk result (λ reply. reply ≡ run_reply (routines_of program.now) inputs.now fuel (option_copied at.entry)) }
+{
+    let outcome = run(alloc, routines(program), inputs, u64::from(fuel), at)?;
+    Ok(Reply::Run {
+        end: end_of(&outcome.end),
+        reached: reached_at(at, outcome.reached),
+    })
+}
+
+/// The reply to a request for a run, whose location the program may not have.
+pub(crate) fn asked_run(
+    alloc: Global,
+    program: &Checked,
+    inputs: &[i64],
+    fuel: u32,
+    at: Option<&Location>,
+) -> Result<Reply, Memory>
+    ensures reply { IfOk result (λ reply. reply ≡ asked_run (routines_of program.now) inputs.now fuel (option_copied at.entry)) }
+{
+    match at {
+        None => run_reply(alloc, program, inputs, fuel, None),
+        Some(location) => match place_of(program, location) {
+            Ok(_) => run_reply(alloc, program, inputs, fuel, Some(location)),
+            Err(why) => Ok(Reply::Refused(question_refusal(why))),
+        },
+    }
+}
+
+/// The next statement number that is not used.
+#[tactic(auto, using(crate::proofs::FewLemmas::few_numbers, crate::proofs::EntryLemmas::entry_count))]
+fn next_number(program: &Checked) -> u32
+    ensures number { result ≡ length (program_numbers program.now) + 1 }
+{
+    let _tree = program.program();
+    program.entries().len() as u32 + 1
+}
+
+/// The program's text, and the next statement number.
+#[tactic(auto, unfolding(crate::specs::Reply::program_reply))]
+pub(crate) fn program_reply(alloc: Global, program: &Checked) -> Result<Reply, Memory>
+    ensures reply { IfOk result (λ reply. reply ≡ program_reply program.now) }
+{
+    let text = program_text(alloc, program.program())?;
+    let next = next_number(program);
+    Ok(Reply::Program { next, text })
+}
+
+/// The listing.
+#[tactic(auto, unfolding(crate::specs::Reply::listing))]
+pub(crate) fn listing(alloc: Global, program: &Checked) -> Result<Text, Memory>
+    ensures text { IfOk result (λ text. text ≡ listing program.now) }
+{
+    numbered_text(alloc, program.program())
 }

@@ -29,7 +29,7 @@ fn fault<T: Drop>(rt: &HostRuntime, read: Result<T, ParseError>) -> Result<Strin
 #[test]
 fn faults_of_simple_statements(rt: HostRuntime) -> Result<(), Fail> {
     let alloc = rt.alloc();
-    let table: [(&str, &str); 60] = [
+    let table: [(&str, &str); 61] = [
         ("skip;", "read"),
         ("break;", "read"),
         ("assert a < b;", "read"),
@@ -67,6 +67,7 @@ fn faults_of_simple_statements(rt: HostRuntime) -> Result<(), Fail> {
         ),
         ("i = ; $", "Lex(BadByte(6))"),
         ("a & b", "Lex(BadByte(2))"),
+        ("é = 1;", "Lex(BadByte(0))"),
         ("break = 1;", "Unexpected(1)"),
         ("i = break;", "Unexpected(2)"),
         ("next = 1;", "Unexpected(0)"),

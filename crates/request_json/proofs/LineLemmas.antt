@@ -1,5 +1,5 @@
 -- What a line asks, by how its reading ends.
-use Rattle.std.proofs.Common.{◌≡◌, ℕ, ◌<◌, ◌==◌, List, length, true, false, Some, None, Ok, Err, Result, IfOk, IfErr, if◌then◌else◌, refl, ap, ◌∙◌, arith}
+use Rattle.std.proofs.Common.{◌≡◌, ℕ, ◌<◌, ◌==◌, List, length, true, false, Some, None, Ok, Err, Result, IfOk, IfErr, if◌then◌else◌, refl, ◌∙◌, arith}
 use Rattle.std.specs.Prelude.{codes}
 use Rattle.std.specs.Str.{IsUtf8}
 use Rattle.std.specs.Str.Lossy.{utf8_valid_len}

@@ -1,5 +1,5 @@
 -- The names of requests.
-use Rattle.std.specs.Prelude.{ℕ, List, [], ◌∷◌, Option, Some, None, codes}
+use Rattle.std.specs.Prelude.{ℕ, List, [], ◌∷◌, Option, codes}
 use Rattle.imp_lex.specs.Kinds.{look_up}
 use Rattle.request_json.specs.declared.names.Verb.{Verb}
 use Rattle.request_json.specs.declared.names.Verb.TheVariants as v

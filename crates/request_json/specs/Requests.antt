@@ -1,5 +1,5 @@
 -- The request of a line.
-use Rattle.std.specs.Prelude.{ℕ, ℤ, nat_le, List, length, Option, Some, None, option_and_then, option_map, Result, Ok, Err, codes, if◌then◌else◌}
+use Rattle.std.specs.Prelude.{ℕ, nat_le, List, length, Option, Some, None, option_and_then, option_map, Result, Ok, Err, codes, if◌then◌else◌}
 use Rattle.imp_lex.specs.Names.{is_name}
 use Rattle.imp_syntax.specs.declared.words.Kind.{Kind}
 use Rattle.imp_syntax.specs.declared.edit.Location.{Location}

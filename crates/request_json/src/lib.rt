@@ -1,4 +1,4 @@
-//! The requests of a script, read from lines of JSON.
+//! The requests of a script, read from lines of JSON, and the lines that reply to them.
 //!
 //! A line is one JSON object, whose member `do` names the request and whose other members are its
 //! fields; members that no request has are passed over. [`read_request`] gives the request of a line,
@@ -6,17 +6,32 @@
 //! request, a call string of more than two statements. `request_of` of `specs/Requests.antt` is the
 //! definition, over what `serde_json` reads of a line.
 //!
-//! Reading takes time linear in the line.
+//! [`reply_line`] gives the line of a reply: compact JSON with its keys in order, and LF. `reply_text`
+//! of `specs/Replies.antt` is the definition: the text that `serde_json`'s data have, an object of the
+//! reply's keys and values. Refusals are replies too; they are numbered from 1. The words of checks,
+//! verdicts and faults are types of this crate, so that it stands on the syntax of programs alone.
+//!
+//! Reading and writing take time linear in the line.
 #![tactic(auto)]
 
 mod error;
+mod escapes;
 mod fields;
 mod names;
 mod numbers;
 mod places;
 mod reading;
+mod reply;
 mod request;
+mod writing;
 
 pub use error::ReadError;
 pub use reading::read_request;
+pub use reply::{
+    CheckName, FaultName, ProgramFault, Refusal, Reply, ReportItem, RunEnd, VerdictName,
+};
 pub use request::{Query, Request};
+pub use writing::reply_line;
+
+#[cfg(test)]
+mod tests;

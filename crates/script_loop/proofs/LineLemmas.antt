@@ -2,8 +2,8 @@
 use Rattle.std.proofs.Common.{◌≡◌, ℕ, ◌==◌, ◌+◌, ◌<◌, ◌++◌, List, [], ◌∷◌, length, take, drop, slice_index_or, Option, Some, Result, Ok, Err, OnOk, true, false, if◌then◌else◌, append_assoc, append-nil, add-one, sym, ◌∙◌, ap, refl}
 use Rattle.std.proofs.Math.Seq.{take-suc}
 use Rattle.std.proofs.lemmas.List.{take-append-drop}
-use Rattle.script_loop.specs.Lines.{whole_lines, last_part}
-use Rattle.script_loop.specs.Replies.{Machine, replies, after, WrotePrefix, WroteLines}
+use Rattle.script_loop.specs.Lines.{whole_lines, last_part, kept}
+use Rattle.script_loop.specs.Replies.{Machine, reply_to, next_to, replies, after, WrotePrefix, WroteLines}
 
 pub last_part-append : (part xs ys : List ℕ) → last_part part (xs ++ ys) ≡ last_part (last_part part xs) ys
 last_part-append part [] ys = refl
@@ -21,14 +21,14 @@ whole_lines-append part (x ∷ xs) ys =
 
 pub after-append : {M : Type 0} (machine : Machine M) (m : M) (xs ys : List (List ℕ)) → after machine m (xs ++ ys) ≡ after machine (after machine m xs) ys
 after-append machine m [] ys = refl
-after-append machine m (x ∷ xs) ys = after-append machine (machine.next m x) xs ys
+after-append machine m (x ∷ xs) ys = after-append machine (next_to machine m (kept x)) xs ys
 
 pub replies-append : {M : Type 0} (machine : Machine M) (m : M) (xs ys : List (List ℕ)) →
     replies machine m (xs ++ ys) ≡ replies machine m xs ++ replies machine (after machine m xs) ys
 replies-append machine m [] ys = refl
 replies-append machine m (x ∷ xs) ys =
-    ap (λ rest. machine.reply m x ++ rest) (replies-append machine (machine.next m x) xs ys)
-    ∙ sym (append_assoc (machine.reply m x) (replies machine (machine.next m x) xs) (replies machine (after machine (machine.next m x) xs) ys))
+    ap (λ rest. reply_to machine m (kept x) ++ rest) (replies-append machine (next_to machine m (kept x)) xs ys)
+    ∙ sym (append_assoc (reply_to machine m (kept x)) (replies machine (next_to machine m (kept x)) xs) (replies machine (after machine (next_to machine m (kept x)) xs) ys))
 
 -- one byte more of a block
 pub one_more : (block : List ℕ) (i b : ℕ) → i < length block → b ≡ slice_index_or block i 0 → take (i + 1) block ≡ take i block ++ b ∷ []

@@ -52,6 +52,11 @@ stands_more machine first m m' text total rest rest' pending pending' n bytes st
       ∙ ap (after machine first) (read_lines text total rest rest' pending n bytes stands handed);
 }
 
+-- the part of a line behind the last LF, with the bytes of a block behind it
+pub part_on : (text : List ℕ) (total : ℕ) (rest' : Option (List ℕ)) (n : ℕ) (bytes : List ℕ) → Handed text total rest' n bytes →
+    last_part [] (take (total + n) text) ≡ last_part (last_part [] (take total text)) bytes
+part_on text total rest' n bytes handed = ap (last_part []) handed.more ∙ last_part-append [] (take total text) bytes
+
 -- what was written, with the replies to the lines of the block
 pub written_more : {M : Type 0} (machine : Machine M) (first m : M) (text taken : List ℕ) (total : ℕ) (rest rest' output : Option (List ℕ)) (pending : List ℕ) (n : ℕ) (bytes : List ℕ) →
     Stands machine first text total rest pending m → Handed text total rest' n bytes →

@@ -1,5 +1,5 @@
 -- The lines of a text.
-use Rattle.std.specs.Prelude.{ℕ, ◌==◌, ◌++◌, List, [], ◌∷◌, if◌then◌else◌}
+use Rattle.std.specs.Prelude.{ℕ, ◌==◌, ◌++◌, nat_le, nat_lt, List, [], ◌∷◌, length, Option, Some, None, if◌then◌else◌}
 
 -- The whole lines of a text, each without its LF, where a part of the first line came before it.
 abbrev pub whole_lines : List ℕ → List ℕ → List (List ℕ)
@@ -21,3 +21,16 @@ last_line (byte ∷ bytes) = (byte ∷ bytes) ∷ []
 -- all lines of a text
 abbrev pub all_lines : List ℕ → List (List ℕ)
 all_lines text = whole_lines [] text ++ last_line (last_part [] text)
+
+-- the most bytes of a line, without its LF
+abbrev pub most_line : ℕ
+most_line = 65536
+
+-- what is kept of a line: the line, or none where it is too long
+abbrev pub kept : List ℕ → Option (List ℕ)
+kept line = if nat_le (length line) most_line then Some line else None
+
+-- what is kept, with a byte more
+abbrev pub grown : Option (List ℕ) → ℕ → Option (List ℕ)
+grown None byte = None
+grown (Some part) byte = if nat_lt (length part) most_line then Some (part ++ byte ∷ []) else None

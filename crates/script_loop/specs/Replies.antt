@@ -1,21 +1,31 @@
 -- What a machine that answers line by line writes for a script.
-use Rattle.std.specs.Prelude.{◌≡◌, ℕ, ◌^◌, ◌<◌, List, [], ◌∷◌, ◌++◌, length, Option, Some}
-use Rattle.script_loop.specs.Lines.{whole_lines}
+use Rattle.std.specs.Prelude.{◌≡◌, ℕ, ◌^◌, ◌<◌, List, [], ◌∷◌, ◌++◌, length, Option, Some, None}
+use Rattle.script_loop.specs.Lines.{whole_lines, kept}
 
--- A machine: its reply to a line, and the machine after it.
+-- A machine: its reply to a line, the machine after it, and its reply to a line that is too long, which leaves it as it is.
 pub record Machine (M : Type 0) : Type 0 where
   pub reply : M → List ℕ → List ℕ
   pub next : M → List ℕ → M
+  pub long : List ℕ
+
+-- the reply to what is kept of a line, and the machine after it
+abbrev pub reply_to : {M : Type 0} → Machine M → M → Option (List ℕ) → List ℕ
+reply_to machine m None = machine.long
+reply_to machine m (Some line) = machine.reply m line
+
+abbrev pub next_to : {M : Type 0} → Machine M → M → Option (List ℕ) → M
+next_to machine m None = m
+next_to machine m (Some line) = machine.next m line
 
 -- the replies to the lines, in turn
 abbrev pub replies : {M : Type 0} → Machine M → M → List (List ℕ) → List ℕ
 replies machine m [] = []
-replies machine m (line ∷ lines) = machine.reply m line ++ replies machine (machine.next m line) lines
+replies machine m (line ∷ lines) = reply_to machine m (kept line) ++ replies machine (next_to machine m (kept line)) lines
 
 -- the machine after the lines
 abbrev pub after : {M : Type 0} → Machine M → M → List (List ℕ) → M
 after machine m [] = m
-after machine m (line ∷ lines) = after machine (machine.next m line) lines
+after machine m (line ∷ lines) = after machine (next_to machine m (kept line)) lines
 
 -- The script was read to its end.
 pub record ReadToEnd (script : List ℕ) (rest : Option (List ℕ)) : Type 0 where

@@ -6,11 +6,15 @@
 //! answered. What is written is a stated function of what is read (`specs/Replies.antt`), whatever
 //! pieces it comes and goes in, and for each way to stop short a clause says what was written.
 //!
-//! Each byte of the script is looked at once, and one line and its reply are kept at a time.
+//! A line of more than 65,536 bytes gets the machine's reply to a long line, and is skipped to its end.
+//!
+//! Each byte of the script is looked at once, and one line and its reply are kept at a time; of a line
+//! that is too long nothing is kept.
 #![tactic(auto)]
 
 mod answer;
 mod outcome;
+mod pending;
 mod read;
 mod write;
 

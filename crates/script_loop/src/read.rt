@@ -1,14 +1,17 @@
 //! Reading a script and answering its lines.
 ghost use Rattle.std.specs.Prelude.{◌≡◌, ◌≤◌, ◌<◌, ◌^◌, ◌++◌, ◌⊎◌, ℕ, List, [], ◌∷◌, length, Some, IfOk, IfErr, OnOk, OnErr, IsErrOf, IfSome};
 ghost use Rattle.io_edge.specs.Outside.{Rose, HandsOut};
-ghost use Rattle.script_loop.specs.Lines.{whole_lines, last_part, last_line, all_lines};
-ghost use Rattle.script_loop.specs.Replies.{replies, after, ReadToEnd, AnsweredRead, ReadBytes, WrotePrefix, WroteLines};
+ghost use Rattle.script_loop.specs.Lines.{whole_lines, last_part, last_line, all_lines, kept};
+ghost use Rattle.script_loop.specs.Replies.{reply_to, next_to, replies, after, ReadToEnd, AnsweredRead, ReadBytes, WrotePrefix, WroteLines};
 
 use crate::answer::Answerer;
-use crate::outcome::Stop;
+use crate::outcome::{Memory, Stop};
+use crate::pending::Pending;
 use crate::write::write_all;
 use io_edge::{Failed, Sink, Source};
 use std::alloc::Global;
+use std::sync::ledger::Ledger;
+use step_counter::Steps;
 
 /// The most bytes that are read at a time.
 const BLOCK: usize = 65536;
@@ -16,22 +19,39 @@ const BLOCK: usize = 65536;
 /// The most bytes of a script that are read.
 const MOST_READ: u64 = 1 << 40;
 
-/// Answers one line.
-fn answer_line<A: Answerer, O: Sink>(
+/// The reply to a line.
+fn reply_to<A: Answerer, L: Ledger>(
     alloc: Global,
     answerer: &mut A,
-    line: &[u8],
+    line: &Pending,
+    steps: &mut Steps<L>,
+) -> Result<Vec<u8>, Memory>
+    ensures reply { IfOk result (λ v. v.items ≡ reply_to A.machine answerer.old line.now) }
+    ensures next { OnOk result (answerer.new ≡ next_to A.machine answerer.old line.now) }
+{
+    match line.part() {
+        Some(part) => answerer.answer(alloc, part, steps),
+        None => answerer.answer_long(alloc),
+    }
+}
+
+/// Answers one line.
+fn answer_line<A: Answerer, O: Sink, L: Ledger>(
+    alloc: Global,
+    answerer: &mut A,
+    line: &Pending,
     out: &mut O,
+    steps: &mut Steps<L>,
 ) -> Result<(), Stop>
-    ensures next { OnOk result (answerer.new ≡ A.machine.next answerer.old line.now) }
-    ensures written { OnOk result ((taken : List ℕ) → O.told out.old ≡ Some taken → O.told out.new ≡ Some (taken ++ A.machine.reply answerer.old line.now)) }
-    ensures prefix { IsErrOf result Stop.Sink → (taken : List ℕ) → O.told out.old ≡ Some taken → WrotePrefix (A.machine.reply answerer.old line.now) taken (O.told out.new) }
+    ensures next { OnOk result (answerer.new ≡ next_to A.machine answerer.old line.now) }
+    ensures written { OnOk result ((taken : List ℕ) → O.told out.old ≡ Some taken → O.told out.new ≡ Some (taken ++ reply_to A.machine answerer.old line.now)) }
+    ensures prefix { IsErrOf result Stop.Sink → (taken : List ℕ) → O.told out.old ≡ Some taken → WrotePrefix (reply_to A.machine answerer.old line.now) taken (O.told out.new) }
     ensures failed { IsErrOf result Stop.Sink → Rose (O.faults out.old) (O.faults out.new) }
     ensures nothing_written { IsErrOf result Stop.Memory → O.told out.new ≡ O.told out.old }
     ensures causes { IfErr result (λ e. (e ≡ Stop.Sink) ⊎ (e ≡ Stop.Memory)) }
     ensures never_falls { O.faults out.old ≤ O.faults out.new }
 {
-    let Ok(reply) = answerer.answer(alloc, line) else {
+    let Ok(reply) = reply_to(alloc, answerer, line, steps) else {
         return Err(Stop::Memory);
     };
     match write_all(out, reply.as_slice()) {
@@ -59,27 +79,28 @@ fn read_block<I: Source>(script: &mut I, block: &mut [u8], most: u64) -> Result<
 }
 
 /// Goes on by one byte: LF ends the pending line, which is answered; any other byte goes on with it.
-fn answer_byte<A: Answerer, O: Sink>(
+fn answer_byte<A: Answerer, O: Sink, L: Ledger>(
     alloc: Global,
     answerer: &mut A,
-    pending: &mut Vec<u8>,
+    pending: &mut Pending,
     byte: u8,
     out: &mut O,
+    steps: &mut Steps<L>,
 ) -> Result<(), Stop>
-    ensures pending { OnOk result (pending.new.items ≡ last_part pending.old.items (byte ∷ [])) }
-    ensures next { OnOk result (answerer.new ≡ after A.machine answerer.old (whole_lines pending.old.items (byte ∷ []))) }
-    ensures written { OnOk result ((taken : List ℕ) → O.told out.old ≡ Some taken
-        → O.told out.new ≡ Some (taken ++ replies A.machine answerer.old (whole_lines pending.old.items (byte ∷ [])))) }
-    ensures prefix { IsErrOf result Stop.Sink → (taken : List ℕ) → O.told out.old ≡ Some taken
-        → WrotePrefix (replies A.machine answerer.old (whole_lines pending.old.items (byte ∷ []))) taken (O.told out.new) }
+    ensures pending { OnOk result ((part : List ℕ) → pending.old ≡ kept part → pending.new ≡ kept (last_part part (byte ∷ []))) }
+    ensures next { OnOk result ((part : List ℕ) → pending.old ≡ kept part → answerer.new ≡ after A.machine answerer.old (whole_lines part (byte ∷ []))) }
+    ensures written { OnOk result ((part taken : List ℕ) → pending.old ≡ kept part → O.told out.old ≡ Some taken
+        → O.told out.new ≡ Some (taken ++ replies A.machine answerer.old (whole_lines part (byte ∷ [])))) }
+    ensures prefix { IsErrOf result Stop.Sink → (part taken : List ℕ) → pending.old ≡ kept part → O.told out.old ≡ Some taken
+        → WrotePrefix (replies A.machine answerer.old (whole_lines part (byte ∷ []))) taken (O.told out.new) }
     ensures failed { IsErrOf result Stop.Sink → Rose (O.faults out.old) (O.faults out.new) }
-    ensures lines { IsErrOf result Stop.Memory → (taken : List ℕ) → O.told out.old ≡ Some taken
-        → WroteLines A.machine answerer.old (whole_lines pending.old.items (byte ∷ [])) taken (O.told out.new) }
+    ensures lines { IsErrOf result Stop.Memory → (part taken : List ℕ) → pending.old ≡ kept part → O.told out.old ≡ Some taken
+        → WroteLines A.machine answerer.old (whole_lines part (byte ∷ [])) taken (O.told out.new) }
     ensures causes { IfErr result (λ e. (e ≡ Stop.Sink) ⊎ (e ≡ Stop.Memory)) }
     ensures never_falls { O.faults out.old ≤ O.faults out.new }
 {
     if byte == b'\n' {
-        match answer_line(alloc, answerer, pending.as_slice(), out) {
+        match answer_line(alloc, answerer, pending, out, steps) {
             Ok(()) => {
                 pending.clear();
                 Ok(())
@@ -96,27 +117,28 @@ fn answer_byte<A: Answerer, O: Sink>(
 
 /// Answers the lines that end in the block; `pending` is what came of the first of them, and then
 /// what came of the next.
-fn answer_block<A: Answerer, O: Sink>(
+fn answer_block<A: Answerer, O: Sink, L: Ledger>(
     alloc: Global,
     answerer: &mut A,
-    pending: &mut Vec<u8>,
+    pending: &mut Pending,
     block: &[u8],
     out: &mut O,
+    steps: &mut Steps<L>,
 ) -> Result<(), Stop>
-    ensures pending { OnOk result (pending.new.items ≡ last_part pending.old.items block.now) }
-    ensures next { OnOk result (answerer.new ≡ after A.machine answerer.old (whole_lines pending.old.items block.now)) }
-    ensures written { OnOk result ((taken : List ℕ) → O.told out.old ≡ Some taken
-        → O.told out.new ≡ Some (taken ++ replies A.machine answerer.old (whole_lines pending.old.items block.now))) }
-    ensures prefix { IsErrOf result Stop.Sink → (taken : List ℕ) → O.told out.old ≡ Some taken
-        → WrotePrefix (replies A.machine answerer.old (whole_lines pending.old.items block.now)) taken (O.told out.new) }
+    ensures pending { OnOk result ((part : List ℕ) → pending.old ≡ kept part → pending.new ≡ kept (last_part part block.now)) }
+    ensures next { OnOk result ((part : List ℕ) → pending.old ≡ kept part → answerer.new ≡ after A.machine answerer.old (whole_lines part block.now)) }
+    ensures written { OnOk result ((part taken : List ℕ) → pending.old ≡ kept part → O.told out.old ≡ Some taken
+        → O.told out.new ≡ Some (taken ++ replies A.machine answerer.old (whole_lines part block.now))) }
+    ensures prefix { IsErrOf result Stop.Sink → (part taken : List ℕ) → pending.old ≡ kept part → O.told out.old ≡ Some taken
+        → WrotePrefix (replies A.machine answerer.old (whole_lines part block.now)) taken (O.told out.new) }
     ensures failed { IsErrOf result Stop.Sink → Rose (O.faults out.old) (O.faults out.new) }
-    ensures lines { IsErrOf result Stop.Memory → (taken : List ℕ) → O.told out.old ≡ Some taken
-        → WroteLines A.machine answerer.old (whole_lines pending.old.items block.now) taken (O.told out.new) }
+    ensures lines { IsErrOf result Stop.Memory → (part taken : List ℕ) → pending.old ≡ kept part → O.told out.old ≡ Some taken
+        → WroteLines A.machine answerer.old (whole_lines part block.now) taken (O.told out.new) }
     ensures causes { IfErr result (λ e. (e ≡ Stop.Sink) ⊎ (e ≡ Stop.Memory)) }
     ensures never_falls { O.faults out.old ≤ O.faults out.new }
 {
     for byte in block {
-        match answer_byte(alloc, answerer, pending, *byte, out) {
+        match answer_byte(alloc, answerer, pending, *byte, out, steps) {
             Ok(()) => {}
             Err(stop) => return Err(stop),
         }
@@ -125,39 +147,42 @@ fn answer_block<A: Answerer, O: Sink>(
 }
 
 /// Answers what came behind the last LF, if it has a byte.
-fn answer_rest<A: Answerer, O: Sink>(
+fn answer_rest<A: Answerer, O: Sink, L: Ledger>(
     alloc: Global,
     answerer: &mut A,
-    pending: &[u8],
+    pending: &Pending,
     out: &mut O,
+    steps: &mut Steps<L>,
 ) -> Result<(), Stop>
-    ensures written { OnOk result ((taken : List ℕ) → O.told out.old ≡ Some taken
-        → O.told out.new ≡ Some (taken ++ replies A.machine answerer.old (last_line pending.now))) }
-    ensures prefix { IsErrOf result Stop.Sink → (taken : List ℕ) → O.told out.old ≡ Some taken
-        → WrotePrefix (replies A.machine answerer.old (last_line pending.now)) taken (O.told out.new) }
+    ensures written { OnOk result ((part taken : List ℕ) → pending.now ≡ kept part → O.told out.old ≡ Some taken
+        → O.told out.new ≡ Some (taken ++ replies A.machine answerer.old (last_line part))) }
+    ensures prefix { IsErrOf result Stop.Sink → (part taken : List ℕ) → pending.now ≡ kept part → O.told out.old ≡ Some taken
+        → WrotePrefix (replies A.machine answerer.old (last_line part)) taken (O.told out.new) }
     ensures failed { IsErrOf result Stop.Sink → Rose (O.faults out.old) (O.faults out.new) }
-    ensures lines { IsErrOf result Stop.Memory → (taken : List ℕ) → O.told out.old ≡ Some taken
-        → WroteLines A.machine answerer.old (last_line pending.now) taken (O.told out.new) }
+    ensures lines { IsErrOf result Stop.Memory → (part taken : List ℕ) → pending.now ≡ kept part → O.told out.old ≡ Some taken
+        → WroteLines A.machine answerer.old (last_line part) taken (O.told out.new) }
     ensures causes { IfErr result (λ e. (e ≡ Stop.Sink) ⊎ (e ≡ Stop.Memory)) }
     ensures never_falls { O.faults out.old ≤ O.faults out.new }
 {
-    match pending {
-        [] => Ok(()),
-        line => answer_line(alloc, answerer, line, out),
+    match pending.part() {
+        Some([]) => Ok(()),
+        _ => answer_line(alloc, answerer, pending, out, steps),
     }
 }
 
 /// Answers each line of the script as soon as its end is read, and a last line without LF at the
-/// end of the script. Reads at most 2^40 bytes.
+/// end of the script. A line of more than 65,536 bytes gets the reply to a long line. Reads at most
+/// 2^40 bytes.
 ///
 /// What was written when it stops short: at [`Stop::Script`] and [`Stop::Long`] the replies to the
 /// lines whose LF was read, at [`Stop::Sink`] a prefix of the replies, at [`Stop::Memory`] a prefix
 /// of them in whole lines.
-pub fn answer_script<A: Answerer, I: Source, O: Sink>(
+pub fn answer_script<A: Answerer, I: Source, O: Sink, L: Ledger>(
     alloc: Global,
     answerer: &mut A,
     script: &mut I,
     out: &mut O,
+    steps: &mut Steps<L>,
 ) -> Result<(), Stop>
     ensures ended { OnOk result ((text : List ℕ) → I.told script.old ≡ Some text → ReadToEnd text (I.told script.new)) }
     ensures answered { OnOk result ((text taken : List ℕ) → I.told script.old ≡ Some text → O.told out.old ≡ Some taken
@@ -176,16 +201,16 @@ pub fn answer_script<A: Answerer, I: Source, O: Sink>(
     ensures script_never_falls { I.faults script.old ≤ I.faults script.new }
     ensures sink_never_falls { O.faults out.old ≤ O.faults out.new }
 {
-    let mut pending = Vec::new(alloc);
+    let mut pending = Pending::new(alloc);
     let mut block = [0u8; BLOCK];
     let mut total = 0;
     while total < MOST_READ {
         match read_block(script, &mut block, MOST_READ - total) {
             Err(Failed) => return Err(Stop::Script),
-            Ok(0) => return answer_rest(alloc, answerer, pending.as_slice(), out),
+            Ok(0) => return answer_rest(alloc, answerer, &pending, out, steps),
             Ok(count) => {
                 total += count as u64;
-                match answer_block(alloc, answerer, &mut pending, &block[..count], out) {
+                match answer_block(alloc, answerer, &mut pending, &block[..count], out, steps) {
                     Ok(()) => {}
                     Err(stop) => return Err(stop),
                 }

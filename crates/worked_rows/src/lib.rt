@@ -3,8 +3,16 @@
 #![tactic(auto)]
 
 #[cfg(test)]
+mod batches;
+#[cfg(test)]
 mod devices;
 #[cfg(test)]
 mod lines;
+#[cfg(test)]
+mod runs;
+#[cfg(test)]
+mod sources;
+#[cfg(test)]
+mod states;
 #[cfg(test)]
 mod table;

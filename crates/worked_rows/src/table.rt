@@ -61,20 +61,77 @@ pub(crate) fn status<F: Files, I: Source, O: Sink>(
 pub(crate) fn served(
     alloc: Global,
     words: &str,
-    source: &str,
-    script: &str,
+    source: &[u8],
+    script: &[u8],
     most: usize,
 ) -> Result<(u8, Vec<u8>), Fail>
     requires some { 0 < most }
 {
     let words = words_of(alloc, words)?;
-    let mut files = folder(alloc, source.as_bytes(), FaultPlan::none(alloc))?;
-    let mut script = MemSource::new(
-        script.as_bytes().to_vec(alloc)?,
-        most,
-        FaultPlan::none(alloc),
-    );
+    let mut files = folder(alloc, source, FaultPlan::none(alloc))?;
+    let mut script = MemSource::new(script.to_vec(alloc)?, most, FaultPlan::none(alloc));
     let mut out = MemSink::new(alloc, most, FaultPlan::none(alloc));
     let status = status(alloc, words.as_slice(), &mut files, &mut script, &mut out);
     Ok((status, out.bytes().to_vec(alloc)?))
+}
+
+/// The line with spaces up to this length, LF, and the line once more.
+pub(crate) fn padded(alloc: Global, line: &str, length: usize) -> Result<String, Fail> {
+    let mut script = String::from_str(alloc, line)?;
+    for _ in line.len()..length {
+        script.push(' ')?;
+    }
+    script.push('\n')?;
+    script.push_str(line)?;
+    Ok(script)
+}
+
+/// The piece so often, between front and back.
+pub(crate) fn repeated(
+    alloc: Global,
+    front: &str,
+    piece: &str,
+    count: usize,
+    back: &str,
+) -> Result<String, Fail> {
+    let mut text = String::from_str(alloc, front)?;
+    for _ in 0..count {
+        text.push_str(piece)?;
+    }
+    text.push_str(back)?;
+    Ok(text)
+}
+
+/// So many ifs, each in the one before.
+pub(crate) fn nested(alloc: Global, depth: usize) -> Result<String, Fail> {
+    let mut text = repeated(alloc, "proc main() {", "if (0 == 0) {", depth, "}")?;
+    for _ in 0..depth {
+        text.push('}')?;
+    }
+    Ok(text)
+}
+
+/// A program with so many variables of a kind.
+pub(crate) fn variables(alloc: Global, kind: &str, count: usize) -> Result<String, Fail> {
+    let mut text = String::from_str(alloc, "proc main() {")?;
+    for i in 0..count {
+        let line = format!(in alloc; "var v{i}: {kind};")?;
+        text.push_str(line.as_str())?;
+    }
+    text.push('}')?;
+    Ok(text)
+}
+
+/// So many procedures, each of which calls the one before; main calls the last.
+pub(crate) fn chained(alloc: Global, count: usize) -> Result<String, Fail> {
+    let mut text = String::from_str(alloc, "proc f0() { }")?;
+    for i in 1..count {
+        let before = i - 1;
+        let line = format!(in alloc; "proc f{i}() {{ call f{before}(); }}")?;
+        text.push_str(line.as_str())?;
+    }
+    let last = count.saturating_sub(1);
+    let line = format!(in alloc; "proc main() {{ call f{last}(); }}")?;
+    text.push_str(line.as_str())?;
+    Ok(text)
 }

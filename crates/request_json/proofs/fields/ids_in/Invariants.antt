@@ -1,6 +1,6 @@
-use Rattle.std.proofs.Common.{◌≡◌, ◌≤◌, ◌++◌, drop, option_map}
+use Rattle.std.proofs.Common.{◌≡◌, drop}
 use Rattle.serde_json.specs.View.{items_view}
-use Rattle.request_json.specs.Members.{items_read, number_in, integer_in, greatest_id}
+use Rattle.request_json.specs.Members.{items_read, number_in, greatest_id}
 use Rattle.request_json.proofs.ItemLemmas.{reads}
 use Rattle.request_json.proofs.fields.ids_in.Given as goal
 

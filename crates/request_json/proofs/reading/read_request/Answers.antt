@@ -1,4 +1,4 @@
-use Rattle.std.proofs.Common.{false, IsTrue, ◌≡◌, Some, Ok, ◌∙◌, sym, ap}
+use Rattle.std.proofs.Common.{false, IsTrue, ◌∙◌, sym, ap}
 use Rattle.serde_json.specs.Read.{read}
 use Rattle.request_json.proofs.LineLemmas.{request_of_value, request_of_no_text, request_of_no_value, ok_along, err_along}
 use Rattle.request_json.proofs.reading.read_request.Goals as goal

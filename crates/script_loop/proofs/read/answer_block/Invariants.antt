@@ -1,14 +1,14 @@
 use Rattle.std.proofs.Common.{◌≡◌, ◌≤◌, ◌++◌, List, ℕ, Some, take}
-use Rattle.script_loop.specs.Lines.{whole_lines, last_part}
+use Rattle.script_loop.specs.Lines.{whole_lines, last_part, kept}
 use Rattle.script_loop.specs.Replies.{replies, after}
 use Rattle.script_loop.proofs.read.answer_block.Given as goal
 
 -- the lines that end in the bytes so far are answered
 abbrev pub invariant-loop-byte : goal.invariant-loop-byte
 invariant-loop-byte g l = record {
-  pending : l.pending.items ≡ last_part l.initial.pending.items (take l.byte-index l.block);
-  next : l.answerer ≡ after g.A.Answerer.machine l.initial.answerer (whole_lines l.initial.pending.items (take l.byte-index l.block));
+  pending : (part : List ℕ) → l.initial.pending ≡ kept part → l.pending ≡ kept (last_part part (take l.byte-index l.block));
+  next : (part : List ℕ) → l.initial.pending ≡ kept part → l.answerer ≡ after g.A.Answerer.machine l.initial.answerer (whole_lines part (take l.byte-index l.block));
   rises : g.O.Sink.faults l.initial.out ≤ g.O.Sink.faults l.out;
-  written : (taken : List ℕ) → g.O.Sink.told l.initial.out ≡ Some taken →
-      g.O.Sink.told l.out ≡ Some (taken ++ replies g.A.Answerer.machine l.initial.answerer (whole_lines l.initial.pending.items (take l.byte-index l.block)));
+  written : (part taken : List ℕ) → l.initial.pending ≡ kept part → g.O.Sink.told l.initial.out ≡ Some taken →
+      g.O.Sink.told l.out ≡ Some (taken ++ replies g.A.Answerer.machine l.initial.answerer (whole_lines part (take l.byte-index l.block)));
 }

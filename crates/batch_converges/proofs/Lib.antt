@@ -1,0 +1,5 @@
+pub mod Known
+pub mod Rounds
+pub mod Blocks
+pub mod OfIntervals
+pub mod Whole

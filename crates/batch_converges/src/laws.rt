@@ -1,0 +1,22 @@
+//! The theorems, each the contract of a function that does nothing.
+ghost use Rattle.std.specs.Prelude.{ℕ};
+ghost use Rattle.batch_converges.specs.Converges.{Converge, Ending, Grows, IntervalsConverge};
+
+use domain_laws::Domain;
+use program_chains::marks_rise;
+
+/// Where states change a stated number of times under widening, no answer of a checked program is an Over,
+/// from a budget on that is stated from that number.
+pub fn answers_converge<D: Domain>()
+    ensures end { (d : D) (most : ℕ → ℕ → ℕ) → Ending (D.operations d) most → Grows most → Converge (D.operations d) most }
+{
+    marks_rise();
+}
+
+/// By intervals no answer of a checked program is an Over where the budget is 2v(m + 1) + D + 2 or more: v the
+/// greatest number of numeric slots of a procedure, m the greatest number of marks, D the delay.
+pub fn intervals_converge()
+    ensures end { IntervalsConverge }
+{
+    marks_rise();
+}

@@ -1,0 +1,177 @@
+-- One step of each kind of statement, over plain variables.
+use Rattle.std.proofs.Common.{Result, Ok, Err, IfOk, Some, slice_get, take, ℕ, suc, ◌≡◌, ◌+◌, ◌<◌, ◌≤◌, ℤ, true, false, List, [], ◌∷◌, ◌++◌, length, drop, get_or, refl, sym, ap, ◌∙◌, append_assoc}
+use Rattle.imp_slots.specs.Plain.{Routine, Guard, DoBreak, Code, Stop, Simple, If, While, Call, Break}
+use Rattle.imp_slots.specs.BlockViews.{before_code, code_of}
+use Rattle.imp_slots.specs.declared.blocks.SlotNode.{SlotNode}
+use Rattle.imp_slots.specs.declared.blocks.SlotNode.TheVariants as node
+use Rattle.domain_laws.specs.Operations.{Operations}
+use Rattle.batch_meaning.specs.Values as plain
+use Rattle.batch_meaning.specs.Values.{Value, lift, lift2}
+use Rattle.batch_meaning.specs.Batch as meaning
+use Rattle.batch_meaning.specs.Batch.{Engine, Passed, after, next_of, settle, iterate, joined, head_of, behind, batch}
+use Rattle.batch_interp.specs.Answered.{value_of}
+use Rattle.batch_interp.specs.Frames.{Plan, calls_in, passed}
+use Rattle.batch_interp.specs.Passing.{states, Ends}
+use Rattle.batch_interp.specs.declared.frames.Frame.{Frame}
+use Rattle.batch_interp.specs.declared.value.Answer.{Answer}
+use Rattle.batch_interp.specs.declared.value.Answer.TheVariants.{State, Over}
+use Rattle.batch_interp.proofs.Procedures.{call_there}
+use Rattle.batch_interp.proofs.Lists.{drop_item, drop_none, append_none}
+
+states_append : {S : Type 0} (xs : List S) (s : S) → states (xs ++ s ∷ []) ≡ states xs ++ plain.State s ∷ []
+states_append [] s = refl
+states_append (x ∷ xs) s = ap (λ ys. plain.State x ∷ ys) (states_append xs s)
+
+module _ {S : Type 0} (dom : Operations S) (engine : Engine) where
+  pub joined_step : (xs : List S) (i : ℕ) (all x t : S) → i < length xs → x ≡ get_or xs i x → t ≡ dom.join all x → joined dom engine (plain.State t) (states (drop (i + 1) xs)) ≡ joined dom engine (plain.State all) (states (drop i xs))
+  joined_step xs i all x t h e k = ap (λ u. joined dom engine (plain.State u) (states (drop (i + 1) xs))) k ∙ sym (ap (λ ys. joined dom engine (plain.State all) (states ys)) (drop_item xs i x h e))
+
+  pub joined_end : (xs : List S) (i : ℕ) (all : S) → length xs ≤ i → joined dom engine (plain.State all) (states (drop i xs)) ≡ plain.State all
+  joined_end xs i all h = ap (λ ys. joined dom engine (plain.State all) (states ys)) (drop_none xs i h)
+
+  joined_over : (n : ℕ) (y : List ℕ) (xs : List (Value S)) → joined dom engine (plain.Over n y) xs ≡ plain.Over n y
+  joined_over n y [] = refl
+  joined_over n y (x ∷ xs) = joined_over n y xs
+
+  pub behind_over : (n : ℕ) (y : List ℕ) (g : Guard) (body : Value S → Passed S) → behind dom engine g body (plain.Over n y) ≡ plain.Over n y
+  behind_over n y g body = joined_over n y (body (plain.Over n y)).leaving
+
+  pub behind_state : (g : Guard) (body : Value S → Passed S) (v : Value S) (head out : S) (leaving : List S) → v ≡ plain.State head → (body (lift (dom.assume g true) (plain.State head))).leaving ≡ states leaving → out ≡ dom.assume g false head → behind dom engine g body v ≡ joined dom engine (plain.State out) (states leaving)
+  behind_state g body v head out leaving e l o = ap (behind dom engine g body) e ∙ (let p : dom.assume g false head ≡ out = sym o in λ i. joined dom engine (plain.State (p i)) (l i))
+
+  pub while_at : (g : Guard) (body : Value S → Passed S) (v : Value S) (head out all : S) (leaving others : List S) → v ≡ plain.State head → (body (lift (dom.assume g true) (plain.State head))).leaving ≡ states leaving → out ≡ dom.assume g false head → others ≡ leaving → plain.State all ≡ joined dom engine (plain.State out) (states others) → plain.State all ≡ behind dom engine g body v
+  while_at g body v head out all leaving others e l o same j =
+      j ∙ ap (λ xs. joined dom engine (plain.State out) (states xs)) same ∙ sym (behind_state g body v head out leaving e l o)
+
+  pub while_over : (g : Guard) (body : Value S → Passed S) (v : Value S) (n : ℕ) (y : List ℕ) → v ≡ plain.Over n y → plain.Over n y ≡ behind dom engine g body v
+  while_over g body v n y e = sym (ap (behind dom engine g body) e ∙ behind_over n y g body)
+
+pub ends_value : {S : Type 0} (before behind : List S) (p : Passed S) (a : Answer S) → Ends before behind p a → value_of a ≡ p.value
+ends_value {S} before behind p (State t) h = sym (ap (λ (p : Passed S). p.value) h)
+ends_value before behind p (Over n chain) h = sym h
+
+module _ {S : Type 0} (dom : Operations S) (plan : Plan) where
+  -- the body of a procedure that is called
+  pub of_callee : {E : Type 0} (r : Result (Answer S) E) (before behind : List S) (place : ℕ) (z : List ℕ) (n q : ℕ) (routine : Routine) (code : Code) (inner : Frame) (a : Value S) → Some routine ≡ slice_get (take place plan.program) q → inner ≡ record { place = q; sites = n ∷ z } → code ≡ routine.code → IfOk r (Ends before behind (passed dom plan inner.place inner.sites code a)) → IfOk r (λ x. value_of x ≡ calls_in dom plan place z n q a)
+  of_callee (Err e) before behind place z n q routine code inner a there same body h = h
+  of_callee (Ok x) before behind place z n q routine code inner a there same body h =
+      let here : (passed dom plan inner.place inner.sites code a).value ≡ (passed dom plan q (n ∷ z) routine.code a).value = λ i. (passed dom plan (same i).place (same i).sites (body i) a).value in
+      ends_value before behind (passed dom plan inner.place inner.sites code a) x h ∙ here ∙ sym (call_there dom plan place z n q routine a (sym there))
+
+module _ {S : Type 0} (dom : Operations S) (engine : Engine) (marks : List ℤ) (z : List ℕ) (calls : (n q : ℕ) → Value S → Value S) where
+  abbrev B : Code → Value S → Passed S
+  B = batch dom engine marks z calls
+
+  pub over_batch : (c : Code) (n : ℕ) (y : List ℕ) → (batch dom engine marks z calls c (plain.Over n y)).value ≡ plain.Over n y
+  over_batch Stop n y = refl
+  over_batch (Simple m e r) n y = over_batch r n y
+  over_batch (If m g t e r) n y = ap (λ v. (B r (lift2 dom.join v (B e (plain.Over n y)).value)).value) (over_batch t n y) ∙ over_batch r n y
+  over_batch (While m g b r) n y = ap (λ v. (B r v).value) (behind_over dom engine n y g (B b)) ∙ over_batch r n y
+  over_batch (Call m i q r) n y = over_batch r n y
+  over_batch (Break m r) n y = over_batch r n y
+
+  -- a statement, and what comes behind it
+  batch_before : (s : SlotNode) (r : Code) (a : Value S) → B (before_code s r) a ≡ after (B (before_code s Stop) a).leaving (B r (B (before_code s Stop) a).value)
+  batch_before (node.Simple n e) r a = refl
+  batch_before (node.If n g t e) r a =
+      let x = B t (lift (dom.assume g true) a) in
+      let y = B e (lift (dom.assume g false) a) in
+      ap (λ ls. after ls (B r (lift2 dom.join x.value y.value))) (sym (append_none (x.leaving ++ y.leaving)))
+  batch_before (node.While n g b) r a = refl
+  batch_before (node.Call n i q) r a = refl
+  batch_before (node.Break n) r a = refl
+
+  step_on : (s : SlotNode) (r : Code) (now next : S) (before behind : List S) → Ends before behind (B (before_code s Stop) (plain.State now)) (State next) → after (states behind) (B r (plain.State next)) ≡ after (states before) (B (before_code s r) (plain.State now))
+  step_on s r now next before behind h =
+      let q = B (before_code s Stop) (plain.State now) in
+      let v : plain.State next ≡ q.value = sym (ap (λ (p : Passed S). p.value) h) in
+      let l : states behind ≡ states before ++ q.leaving = sym (ap (λ (p : Passed S). p.leaving) h) in
+      (λ i. after (l i) (B r (v i)))
+      ∙ ap (λ ls. record { value = (B r q.value).value; leaving = ls }) (append_assoc (states before) q.leaving (B r q.value).leaving)
+      ∙ ap (after (states before)) (sym (batch_before s r (plain.State now)))
+
+  pub block_step : (ss : List SlotNode) (i : ℕ) (s : SlotNode) (now next : S) (before behind : List S) → i < length ss → s ≡ get_or ss i s → Ends before behind (B (before_code s Stop) (plain.State now)) (State next) → after (states behind) (B (code_of (drop (i + 1) ss)) (plain.State next)) ≡ after (states before) (B (code_of (drop i ss)) (plain.State now))
+  block_step ss i s now next before behind h e k =
+      step_on s (code_of (drop (i + 1) ss)) now next before behind k ∙ ap (λ xs. after (states before) (B (code_of xs) (plain.State now))) (sym (drop_item ss i s h e))
+
+  pub block_over : (ss : List SlotNode) (i : ℕ) (s : SlotNode) (now : S) (n : ℕ) (y : List ℕ) → i < length ss → s ≡ get_or ss i s → (B (before_code s Stop) (plain.State now)).value ≡ plain.Over n y → (B (code_of (drop i ss)) (plain.State now)).value ≡ plain.Over n y
+  block_over ss i s now n y h e k =
+      let r = code_of (drop (i + 1) ss) in
+      ap (λ xs. (B (code_of xs) (plain.State now)).value) (drop_item ss i s h e)
+      ∙ ap (λ (p : Passed S). p.value) (batch_before s r (plain.State now))
+      ∙ ap (λ v. (B r v).value) k
+      ∙ over_batch r n y
+
+  pub block_end : (ss : List SlotNode) (i : ℕ) (now : S) (before : List S) → length ss ≤ i → after (states before) (B (code_of (drop i ss)) (plain.State now)) ≡ record { value = plain.State now; leaving = states before }
+  block_end ss i now before h =
+      ap (λ xs. after (states before) (B (code_of xs) (plain.State now))) (drop_none ss i h)
+      ∙ ap (λ ls. record { value = plain.State now; leaving = ls }) (append_none (states before))
+
+  -- a statement that nothing leaves
+  pub ends_alone : (p : Passed S) (before : List S) (a : Answer S) → p.leaving ≡ [] → value_of a ≡ p.value → Ends before before p a
+  ends_alone p before (State t) l v = (let w : p.value ≡ plain.State t = sym v in λ i. record { value = w i; leaving = states before ++ l i }) ∙ ap (λ ls. record { value = plain.State t; leaving = ls }) (append_none (states before))
+  ends_alone p before (Over n chain) l v = sym v
+
+  pub ends_break : (n : ℕ) (s t : S) (before behind : List S) → t ≡ dom.post DoBreak s → behind ≡ before ++ s ∷ [] → Ends before behind (B (Break n Stop) (plain.State s)) (State t)
+  ends_break n s t before behind e l =
+      let ls : states before ++ plain.State s ∷ [] ≡ states behind = sym (states_append before s) ∙ sym (ap states l) in
+      let f : dom.post DoBreak s ≡ t = sym e in
+      λ i. record { value = plain.State (f i); leaving = ls i }
+
+  -- both blocks of an if
+  pub if_left : (g : Guard) (t e : Code) (s a : S) (n : ℕ) (y : List ℕ) → a ≡ dom.assume g true s → (B t (plain.State a)).value ≡ plain.Over n y → (B (If 0 g t e Stop) (plain.State s)).value ≡ plain.Over n y
+  if_left g t e s a n y k h =
+      let x : (B t (plain.State (dom.assume g true s))).value ≡ plain.Over n y = ap (λ b. (B t (plain.State b)).value) (sym k) ∙ h in
+      ap (λ v. lift2 dom.join v (B e (plain.State (dom.assume g false s))).value) x
+
+  pub if_right : (g : Guard) (t e : Code) (s a b l : S) (before middle : List S) (n : ℕ) (y : List ℕ) → a ≡ dom.assume g true s → Ends before middle (B t (plain.State a)) (State l) → b ≡ dom.assume g false s → (B e (plain.State b)).value ≡ plain.Over n y → (B (If 0 g t e Stop) (plain.State s)).value ≡ plain.Over n y
+  if_right g t e s a b l before middle n y k h m u =
+      let x : (B t (plain.State (dom.assume g true s))).value ≡ plain.State l = ap (λ c. (B t (plain.State c)).value) (sym k) ∙ ap (λ (p : Passed S). p.value) h in
+      let w : (B e (plain.State (dom.assume g false s))).value ≡ plain.Over n y = ap (λ c. (B e (plain.State c)).value) (sym m) ∙ u in
+      λ i. lift2 dom.join (x i) (w i)
+
+  pub if_both : (g : Guard) (t e : Code) (s a b l r j : S) (before middle behind : List S) → a ≡ dom.assume g true s → Ends before middle (B t (plain.State a)) (State l) → b ≡ dom.assume g false s → Ends middle behind (B e (plain.State b)) (State r) → j ≡ dom.join l r → Ends before behind (B (If 0 g t e Stop) (plain.State s)) (State j)
+  if_both g t e s a b l r j before middle behind k h m u d =
+      let p = B t (plain.State a) in
+      let q = B e (plain.State b) in
+      let k' : dom.assume g true s ≡ a = sym k in
+      let m' : dom.assume g false s ≡ b = sym m in
+      let start : B (If 0 g t e Stop) (plain.State s) ≡ after (p.leaving ++ q.leaving) (record { value = lift2 dom.join p.value q.value; leaving = [] }) = λ i. after ((B t (plain.State (k' i))).leaving ++ (B e (plain.State (m' i))).leaving) (record { value = lift2 dom.join (B t (plain.State (k' i))).value (B e (plain.State (m' i))).value; leaving = [] }) in
+      let x : p.value ≡ plain.State l = ap (λ (p : Passed S). p.value) h in
+      let y : q.value ≡ plain.State r = ap (λ (p : Passed S). p.value) u in
+      let v : lift2 dom.join p.value q.value ≡ plain.State j = (λ i. lift2 dom.join (x i) (y i)) ∙ ap plain.State (sym d) in
+      let ls : states before ++ ((p.leaving ++ q.leaving) ++ []) ≡ states behind =
+      ap (λ xs. states before ++ xs) (append_none (p.leaving ++ q.leaving)) ∙ sym (append_assoc (states before) p.leaving q.leaving) ∙ ap (λ xs. xs ++ q.leaving) (ap (λ (p : Passed S). p.leaving) h) ∙ ap (λ (p : Passed S). p.leaving) u in
+      ap (after (states before)) start ∙ (λ i. record { value = v i; leaving = ls i })
+
+  -- a round of a loop
+  abbrev F : Guard → Code → (over : Value S) → (left k : ℕ) → S → meaning.Fixed S
+  F g b over = iterate dom engine marks (λ x. (B b (lift (dom.assume g true) x)).value) over
+
+  round : (g : Guard) (b : Code) (s a : S) → a ≡ dom.assume g true s → (B b (lift (dom.assume g true) (plain.State s))).value ≡ (B b (plain.State a)).value
+  round g b s a e = ap (λ c. (B b (plain.State c)).value) (sym e)
+
+  pub round_over : (g : Guard) (b : Code) (over : Value S) (s a : S) (left rest k : ℕ) (n : ℕ) (y : List ℕ) → left ≡ suc rest → a ≡ dom.assume g true s → (B b (plain.State a)).value ≡ plain.Over n y → F g b over left k s ≡ record { value = plain.Over n y; index = 0 }
+  round_over g b over s a left rest k n y e i h =
+      ap (λ m. F g b over m k s) e ∙ ap (λ v. settle dom engine k s (lift (next_of dom engine marks k s) v) (F g b over rest (suc k))) (round g b s a i ∙ h)
+
+  -- the next iterate of a round that ends
+  next_here : (g : Guard) (b : Code) (over : Value S) (s a end next : S) (left rest k : ℕ) (before behind : List S) → left ≡ suc rest → a ≡ dom.assume g true s → Ends before behind (B b (plain.State a)) (State end) → next ≡ next_of dom engine marks k s end → F g b over left k s ≡ settle dom engine k s (plain.State next) (F g b over rest (suc k))
+  next_here g b over s a end next left rest k before behind e i h m =
+      let v : (B b (lift (dom.assume g true) (plain.State s))).value ≡ plain.State end = round g b s a i ∙ ap (λ (p : Passed S). p.value) h in
+      ap (λ m. F g b over m k s) e ∙ ap (λ v. settle dom engine k s (lift (next_of dom engine marks k s) v) (F g b over rest (suc k))) v ∙ ap (λ u. settle dom engine k s (plain.State u) (F g b over rest (suc k))) (sym m)
+
+  pub round_stops : (g : Guard) (b : Code) (over : Value S) (s a end next : S) (left rest k : ℕ) (before behind : List S) → left ≡ suc rest → a ≡ dom.assume g true s → Ends before behind (B b (plain.State a)) (State end) → next ≡ next_of dom engine marks k s end → dom.same next s ≡ true → F g b over left k s ≡ record { value = plain.State s; index = k }
+  round_stops g b over s a end next left rest k before behind e i h m t =
+      next_here g b over s a end next left rest k before behind e i h m ∙ rw t refl
+
+  pub round_goes_on : (g : Guard) (b : Code) (over : Value S) (s a end next : S) (left rest k : ℕ) (before behind : List S) → left ≡ suc rest → a ≡ dom.assume g true s → Ends before behind (B b (plain.State a)) (State end) → next ≡ next_of dom engine marks k s end → dom.same next s ≡ false → F g b over left k s ≡ F g b over rest (suc k) next
+  round_goes_on g b over s a end next left rest k before behind e i h m t =
+      next_here g b over s a end next left rest k before behind e i h m ∙ rw t refl
+
+  pub stopped : (g : Guard) (b : Code) (s a : S) (end : S) (before behind : List S) → before ≡ [] → a ≡ dom.assume g true s → Ends before behind (B b (plain.State a)) (State end) → (B b (lift (dom.assume g true) (plain.State s))).leaving ≡ states behind
+  stopped g b s a end before behind none e h =
+      let p = B b (plain.State a) in
+      let f : dom.assume g true s ≡ a = sym e in
+      let ls : states [] ++ p.leaving ≡ states before ++ p.leaving = ap (λ xs. states xs ++ p.leaving) (sym none) in
+      ap (λ c. (B b (plain.State c)).leaving) f ∙ ls ∙ ap (λ (p : Passed S). p.leaving) h

@@ -1,0 +1,325 @@
+-- What is known in front of the statements of a procedure that have a check.
+use Rattle.std.proofs.Common.{ℕ, zero, suc, ◌≡◌, ◌+◌, ◌<◌, ◌≤◌, true, false, List, [], ◌∷◌, ◌++◌, length, drop, map, reverse, get_or, slice_get, option_map, Option, Some, None, MatchOption, Result, Ok, Err, IfOk, refl, sym, ap, subst, ◌∙◌, arith, append_assoc, add-one}
+use Rattle.std.specs.Prelude.{Contains}
+use Rattle.std.proofs.lemmas.List.{reverse-append, reverse-reverse}
+use Rattle.imp_syntax.specs.declared.edit.Location.TheVariants.{Before}
+use Rattle.imp_slots.specs.Plain.{Guard, Effect, Does, DoBreak, Invoke, Code, Stop, Simple, If, While, Call, Break, Routine, code_numbers}
+use Rattle.imp_slots.specs.Fits.{Distinct, IsChecked}
+use Rattle.program_chains.specs.Chains.{ending_in, chains, selected, holder}
+use Rattle.program_chains.specs.Claims.{PlacesAreFound}
+use Rattle.domain_laws.specs.Operations.{Operations}
+use Rattle.domain_laws.specs.Checks.{Check, check_of}
+use Rattle.domain_laws.specs.declared.findings.Check.{Check as Kind}
+use Rattle.domain_laws.specs.declared.findings.Finding.{Finding}
+use Rattle.alarm_report.specs.declared.Found.{Found}
+use Rattle.alarm_report.specs.declared.Found.TheVariants.{Absent, Over as OverBudget, State as At}
+use Rattle.alarm_report.specs.Reporting.{kind_of_check, verdict_for}
+use Rattle.batch_meaning.specs.declared.refusal.Refusal.TheVariants.{NoStatement}
+use Rattle.batch_meaning.specs.Values.{Value, lift, lift2}
+use Rattle.batch_meaning.specs.Batch.{Engine, head_of, behind}
+use Rattle.batch_meaning.specs.Places.{Spot, spot, if_some, entry, value_in, value_at}
+use Rattle.batch_meaning.specs.Answers.{found_or, all_values, sum_of, answer_in, answer}
+use Rattle.batch_meaning.specs.Report.{Checked, checked_one, checked_in, checked_statements, kind_of, verdict_on, finding}
+use Rattle.batch_interp.specs.Answered.{value_of}
+use Rattle.batch_interp.specs.Frames.{Plan, earlier, marks_at, calls_in, passed}
+use Rattle.batch_interp.specs.Seeking.{places}
+use Rattle.batch_interp.specs.Summing.{added}
+use Rattle.batch_interp.specs.Reporting.{claim_of, claims, before_one, befores}
+use Rattle.batch_interp.specs.Totalling.{first_of, behind_first, all_added, answered, EachWith, AreTotals, kind_for, found_from, all_found, IsFoundOf, LeadsTo, AllLead, HasBody}
+use Rattle.batch_interp.specs.declared.claim.Claim.{Claim}
+use Rattle.batch_interp.specs.declared.value.Answer.{Answer}
+use Rattle.batch_interp.specs.declared.walks.Entered.{Entered}
+use Rattle.batch_interp.proofs.Lists.{append_none, drop_item}
+use Rattle.batch_interp.proofs.Members.{Member, here, there, in_left, in_right, found, has_member, All2, all2_both, all2_as, AllOf, all_both, all_as}
+use Rattle.batch_interp.proofs.Once.{once_at}
+use Rattle.batch_interp.proofs.Seekings.{numbers_of_places}
+use Rattle.batch_interp.proofs.Walkings.{before_there}
+use Rattle.batch_interp.proofs.Gathering.{gathered, gathered_none, sum_step, sum_end}
+
+claims_both : (xs ys : List Checked) → claims (xs ++ ys) ≡ claims xs ++ claims ys
+claims_both [] ys = refl
+claims_both (x ∷ xs) ys = ap (λ zs. (x.number, x.effect) ∷ zs) (claims_both xs ys)
+
+module _ {S : Type 0} (dom : Operations S) (plan : Plan) where
+  module _ (place : ℕ) (z : List ℕ) where
+    abbrev P : Code → Value S → List (ℕ × Spot S)
+    P = places dom plan place z
+
+    abbrev F : Code → Value S → List (Value S)
+    F = befores dom plan place z
+
+    -- a statement of a block, and the value in front of it
+    record Stands (c : Code) (v : Value S) (k : ℕ × Effect) (b : Value S) : Type 0 where
+      spot : Spot S
+      stands : Member (k.0, spot) (places dom plan place z c v)
+      is : spot.before ≡ b
+
+    abbrev All_stand : (c : Code) (v : Value S) → List Checked → List (Value S) → Type 0
+    All_stand c v cs bs = All2 (Stands c v) (claims cs) bs
+
+    more : (c d : Code) (v w : Value S) (cs : List Checked) (bs : List (Value S)) → ((x : ℕ × Spot S) → Member x (P c v) → Member x (P d w)) → All_stand c v cs bs → All_stand d w cs bs
+    more c d v w cs bs f h = all2_as (Stands c v) (Stands d w) (claims cs) bs (λ k b s. record { spot = s.spot; stands = f (k.0, s.spot) s.stands; is = s.is }) h
+
+    join : (c : Code) (v : Value S) (cs ds : List Checked) (xs ys : List (Value S)) → All_stand c v cs xs → All_stand c v ds ys → All_stand c v (cs ++ ds) (xs ++ ys)
+    join c v cs ds xs ys f g = subst (λ ks. All2 (Stands c v) ks (xs ++ ys)) (sym (claims_both cs ds)) (all2_both (Stands c v) (claims cs) (claims ds) xs ys f g)
+
+    one : (n : ℕ) (e : Effect) (r : Code) (v : Value S) (o : Option Check) → All_stand (Simple n e r) v (checked_one n e o) (before_one o v)
+    one n e r v None = tt
+    one n e r v (Some c) = (record { spot = spot v None (lift (dom.post (Does e)) v) None; stands = here; is = refl }, tt)
+
+    abbrev holds : Guard → Value S → Value S
+    holds g v = lift (dom.assume g true) v
+
+    abbrev fails : Guard → Value S → Value S
+    fails g v = lift (dom.assume g false) v
+
+    abbrev both : Guard → (t e : Code) → Value S → Value S
+    both g t e v = lift2 dom.join (passed dom plan place z t (holds g v)).value (passed dom plan place z e (fails g v)).value
+
+    abbrev head : ℕ → Guard → Code → Value S → Value S
+    head n g b v = (head_of dom plan.engine (marks_at plan place) z n g (passed dom plan place z b) v).value
+
+    abbrev out : ℕ → Guard → Code → Value S → Value S
+    out n g b v = behind dom plan.engine g (passed dom plan place z b) (head n g b v)
+
+    abbrev returned : ℕ → Invoke → ℕ → Value S → Value S
+    returned n i q v = lift2 (dom.leave i.returning) v (calls_in dom plan place z n q (lift (dom.enter i.entering) v))
+
+    all_stand : (c : Code) (v : Value S) → All_stand c v (checked_in c) (befores dom plan place z c v)
+    all_stand Stop v = tt
+    all_stand (Simple n e r) v =
+        let w = lift (dom.post (Does e)) v in
+        join (Simple n e r) v (checked_one n e (check_of e)) (checked_in r) (before_one (check_of e) v) (F r w) (one n e r v (check_of e)) (more r (Simple n e r) w v (checked_in r) (F r w) (λ x. there) (all_stand r w))
+    all_stand (If n g t e r) v =
+        let c = If n g t e r in
+        let a = holds g v in
+        let b = fails g v in
+        let w = both g t e v in
+        let first = more t c a v (checked_in t) (F t a) (λ y m. there (in_left (P e b ++ P r w) m)) (all_stand t a) in
+        let second = more e c b v (checked_in e) (F e b) (λ y m. there (in_right (P t a) (in_left (P r w) m))) (all_stand e b) in
+        let last = more r c w v (checked_in r) (F r w) (λ y m. there (in_right (P t a) (in_right (P e b) m))) (all_stand r w) in
+        subst (λ bs. All_stand c v (checked_in c) bs) (sym (append_assoc (F t a) (F e b) (F r w)))
+        (join c v (checked_in t) (checked_in e ++ checked_in r) (F t a) (F e b ++ F r w) first (join c v (checked_in e) (checked_in r) (F e b) (F r w) second last))
+    all_stand (While n g b r) v =
+        let c = While n g b r in
+        let a = holds g (head n g b v) in
+        let w = out n g b v in
+        join c v (checked_in b) (checked_in r) (F b a) (F r w)
+        (more b c a v (checked_in b) (F b a) (λ y m. there (in_left (P r w) m)) (all_stand b a))
+        (more r c w v (checked_in r) (F r w) (λ y m. there (in_right (P b a) m)) (all_stand r w))
+    all_stand (Call n i q r) v = more r (Call n i q r) (returned n i q v) v (checked_in r) (F r (returned n i q v)) (λ x. there) (all_stand r (returned n i q v))
+    all_stand (Break n r) v = more r (Break n r) (lift (dom.post DoBreak) v) v (checked_in r) (F r (lift (dom.post DoBreak) v)) (λ x. there) (all_stand r (lift (dom.post DoBreak) v))
+
+  -- what stands in front of a statement is the value at its location
+  pub fronts : (place : ℕ) (z : List ℕ) (r : Routine) (v : Value S) → IsChecked plan.program → slice_get plan.program place ≡ Some r → entry dom plan.engine (reverse plan.program) z ≡ Some (earlier plan.program (suc place), v) → All2 (λ (c : ℕ × Effect) b. Some b ≡ value_at dom plan.engine plan.program (Before c.0) z) (claims (checked_in r.code)) (befores dom plan place z r.code v)
+  fronts place z r v checked g e =
+      let once = subst Distinct (sym (numbers_of_places dom plan place z r.code v)) (once_at plan.program place r checked.numbers_once g) in
+      all2_as (Stands place z r.code v) (λ c b. Some b ≡ value_at dom plan.engine plan.program (Before c.0) z) (claims (checked_in r.code)) (befores dom plan place z r.code v)
+      (λ c b s.
+      ap Some (sym s.is)
+      ∙ sym (ap (λ o. if_some o (λ (x : Spot S). Some x.before)) (found (c.0, s.spot) (places dom plan place z r.code v) once s.stands))
+      ∙ before_there dom plan place c.0 z r v g
+      ∙ ap (λ o. if_some o (λ x. value_in dom plan.engine x.0 z x.1 (Before c.0))) (sym e))
+      (all_stand place z r.code v)
+
+  abbrev at_claim : ℕ × Effect → List ℕ → Option (Value S)
+  at_claim c = value_at dom plan.engine plan.program (Before c.0)
+
+  -- the totals so far, with the chains to come, give what all chains give
+  abbrev pub SoFar : List (List ℕ) → ℕ → List (ℕ × Effect) → List (Value S) → Type 0
+  SoFar zs i cs vs = EachWith (λ (c : ℕ × Effect) o. gathered dom plan.engine o (all_values dom plan.engine (value_at dom plan.engine plan.program (Before c.0)) (map reverse (drop i zs))) ≡ sum_of dom plan.engine (all_values dom plan.engine (value_at dom plan.engine plan.program (Before c.0)) (map reverse zs))) cs vs
+
+  pub none_so_far : (zs : List (List ℕ)) (cs : List (ℕ × Effect)) → SoFar zs 0 cs []
+  none_so_far zs [] = tt
+  none_so_far zs (c ∷ cs) = (gathered_none dom plan.engine (all_values dom plan.engine (at_claim c) (map reverse zs)), none_so_far zs cs)
+
+  pub one_more_chain : (zs : List (List ℕ)) (i : ℕ) (z y : List ℕ) → i < length zs → z ≡ get_or zs i z → y ≡ z → (cs : List (ℕ × Effect)) (vs bs : List (Value S)) → All2 (λ (c : ℕ × Effect) b. Some b ≡ value_at dom plan.engine plan.program (Before c.0) (reverse y)) cs bs → SoFar zs i cs vs → SoFar zs (i + 1) cs (all_added dom vs bs)
+  one_more_chain zs i z y h e s [] vs [] f g = tt
+  one_more_chain zs i z y h e s [] vs (b ∷ bs) f g = absurd f
+  one_more_chain zs i z y h e s (c ∷ cs) vs [] f g = absurd f
+  one_more_chain zs i z y h e s (c ∷ cs) vs (b ∷ bs) f g = (
+    sum_step dom plan.engine (at_claim c) zs i z y (first_of vs) b (added dom (first_of vs) b) h e s f.0 refl ∙ g.0,
+    one_more_chain zs i z y h e s cs (behind_first vs) bs f.1 g.1,
+  )
+
+  gathered_end : (o : Option (Value S)) → gathered dom plan.engine o (Some []) ≡ answered o
+  gathered_end None = refl
+  gathered_end (Some v) = refl
+
+  pub all_chains : (zs : List (List ℕ)) (i : ℕ) (cs : List (ℕ × Effect)) (vs : List (Value S)) → length zs ≤ i → SoFar zs i cs vs → AreTotals dom plan (map reverse zs) cs vs
+  all_chains zs i [] vs h g = tt
+  all_chains zs i (c ∷ cs) vs h g =
+      (sym g.0 ∙ sum_end dom plan.engine (at_claim c) zs i (first_of vs) h ∙ gathered_end (first_of vs), all_chains zs i cs (behind_first vs) h g.1)
+
+  -- A checked statement of a block is one of its statements, and has that check.
+  record Right (code : Code) (c : Checked) : Type 0 where
+    stands : Member c.number (code_numbers code)
+    check : check_of c.effect ≡ Some c.check
+
+  right_more : (c d : Code) (cs : List Checked) → ((n : ℕ) → Member n (code_numbers c) → Member n (code_numbers d)) → AllOf (Right c) cs → AllOf (Right d) cs
+  right_more c d cs f h = all_as (Right c) (Right d) cs (λ x k. record { stands = f x.number k.stands; check = k.check }) h
+
+  right_one : (n : ℕ) (e : Effect) (r : Code) (o : Option Check) → check_of e ≡ o → AllOf (Right (Simple n e r)) (checked_one n e o)
+  right_one n e r None k = tt
+  right_one n e r (Some c) k = (record { stands = here; check = k }, tt)
+
+  all_right : (c : Code) → AllOf (Right c) (checked_in c)
+  all_right Stop = tt
+  all_right (Simple n e r) = all_both (Right (Simple n e r)) (checked_one n e (check_of e)) (checked_in r) (right_one n e r (check_of e) refl) (right_more r (Simple n e r) (checked_in r) (λ x. there) (all_right r))
+  all_right (If n g t e r) =
+      let c = If n g t e r in
+      all_both (Right c) (checked_in t) (checked_in e ++ checked_in r) (right_more t c (checked_in t) (λ x m. there (in_left (code_numbers e ++ code_numbers r) m)) (all_right t))
+      (all_both (Right c) (checked_in e) (checked_in r) (right_more e c (checked_in e) (λ x m. there (in_right (code_numbers t) (in_left (code_numbers r) m))) (all_right e))
+      (right_more r c (checked_in r) (λ x m. there (in_right (code_numbers t) (in_right (code_numbers e) m))) (all_right r)))
+  all_right (While n g b r) =
+      let c = While n g b r in
+      all_both (Right c) (checked_in b) (checked_in r) (right_more b c (checked_in b) (λ x m. there (in_left (code_numbers r) m)) (all_right b))
+      (right_more r c (checked_in r) (λ x m. there (in_right (code_numbers b) m)) (all_right r))
+  all_right (Call n i q r) = right_more r (Call n i q r) (checked_in r) (λ x. there) (all_right r)
+  all_right (Break n r) = right_more r (Break n r) (checked_in r) (λ x. there) (all_right r)
+
+  every_ends : (zs : List (List ℕ)) → ending_in [] zs ≡ zs
+  every_ends [] = refl
+  every_ends (z ∷ zs) = ap (λ ys. z ∷ ys) (every_ends zs)
+
+  module _ (place : ℕ) (r : Routine) (checked : IsChecked plan.program) (law : PlacesAreFound) (at : slice_get plan.program place ≡ Some r) where
+    one_finding : (c : Checked) (o : Option (Value S)) → Right r.code c → sum_of dom plan.engine (all_values dom plan.engine (value_at dom plan.engine plan.program (Before c.number)) (chains plan.program place)) ≡ answered o → found_from dom plan.engine (c.number, c.effect) o ≡ finding dom plan.engine plan.program c
+    one_finding c o k t =
+        let f = value_at dom plan.engine plan.program (Before c.number) in
+        let h : holder c.number plan.program ≡ Some place = (law plan.program checked place r at).statement c.number (has_member c.number (code_numbers r.code) k.stands) in
+        let same : answer dom plan.engine plan.program (Before c.number) [] ≡ answered o =
+        ap (λ p. answer_in dom plan.engine plan.program (Before c.number) [] (found_or NoStatement p)) h
+        ∙ ap (λ zs. sum_of dom plan.engine (all_values dom plan.engine f zs)) (every_ends (chains plan.program place)) ∙ t in
+        let kind : kind_for (check_of c.effect) ≡ kind_of c.check = ap kind_for k.check in
+        let verdict : verdict_on dom plan.engine c.effect (answered o) ≡ verdict_on dom plan.engine c.effect (answer dom plan.engine plan.program (Before c.number) []) = ap (verdict_on dom plan.engine c.effect) (sym same) in
+        λ i. record { id = c.number; check = kind i; verdict = verdict i }
+
+    each_finding : (cs : List Checked) (vs : List (Value S)) → AllOf (Right r.code) cs → AreTotals dom plan (chains plan.program place) (claims cs) vs → all_found dom plan.engine (claims cs) vs ≡ map (finding dom plan.engine plan.program) cs
+    each_finding [] vs k t = refl
+    each_finding (c ∷ cs) vs k t = λ i. one_finding c (first_of vs) k.0 t.0 i ∷ each_finding cs (behind_first vs) k.1 t.1 i
+
+    pub procedure_findings : (vs : List (Value S)) → AreTotals dom plan (chains plan.program place) (claims (checked_in r.code)) vs → all_found dom plan.engine (claims (checked_in r.code)) vs ≡ map (finding dom plan.engine plan.program) (checked_in r.code)
+    procedure_findings vs t = each_finding (checked_in r.code) vs (all_right r.code) t
+
+  pub chains_back : (place : ℕ) (zs : List (List ℕ)) → zs ≡ map reverse (selected plan.program place []) → map reverse zs ≡ chains plan.program place
+  chains_back place zs e = ap (map reverse) e ∙ back (selected plan.program place []) ∙ every_ends (chains plan.program place)
+    where
+      back : (zs : List (List ℕ)) → map reverse (map reverse zs) ≡ zs
+      back [] = refl
+      back (z ∷ zs) = λ i. reverse-reverse z i ∷ back zs i
+
+-- what a report answers is what is found
+verdict_same : {S : Type 0} (dom : Operations S) (engine : Engine) (e : Effect) (f : Found S) (v : Option (Value S)) → IsFoundOf f v → verdict_for dom (Does e) f ≡ verdict_on dom engine e (answered v)
+verdict_same dom engine e Absent v h = ap (λ o. verdict_on dom engine e (answered o)) (sym h)
+verdict_same dom engine e OverBudget v h = ap (λ o. verdict_on dom engine e (answered o)) (sym h.2)
+verdict_same dom engine e (At s) v h = ap (λ o. verdict_on dom engine e (answered o)) (sym h)
+
+kind_same : (o : Option Check) (k : Kind) → kind_of_check o ≡ Some k → k ≡ kind_for o
+kind_same None k h = absurd cc
+kind_same (Some c) k h = cc
+
+pub report_made : {S : Type 0} (dom : Operations S) (engine : Engine) (n : ℕ) (e : Effect) (g : Found S) (v : Option (Value S)) (f : Finding) → f.id ≡ n → kind_of_check (check_of e) ≡ Some f.check → f.verdict ≡ verdict_for dom (Does e) g → IsFoundOf g v → f ≡ found_from dom engine (n, e) v
+report_made dom engine n e g v f i k w h =
+    let kind : f.check ≡ kind_for (check_of e) = kind_same (check_of e) f.check k in
+    let verdict : f.verdict ≡ verdict_on dom engine e (answered v) = w ∙ verdict_same dom engine e g v h in
+    λ j. record { id = i j; check = kind j; verdict = verdict j }
+
+-- One more value at the end of the reversed lists.
+reversed : {A : Type 0} (xs ys : List A) (x : A) → xs ≡ ys ++ x ∷ [] → reverse xs ≡ x ∷ reverse ys
+reversed xs ys x e = ap reverse e ∙ reverse-append ys (x ∷ [])
+
+-- what is popped of a list, and what is left
+abbrev pub IsPopped : {A : Type 0} → Option A → List A → List A → Type 0
+IsPopped o xs ys = MatchOption o ((xs ≡ []) × (ys ≡ [])) (λ x. xs ≡ ys ++ x ∷ [])
+
+pop_first : {S : Type 0} (o : Option (Answer S)) (xs ys : List (Answer S)) → IsPopped o xs ys → (first_of (map value_of (reverse xs)) ≡ option_map value_of o) × (behind_first (map value_of (reverse xs)) ≡ map value_of (reverse ys))
+pop_first None xs ys h = (ap (λ zs. first_of (map value_of (reverse zs))) h.0, ap (λ zs. behind_first (map value_of (reverse zs))) h.0 ∙ sym (ap (λ zs. map value_of (reverse zs)) h.1))
+pop_first (Some x) xs ys h = (ap (λ zs. first_of (map value_of zs)) (reversed xs ys x h), ap (λ zs. behind_first (map value_of zs)) (reversed xs ys x h))
+
+values_one : {S : Type 0} (xs : List (Answer S)) (x : Answer S) → map value_of (xs ++ x ∷ []) ≡ map value_of xs ++ value_of x ∷ []
+values_one [] x = refl
+values_one (y ∷ ys) x = ap (λ zs. value_of y ∷ zs) (values_one ys x)
+
+pub add_one : {S : Type 0} (dom : Operations S) (all all' before before' left left' : List (Answer S)) (o : Option (Answer S)) (next x : Answer S) → left ≡ left' ++ next ∷ [] → IsPopped o before before' → value_of x ≡ added dom (option_map value_of o) (value_of next) → all' ≡ all ++ x ∷ [] → map value_of all' ++ all_added dom (map value_of (reverse before')) (map value_of (reverse left')) ≡ map value_of all ++ all_added dom (map value_of (reverse before)) (map value_of (reverse left))
+add_one dom all all' before before' left left' o next x l p v a =
+    let q = pop_first o before before' p in
+    let rest = all_added dom (map value_of (reverse before')) (map value_of (reverse left')) in
+    ap (λ zs. map value_of zs ++ rest) a ∙ ap (λ zs. zs ++ rest) (values_one all x) ∙ append_assoc (map value_of all) (value_of x ∷ []) rest
+    ∙ ap (λ zs. map value_of all ++ zs)
+    (ap (λ w. w ∷ rest) (v ∙ ap (λ u. added dom u (value_of next)) (sym q.0))
+    ∙ ap (λ bs. added dom (first_of (map value_of (reverse before))) (value_of next) ∷ all_added dom bs (map value_of (reverse left'))) (sym q.1)
+    ∙ ap (λ zs. all_added dom (map value_of (reverse before)) (map value_of zs)) (sym (reversed left left' next l)))
+
+pub add_none : {S : Type 0} (dom : Operations S) (all before left : List (Answer S)) → left ≡ [] → map value_of all ++ all_added dom (map value_of (reverse before)) (map value_of (reverse left)) ≡ map value_of all
+add_none dom all before left e = ap (λ zs. map value_of all ++ all_added dom (map value_of (reverse before)) (map value_of (reverse zs))) e ∙ append_none (map value_of all)
+
+first_drop : {S : Type 0} (xs : List (Answer S)) (i : ℕ) → first_of (map value_of (drop i xs)) ≡ option_map value_of (slice_get xs i)
+first_drop [] zero = refl
+first_drop [] (suc i) = refl
+first_drop (x ∷ xs) zero = refl
+first_drop (x ∷ xs) (suc i) = first_drop xs i
+
+behind_drop : {S : Type 0} (xs : List (Answer S)) (i : ℕ) → behind_first (map value_of (drop i xs)) ≡ map value_of (drop (suc i) xs)
+behind_drop [] zero = refl
+behind_drop [] (suc i) = refl
+behind_drop (x ∷ xs) zero = refl
+behind_drop (x ∷ xs) (suc i) = behind_drop xs i
+
+behind_next : {S : Type 0} (xs : List (Answer S)) (i : ℕ) → behind_first (map value_of (drop i xs)) ≡ map value_of (drop (i + 1) xs)
+behind_next xs i = rw add-one (behind_drop xs i)
+
+-- the finding of one more statement
+pub finding_step : {S : Type 0} (dom : Operations S) (engine : Engine) (found found' : List Finding) (cs : List Claim) (ts : List (Answer S)) (i : ℕ) (c : Claim) (o : Option (Answer S)) (f : Finding) → i < length cs → c ≡ get_or cs i c → o ≡ slice_get ts i → f ≡ found_from dom engine (claim_of c) (option_map value_of o) → found' ≡ found ++ f ∷ [] → found' ++ all_found dom engine (map claim_of (drop (i + 1) cs)) (map value_of (drop (i + 1) ts)) ≡ found ++ all_found dom engine (map claim_of (drop i cs)) (map value_of (drop i ts))
+finding_step dom engine found found' cs ts i c o f h e g k a =
+    let rest = all_found dom engine (map claim_of (drop (i + 1) cs)) (map value_of (drop (i + 1) ts)) in
+    let here : all_found dom engine (map claim_of (drop i cs)) (map value_of (drop i ts)) ≡ f ∷ rest =
+    ap (λ ks. all_found dom engine (map claim_of ks) (map value_of (drop i ts))) (drop_item cs i c h e)
+    ∙ ap (λ v. found_from dom engine (claim_of c) v ∷ all_found dom engine (map claim_of (drop (i + 1) cs)) (behind_first (map value_of (drop i ts)))) (first_drop ts i ∙ ap (option_map value_of) (sym g))
+    ∙ ap (λ x. x ∷ all_found dom engine (map claim_of (drop (i + 1) cs)) (behind_first (map value_of (drop i ts)))) (sym k)
+    ∙ ap (λ vs. f ∷ all_found dom engine (map claim_of (drop (i + 1) cs)) vs) (behind_next ts i) in
+    ap (λ xs. xs ++ rest) a ∙ append_assoc found (f ∷ []) rest ∙ ap (λ xs. found ++ xs) (sym here)
+
+module _ {S : Type 0} (dom : Operations S) (plan : Plan) where
+  pub lead_at : (place : ℕ) (zs : List (List ℕ)) (i : ℕ) (z y : List ℕ) → i < length zs → z ≡ get_or zs i z → y ≡ z → AllLead dom plan place (map reverse zs) → LeadsTo dom plan place (reverse y)
+  lead_at place [] i z y h e s l = absurd (omega arith)
+  lead_at place (x ∷ zs) zero z y h e s l = subst (λ w. LeadsTo dom plan place (reverse w)) (sym (s ∙ e)) l.0
+  lead_at place (x ∷ zs) (suc i) z y h e s l = lead_at place zs i z y (omega arith) e s l.1
+
+  pub totals_step : (place : ℕ) (body : Code) (t : HasBody plan.program place body) (zs : List (List ℕ)) (i : ℕ) (z y : List ℕ) (e : Entered S) (all more before left all' : List (Answer S)) → IsChecked plan.program → i < length zs → z ≡ get_or zs i z → y ≡ z → entry dom plan.engine (reverse plan.program) (reverse y) ≡ Some (earlier plan.program (suc place), value_of e.before) → e.frame.place ≡ place → e.frame.sites ≡ reverse y → map value_of more ≡ befores dom plan e.frame.place e.frame.sites body (value_of e.before) → before ≡ reverse all → left ≡ reverse more → map value_of all' ≡ all_added dom (map value_of (reverse before)) (map value_of (reverse left)) → SoFar dom plan zs i (claims (checked_in body)) (map value_of all) → SoFar dom plan zs (i + 1) (claims (checked_in body)) (map value_of all')
+  totals_step place body t zs i z y e all more before left all' checked h k s en p q m b l a g =
+      let v = value_of e.before in
+      let front = subst (λ c. All2 (λ (c : ℕ × Effect) b. Some b ≡ value_at dom plan.engine plan.program (Before c.0) (reverse y)) (claims (checked_in c)) (befores dom plan place (reverse y) c v)) t.is (fronts dom plan place (reverse y) t.routine v checked t.there en) in
+      let same : befores dom plan place (reverse y) body v ≡ map value_of more = (let p' : place ≡ e.frame.place = sym p in let q' : reverse y ≡ e.frame.sites = sym q in λ j. befores dom plan (p' j) (q' j) body v) ∙ sym m in
+      let front' = subst (λ bs. All2 (λ (c : ℕ × Effect) b. Some b ≡ value_at dom plan.engine plan.program (Before c.0) (reverse y)) (claims (checked_in body)) bs) same front in
+      let turned : map value_of all' ≡ all_added dom (map value_of all) (map value_of more) =
+      a ∙ ap (λ xs. all_added dom (map value_of (reverse xs)) (map value_of (reverse left))) b ∙ ap (λ xs. all_added dom (map value_of xs) (map value_of (reverse left))) (reverse-reverse all)
+      ∙ ap (λ xs. all_added dom (map value_of all) (map value_of (reverse xs))) l ∙ ap (λ xs. all_added dom (map value_of all) (map value_of xs)) (reverse-reverse more) in
+      subst (SoFar dom plan zs (i + 1) (claims (checked_in body))) (sym turned)
+      (one_more_chain dom plan zs i z y h k s (claims (checked_in body)) (map value_of all) (map value_of more) front' g)
+
+  -- the findings of a procedure are those of the report
+  pub part : (place : ℕ) (body : Code) (t : HasBody plan.program place body) (zs : List (List ℕ)) (cs : List Claim) (vs : List (Answer S)) (old new : List Finding) → IsChecked plan.program → PlacesAreFound → zs ≡ map reverse (selected plan.program place []) → map claim_of cs ≡ claims (checked_in body) → AreTotals dom plan (map reverse zs) (claims (checked_in body)) (map value_of vs) → new ≡ old ++ all_found dom plan.engine (map claim_of cs) (map value_of vs) → new ≡ old ++ map (finding dom plan.engine plan.program) (checked_in body)
+  part place body t zs cs vs old new checked law z c a n =
+      let totals = subst (λ ys. AreTotals dom plan ys (claims (checked_in body)) (map value_of vs)) (chains_back dom plan place zs z) a in
+      let totals' = subst (λ b. AreTotals dom plan (chains plan.program place) (claims (checked_in b)) (map value_of vs)) (sym t.is) totals in
+      let all : all_found dom plan.engine (claims (checked_in body)) (map value_of vs) ≡ map (finding dom plan.engine plan.program) (checked_in body) =
+      subst (λ b. all_found dom plan.engine (claims (checked_in b)) (map value_of vs) ≡ map (finding dom plan.engine plan.program) (checked_in b)) t.is (procedure_findings dom plan place t.routine checked law t.there (map value_of vs) totals') in
+      n ∙ ap (λ ks. old ++ all_found dom plan.engine ks (map value_of vs)) c ∙ ap (λ fs. old ++ fs) all
+
+-- the report of one more procedure
+pub report_step : {S : Type 0} (dom : Operations S) (engine : Engine) (program : List Routine) (i : ℕ) (r : Routine) (body : Code) (old new : List Finding) → i < length program → r ≡ get_or program i r → body ≡ r.code → new ≡ old ++ map (finding dom engine program) (checked_in body) → new ++ map (finding dom engine program) (checked_statements (drop (i + 1) program)) ≡ old ++ map (finding dom engine program) (checked_statements (drop i program))
+report_step dom engine program i r body old new h e b n =
+    let f = finding dom engine program in
+    let rest = map f (checked_statements (drop (i + 1) program)) in
+    ap (λ xs. xs ++ rest) n ∙ append_assoc old (map f (checked_in body)) rest
+    ∙ ap (λ xs. old ++ xs)
+    (ap (λ c. map f (checked_in c) ++ rest) b ∙ sym (split f (checked_in r.code) (checked_statements (drop (i + 1) program))) ∙ sym (ap (λ rs. map f (checked_statements rs)) (drop_item program i r h e)))
+  where
+    split : (f : Checked → Finding) (xs ys : List Checked) → map f (xs ++ ys) ≡ map f xs ++ map f ys
+    split f [] ys = refl
+    split f (x ∷ xs) ys = ap (λ zs. f x ∷ zs) (split f xs ys)
+
+-- each finding of a report that is sound
+pub each_sound : {E : Type 0} (r : Result (List Finding) E) (all : List Finding) (P : Finding → Type 0) → ((f : Finding) → Contains all f → P f) → IfOk r (λ fs. fs ≡ all) → IfOk r (λ fs. (f : Finding) → Contains fs f → P f)
+each_sound (Err e) all P h k = k
+each_sound (Ok fs) all P h k = λ f m. h f (subst (λ gs. Contains gs f) k m)

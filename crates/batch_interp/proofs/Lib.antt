@@ -1,0 +1,12 @@
+pub mod Lists
+pub mod Weights
+pub mod Procedures
+pub mod BlockLemmas
+pub mod Seekings
+pub mod Walkings
+pub mod Gathering
+pub mod Claimed
+pub mod Members
+pub mod Once
+pub mod Leading
+pub mod Fronts

@@ -1,0 +1,136 @@
+use Rattle.std.proofs.Common.{◌≡◌, ◌+◌, ◌-◌, suc, sym, ap, ◌∙◌, arith, reverse, true, false}
+use Rattle.batch_meaning.specs.Values as plain
+use Rattle.batch_meaning.specs.Values.{lift}
+use Rattle.batch_meaning.specs.Batch as meaning
+use Rattle.batch_meaning.specs.Batch.{Passed, after, behind, next_of, iterate, joined, head_of}
+use Rattle.batch_interp.specs.Frames.{marks_at, calls_in, passed}
+use Rattle.batch_interp.specs.Passing.{states}
+use Rattle.batch_interp.proofs.BlockLemmas.{block_step, block_over, block_end, while_at, while_over, of_callee, stopped, round_over, round_stops, round_goes_on}
+use Rattle.batch_interp.proofs.Procedures.{call_gone}
+use Rattle.batch_interp.proofs.blocks.+blocks.Goals as goal
+
+pub block_answer-loop-node-init : goal.block_answer-loop-node-init
+block_answer-loop-node-init g t c =
+    let dom = g.D.Domain.operations c.args.dom.now in
+    record {
+      is = c.statements-node-items.ensures.same;
+      told = ap (λ b. after (states c.args.leaving.now) (passed dom c.args.plan.now c.args.frame.now.place c.args.frame.now.sites b (plain.State c.args.state))) c.statements-node-items.ensures.same;
+    }
+
+pub block_answer-returns-in-Over : goal.block_answer-returns-in-Over
+block_answer-returns-in-Over g t c =
+    let dom = g.D.Domain.operations c.args.dom.now in
+    let plan = c.args.plan.now in
+    let place = c.args.frame.now.place in
+    let z = c.args.frame.now.sites in
+    let h = rw c.in-Over.is at c.in_ok-next.ensures.is in
+    record {
+      is =
+          sym (ap (λ (p : Passed g.row.D-State.Denot). p.value) c.loop-node.invariant.told)
+          ∙ block_over dom plan.engine (marks_at plan place) z (calls_in dom plan place z) c.statements-node-items.result.now c.loop-node.node-index c.node-item.result c.loop-node.now c.in-Over.head (reverse c.in-Over.chain) c.loop-node-test.true c.node-item.is h;
+    }
+
+pub block_answer-loop-node-preserved : goal.block_answer-loop-node-preserved
+block_answer-loop-node-preserved g t c =
+    let dom = g.D.Domain.operations c.args.dom.now in
+    let plan = c.args.plan.now in
+    let place = c.args.frame.now.place in
+    let z = c.args.frame.now.sites in
+    let h = rw c.in-State.is at c.in_ok-next.ensures.is in
+    record {
+      is = c.loop-node.invariant.is;
+      told = block_step dom plan.engine (marks_at plan place) z (calls_in dom plan place z) c.statements-node-items.result.now c.loop-node.node-index c.node-item.result c.loop-node.now c.in-State.next c.loop-node.leaving c.node_answer.new.leaving c.loop-node-test.true c.node-item.is h ∙ c.loop-node.invariant.told;
+    }
+
+pub block_answer-returns : goal.block_answer-returns
+block_answer-returns g t c =
+    let dom = g.D.Domain.operations c.args.dom.now in
+    let plan = c.args.plan.now in
+    let place = c.args.frame.now.place in
+    let z = c.args.frame.now.sites in
+    record {
+      is =
+          sym c.loop-node.invariant.told
+          ∙ block_end dom plan.engine (marks_at plan place) z (calls_in dom plan place z) c.statements-node-items.result.now c.loop-node.node-index c.loop-node.now c.loop-node.leaving c.loop-node-test.false;
+    }
+
+pub callee_answer-returns-in-None : goal.callee_answer-returns-in-None
+callee_answer-returns-in-None g t c =
+    record { is = sym (call_gone (g.D.Domain.operations c.args.dom.now) c.args.plan.now c.args.frame.now.place c.args.frame.now.sites c.args.n c.args.callee (plain.State c.args.entered) (sym c.in-None.ensures.is)) }
+
+pub callee_answer-returns-in_ok-inner-in-Some : goal.callee_answer-returns-in_ok-inner-in-Some
+callee_answer-returns-in_ok-inner-in-Some g t c =
+    record { is = of_callee (g.D.Domain.operations c.args.dom.now) c.args.plan.now c.block_answer.result c.new-leaving.result c.block_answer.new.leaving c.args.frame.now.place c.args.frame.now.sites c.args.n c.args.callee c.in-Some.routine.now c.body.result.now c.in_ok-inner-in-Some.inner (plain.State c.args.entered) c.in-Some.ensures.is c.in_ok-inner-in-Some.ensures.is c.body.ensures.same c.block_answer.ensures.is }
+
+pub loop_head-returns-in-Over : goal.loop_head-returns-in-Over
+loop_head-returns-in-Over g t c =
+    let dom = g.D.Domain.operations c.args.dom.now in
+    let plan = c.args.plan.now in
+    let place = c.args.frame.now.place in
+    let z = c.args.frame.now.sites in
+    let h = rw c.in-Over.is at c.in_ok-end.ensures.is in
+    let e : plan.engine.budget - c.loop-k.k ≡ suc (plan.engine.budget - (c.loop-k.k + 1)) = omega arith in
+    record {
+      is =
+          ap (λ (f : meaning.Fixed g.row.D-State.Denot). f.value)
+          (sym c.loop-k.invariant.told
+          ∙ round_over dom plan.engine (marks_at plan place) z (calls_in dom plan place z) c.args.cond.now c.args.body.now (plain.Over c.args.n z) c.loop-k.now c.in_ok-inside.inside (plan.engine.budget - c.loop-k.k) (plan.engine.budget - (c.loop-k.k + 1)) c.loop-k.k c.in-Over.head (reverse c.in-Over.chain) e c.in_ok-inside.ensures.value h);
+    }
+
+pub loop_head-returns-then-eq : goal.loop_head-returns-then-eq
+loop_head-returns-then-eq g t c =
+    let dom = g.D.Domain.operations c.args.dom.now in
+    let plan = c.args.plan.now in
+    let place = c.args.frame.now.place in
+    let z = c.args.frame.now.sites in
+    let h = rw c.in-State.is at c.in_ok-end.ensures.is in
+    let e : plan.engine.budget - c.loop-k.k ≡ suc (plan.engine.budget - (c.loop-k.k + 1)) = omega arith in
+    let same : dom.same c.in_ok-next.next c.loop-k.now ≡ true = g.met.D.Domain.tests_equality c.args.dom.now c.in_ok-next.next c.loop-k.now ∙ sym c.if-eq.ensures in
+    record {
+      is = (
+        ap (λ (f : meaning.Fixed g.row.D-State.Denot). f.value)
+            (sym c.loop-k.invariant.told
+            ∙ round_stops dom plan.engine (marks_at plan place) z (calls_in dom plan place z) c.args.cond.now c.args.body.now (plain.Over c.args.n z) c.loop-k.now c.in_ok-inside.inside c.in-State.end c.in_ok-next.next (plan.engine.budget - c.loop-k.k) (plan.engine.budget - (c.loop-k.k + 1)) c.loop-k.k c.new-leaving.result c.block_answer.new.leaving e c.in_ok-inside.ensures.value h c.in_ok-next.ensures.value same),
+        stopped dom plan.engine (marks_at plan place) z (calls_in dom plan place z) c.args.cond.now c.args.body.now c.loop-k.now c.in_ok-inside.inside c.in-State.end c.new-leaving.result c.block_answer.new.leaving c.new-leaving.ensures.empty c.in_ok-inside.ensures.value h,
+      );
+    }
+
+pub loop_head-loop-k-preserved : goal.loop_head-loop-k-preserved
+loop_head-loop-k-preserved g t c =
+    let dom = g.D.Domain.operations c.args.dom.now in
+    let plan = c.args.plan.now in
+    let place = c.args.frame.now.place in
+    let z = c.args.frame.now.sites in
+    let h = rw c.in-State.is at c.in_ok-end.ensures.is in
+    let e : plan.engine.budget - c.loop-k.k ≡ suc (plan.engine.budget - (c.loop-k.k + 1)) = omega arith in
+    let other : dom.same c.in_ok-next.next c.loop-k.now ≡ false = g.met.D.Domain.tests_equality c.args.dom.now c.in_ok-next.next c.loop-k.now ∙ sym c.if-eq.ensures in
+    let F = iterate dom plan.engine (marks_at plan place) (λ x. (passed dom plan place z c.args.body.now (lift (dom.assume c.args.cond.now true) x)).value) (plain.Over c.args.n z) in
+    let k : c.loop-k.k + 1 ≡ suc c.loop-k.k = omega arith in
+    record {
+      told =
+          ap (λ j. F (plan.engine.budget - (c.loop-k.k + 1)) j c.in_ok-next.next) k
+          ∙ sym (round_goes_on dom plan.engine (marks_at plan place) z (calls_in dom plan place z) c.args.cond.now c.args.body.now (plain.Over c.args.n z) c.loop-k.now c.in_ok-inside.inside c.in-State.end c.in_ok-next.next (plan.engine.budget - c.loop-k.k) (plan.engine.budget - (c.loop-k.k + 1)) c.loop-k.k c.new-leaving.result c.block_answer.new.leaving e c.in_ok-inside.ensures.value h c.in_ok-next.ensures.value other)
+          ∙ c.loop-k.invariant.told;
+    }
+
+pub while_answer-returns-in_ok-all-in-At : goal.while_answer-returns-in_ok-all-in-At
+while_answer-returns-in_ok-all-in-At g t c =
+    let dom = g.D.Domain.operations c.args.dom.now in
+    let plan = c.args.plan.now in
+    let place = c.args.frame.now.place in
+    let z = c.args.frame.now.sites in
+    let body = passed dom plan place z c.args.body.now in
+    let v = (head_of dom plan.engine (marks_at plan place) z c.args.n c.args.cond.now body (plain.State c.args.state.now)).value in
+    let h = rw c.in-At.is at c.in_ok-head.ensures.is in
+    record { is = while_at dom plan.engine c.args.cond.now body v c.in-At.head c.in_ok-out-in-At.out c.in_ok-all-in-At.all c.in-At.leaving c.as_slice.result.now h.0 h.1 c.in_ok-out-in-At.ensures.value c.as_slice.ensures.same (c.in_ok-all-in-At.ensures.value plan.engine) }
+
+pub while_answer-returns-in-Over : goal.while_answer-returns-in-Over
+while_answer-returns-in-Over g t c =
+    let dom = g.D.Domain.operations c.args.dom.now in
+    let plan = c.args.plan.now in
+    let place = c.args.frame.now.place in
+    let z = c.args.frame.now.sites in
+    let body = passed dom plan place z c.args.body.now in
+    let v = (head_of dom plan.engine (marks_at plan place) z c.args.n c.args.cond.now body (plain.State c.args.state.now)).value in
+    let h = rw c.in-Over.is at c.in_ok-head.ensures.is in
+    record { is = while_over dom plan.engine c.args.cond.now body v c.in-Over.head (reverse c.in-Over.chain) h }

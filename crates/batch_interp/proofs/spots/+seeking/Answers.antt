@@ -1,0 +1,71 @@
+use Rattle.std.proofs.Common.{◌≢◌, ap, sym, ◌∙◌}
+use Rattle.imp_slots.specs.BlockViews.{number_of}
+use Rattle.batch_meaning.specs.Places.{find}
+use Rattle.batch_interp.specs.Answered.{value_of}
+use Rattle.batch_interp.specs.Seeking.{inner_of}
+use Rattle.batch_interp.proofs.Lists.{if_ok_along}
+use Rattle.batch_interp.proofs.Seekings.{seek_inner, seek_behind, then_part, else_part, body_part}
+use Rattle.batch_interp.proofs.spots.+seeking.Goals as goal
+
+pub seek-returns-then-holds_inside : goal.seek-returns-then-holds_inside
+seek-returns-then-holds_inside g t c =
+    let dom = g.D.Domain.operations c.args.dom.now in
+    let plan = c.args.plan.now in
+    let place = c.args.frame.now.place in
+    let z = c.args.frame.now.sites in
+    let other : c.args.number ≢ number_of c.node-item.result = λ e. c.if-number.false (e ∙ sym c.number.ensures.same) in
+    record {
+      is = if_ok_along _ _ _ _ c.seek_inside.ensures.is
+          (sym (seek_inner dom plan place z c.args.number c.statements-node-items.result.now c.loop-node.node-index c.node-item.result (value_of c.loop-node.now) c.loop-node-test.true c.node-item.is other (sym c.if-holds_inside.ensures.is))
+          ∙ c.loop-node.invariant.told);
+    }
+
+pub seek-loop-node-preserved : goal.seek-loop-node-preserved
+seek-loop-node-preserved g t c =
+    let dom = g.D.Domain.operations c.args.dom.now in
+    let plan = c.args.plan.now in
+    let place = c.args.frame.now.place in
+    let z = c.args.frame.now.sites in
+    let other : c.args.number ≢ number_of c.node-item.result = λ e. c.if-number.false (e ∙ sym c.number.ensures.same) in
+    record {
+      is = c.loop-node.invariant.is;
+      told =
+          seek_behind dom plan place z c.args.number c.statements-node-items.result.now c.loop-node.node-index c.node-item.result (value_of c.loop-node.now) (value_of c.in_ok-now.now) c.loop-node-test.true c.node-item.is other (sym c.if-holds_inside.ensures.is) c.in_ok-now.ensures.is
+          ∙ c.loop-node.invariant.told;
+    }
+
+pub seek_inside-returns-then-holds : goal.seek_inside-returns-then-holds
+seek_inside-returns-then-holds g t c =
+    let dom = g.D.Domain.operations c.args.dom.now in
+    let plan = c.args.plan.now in
+    let place = c.args.frame.now.place in
+    let z = c.args.frame.now.sites in
+    record {
+      is = if_ok_along _ _ _ _ c.seek.ensures.is
+          (sym (then_part dom plan place z c.args.number c.in-If.field-0 c.in-If.cond c.in-If.then c.in-If.els (value_of c.args.before) (value_of c.in_ok-inside-in-If.inside) (sym c.if-holds.ensures.is) c.in_ok-inside-in-If.ensures.is)
+          ∙ ap (λ s. find c.args.number (inner_of dom plan place z s (value_of c.args.before))) (sym c.in-If.is));
+    }
+
+pub seek_inside-returns-in-If : goal.seek_inside-returns-in-If
+seek_inside-returns-in-If g t c =
+    let dom = g.D.Domain.operations c.args.dom.now in
+    let plan = c.args.plan.now in
+    let place = c.args.frame.now.place in
+    let z = c.args.frame.now.sites in
+    record {
+      is = if_ok_along _ _ _ _ c.seek-else-holds.ensures.is
+          (sym (else_part dom plan place z c.args.number c.in-If.field-0 c.in-If.cond c.in-If.then c.in-If.els (value_of c.args.before) (value_of c.in_ok-inside-in-If-2.inside) (sym c.if-holds.ensures.is) c.in_ok-inside-in-If-2.ensures.is)
+          ∙ ap (λ s. find c.args.number (inner_of dom plan place z s (value_of c.args.before))) (sym c.in-If.is));
+    }
+
+pub seek_inside-returns-in-While : goal.seek_inside-returns-in-While
+seek_inside-returns-in-While g t c =
+    let dom = g.D.Domain.operations c.args.dom.now in
+    let plan = c.args.plan.now in
+    let place = c.args.frame.now.place in
+    let z = c.args.frame.now.sites in
+    record {
+      is = if_ok_along _ _ _ _ c.seek-in-While.ensures.is
+          (sym (body_part dom plan place z c.args.number c.in-While.n c.in-While.cond c.in-While.body (value_of c.args.before) (value_of c.in_ok-head-in-While.head) (value_of c.in_ok-inside-in-While.inside) c.in_ok-head-in-While.ensures.is c.in_ok-inside-in-While.ensures.is)
+          ∙ ap (λ s. find c.args.number (inner_of dom plan place z s (value_of c.args.before))) (sym c.in-While.is));
+    }

@@ -1,0 +1,34 @@
+-- The program that is interpreted, and where a block of it stands.
+use Rattle.std.specs.Prelude.{ℕ, ℤ, List, [], reverse, take, slice_get, Option, Some, None}
+use Rattle.imp_slots.specs.Plain.{Code, Routine}
+use Rattle.program_chains.specs.declared.widening.Widening.{Widening}
+use Rattle.program_chains.specs.Marks.{marks}
+use Rattle.domain_laws.specs.Operations.{Operations}
+use Rattle.batch_meaning.specs.Values.{Value}
+use Rattle.batch_meaning.specs.Batch.{Engine, Passed, batch, calls_of}
+
+-- A program, and how its loops are interpreted.
+pub record Plan : Type 0 where
+  pub program : List Routine
+  pub engine : Engine
+
+-- the procedures in front of a place, the last one first
+abbrev pub earlier : List Routine → (place : ℕ) → List Routine
+earlier program place = reverse (take place program)
+
+abbrev pub marks_of : Widening → Option Routine → List ℤ
+marks_of w None = []
+marks_of w (Some r) = marks w r
+
+-- the marks of the procedure at a place
+abbrev pub marks_at : Plan → (place : ℕ) → List ℤ
+marks_at plan place = marks_of plan.engine.widening (slice_get plan.program place)
+
+module _ {S : Type 0} (dom : Operations S) (plan : Plan) (place : ℕ) (z : List ℕ) where
+  -- what calls give in the procedure at a place, under the call sites z
+  abbrev pub calls_in : (n q : ℕ) → Value S → Value S
+  calls_in = calls_of dom plan.engine (earlier plan.program place) z
+
+  -- a block there
+  abbrev pub passed : Code → Value S → Passed S
+  passed = batch dom plan.engine (marks_at plan place) z calls_in

@@ -1,0 +1,10 @@
+pub mod Answered
+pub mod Frames
+pub mod Passing
+pub mod PlanCode
+pub mod Seeking
+pub mod Walking
+pub mod Summing
+pub mod Reporting
+pub mod Checking
+pub mod Totalling

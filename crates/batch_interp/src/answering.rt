@@ -1,0 +1,111 @@
+//! Answers.
+ghost use Rattle.std.specs.Prelude.{◌≡◌, IfOk, IfErr};
+ghost use Rattle.imp_check.specs.Slots.{routines_of};
+ghost use Rattle.batch_meaning.specs.Answers.{answer, answer_in, procedure_of, In, Answers};
+ghost use Rattle.batch_interp.specs.Answered.{engine_of, value_of, IsPlace, IsAnswer, IsRefused, Describes};
+
+use crate::frames::Plan;
+use crate::sums::sum_of;
+use crate::{Answer, QueryError};
+use batch_meaning::Refusal;
+use batch_sound::answers_are_sound;
+use call_contexts::{chains, place_of};
+use domain_laws::{Domain, Steps};
+use imp_check::Checked;
+use imp_syntax::{Location, ProcId};
+use program_chains::Widening;
+use std::alloc::Global;
+use std::sync::ledger::Ledger;
+
+/// The procedure of a location.
+fn procedure_of(prog: &Checked, at: &Location) -> Result<ProcId, QueryError>
+    ensures is { IsPlace (procedure_of (routines_of prog.now) at.now) result }
+{
+    match place_of(prog, at) {
+        Ok(place) => Ok(place),
+        Err(Refusal::LongString) => Err(QueryError::LongString),
+        Err(Refusal::NoProcedure) => Err(QueryError::NoProcedure),
+        Err(Refusal::NoStatement) => Err(QueryError::NoStatement),
+        Err(Refusal::WrongStatement) => Err(QueryError::WrongStatement),
+        Err(Refusal::NoChain) => Err(QueryError::NoChain),
+    }
+}
+
+/// What a domain knows at a location of a program under a call string, which has the outermost call
+/// first: the states of the chains to the location's procedure that end in the string, each its last
+/// frame alone, joined in the order of the chains; or the first loop on the way that takes more than
+/// `budget` rounds.
+///
+/// A state that is answered describes each configuration that a run reaches there, with call sites
+/// of which the string is a suffix, under any inputs.
+///
+/// Each chain is followed once from main, and of each loop that is met at most `budget` rounds are
+/// taken. Nothing is kept for the next call.
+///
+/// # Errors
+///
+/// In this order: [`QueryError::LongString`] where the string has more than two calls,
+/// [`QueryError::NoProcedure`] and [`QueryError::NoStatement`] where the program has no such location,
+/// [`QueryError::WrongStatement`] where the head of a statement is asked for that is no loop,
+/// [`QueryError::NoChain`] where no chain ends in the string; [`QueryError::Memory`] for want of memory.
+pub fn answer<D: Domain, L: Ledger>(
+    alloc: Global,
+    dom: &D,
+    prog: &Checked,
+    budget: u32,
+    widening: Widening,
+    at: &Location,
+    string: &[u32],
+    steps: &mut Steps<L>,
+) -> Result<Answer<D::State>, QueryError>
+    ensures answered { IfOk result (λ a. answer (D.operations dom.now) (engine_of budget widening) (routines_of prog.now) at.now string.now ≡ Answers (value_of a)) }
+    ensures refused { IfErr result (IsRefused (answer (D.operations dom.now) (engine_of budget widening) (routines_of prog.now) at.now string.now)) }
+    ensures sound { IfOk result (Describes (D.covers dom.now) (routines_of prog.now) at.now string.now) }
+{
+    let answer = answer_exactly(alloc, dom, prog, budget, widening, at, string, steps);
+    answers_are_sound::<D>();
+    prog.routines();
+    answer
+}
+
+/// The answer at a location of the procedure at a place.
+#[tactic(auto, using(crate::proofs::Gathering::all_back))]
+fn answer_at<D: Domain, L: Ledger>(
+    alloc: Global,
+    dom: &D,
+    prog: &Checked,
+    budget: u32,
+    widening: Widening,
+    at: &Location,
+    place: ProcId,
+    string: &[u32],
+    steps: &mut Steps<L>,
+) -> Result<Answer<D::State>, QueryError>
+    ensures is { IsAnswer (answer_in (D.operations dom.now) (engine_of budget widening) (routines_of prog.now) at.now string.now (In place)) result }
+{
+    let chains = chains(alloc, prog, place, string)?;
+    let plan = Plan::new(alloc, prog.routines(), budget, widening)?;
+    sum_of(alloc, dom, &plan, at, chains.as_slice(), steps)
+}
+
+/// The answer, as one fact.
+fn answer_exactly<D: Domain, L: Ledger>(
+    alloc: Global,
+    dom: &D,
+    prog: &Checked,
+    budget: u32,
+    widening: Widening,
+    at: &Location,
+    string: &[u32],
+    steps: &mut Steps<L>,
+) -> Result<Answer<D::State>, QueryError>
+    ensures is { IsAnswer (answer (D.operations dom.now) (engine_of budget widening) (routines_of prog.now) at.now string.now) result }
+{
+    if string.len() > 2 {
+        return Err(QueryError::LongString);
+    }
+    match procedure_of(prog, at) {
+        Err(error) => Err(error),
+        Ok(place) => answer_at(alloc, dom, prog, budget, widening, at, place, string, steps),
+    }
+}

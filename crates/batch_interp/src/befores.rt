@@ -1,0 +1,159 @@
+//! What is known in front of each statement that has a check.
+ghost use Rattle.std.specs.Prelude.{◌≡◌, ◌++◌, [], ◌∷◌, map, IsTrue, OnOk, IfOk};
+ghost use Rattle.imp_slots.specs.Plain.{Stop};
+ghost use Rattle.imp_slots.specs.ActionViews.{effect_of};
+ghost use Rattle.imp_slots.specs.BlockViews.{before_code};
+ghost use Rattle.domain_laws.specs.Checks.{check_of};
+ghost use Rattle.batch_meaning.specs.Report.{checked_in, checked_one};
+ghost use Rattle.batch_interp.specs.Answered.{value_of};
+ghost use Rattle.batch_interp.specs.Checking.{is_checked};
+ghost use Rattle.batch_interp.specs.Reporting.{befores, before_one, in_front, claims, claim_of};
+
+use crate::Answer;
+use crate::claim::Claim;
+use crate::frames::{Frame, Plan};
+use crate::spots::{assumed, behind_node, copy_of, head_answer};
+use domain_laws::{Domain, Steps};
+use imp_slots::{SlotAction, SlotBlock, SlotNode};
+use plain_values::{Items, Memory};
+use std::alloc::Global;
+use std::sync::ledger::Ledger;
+
+/// Whether a statement has a check.
+pub(crate) fn is_checked(action: &SlotAction) -> bool
+    ensures is { result ≡ is_checked (check_of (effect_of action.now)) }
+{
+    match action {
+        SlotAction::Assert(_) => true,
+        SlotAction::ReadElement(_, _, _) => true,
+        SlotAction::WriteElement(_, _, _) => true,
+        SlotAction::ReadItem(_, _) => true,
+        SlotAction::ReadNext(_, _) => true,
+        SlotAction::WriteNext(_, _) => true,
+        SlotAction::WriteItem(_, _) => true,
+        SlotAction::Skip => false,
+        SlotAction::SetInt(_, _) => false,
+        SlotAction::Input(_) => false,
+        SlotAction::MakeArray(_, _) => false,
+        SlotAction::CopyArray(_, _) => false,
+        SlotAction::SetNull(_) => false,
+        SlotAction::MakeCell(_) => false,
+        SlotAction::CopyLink(_, _) => false,
+    }
+}
+
+/// Adds a statement, if it has a check.
+#[tactic(auto, using(crate::proofs::Claimed::one_claim, crate::proofs::Claimed::no_claim, crate::proofs::Claimed::claims_both))]
+fn add_claim(number: u32, action: &SlotAction, found: &mut Items<Claim>) -> Result<(), Memory>
+    ensures added { OnOk result (map claim_of found.new ≡ map claim_of found.old ++ claims (checked_one number (effect_of action.now) (check_of (effect_of action.now)))) }
+{
+    if is_checked(action) {
+        let action = action.clone()?;
+        found.push(Claim { number, action })
+    } else {
+        Ok(())
+    }
+}
+
+/// Adds the statements of a block that have a check, in the order of the text.
+#[cycle(claims)]
+#[tactic(auto, using(imp_slots::specs::BlockFalls::node_falls, crate::proofs::Claimed::claims_step, crate::proofs::Claimed::claims_end))]
+pub(crate) fn add_claims(block: &SlotBlock, found: &mut Items<Claim>) -> Result<(), Memory>
+    ensures added { OnOk result (map claim_of found.new ≡ map claim_of found.old ++ claims (checked_in block.now)) }
+{
+    for node in block.statements() {
+        add_claims_in(node, found)?;
+    }
+    Ok(())
+}
+
+#[cycle(claims)]
+#[tactic(auto, using(crate::proofs::Claimed::claims_one, crate::proofs::Claimed::claims_two))]
+fn add_claims_in(node: &SlotNode, found: &mut Items<Claim>) -> Result<(), Memory>
+    ensures added { OnOk result (map claim_of found.new ≡ map claim_of found.old ++ claims (checked_in (before_code node.now Stop))) }
+{
+    match node {
+        SlotNode::Simple(n, action) => add_claim(*n, action, found),
+        SlotNode::If(_, _, then, els) => {
+            add_claims(then, found)?;
+            add_claims(els, found)
+        }
+        SlotNode::While(_, _, body) => add_claims(body, found),
+        SlotNode::Call(_, _, _) => Ok(()),
+        SlotNode::Break(_) => Ok(()),
+    }
+}
+
+/// Adds what is known in front of each statement of a block that has a check.
+#[cycle(befores)]
+#[tactic(auto, using(imp_slots::specs::BlockFalls::node_falls))]
+pub(crate) fn add_befores<D: Domain, L: Ledger>(
+    alloc: Global,
+    dom: &D,
+    plan: &Plan,
+    frame: &Frame,
+    block: &SlotBlock,
+    before: Answer<D::State>,
+    found: &mut Items<Answer<D::State>>,
+    steps: &mut Steps<L>,
+) -> Result<(), Memory>
+    ensures added { OnOk result (map value_of found.new ≡ map value_of found.old ++ befores (D.operations dom.now) plan.now frame.now.place frame.now.sites block.now (value_of before)) }
+{
+    let mut now = before;
+    for node in block.statements() {
+        add_in_front(alloc, dom, plan, frame, node, &now, found, steps)?;
+        now = behind_node(alloc, dom, plan, frame, node, now, steps)?;
+    }
+    Ok(())
+}
+
+/// Adds what is known in front of a statement, if it has a check, or of those inside it that have one.
+#[cycle(befores)]
+fn add_in_front<D: Domain, L: Ledger>(
+    alloc: Global,
+    dom: &D,
+    plan: &Plan,
+    frame: &Frame,
+    node: &SlotNode,
+    before: &Answer<D::State>,
+    found: &mut Items<Answer<D::State>>,
+    steps: &mut Steps<L>,
+) -> Result<(), Memory>
+    ensures added { OnOk result (map value_of found.new ≡ map value_of found.old ++ in_front (D.operations dom.now) plan.now frame.now.place frame.now.sites node.now (value_of before.now)) }
+{
+    match node {
+        SlotNode::Simple(_, action) => add_one(alloc, dom, action, before, found),
+        SlotNode::If(_, cond, then, els) => {
+            let holds = assumed(alloc, dom, cond, true, before, steps)?;
+            add_befores(alloc, dom, plan, frame, then, holds, found, steps)?;
+            let fails = assumed(alloc, dom, cond, false, before, steps)?;
+            add_befores(alloc, dom, plan, frame, els, fails, found, steps)
+        }
+        SlotNode::While(n, cond, body) => {
+            let copy = copy_of(alloc, dom, before)?;
+            let head = head_answer(alloc, dom, plan, frame, *n, cond, body, copy, steps)?;
+            let inside = assumed(alloc, dom, cond, true, &head, steps)?;
+            add_befores(alloc, dom, plan, frame, body, inside, found, steps)
+        }
+        SlotNode::Call(_, _, _) => Ok(()),
+        SlotNode::Break(_) => Ok(()),
+    }
+}
+
+/// Adds what is known in front of a simple statement, if it has a check.
+#[tactic(auto, using(crate::proofs::Claimed::one_before, crate::proofs::Claimed::no_before, crate::proofs::Claimed::values_one))]
+fn add_one<D: Domain>(
+    alloc: Global,
+    dom: &D,
+    action: &SlotAction,
+    before: &Answer<D::State>,
+    found: &mut Items<Answer<D::State>>,
+) -> Result<(), Memory>
+    ensures added { OnOk result (map value_of found.new ≡ map value_of found.old ++ before_one (check_of (effect_of action.now)) (value_of before.now)) }
+{
+    if is_checked(action) {
+        found.push(copy_of(alloc, dom, before)?)
+    } else {
+        Ok(())
+    }
+}

@@ -1,0 +1,303 @@
+//! Blocks: the state behind each from the state in front of it, by recursion on the syntax.
+ghost use Rattle.std.specs.Prelude.{◌≡◌, ◌++◌, ◌∷◌, [], IfOk, OnOk, true, false};
+ghost use Rattle.imp_slots.specs.Plain.{Does, DoBreak, Stop, If, While, Call};
+ghost use Rattle.imp_slots.specs.ActionViews.{effect_of};
+ghost use Rattle.imp_slots.specs.BlockViews.{before_code};
+ghost use Rattle.batch_meaning.specs.Values as plain;
+ghost use Rattle.batch_meaning.specs.Values.{lift, lift2};
+ghost use Rattle.batch_meaning.specs.Batch.{Engine, next_of, head_of, joined};
+ghost use Rattle.batch_interp.specs.Answered.{value_of};
+ghost use Rattle.batch_interp.specs.Frames.{marks_at, calls_in, passed};
+ghost use Rattle.batch_interp.specs.Passing.{states, Ends, IsFixed};
+
+use crate::Answer;
+use crate::frames::{Frame, Plan};
+use domain_laws::{Domain, Steps};
+use imp_slots::{SlotAction, SlotBlock, SlotCall, SlotCond, SlotNode, SlotStmt};
+use imp_syntax::{Chain, StmtId};
+use plain_values::{Items, Memory};
+use std::alloc::Global;
+use std::sync::ledger::Ledger;
+
+/// What the iterates of a loop come to.
+#[derive(Drop)]
+pub(crate) enum Fixed<S> {
+    /// The state at the head, and the states that leave the body from there.
+    At { head: S, leaving: Items<S> },
+    /// A loop that used up its budget: this one, or one that its body meets.
+    Over { head: StmtId, chain: Chain },
+}
+
+/// Behind a simple statement.
+fn behind_action<D: Domain, L: Ledger>(
+    alloc: Global,
+    dom: &D,
+    action: &SlotAction,
+    state: &D::State,
+    steps: &mut Steps<L>,
+) -> Result<D::State, Memory>
+    ensures value { IfOk result (λ t. t ≡ (D.operations dom.now).post (Does (effect_of action.now)) state.now) }
+{
+    let stmt = SlotStmt::Simple(action.clone()?);
+    dom.post(alloc, &stmt, state, steps)
+}
+
+/// Behind a break, in front of which the state leaves.
+fn behind_break<D: Domain, L: Ledger>(
+    alloc: Global,
+    dom: &D,
+    state: &D::State,
+    leaving: &mut Items<D::State>,
+    steps: &mut Steps<L>,
+) -> Result<D::State, Memory>
+    ensures value { IfOk result (λ t. t ≡ (D.operations dom.now).post DoBreak state.now) }
+    ensures left { OnOk result (leaving.new ≡ leaving.old ++ state.now ∷ []) }
+{
+    leaving.push(dom.copy(alloc, state)?)?;
+    dom.post(alloc, &SlotStmt::Break, state, steps)
+}
+
+/// The next iterate of a loop behind the k-th: joined below the delay, else widened.
+fn next_iterate<D: Domain, L: Ledger>(
+    alloc: Global,
+    dom: &D,
+    plan: &Plan,
+    frame: &Frame,
+    k: u32,
+    state: &D::State,
+    end: &D::State,
+    steps: &mut Steps<L>,
+) -> Result<D::State, Memory>
+    ensures value { IfOk result (λ t. t ≡ next_of (D.operations dom.now) plan.now.engine (marks_at plan.now frame.now.place) k state.now end.now) }
+{
+    if k < plan.delay() {
+        dom.join(alloc, state, end, steps)
+    } else {
+        dom.widen(alloc, plan.marks(frame.place), state, end, steps)
+    }
+}
+
+/// The state joined with others, from left to right.
+pub(crate) fn joined_states<D: Domain, L: Ledger>(
+    alloc: Global,
+    dom: &D,
+    first: D::State,
+    others: &[D::State],
+    steps: &mut Steps<L>,
+) -> Result<D::State, Memory>
+    ensures value { IfOk result (λ t. (e : Engine) → plain.State t ≡ joined (D.operations dom.now) e (plain.State first) (states others.now)) }
+{
+    let mut all = first;
+    for other in others {
+        all = dom.join(alloc, &all, other, steps)?;
+    }
+    Ok(all)
+}
+
+/// A block: the state behind it, or the first loop that used up its budget. The states in front of
+/// breaks that leave the loop around it are added to `leaving`.
+#[cycle(blocks)]
+#[tactic(auto, using(imp_slots::specs::BlockFalls::node_falls))]
+pub(crate) fn block_answer<D: Domain, L: Ledger>(
+    alloc: Global,
+    dom: &D,
+    plan: &Plan,
+    frame: &Frame,
+    block: &SlotBlock,
+    state: D::State,
+    leaving: &mut Items<D::State>,
+    steps: &mut Steps<L>,
+) -> Result<Answer<D::State>, Memory>
+    ensures is { IfOk result (Ends leaving.old leaving.new (passed (D.operations dom.now) plan.now frame.now.place frame.now.sites block.now (plain.State state))) }
+{
+    let mut now = state;
+    for node in block.statements() {
+        match node_answer(alloc, dom, plan, frame, node, &now, leaving, steps)? {
+            Answer::State(next) => now = next,
+            Answer::Over { head, chain } => return Ok(Answer::Over { head, chain }),
+        }
+    }
+    Ok(Answer::State(now))
+}
+
+/// A statement alone, as a block.
+#[cycle(blocks)]
+pub(crate) fn node_answer<D: Domain, L: Ledger>(
+    alloc: Global,
+    dom: &D,
+    plan: &Plan,
+    frame: &Frame,
+    node: &SlotNode,
+    state: &D::State,
+    leaving: &mut Items<D::State>,
+    steps: &mut Steps<L>,
+) -> Result<Answer<D::State>, Memory>
+    ensures is { IfOk result (Ends leaving.old leaving.new (passed (D.operations dom.now) plan.now frame.now.place frame.now.sites (before_code node.now Stop) (plain.State state.now))) }
+{
+    match node {
+        SlotNode::Simple(_, action) => {
+            let next = behind_action(alloc, dom, action, state, steps)?;
+            Ok(Answer::State(next))
+        }
+        SlotNode::If(_, cond, then, els) => {
+            if_answer(
+                alloc, dom, plan, frame, cond, then, els, state, leaving, steps,
+            )
+        }
+        SlotNode::While(n, cond, body) => {
+            while_answer(alloc, dom, plan, frame, *n, cond, body, state, steps)
+        }
+        SlotNode::Call(n, call, callee) => {
+            call_answer(alloc, dom, plan, frame, *n, call, *callee, state, steps)
+        }
+        SlotNode::Break(_) => {
+            let next = behind_break(alloc, dom, state, leaving, steps)?;
+            Ok(Answer::State(next))
+        }
+    }
+}
+
+/// Both blocks of an if, joined. The states that leave the first one stand first.
+#[cycle(blocks)]
+fn if_answer<D: Domain, L: Ledger>(
+    alloc: Global,
+    dom: &D,
+    plan: &Plan,
+    frame: &Frame,
+    cond: &SlotCond,
+    then: &SlotBlock,
+    els: &SlotBlock,
+    state: &D::State,
+    leaving: &mut Items<D::State>,
+    steps: &mut Steps<L>,
+) -> Result<Answer<D::State>, Memory>
+    ensures is { IfOk result (Ends leaving.old leaving.new (passed (D.operations dom.now) plan.now frame.now.place frame.now.sites (If 0 cond.now then.now els.now Stop) (plain.State state.now))) }
+{
+    let holds = dom.assume(alloc, cond, true, state, steps)?;
+    let left = match block_answer(alloc, dom, plan, frame, then, holds, leaving, steps)? {
+        Answer::State(left) => left,
+        Answer::Over { head, chain } => return Ok(Answer::Over { head, chain }),
+    };
+    let fails = dom.assume(alloc, cond, false, state, steps)?;
+    let right = match block_answer(alloc, dom, plan, frame, els, fails, leaving, steps)? {
+        Answer::State(right) => right,
+        Answer::Over { head, chain } => return Ok(Answer::Over { head, chain }),
+    };
+    Ok(Answer::State(dom.join(alloc, &left, &right, steps)?))
+}
+
+/// A loop: its head where the condition is false, joined with what leaves the body.
+#[cycle(blocks)]
+fn while_answer<D: Domain, L: Ledger>(
+    alloc: Global,
+    dom: &D,
+    plan: &Plan,
+    frame: &Frame,
+    n: u32,
+    cond: &SlotCond,
+    body: &SlotBlock,
+    state: &D::State,
+    steps: &mut Steps<L>,
+) -> Result<Answer<D::State>, Memory>
+    ensures is { IfOk result (λ a. value_of a ≡ (passed (D.operations dom.now) plan.now frame.now.place frame.now.sites (While n cond.now body.now Stop) (plain.State state.now)).value) }
+{
+    match loop_head(alloc, dom, plan, frame, n, cond, body, state, steps)? {
+        Fixed::At { head, leaving } => {
+            let out = dom.assume(alloc, cond, false, &head, steps)?;
+            let all = joined_states(alloc, dom, out, leaving.as_slice(), steps)?;
+            Ok(Answer::State(all))
+        }
+        Fixed::Over { head, chain } => Ok(Answer::Over { head, chain }),
+    }
+}
+
+/// The iterates of a loop, from the state in front of it until one is the one before it.
+#[cycle(blocks)]
+pub(crate) fn loop_head<D: Domain, L: Ledger>(
+    alloc: Global,
+    dom: &D,
+    plan: &Plan,
+    frame: &Frame,
+    n: u32,
+    cond: &SlotCond,
+    body: &SlotBlock,
+    state: &D::State,
+    steps: &mut Steps<L>,
+) -> Result<Fixed<D::State>, Memory>
+    ensures is { IfOk result (IsFixed (D.operations dom.now) (head_of (D.operations dom.now) plan.now.engine (marks_at plan.now frame.now.place) frame.now.sites n cond.now (passed (D.operations dom.now) plan.now frame.now.place frame.now.sites body.now) (plain.State state.now)) cond.now (passed (D.operations dom.now) plan.now frame.now.place frame.now.sites body.now)) }
+{
+    let mut now = dom.copy(alloc, state)?;
+    for k in 0..plan.budget() {
+        let mut leaving = Items::new(alloc);
+        let inside = dom.assume(alloc, cond, true, &now, steps)?;
+        let end = match block_answer(alloc, dom, plan, frame, body, inside, &mut leaving, steps)? {
+            Answer::State(end) => end,
+            Answer::Over { head, chain } => return Ok(Fixed::Over { head, chain }),
+        };
+        let next = next_iterate(alloc, dom, plan, frame, k, &now, &end, steps)?;
+        if next == now {
+            return Ok(Fixed::At { head: now, leaving });
+        }
+        now = next;
+    }
+    Ok(Fixed::Over {
+        head: StmtId::new(n),
+        chain: frame.chain(alloc)?,
+    })
+}
+
+/// A call: its procedure is entered and left.
+#[cycle(blocks)]
+fn call_answer<D: Domain, L: Ledger>(
+    alloc: Global,
+    dom: &D,
+    plan: &Plan,
+    frame: &Frame,
+    n: u32,
+    call: &SlotCall,
+    callee: u32,
+    state: &D::State,
+    steps: &mut Steps<L>,
+) -> Result<Answer<D::State>, Memory>
+    ensures is { IfOk result (λ a. value_of a ≡ (passed (D.operations dom.now) plan.now frame.now.place frame.now.sites (Call n call.now callee Stop) (plain.State state.now)).value) }
+{
+    let entered = dom.enter(alloc, call, state, steps)?;
+    match callee_answer(alloc, dom, plan, frame, n, callee as usize, entered, steps)? {
+        Answer::State(done) => Ok(Answer::State(dom.leave(alloc, call, state, &done, steps)?)),
+        Answer::Over { head, chain } => Ok(Answer::Over { head, chain }),
+    }
+}
+
+/// The body of a procedure that is called, from the state in front of it.
+#[cycle(blocks)]
+#[tactic(auto, using(crate::proofs::Weights::weight_falls))]
+fn callee_answer<D: Domain, L: Ledger>(
+    alloc: Global,
+    dom: &D,
+    plan: &Plan,
+    frame: &Frame,
+    n: u32,
+    callee: usize,
+    entered: D::State,
+    steps: &mut Steps<L>,
+) -> Result<Answer<D::State>, Memory>
+    ensures is { IfOk result (λ a. value_of a ≡ calls_in (D.operations dom.now) plan.now frame.now.place frame.now.sites n callee (plain.State entered)) }
+{
+    match plan.callee(frame.place, callee) {
+        None => Ok(Answer::State(entered)),
+        Some(routine) => {
+            let inner = frame.callee(alloc, n, callee)?;
+            let mut leaving = Items::new(alloc);
+            block_answer(
+                alloc,
+                dom,
+                plan,
+                &inner,
+                routine.body(),
+                entered,
+                &mut leaving,
+                steps,
+            )
+        }
+    }
+}

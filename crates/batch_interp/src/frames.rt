@@ -1,0 +1,158 @@
+//! Where a block stands: its procedure, and the calls that led to it.
+ghost use Rattle.std.specs.Prelude.{◌≡◌, ◌-◌, ◌∷◌, [], ◌<◌, ◌≤◌, length, map, reverse, take, slice_get, IfOk};
+ghost use Rattle.std.specs.Option.{option_copied};
+ghost use Rattle.program_chains.specs.Marks.{marks};
+ghost use Rattle.batch_interp.specs.Answered.{engine_of};
+ghost use Rattle.batch_interp.specs.Frames.{marks_at};
+
+use call_contexts::marks;
+use imp_slots::Routine;
+use imp_syntax::{Chain, StmtId};
+use plain_values::{Items, Memory};
+use program_chains::Widening;
+use std::alloc::Global;
+use std::marker::Model;
+
+/// A program, the marks of its procedures, and how its loops are interpreted.
+#[derive(Drop)]
+pub(crate) struct Plan<'a> {
+    routines: &'a [Routine],
+    marks: Items<Items<i64>>,
+    budget: u32,
+    widening: Widening,
+}
+
+impl<'a> Model for Plan<'a> {
+    ghost use Rattle.std.specs.Prelude.{◌≡◌, map};
+    ghost use Rattle.program_chains.specs.Marks as rising;
+    ghost use Rattle.batch_interp.specs.Frames as plain;
+
+    ghost Value = { plain.Plan };
+
+    ghost use Rattle.batch_interp.specs.PlanCode.{plan_code};
+
+    ghost coded = { plan_code };
+
+    ghost view = { λ a. record { program = a.routines.now; engine = record { budget = a.budget; widening = a.widening } } };
+
+    ghost invariant = { λ a. a.marks ≡ map (rising.marks a.widening) a.routines.now };
+}
+
+/// The marks of each procedure.
+fn all_marks(
+    alloc: Global,
+    widening: Widening,
+    routines: &[Routine],
+) -> Result<Items<Items<i64>>, Memory>
+    ensures is { IfOk result (λ all. all ≡ map (marks widening) routines.now) }
+{
+    let mut all = Items::new(alloc);
+    for routine in routines {
+        all.push(marks(alloc, widening, routine)?)?;
+    }
+    Ok(all)
+}
+
+/// The procedure of a block, and the call statements from main to it, the last one first.
+#[derive(Drop)]
+pub(crate) struct Frame {
+    /// How many procedures stand in front of it.
+    pub(crate) place: usize,
+    pub(crate) sites: Items<StmtId>,
+}
+
+impl<'a> Plan<'a> {
+    /// The plan of a program, with the marks of its procedures.
+    pub(crate) fn new(
+        alloc: Global,
+        routines: &'a [Routine],
+        budget: u32,
+        widening: Widening,
+    ) -> Result<Plan<'a>, Memory>
+        ensures is { IfOk result (λ plan. plan ≡ record { program = routines.now; engine = engine_of budget widening }) }
+    {
+        let marks = all_marks(alloc, widening, routines)?;
+        Ok(Plan {
+            routines,
+            marks,
+            budget,
+            widening,
+        })
+    }
+
+    /// How often the iterates of a loop are made at most.
+    pub(crate) fn budget(&self) -> u32
+        ensures is { result ≡ self.now.engine.budget }
+    {
+        self.budget
+    }
+
+    /// For how many rounds the iterates of a loop are joined.
+    pub(crate) fn delay(&self) -> u32
+        ensures is { result ≡ self.now.engine.widening.delay }
+    {
+        self.widening.delay
+    }
+
+    /// The procedures.
+    pub(crate) fn routines(&self) -> &'a [Routine]
+        ensures is { result.now ≡ self.now.program }
+    {
+        self.routines
+    }
+
+    /// The marks of a procedure.
+    pub(crate) fn marks(&self, place: usize) -> &[i64]
+        ensures is { result.now ≡ marks_at self.now place }
+    {
+        match self.marks.get(place) {
+            Some(marks) => marks.as_slice(),
+            None => &[],
+        }
+    }
+}
+
+impl<'a> Plan<'a> {
+    /// The procedure at a place, where it stands in front of the one at `place`.
+    pub(crate) fn callee(&self, place: usize, callee: usize) -> Option<&Routine>
+        ensures is { option_copied result ≡ slice_get (take place self.now.program) callee }
+    {
+        if callee < place {
+            self.routines.get(callee)
+        } else {
+            None
+        }
+    }
+}
+
+impl Frame {
+    /// The frame of main, which stands last.
+    pub(crate) fn main(alloc: Global, routines: &[Routine]) -> Frame
+        ensures is { result ≡ record { place = length routines.now - 1; sites = [] } }
+    {
+        Frame {
+            place: routines.len().saturating_sub(1),
+            sites: Items::new(alloc),
+        }
+    }
+
+    /// The frame of a procedure that this one calls.
+    pub(crate) fn callee(&self, alloc: Global, site: u32, place: usize) -> Result<Frame, Memory>
+        ensures is { IfOk result (λ f. f ≡ record { place = place; sites = site ∷ self.now.sites }) }
+    {
+        let mut sites = Items::with_capacity(alloc, 8)?;
+        sites.push(StmtId::new(site))?;
+        for earlier in self.sites.as_slice() {
+            sites.push(*earlier)?;
+        }
+        Ok(Frame { place, sites })
+    }
+
+    /// The calls from main, outermost first.
+    pub(crate) fn chain(&self, alloc: Global) -> Result<Chain, Memory>
+        ensures is { IfOk result (λ chain. reverse chain ≡ self.now.sites) }
+    {
+        let sites: Vec<StmtId> = self.sites.as_slice().iter().rev().copied().collect(alloc)?;
+        Ok(Chain::new(Items::from_vec(sites)))
+    }
+}

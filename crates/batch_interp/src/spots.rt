@@ -1,0 +1,219 @@
+//! Statements by their numbers, with what is known in front of them.
+ghost use Rattle.std.specs.Prelude.{◌≡◌, IfOk, true, false, option_map};
+ghost use Rattle.imp_slots.specs.Plain.{Stop, While};
+ghost use Rattle.imp_slots.specs.BlockViews.{before_code, number_of};
+ghost use Rattle.batch_meaning.specs.Values as plain;
+ghost use Rattle.batch_meaning.specs.Values.{lift};
+ghost use Rattle.batch_meaning.specs.Batch.{head_of};
+ghost use Rattle.batch_meaning.specs.Places.{find};
+ghost use Rattle.batch_interp.specs.Answered.{value_of};
+ghost use Rattle.batch_interp.specs.Frames.{marks_at, passed};
+ghost use Rattle.batch_interp.specs.Seeking.{places, spot_of, inner_of, holds_inside};
+
+use crate::Answer;
+use crate::blocks::{Fixed, block_answer, loop_head, node_answer};
+use crate::frames::{Frame, Plan};
+use call_contexts::holds;
+use domain_laws::{Domain, Steps};
+use imp_slots::{SlotBlock, SlotCond, SlotNode};
+use imp_syntax::{Chain, StmtId};
+use plain_values::{Items, Memory};
+use std::alloc::Global;
+use std::sync::ledger::Ledger;
+
+/// A statement, and what is known in front of it.
+#[derive(Drop)]
+pub(crate) struct Seen<S> {
+    pub(crate) node: SlotNode,
+    pub(crate) before: Answer<S>,
+}
+
+/// The same chain once more.
+fn copy_of_chain(alloc: Global, chain: &Chain) -> Result<Chain, Memory>
+    ensures same { IfOk result (λ copy. copy ≡ chain.now) }
+{
+    let sites: Vec<StmtId> = chain.sites().iter().copied().collect(alloc)?;
+    Ok(Chain::new(Items::from_vec(sites)))
+}
+
+/// The same once more.
+pub(crate) fn copy_of<D: Domain>(
+    alloc: Global,
+    dom: &D,
+    answer: &Answer<D::State>,
+) -> Result<Answer<D::State>, Memory>
+    ensures same { IfOk result (λ copy. value_of copy ≡ value_of answer.now) }
+{
+    match answer {
+        Answer::State(state) => Ok(Answer::State(dom.copy(alloc, state)?)),
+        Answer::Over { head, chain } => Ok(Answer::Over {
+            head: *head,
+            chain: copy_of_chain(alloc, chain)?,
+        }),
+    }
+}
+
+/// Where a condition has a truth value.
+pub(crate) fn assumed<D: Domain, L: Ledger>(
+    alloc: Global,
+    dom: &D,
+    cond: &SlotCond,
+    sense: bool,
+    before: &Answer<D::State>,
+    steps: &mut Steps<L>,
+) -> Result<Answer<D::State>, Memory>
+    ensures is { IfOk result (λ a. value_of a ≡ lift ((D.operations dom.now).assume cond.now sense) (value_of before.now)) }
+{
+    match before {
+        Answer::State(state) => Ok(Answer::State(dom.assume(alloc, cond, sense, state, steps)?)),
+        Answer::Over { head, chain } => Ok(Answer::Over {
+            head: *head,
+            chain: copy_of_chain(alloc, chain)?,
+        }),
+    }
+}
+
+/// Behind a block.
+pub(crate) fn behind_block<D: Domain, L: Ledger>(
+    alloc: Global,
+    dom: &D,
+    plan: &Plan,
+    frame: &Frame,
+    block: &SlotBlock,
+    before: Answer<D::State>,
+    steps: &mut Steps<L>,
+) -> Result<Answer<D::State>, Memory>
+    ensures is { IfOk result (λ a. value_of a ≡ (passed (D.operations dom.now) plan.now frame.now.place frame.now.sites block.now (value_of before)).value) }
+{
+    match before {
+        Answer::State(state) => {
+            let mut leaving = Items::new(alloc);
+            block_answer(alloc, dom, plan, frame, block, state, &mut leaving, steps)
+        }
+        Answer::Over { head, chain } => Ok(Answer::Over { head, chain }),
+    }
+}
+
+/// Behind a statement.
+pub(crate) fn behind_node<D: Domain, L: Ledger>(
+    alloc: Global,
+    dom: &D,
+    plan: &Plan,
+    frame: &Frame,
+    node: &SlotNode,
+    before: Answer<D::State>,
+    steps: &mut Steps<L>,
+) -> Result<Answer<D::State>, Memory>
+    ensures is { IfOk result (λ a. value_of a ≡ (passed (D.operations dom.now) plan.now frame.now.place frame.now.sites (before_code node.now Stop) (value_of before)).value) }
+{
+    match before {
+        Answer::State(state) => {
+            let mut leaving = Items::new(alloc);
+            node_answer(alloc, dom, plan, frame, node, &state, &mut leaving, steps)
+        }
+        Answer::Over { head, chain } => Ok(Answer::Over { head, chain }),
+    }
+}
+
+/// The head of a loop.
+pub(crate) fn head_answer<D: Domain, L: Ledger>(
+    alloc: Global,
+    dom: &D,
+    plan: &Plan,
+    frame: &Frame,
+    n: u32,
+    cond: &SlotCond,
+    body: &SlotBlock,
+    before: Answer<D::State>,
+    steps: &mut Steps<L>,
+) -> Result<Answer<D::State>, Memory>
+    ensures is { IfOk result (λ a. value_of a ≡ (head_of (D.operations dom.now) plan.now.engine (marks_at plan.now frame.now.place) frame.now.sites n cond.now (passed (D.operations dom.now) plan.now frame.now.place frame.now.sites body.now) (value_of before)).value) }
+{
+    match before {
+        Answer::State(state) => {
+            match loop_head(alloc, dom, plan, frame, n, cond, body, &state, steps)? {
+                Fixed::At { head, leaving: _ } => Ok(Answer::State(head)),
+                Fixed::Over { head, chain } => Ok(Answer::Over { head, chain }),
+            }
+        }
+        Answer::Over { head, chain } => Ok(Answer::Over { head, chain }),
+    }
+}
+
+/// Whether a statement of this number stands inside a statement.
+fn holds_inside(node: &SlotNode, number: u32) -> bool
+    ensures is { result ≡ holds_inside number node.now }
+{
+    match node {
+        SlotNode::If(_, _, then, els) => holds(then, number) || holds(els, number),
+        SlotNode::While(_, _, body) => holds(body, number),
+        _ => false,
+    }
+}
+
+/// The first statement of this number in a block, also inside its statements. Of the statements
+/// around it only what stands in front of it is interpreted.
+#[cycle(seeking)]
+#[tactic(auto, using(imp_slots::specs::BlockFalls::node_falls))]
+pub(crate) fn seek<D: Domain, L: Ledger>(
+    alloc: Global,
+    dom: &D,
+    plan: &Plan,
+    frame: &Frame,
+    block: &SlotBlock,
+    before: Answer<D::State>,
+    number: u32,
+    steps: &mut Steps<L>,
+) -> Result<Option<Seen<D::State>>, Memory>
+    ensures is { IfOk result (λ s. option_map (spot_of (D.operations dom.now) plan.now frame.now.place frame.now.sites) s ≡ find number (places (D.operations dom.now) plan.now frame.now.place frame.now.sites block.now (value_of before))) }
+{
+    let mut now = before;
+    for node in block.statements() {
+        if number == node.number() {
+            return Ok(Some(Seen {
+                node: node.clone()?,
+                before: now,
+            }));
+        }
+        if holds_inside(node, number) {
+            return seek_inside(alloc, dom, plan, frame, node, now, number, steps);
+        }
+        now = behind_node(alloc, dom, plan, frame, node, now, steps)?;
+    }
+    Ok(None)
+}
+
+/// The first statement of this number inside a statement.
+#[cycle(seeking)]
+fn seek_inside<D: Domain, L: Ledger>(
+    alloc: Global,
+    dom: &D,
+    plan: &Plan,
+    frame: &Frame,
+    node: &SlotNode,
+    before: Answer<D::State>,
+    number: u32,
+    steps: &mut Steps<L>,
+) -> Result<Option<Seen<D::State>>, Memory>
+    ensures is { IfOk result (λ s. option_map (spot_of (D.operations dom.now) plan.now frame.now.place frame.now.sites) s ≡ find number (inner_of (D.operations dom.now) plan.now frame.now.place frame.now.sites node.now (value_of before))) }
+{
+    match node {
+        SlotNode::If(_, cond, then, els) => {
+            if holds(then, number) {
+                let inside = assumed(alloc, dom, cond, true, &before, steps)?;
+                seek(alloc, dom, plan, frame, then, inside, number, steps)
+            } else {
+                let inside = assumed(alloc, dom, cond, false, &before, steps)?;
+                seek(alloc, dom, plan, frame, els, inside, number, steps)
+            }
+        }
+        SlotNode::While(n, cond, body) => {
+            let head = head_answer(alloc, dom, plan, frame, *n, cond, body, before, steps)?;
+            let inside = assumed(alloc, dom, cond, true, &head, steps)?;
+            seek(alloc, dom, plan, frame, body, inside, number, steps)
+        }
+        SlotNode::Simple(_, _) => Ok(None),
+        SlotNode::Call(_, _, _) => Ok(None),
+        SlotNode::Break(_) => Ok(None),
+    }
+}

@@ -1,0 +1,174 @@
+//! What is known at a location under a chain.
+ghost use Rattle.std.specs.Prelude.{◌≡◌, ◌<◌, length, reverse, Some, option_map, IfOk, suc};
+ghost use Rattle.batch_meaning.specs.Places.{if_some, find, head_value, value_in, value_at};
+ghost use Rattle.batch_interp.specs.Answered.{value_of};
+ghost use Rattle.batch_interp.specs.Frames.{earlier};
+ghost use Rattle.batch_interp.specs.Seeking.{places, head_at};
+
+use crate::Answer;
+use crate::frames::{Frame, Plan};
+use crate::spots::{Seen, behind_block, behind_node, head_answer, seek};
+use crate::walks::{Entered, enter_chain};
+use domain_laws::{Domain, Steps};
+use imp_slots::{SlotBlock, SlotNode};
+use imp_syntax::{Location, StmtId};
+use plain_values::Memory;
+use std::alloc::Global;
+use std::sync::ledger::Ledger;
+
+/// In front of the statement of a number.
+fn before_number<D: Domain, L: Ledger>(
+    alloc: Global,
+    dom: &D,
+    plan: &Plan,
+    frame: &Frame,
+    body: &SlotBlock,
+    before: Answer<D::State>,
+    number: u32,
+    steps: &mut Steps<L>,
+) -> Result<Option<Answer<D::State>>, Memory>
+    ensures is { IfOk result (λ o. option_map value_of o ≡ if_some (find number (places (D.operations dom.now) plan.now frame.now.place frame.now.sites body.now (value_of before))) (λ s. Some s.before)) }
+{
+    match seek(alloc, dom, plan, frame, body, before, number, steps)? {
+        None => Ok(None),
+        Some(seen) => Ok(Some(seen.before)),
+    }
+}
+
+/// Behind the statement of a number.
+fn after_number<D: Domain, L: Ledger>(
+    alloc: Global,
+    dom: &D,
+    plan: &Plan,
+    frame: &Frame,
+    body: &SlotBlock,
+    before: Answer<D::State>,
+    number: u32,
+    steps: &mut Steps<L>,
+) -> Result<Option<Answer<D::State>>, Memory>
+    ensures is { IfOk result (λ o. option_map value_of o ≡ if_some (find number (places (D.operations dom.now) plan.now frame.now.place frame.now.sites body.now (value_of before))) (λ s. Some s.after)) }
+{
+    match seek(alloc, dom, plan, frame, body, before, number, steps)? {
+        None => Ok(None),
+        Some(seen) => {
+            let Seen { node, before } = seen;
+            let after = behind_node(alloc, dom, plan, frame, &node, before, steps)?;
+            Ok(Some(after))
+        }
+    }
+}
+
+/// At the head of a statement, if it is a loop.
+fn head_of_seen<D: Domain, L: Ledger>(
+    alloc: Global,
+    dom: &D,
+    plan: &Plan,
+    frame: &Frame,
+    seen: Seen<D::State>,
+    steps: &mut Steps<L>,
+) -> Result<Option<Answer<D::State>>, Memory>
+    ensures is { IfOk result (λ o. option_map value_of o ≡ if_some (head_at (D.operations dom.now) plan.now frame.now.place frame.now.sites seen.node (value_of seen.before)) (λ h. Some h.value)) }
+{
+    let Seen { node, before } = seen;
+    match node {
+        SlotNode::While(n, cond, body) => {
+            let head = head_answer(alloc, dom, plan, frame, n, &cond, &body, before, steps)?;
+            Ok(Some(head))
+        }
+        _ => Ok(None),
+    }
+}
+
+/// At the head of the loop of a number.
+fn head_of_number<D: Domain, L: Ledger>(
+    alloc: Global,
+    dom: &D,
+    plan: &Plan,
+    frame: &Frame,
+    body: &SlotBlock,
+    before: Answer<D::State>,
+    number: u32,
+    steps: &mut Steps<L>,
+) -> Result<Option<Answer<D::State>>, Memory>
+    ensures is { IfOk result (λ o. option_map value_of o ≡ if_some (find number (places (D.operations dom.now) plan.now frame.now.place frame.now.sites body.now (value_of before))) head_value) }
+{
+    match seek(alloc, dom, plan, frame, body, before, number, steps)? {
+        None => Ok(None),
+        Some(seen) => head_of_seen(alloc, dom, plan, frame, seen, steps),
+    }
+}
+
+/// At a location of a procedure that is entered, if it has the location.
+fn value_in<D: Domain, L: Ledger>(
+    alloc: Global,
+    dom: &D,
+    plan: &Plan,
+    entered: Entered<D::State>,
+    at: &Location,
+    steps: &mut Steps<L>,
+) -> Result<Option<Answer<D::State>>, Memory>
+    requires there { entered.frame.place < length plan.now.program }
+    ensures is { IfOk result (λ o. option_map value_of o ≡ value_in (D.operations dom.now) plan.now.engine (earlier plan.now.program (suc entered.frame.place)) entered.frame.sites (value_of entered.before) at.now) }
+{
+    let Entered { frame, before } = entered;
+    let routine = &plan.routines()[frame.place];
+    let body = routine.body();
+    match at {
+        Location::Before(n) => before_number(
+            alloc,
+            dom,
+            plan,
+            &frame,
+            body,
+            before,
+            n.number(),
+            steps,
+        ),
+        Location::After(n) => after_number(
+            alloc,
+            dom,
+            plan,
+            &frame,
+            body,
+            before,
+            n.number(),
+            steps,
+        ),
+        Location::Head(n) => head_of_number(
+            alloc,
+            dom,
+            plan,
+            &frame,
+            body,
+            before,
+            n.number(),
+            steps,
+        ),
+        Location::End(name) => {
+            if name == routine.name() {
+                let end = behind_block(alloc, dom, plan, &frame, body, before, steps)?;
+                Ok(Some(end))
+            } else {
+                Ok(None)
+            }
+        }
+    }
+}
+
+/// At a location under a chain, which has the outermost call first, if the program has them.
+pub(crate) fn value_at<D: Domain, L: Ledger>(
+    alloc: Global,
+    dom: &D,
+    plan: &Plan,
+    at: &Location,
+    chain: &[StmtId],
+    steps: &mut Steps<L>,
+) -> Result<Option<Answer<D::State>>, Memory>
+    requires some { 0 < length plan.now.program }
+    ensures is { IfOk result (λ o. option_map value_of o ≡ value_at (D.operations dom.now) plan.now.engine plan.now.program at.now (reverse chain.now)) }
+{
+    match enter_chain(alloc, dom, plan, chain, steps)? {
+        None => Ok(None),
+        Some(entered) => value_in(alloc, dom, plan, entered, at, steps),
+    }
+}

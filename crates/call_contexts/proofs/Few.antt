@@ -1,0 +1,33 @@
+-- A checked program has few procedures.
+use Rattle.std.proofs.Common.{ℕ, ◌<◌, ◌^◌, ◌≡◌, Bool, true, false, List, [], ◌∷◌, ◌++◌, length, Option, Some, None, refl, arith, nat_lt}
+use Rattle.std.proofs.lemmas.Bool.{ltb-true}
+use Rattle.imp_syntax.specs.Plain.{Procedure}
+use Rattle.imp_check.specs.declared.fault.Fault.{Fault}
+use Rattle.imp_check.specs.declared.fault.Fault.TheVariants.{Procedures, Statements as TooMany, Nesting}
+use Rattle.imp_check.specs.Faults.{unless, first, at, in_procedure}
+use Rattle.imp_check.specs.Programs.{program_count, deepest, ending_fault, procedures_fault, size_fault, check_fault, name_of, last_of}
+use Rattle.imp_check.specs.Slots.{routines_from, routines_of}
+
+first_none : {A : Type 0} (a b : Option A) → first a b ≡ None → a ≡ None
+first_none None b h = refl
+first_none (Some x) b h = cc
+
+at_none : (p : List ℕ) (n : ℕ) (f : Option Fault) → in_procedure p (at n f) ≡ None → f ≡ None
+at_none p n None h = refl
+at_none p n (Some f) h = cc
+
+unless_none : (b : Bool) (f : Fault) → unless b f ≡ None → b ≡ true
+unless_none true f h = refl
+unless_none false f h = cc
+
+few : (ps : List Procedure) → check_fault ps ≡ None → length ps < 65
+few ps h =
+    let s = at_none (name_of (last_of ps)) 0 (size_fault ps) (first_none (in_procedure (name_of (last_of ps)) (at 0 (size_fault ps))) (first (procedures_fault [] ps) (in_procedure (name_of (last_of ps)) (at 0 (ending_fault ps)))) h) in
+    ltb-true (length ps) 65 (unless_none (nat_lt (length ps) 65) Procedures (first_none (unless (nat_lt (length ps) 65) Procedures) (first (unless (nat_lt (program_count ps) 10001) TooMany) (unless (nat_lt (deepest ps) 33) Nesting)) s))
+
+as_many : (earlier ps : List Procedure) → length (routines_from earlier ps) ≡ length ps
+as_many earlier [] = refl
+as_many earlier (p ∷ later) = omega (arith, as_many (earlier ++ p ∷ []) later)
+
+pub few_routines : (ps : List Procedure) → check_fault ps ≡ None → length (routines_of ps) < 2 ^ 32
+few_routines ps h = omega (arith, few ps h, as_many [] ps)

@@ -1,0 +1,6 @@
+pub mod Lists
+pub mod Numbered
+pub mod Few
+pub mod Marked
+pub mod Tabled
+pub mod Filtering

@@ -1,0 +1,7 @@
+use Rattle.std.proofs.Common.{◌≡◌, ◌++◌, drop, map}
+use Rattle.imp_slots.specs.CallViews.{argument_of}
+use Rattle.program_chains.specs.Marks.{argument_literals}
+use Rattle.call_contexts.proofs.literals.add_arguments.Given as goal
+
+abbrev pub invariant-loop-argument : goal.invariant-loop-argument
+invariant-loop-argument l = l.found ++ argument_literals (map argument_of (drop l.argument-index l.arguments)) ≡ l.initial.found ++ argument_literals (map argument_of l.arguments)

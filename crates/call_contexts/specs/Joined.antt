@@ -1,0 +1,8 @@
+-- The join of what is known under chains.
+use Rattle.std.specs.Prelude.{Option, Some, None}
+use Rattle.domain_laws.specs.Operations.{Operations}
+
+-- a chain's state, shed, joined to those of the chains before it
+abbrev pub joined : {S : Type 0} → Operations S → Option S → S → S
+joined dom None t = dom.shed t
+joined dom (Some s) t = dom.join s (dom.shed t)

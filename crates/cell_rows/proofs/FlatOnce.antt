@@ -1,0 +1,121 @@
+-- In a checked program each statement number stands in the table once.
+use Rattle.std.proofs.lemmas.List.{reverse-append, length-reverse}
+use Rattle.std.proofs.Common.{◌<◌, zero, suc, reverse, slice_get, Option, None, arith, append_assoc, append-nil, ◌≡◌, ℕ, List, [], ◌∷◌, ◌++◌, length, map, Some, refl, sym, ap, ◌∙◌, subst, ◌⊎◌, inl, inr}
+use Rattle.imp_slots.specs.Plain.{Layout, Code, Stop, Simple, If, While, Call, Break, Routine, code_numbers}
+use Rattle.imp_slots.specs.Fits.{Absent, Distinct, FitsCall, FitsCode, IsChecked, routine_numbers}
+use Rattle.cell_names.specs.declared.frame.Point.TheVariants.{Entry}
+use Rattle.batch_sound.proofs.Procedures.{FitBack, fit_back}
+use Rattle.batch_sound.proofs.Places.{Member, here, there, in_left, in_right, keys}
+use Rattle.cell_rows.specs.Names.{CallsBelow, AllFine}
+use Rattle.cell_rows.specs.Targets.{Text, texts}
+use Rattle.cell_rows.specs.Flat.{flat_of, flat}
+use Rattle.cell_rows.proofs.Levels.{keys_of_both}
+use Rattle.cell_rows.proofs.Arriving.{keys_texts}
+use Rattle.cell_rows.proofs.Checked.{distinct_part, own_part, once_nested}
+
+keys_flat_of : (c : Routine) (e : List Routine) (xs : List (ℕ × Text)) → keys (map (flat_of c e) xs) ≡ keys xs
+keys_flat_of c e [] = refl
+keys_flat_of c e (x ∷ xs) = ap (λ k. x.0 ∷ k) (keys_flat_of c e xs)
+
+-- the table's numbers are those of the procedures
+pub keys_flat : (ps : List Routine) → keys (flat ps) ≡ routine_numbers ps
+keys_flat [] = refl
+keys_flat (c ∷ earlier) =
+    keys_of_both (map (flat_of c earlier) (texts c.code Entry)) (flat earlier)
+    ∙ ap (λ k. k ++ keys (flat earlier)) (keys_flat_of c earlier (texts c.code Entry) ∙ keys_texts c.code Entry)
+    ∙ ap (λ k. code_numbers c.code ++ k) (keys_flat earlier)
+
+absent_of : (n : ℕ) (xs : List ℕ) → (Member n xs → ⊥) → Absent n xs
+absent_of n [] h = tt
+absent_of n (x ∷ xs) h = ((λ e. h (subst (λ (k : ℕ). Member n (k ∷ xs)) e here)), absent_of n xs (λ m. h (there m)))
+
+absent_both : (n : ℕ) (xs ys : List ℕ) → Absent n xs → Absent n ys → Absent n (xs ++ ys)
+absent_both n [] ys a b = b
+absent_both n (x ∷ xs) ys a b = (a.0, absent_both n xs ys a.1 b)
+
+distinct_both : (xs ys : List ℕ) → Distinct xs → Distinct ys → ((k : ℕ) → Member k xs → Absent k ys) → Distinct (xs ++ ys)
+distinct_both [] ys d e h = e
+distinct_both (x ∷ xs) ys d e h = (absent_both x xs ys d.0 (h x here), distinct_both xs ys d.1 e (λ k m. h k (there m)))
+
+pub either : (n : ℕ) (xs ys : List ℕ) → Member n (xs ++ ys) → Member n xs ⊎ Member n ys
+either n [] ys m = inr m
+either n (x ∷ xs) ys here = inl here
+either n (x ∷ xs) ys (there m) = elim (either n xs ys m) [ inl a ↦ inl (there a) | inr b ↦ inr b ]
+
+numbers_both : (xs ys : List Routine) → routine_numbers (xs ++ ys) ≡ routine_numbers xs ++ routine_numbers ys
+numbers_both [] ys = refl
+numbers_both (x ∷ xs) ys = ap (λ k. code_numbers x.code ++ k) (numbers_both xs ys) ∙ sym (append_assoc (code_numbers x.code) (routine_numbers xs) (routine_numbers ys))
+
+reversed : (c : Routine) (ps : List Routine) → routine_numbers (reverse (c ∷ ps)) ≡ routine_numbers (reverse ps) ++ code_numbers c.code
+reversed c ps = ap routine_numbers (reverse-append (c ∷ []) ps) ∙ numbers_both (reverse ps) (c ∷ []) ∙ ap (λ k. routine_numbers (reverse ps) ++ k) (append-nil (code_numbers c.code))
+
+in_reversed : (n : ℕ) (ps : List Routine) → Member n (routine_numbers (reverse ps)) → Member n (routine_numbers ps)
+in_reversed n [] m = m
+in_reversed n (c ∷ ps) m =
+    elim (either n (routine_numbers (reverse ps)) (code_numbers c.code) (subst (λ xs. Member n xs) (reversed c ps) m)) [
+      | inl a ↦ in_right (code_numbers c.code) (in_reversed n ps a)
+      | inr b ↦ in_left (routine_numbers ps) b
+    ]
+
+not_in : (n : ℕ) (xs : List ℕ) → Absent n xs → Member n xs → ⊥
+not_in n [] a m = elim m [ ]
+not_in n (x ∷ xs) a here = a.0 refl
+not_in n (x ∷ xs) a (there m) = not_in n xs a.1 m
+
+apart : (k : ℕ) (xs ys : List ℕ) → Distinct (xs ++ ys) → Member k xs → Member k ys → ⊥
+apart k [] ys d m i = elim m [ ]
+apart k (x ∷ xs) ys d here i = not_in x (xs ++ ys) d.0 (in_right xs i)
+apart k (x ∷ xs) ys d (there m) i = apart k xs ys d.1 m i
+
+pub left_once : (xs ys : List ℕ) → Distinct (xs ++ ys) → Distinct xs
+left_once [] ys d = tt
+left_once (x ∷ xs) ys d = (absent_of x xs (λ m. not_in x (xs ++ ys) d.0 (in_left ys m)), left_once xs ys d.1)
+
+pub right_once : (xs ys : List ℕ) → Distinct (xs ++ ys) → Distinct ys
+right_once [] ys d = d
+right_once (x ∷ xs) ys d = right_once xs ys d.1
+
+pub once_reversed : (ps : List Routine) → Distinct (routine_numbers ps) → Distinct (routine_numbers (reverse ps))
+once_reversed [] d = d
+once_reversed (c ∷ ps) d =
+    subst Distinct (sym (reversed c ps))
+    (distinct_both (routine_numbers (reverse ps)) (code_numbers c.code)
+    (once_reversed ps (right_once (code_numbers c.code) (routine_numbers ps) d))
+    (left_once (code_numbers c.code) (routine_numbers ps) d)
+    (λ k m. absent_of k (code_numbers c.code) (λ i. apart k (code_numbers c.code) (routine_numbers ps) d i (in_reversed k ps m))))
+
+pub flat_once : (program : List Routine) → IsChecked program → Distinct (keys (flat (reverse program)))
+flat_once program h = subst Distinct (sym (keys_flat (reverse program))) (once_reversed program h.numbers_once)
+
+-- so its blocks are fine
+calls_below : (before : List Routine) (l : Layout) (c : Code) → FitsCode before l c → CallsBelow (length before) c
+calls_below before l Stop f = tt
+calls_below before l (Simple n effect r) f = calls_below before l r f.1
+calls_below before l (If n guard t e r) f = (calls_below before l t f.1, calls_below before l e f.2, calls_below before l r f.3)
+calls_below before l (While n guard b r) f = (calls_below before l b f.1, calls_below before l r f.2)
+calls_below before l (Call n call q r) f = (there_below before q (slice_get before q) refl f.0, calls_below before l r f.1)
+  where
+    below_of : (xs : List Routine) (q : ℕ) (r : Routine) → slice_get xs q ≡ Some r → q < length xs
+    below_of [] q r e = absurd cc
+    below_of (x ∷ xs) zero r e = omega arith
+    below_of (x ∷ xs) (suc q) r e = let l = below_of xs q r e in omega arith
+
+    there_below : (xs : List Routine) (q : ℕ) (o : Option Routine) → slice_get xs q ≡ o → FitsCall l call o → q < length xs
+    there_below xs q None e f = absurd f
+    there_below xs q (Some r) e f = below_of xs q r e
+calls_below before l (Break n r) f = calls_below before l r f
+
+fine_back : (ps : List Routine) → FitBack ps → Distinct (routine_numbers ps) → AllFine ps
+fine_back [] f d = tt
+fine_back (c ∷ ps) f d =
+    let k : Distinct (code_numbers c.code) = left_once (code_numbers c.code) (routine_numbers ps) d in (
+      record {
+        once = distinct_part (own_part c.code) k;
+        nested = once_nested c.code k;
+        calls = subst (λ (n : ℕ). CallsBelow n c.code) (length-reverse ps) (calls_below (reverse ps) c.layout c.code f.0);
+      },
+      fine_back ps f.1 (right_once (code_numbers c.code) (routine_numbers ps) d),
+    )
+
+pub all_fine : (program : List Routine) → IsChecked program → AllFine (reverse program)
+all_fine program h = fine_back (reverse program) (fit_back program h) (once_reversed program h.numbers_once)

@@ -1,0 +1,9 @@
+pub mod Names
+pub mod Blocks
+pub mod Rows
+pub mod Cells
+pub mod Targets
+pub mod Flat
+pub mod Total
+pub mod TotalTable
+pub mod Claims

@@ -1,0 +1,41 @@
+-- The command line, as `clap` defines commands.
+use Rattle.std.specs.Prelude.{[], ◌∷◌, Some, true, false, codes}
+use Rattle.clap.specs.Walk.{Rule, Text}
+use Rattle.clap.specs.Simple.{App, Shape, new_rule, new_shape}
+use Rattle.clap.specs.declared.builder.action.ArgAction.TheVariants.{Set}
+
+-- an option that has a value, with the one that stands for it where it is left out
+abbrev pub option_of : Text → Text → Rule
+option_of name default = record (new_rule name) { long = Some name; action = Some Set; defaults = default ∷ [] }
+
+abbrev pub domain_rule : Rule
+domain_rule = option_of (codes "domain") (codes "interval")
+
+abbrev pub widening_rule : Rule
+widening_rule = option_of (codes "widening") (codes "thresholds")
+
+abbrev pub delay_rule : Rule
+delay_rule = option_of (codes "delay") (codes "0")
+
+abbrev pub budget_rule : Rule
+budget_rule = option_of (codes "budget") (codes "100")
+
+abbrev pub memo_rule : Rule
+memo_rule = option_of (codes "memo") (codes "1024")
+
+-- the file, which has to be there
+abbrev pub file_rule : Rule
+file_rule = record (new_rule (codes "FILE")) { action = Some Set; required = true }
+
+-- the two commands, and the program
+abbrev pub serve_shape : Shape
+serve_shape = record (new_shape (codes "serve")) { rules = domain_rule ∷ widening_rule ∷ delay_rule ∷ budget_rule ∷ memo_rule ∷ file_rule ∷ [] }
+
+abbrev pub batch_shape : Shape
+batch_shape = record (new_shape (codes "batch")) { rules = domain_rule ∷ widening_rule ∷ delay_rule ∷ budget_rule ∷ file_rule ∷ [] }
+
+abbrev pub daig_app : App
+daig_app = record {
+  top = record (new_shape (codes "daig")) { is_leaf = false; disable_help_flag = true; disable_help_subcommand = true };
+  subs = serve_shape ∷ batch_shape ∷ [];
+}

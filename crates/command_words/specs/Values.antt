@@ -1,0 +1,22 @@
+-- The values of options.
+use Rattle.std.specs.Prelude.{ℕ, ◌&&◌, nat_le, Bool, true, false, List, Option, Some, None, codes, decimal, if◌then◌else◌}
+use Rattle.std.specs.Str.{bytes_eq}
+use Rattle.std.specs.Str.Parse.{digits_value}
+use Rattle.command_words.specs.declared.job.DomainName.{DomainName}
+use Rattle.command_words.specs.declared.job.DomainName.TheVariants.{Interval}
+
+-- a number within these bounds, as its decimal digits
+unfoldable pub number_in : ℕ → ℕ → List ℕ → Option ℕ
+number_in least most text =
+    let number = digits_value 10 text in
+    if bytes_eq text (decimal number) && nat_le least number && nat_le number most then Some number else None
+
+unfoldable pub domain_of : List ℕ → Option DomainName
+domain_of text = if bytes_eq text (codes "interval") then Some Interval else None
+
+-- whether the numbers of a procedure are the marks of widening
+unfoldable pub thresholds_of : List ℕ → Option Bool
+thresholds_of text =
+    if bytes_eq text (codes "thresholds") then Some true
+    else (if bytes_eq text (codes "plain") then Some false
+    else None)

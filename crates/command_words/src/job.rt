@@ -1,0 +1,78 @@
+//! Jobs.
+ghost use Rattle.std.specs.Prelude.{◌≡◌, IfOk};
+
+use plain_values::Memory;
+use program_chains::Widening;
+use std::alloc::Global;
+use std::marker::Model;
+
+/// What the words ask for.
+#[derive(Debug, Drop)]
+pub enum Job {
+    /// Answers to the lines of a script, about a program.
+    Serve {
+        /// How the program is analysed.
+        settings: Settings,
+        /// How many results are remembered, 1 to 65,536.
+        memo: u32,
+        /// The program's file.
+        file: FileName,
+    },
+    /// The program and its report, worked out afresh.
+    Batch {
+        /// How the program is analysed.
+        settings: Settings,
+        /// The program's file.
+        file: FileName,
+    },
+}
+
+/// How a program is analysed.
+#[derive(Clone, Copy, Debug, PartialEq, Eq, Hash)]
+pub struct Settings {
+    /// What is known of variables.
+    pub domain: DomainName,
+    /// How loops are widened; the delay is 0 to 100.
+    pub widening: Widening,
+    /// How many iterates a loop may take, 1 to 10,000.
+    pub budget: u32,
+}
+
+/// A domain.
+#[derive(Clone, Copy, Debug, PartialEq, Eq, Hash)]
+pub enum DomainName {
+    /// A range for each number.
+    Interval,
+}
+
+/// The name of a file, seen as the list of its bytes.
+#[derive(Debug, Drop)]
+pub struct FileName {
+    text: String,
+}
+
+impl Model for FileName {
+    ghost use Rattle.std.specs.Prelude.{ℕ, List};
+    ghost use Rattle.std.specs.String.{string_bytes};
+
+    ghost Value = { List ℕ };
+
+    ghost view = { λ a. string_bytes a.text };
+}
+
+impl FileName {
+    /// The name that has this text.
+    pub(crate) fn new(alloc: Global, text: &str) -> Result<FileName, Memory>
+        ensures is { IfOk result (λ name. name ≡ text.now) }
+    {
+        let text = String::from_str(alloc, text)?;
+        Ok(FileName { text })
+    }
+
+    /// The text.
+    pub fn as_str(&self) -> &str
+        ensures is { result.now ≡ self.now }
+    {
+        self.text.as_str()
+    }
+}

@@ -1,0 +1,47 @@
+//! The values of options.
+ghost use Rattle.std.specs.Prelude.{◌≡◌, codes};
+ghost use Rattle.command_words.specs.Values.{number_in, domain_of, thresholds_of};
+
+use crate::job::DomainName;
+use itoa::Buffer;
+
+/// The number that the text is, as decimal digits without a sign or a leading zero, where it is
+/// within the bounds.
+pub(crate) fn number_in(text: &str, least: u32, most: u32) -> Option<u32>
+    ensures number { result ≡ number_in least most text.now }
+{
+    let Ok(number) = text.parse::<u32>() else {
+        return None;
+    };
+    if number < least || number > most {
+        return None;
+    }
+    let mut buffer = Buffer::new();
+    if buffer.format(number) != text {
+        return None;
+    }
+    Some(number)
+}
+
+/// The domain of this name.
+#[tactic(auto, unfolding(crate::specs::Values::domain_of))]
+pub(crate) fn domain_of(text: &str) -> Option<DomainName>
+    ensures domain { result ≡ domain_of text.now }
+{
+    match text {
+        "interval" => Some(DomainName::Interval),
+        _ => None,
+    }
+}
+
+/// Whether the numbers of a procedure are the marks of widening.
+#[tactic(auto, unfolding(crate::specs::Values::thresholds_of))]
+pub(crate) fn thresholds_of(text: &str) -> Option<bool>
+    ensures thresholds { result ≡ thresholds_of text.now }
+{
+    match text {
+        "thresholds" => Some(true),
+        "plain" => Some(false),
+        _ => None,
+    }
+}

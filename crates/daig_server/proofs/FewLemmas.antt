@@ -1,0 +1,72 @@
+-- A program without faults is small.
+use Rattle.std.proofs.Common.{◌≡◌, ℕ, zero, suc, ◌+◌, ◌<◌, nat_lt, Bool, true, false, List, [], ◌∷◌, ◌++◌, length, Option, Some, None, append_assoc, length-append, refl, sym, ap, ◌∙◌, arith}
+use Rattle.std.proofs.lemmas.Bool.Decides.{nat_tests}
+use Rattle.imp_syntax.specs.Plain.{Statement, Simple, Break, Call, If, While, Statements, Ends, Starts, Procedure, numbers_in, numbers, program_numbers}
+use Rattle.imp_slots.specs.Plain.{Routine}
+use Rattle.imp_check.specs.declared.fault.Fault.{Fault}
+use Rattle.imp_check.specs.declared.fault.Fault.TheVariants.{Procedures, Statements as TooMany, Nesting}
+use Rattle.imp_check.specs.Faults.{unless, first, at, in_procedure}
+use Rattle.imp_check.specs.Programs.{statement_count, block_count, program_count, deepest, size_fault, procedures_fault, ending_fault, check_fault, name_of, last_of}
+use Rattle.imp_check.specs.Slots.{routine_of, routines_from, routines_of}
+
+none_first : {A : Type 0} (x y : Option A) → first x y ≡ None → x ≡ None
+none_first None y is = refl
+none_first (Some a) y is = cc
+
+none_behind : {A : Type 0} (x y : Option A) → first x y ≡ None → y ≡ None
+none_behind None y is = is
+none_behind (Some a) y is = cc
+
+none_in : (p : List ℕ) (s : Option _) → in_procedure p s ≡ None → s ≡ None
+none_in p None is = refl
+none_in p (Some s) is = cc
+
+none_at : (n : ℕ) (f : Option Fault) → at n f ≡ None → f ≡ None
+none_at n None is = refl
+none_at n (Some f) is = cc
+
+below : (b : Bool) (f : Fault) → unless b f ≡ None → b ≡ true
+below true f is = refl
+below false f is = cc
+
+size_holds : (ps : List Procedure) → check_fault ps ≡ None → size_fault ps ≡ None
+size_holds ps is =
+    none_at 0 (size_fault ps) (none_in (name_of (last_of ps)) (at 0 (size_fault ps))
+    (none_first (in_procedure (name_of (last_of ps)) (at 0 (size_fault ps))) (first (procedures_fault [] ps) (in_procedure (name_of (last_of ps)) (at 0 (ending_fault ps)))) is))
+
+few_procedures : (ps : List Procedure) → check_fault ps ≡ None → length ps < 65
+few_procedures ps is =
+    let test : nat_lt (length ps) 65 ≡ true = below (nat_lt (length ps) 65) Procedures (none_first (unless (nat_lt (length ps) 65) Procedures) (first (unless (nat_lt (program_count ps) 10001) TooMany) (unless (nat_lt (deepest ps) 33) Nesting)) (size_holds ps is)) in
+    grind (arith, nat_tests)
+
+few_statements : (ps : List Procedure) → check_fault ps ≡ None → program_count ps < 10001
+few_statements ps is =
+    let rest : first (unless (nat_lt (program_count ps) 10001) TooMany) (unless (nat_lt (deepest ps) 33) Nesting) ≡ None = none_behind (unless (nat_lt (length ps) 65) Procedures) (first (unless (nat_lt (program_count ps) 10001) TooMany) (unless (nat_lt (deepest ps) 33) Nesting)) (size_holds ps is) in
+    let test : nat_lt (program_count ps) 10001 ≡ true = below (nat_lt (program_count ps) 10001) TooMany (none_first (unless (nat_lt (program_count ps) 10001) TooMany) (unless (nat_lt (deepest ps) 33) Nesting) rest) in
+    grind (arith, nat_tests)
+
+routine_count : (earlier ps : List Procedure) → length (routines_from earlier ps) ≡ length ps
+routine_count earlier [] = refl
+routine_count earlier (p ∷ later) = ap suc (routine_count (earlier ++ p ∷ []) later)
+
+pub few_routines : (ps : List Procedure) → check_fault ps ≡ None → length (routines_of ps) < 65
+few_routines ps is = let few : length ps < 65 = few_procedures ps is in omega (arith, routine_count [] ps)
+
+mutual
+  count_of_statement : (s : Statement) → length (numbers_in s) ≡ statement_count s
+  count_of_statement (Simple n a) = refl
+  count_of_statement (Break n) = refl
+  count_of_statement (Call n x f es) = refl
+  count_of_statement (If n c t e) = simp length-append (omega (arith, count_of_block t, count_of_block e))
+  count_of_statement (While n c b) = omega (arith, count_of_block b)
+
+  count_of_block : (ss : Statements) → length (numbers ss) ≡ block_count ss
+  count_of_block Ends = refl
+  count_of_block (Starts s ss) = simp length-append (omega (arith, count_of_statement s, count_of_block ss))
+
+number_count : (ps : List Procedure) → length (program_numbers ps) ≡ program_count ps
+number_count [] = refl
+number_count (p ∷ ps) = simp length-append (omega (arith, count_of_block p.body, number_count ps))
+
+pub few_numbers : (ps : List Procedure) → check_fault ps ≡ None → length (program_numbers ps) < 10001
+few_numbers ps is = let few : program_count ps < 10001 = few_statements ps is in omega (arith, number_count ps)

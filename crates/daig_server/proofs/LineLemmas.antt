@@ -1,0 +1,57 @@
+-- Whole lines.
+use Rattle.std.proofs.Common.{◌≡◌, ℕ, ◌++◌, ◌⊎◌, inl, inr, List, [], ◌∷◌, Option, Some, None, append_assoc, append-nil, refl, sym, ap, ◌∙◌}
+use Rattle.domain_laws.specs.Operations.{Operations}
+use Rattle.script_loop.specs.Lines.{kept}
+use Rattle.script_loop.specs.Replies.{Machine, reply_to, next_to, replies, after, WroteLines}
+use Rattle.request_json.specs.declared.reply.Reply.{Reply}
+use Rattle.request_json.specs.declared.reply.Reply.TheVariants.{Refused}
+use Rattle.request_json.specs.declared.reply.Refusal.TheVariants.{LongLine}
+use Rattle.serde_json.specs.Written.{compact_text}
+use Rattle.request_json.specs.Replies.{object_of, reply_fields, reply_text}
+use Rattle.daig_server.specs.Held.{Held}
+use Rattle.daig_server.specs.Reply.{server, long_reply, line_reply}
+use Rattle.daig_server.specs.Ends.{IsWholeLines, WroteWholeLines}
+
+reply_whole : (reply : Reply) → IsWholeLines (reply_text reply)
+unfolding reply_text
+reply_whole reply = inr (compact_text (object_of (reply_fields reply)), refl)
+
+long_whole : IsWholeLines long_reply
+unfolding long_reply
+long_whole = reply_whole (Refused LongLine)
+
+append_whole : (xs ys : List ℕ) → IsWholeLines xs → IsWholeLines ys → IsWholeLines (xs ++ ys)
+append_whole xs ys first (inl none) = rw (none, append-nil xs) first
+append_whole xs ys first (inr ends) = inr (xs ++ ends.0, ap (λ zs. xs ++ zs) ends.1 ∙ sym (append_assoc xs ends.0 (10 ∷ [])))
+
+kept_whole : {S : Type 0} (dom : Operations S) (held : Held) (line : Option (List ℕ)) → IsWholeLines (reply_to (server dom) held line)
+kept_whole dom held None = long_whole
+kept_whole dom held (Some line) = reply_whole (line_reply dom held line)
+
+replies_whole : {S : Type 0} (dom : Operations S) (held : Held) (lines : List (List ℕ)) → IsWholeLines (replies (server dom) held lines)
+replies_whole dom held [] = inl refl
+replies_whole dom held (line ∷ lines) =
+    append_whole (reply_to (server dom) held (kept line)) (replies (server dom) (next_to (server dom) held (kept line)) lines)
+    (kept_whole dom held (kept line)) (replies_whole dom (next_to (server dom) held (kept line)) lines)
+
+replies-append : {M : Type 0} (machine : Machine M) (m : M) (xs ys : List (List ℕ)) →
+    replies machine m (xs ++ ys) ≡ replies machine m xs ++ replies machine (after machine m xs) ys
+replies-append machine m [] ys = refl
+replies-append machine m (x ∷ xs) ys =
+    ap (λ rest. reply_to machine m (kept x) ++ rest) (replies-append machine (next_to machine m (kept x)) xs ys)
+    ∙ sym (append_assoc (reply_to machine m (kept x)) (replies machine (next_to machine m (kept x)) xs) (replies machine (after machine (next_to machine m (kept x)) xs) ys))
+
+-- whole replies are whole lines
+pub wrote_whole : {S : Type 0} (dom : Operations S) (held : Held) (lines : List (List ℕ)) (taken : List ℕ) (written : Option (List ℕ)) →
+    WroteLines (server dom) held lines taken written → WroteWholeLines (replies (server dom) held lines) taken written
+wrote_whole dom held lines taken written wrote = record {
+  sent = replies (server dom) held wrote.answered;
+  unsent = replies (server dom) (after (server dom) held wrote.answered) wrote.unanswered;
+  split = ap (replies (server dom) held) wrote.split ∙ replies-append (server dom) held wrote.answered wrote.unanswered;
+  written = wrote.written;
+  whole = replies_whole dom held wrote.answered;
+}
+
+-- nothing is written
+pub wrote_nothing : (bytes taken : List ℕ) (written : Option (List ℕ)) → written ≡ Some taken → WroteWholeLines bytes taken written
+wrote_nothing bytes taken written is = record { sent = []; unsent = bytes; split = refl; written = is ∙ ap Some (sym (append-nil taken)); whole = inl refl }

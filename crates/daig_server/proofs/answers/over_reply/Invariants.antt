@@ -1,0 +1,6 @@
+use Rattle.std.proofs.Common.{◌≡◌, take}
+use Rattle.daig_server.proofs.answers.over_reply.Given as goal
+
+-- the call statements so far
+abbrev pub invariant-loop-site : goal.invariant-loop-site
+invariant-loop-site l = l.sites ≡ take l.site-index l.chain

@@ -1,0 +1,35 @@
+-- What the words ask for.
+use Rattle.std.specs.Prelude.{◌≡◌, ℕ, List, [], Option, Some, None, false}
+use Rattle.command_words.specs.declared.job.Job.{Job}
+use Rattle.command_words.specs.declared.job.Job.TheVariants as job
+use Rattle.command_words.specs.declared.job.Settings.{Settings}
+use Rattle.batch_meaning.specs.Batch.{Engine}
+use Rattle.daig_server.specs.declared.task.Task.{Task}
+use Rattle.daig_server.specs.declared.task.Task.TheVariants.{Serve, Batch}
+
+-- how loops are interpreted
+abbrev pub engine_of : Settings → Engine
+engine_of settings = record { budget = settings.budget; widening = settings.widening }
+
+-- what a job does, how, and for the program of which file
+abbrev pub task_of : Job → Task
+task_of (job.Serve settings memo file) = Serve
+task_of (job.Batch settings file) = Batch
+
+abbrev pub settings_of : Job → Settings
+settings_of (job.Serve settings memo file) = settings
+settings_of (job.Batch settings file) = settings
+
+abbrev pub file_of : Job → List ℕ
+file_of (job.Serve settings memo file) = file
+file_of (job.Batch settings file) = file
+
+-- the words name a job that does this
+abbrev pub Asks : Task → Option Job → Type 0
+Asks task None = ⊥
+Asks task (Some job) = task_of job ≡ task
+
+-- how loops are interpreted for a job; without one nothing is
+abbrev pub engine_in : Option Job → Engine
+engine_in None = record { budget = 0; widening = record { delay = 0; thresholds = false } }
+engine_in (Some job) = engine_of (settings_of job)

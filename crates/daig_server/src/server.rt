@@ -1,0 +1,112 @@
+//! The server of a program.
+ghost use Rattle.std.specs.Prelude.{◌≡◌, IfOk};
+ghost use Rattle.dom_interval.specs.Domain.{intervals};
+ghost use Rattle.request_json.specs.Replies.{reply_text};
+ghost use Rattle.daig_server.specs.Reply as of_reply;
+ghost use Rattle.daig_server.specs.Reply.{long_reply};
+ghost use Rattle.daig_server.specs.Jobs.{engine_of};
+ghost use Rattle.daig_server.specs.Output.{batch_bytes};
+
+use crate::answers::{line_reply, report_reply};
+use crate::replies::listing;
+use command_words::Settings;
+use dom_interval::Interval;
+use imp_check::Checked;
+use plain_values::Memory;
+use request_json::{Refusal, Reply, reply_line};
+use script_loop::Answerer;
+use std::alloc::Global;
+use std::marker::Model;
+use std::sync::ledger::Ledger;
+use step_counter::Steps;
+
+/// The server of one program: it answers each line by intervals, interpreting the program from nothing.
+#[derive(Drop)]
+pub struct Server {
+    program: Checked,
+    settings: Settings,
+}
+
+impl Model for Server {
+    ghost use Rattle.daig_server.specs.Held.{Held, held_code};
+    ghost use Rattle.daig_server.specs.Jobs.{engine_of};
+
+    ghost Value = { Held };
+
+    ghost coded = { held_code };
+
+    ghost view = { λ s. record { engine = engine_of s.settings; program = s.program } };
+}
+
+impl Server {
+    /// The server of this program.
+    pub fn new(program: Checked, settings: Settings) -> Server
+        ensures held { result ≡ record { engine = engine_of settings; program = program } }
+    {
+        Server { program, settings }
+    }
+
+    /// The reply to a line, as text.
+    fn line<L: Ledger>(
+        &self,
+        alloc: Global,
+        line: &[u8],
+        steps: &mut Steps<L>,
+    ) -> Result<Vec<u8>, Memory>
+        ensures reply { IfOk result (λ v. v.items ≡ reply_text (of_reply.line_reply intervals self.now line.now)) }
+    {
+        let reply = line_reply(alloc, &Interval, &self.program, &self.settings, line, steps)?;
+        reply_line(alloc, &reply)
+    }
+
+    /// The listing and the line of the report.
+    #[tactic(auto, unfolding(crate::specs::Output::batch_bytes))]
+    pub(crate) fn batch<L: Ledger>(
+        &self,
+        alloc: Global,
+        steps: &mut Steps<L>,
+    ) -> Result<Vec<u8>, Memory>
+        ensures bytes { IfOk result (λ v. v.items ≡ batch_bytes self.now) }
+    {
+        let listing = listing(alloc, &self.program)?;
+        let reply = report_reply(alloc, &Interval, &self.program, &self.settings, steps)?;
+        let line = reply_line(alloc, &reply)?;
+        let mut bytes = Vec::from_slice(alloc, listing.as_slice())?;
+        bytes.extend_from_slice(line.as_slice())?;
+        Ok(bytes)
+    }
+}
+
+/// The reply to a line that is too long.
+#[tactic(auto, unfolding(crate::specs::Reply::long_reply))]
+fn long_line(alloc: Global) -> Result<Vec<u8>, Memory>
+    ensures reply { IfOk result (λ v. v.items ≡ long_reply) }
+{
+    reply_line(alloc, &Reply::Refused(Refusal::LongLine))
+}
+
+impl Answerer for Server {
+    ghost use Rattle.dom_interval.specs.Domain.{intervals};
+    ghost use Rattle.daig_server.specs.Reply.{server};
+
+    ghost machine = { server intervals };
+
+    fn answer<L: Ledger>(
+        &mut self,
+        alloc: Global,
+        line: &[u8],
+        steps: &mut Steps<L>,
+    ) -> Result<Vec<u8>, script_loop::Memory> {
+        match self.line(alloc, line, steps) {
+            Ok(reply) => Ok(reply),
+            Err(_) => Err(script_loop::Memory),
+        }
+    }
+
+    fn answer_long(&self, alloc: Global) -> Result<Vec<u8>, script_loop::Memory> {
+        match long_line(alloc) {
+            Ok(reply) => Ok(reply),
+            Err(_) => Err(script_loop::Memory),
+        }
+    }
+}

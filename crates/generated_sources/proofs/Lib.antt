@@ -1,0 +1,4 @@
+pub mod Words
+pub mod Printable
+pub mod Texts
+pub mod Faultless

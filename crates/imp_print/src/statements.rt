@@ -1,0 +1,124 @@
+//! Statements and blocks.
+ghost use Rattle.std.specs.Prelude.{◌≡◌, ◌++◌, codes, IfOk, OnOk};
+ghost use Rattle.imp_syntax.specs.Plain.{number_of};
+ghost use Rattle.imp_print.specs.Statements.{margin, line, deeper, is_empty, else_text, statement_text, block_text};
+
+use crate::expressions::put_cond;
+use crate::lines::{put_action, put_call, put_margin};
+use imp_syntax::{Block, Stmt, StmtNode};
+use plain_values::{Memory, Text};
+
+/// Adds what stands in front of a line, and how far it stands to the right.
+pub(crate) fn begin_line(
+    text: &mut Text,
+    listing: bool,
+    number: Option<u32>,
+    right: &Text,
+) -> Result<(), Memory>
+    ensures added { OnOk result (text.new ≡ text.old ++ (margin listing number ++ right.now)) }
+{
+    put_margin(text, listing, number)?;
+    text.append(right.as_slice())
+}
+
+/// Adds a line.
+pub(crate) fn put_line(
+    text: &mut Text,
+    listing: bool,
+    number: Option<u32>,
+    right: &Text,
+    content: &[u8],
+) -> Result<(), Memory>
+    ensures added { OnOk result (text.new ≡ text.old ++ line listing number right.now content.now) }
+{
+    begin_line(text, listing, number, right)?;
+    text.append(content)?;
+    text.append(b"\n")
+}
+
+/// Two spaces more.
+fn deeper(right: &Text) -> Result<Text, Memory>
+    ensures is { IfOk result (λ more. more ≡ deeper right.now) }
+{
+    let mut more = right.clone()?;
+    more.append(b"  ")?;
+    Ok(more)
+}
+
+/// Adds a statement, its lines so far to the right.
+#[cycle(put_stmt)]
+pub(crate) fn put_stmt(
+    text: &mut Text,
+    listing: bool,
+    right: &Text,
+    stmt: &Stmt,
+) -> Result<(), Memory>
+    ensures added { OnOk result (text.new ≡ text.old ++ statement_text listing right.now stmt.now) }
+{
+    let number = Some(stmt.id().number());
+    match stmt.node() {
+        StmtNode::Simple(action) => {
+            begin_line(text, listing, number, right)?;
+            put_action(text, action)?;
+            text.append(b";\n")
+        }
+        StmtNode::Break => put_line(text, listing, number, right, b"break;"),
+        StmtNode::Call(call) => {
+            begin_line(text, listing, number, right)?;
+            put_call(text, call)?;
+            text.append(b";\n")
+        }
+        StmtNode::If(test, then, otherwise) => {
+            begin_line(text, listing, number, right)?;
+            text.append(b"if (")?;
+            put_cond(text, test)?;
+            text.append(b") {\n")?;
+            put_block(text, listing, &deeper(right)?, then)?;
+            put_else(text, listing, right, otherwise)
+        }
+        StmtNode::While(test, body) => {
+            begin_line(text, listing, number, right)?;
+            text.append(b"while (")?;
+            put_cond(text, test)?;
+            text.append(b") {\n")?;
+            put_block(text, listing, &deeper(right)?, body)?;
+            put_line(text, listing, None, right, b"}")
+        }
+    }
+}
+
+fn is_empty(block: &Block) -> bool
+    ensures is { result ≡ is_empty block.now }
+{
+    block.is_empty()
+}
+
+/// Adds the end of an if: an else that is not empty, and the last brace.
+#[cycle(put_stmt)]
+fn put_else(text: &mut Text, listing: bool, right: &Text, otherwise: &Block) -> Result<(), Memory>
+    ensures added { OnOk result (text.new ≡ text.old ++ else_text listing right.now (is_empty otherwise.now) (block_text listing (deeper right.now) otherwise.now)) }
+{
+    if is_empty(otherwise) {
+        return put_line(text, listing, None, right, b"}");
+    }
+    put_line(text, listing, None, right, b"} else {")?;
+    put_block(text, listing, &deeper(right)?, otherwise)?;
+    put_line(text, listing, None, right, b"}")
+}
+
+/// Adds the statements of a block, their lines so far to the right.
+#[cycle(put_stmt)]
+pub(crate) fn put_block(
+    text: &mut Text,
+    listing: bool,
+    right: &Text,
+    block: &Block,
+) -> Result<(), Memory>
+    ensures added { OnOk result (text.new ≡ text.old ++ block_text listing right.now block.now) }
+{
+    let stmts = block.as_slice();
+    'each: for i in 0..stmts.len() {
+        put_stmt(text, listing, right, &stmts[i])?;
+    }
+    Ok(())
+}

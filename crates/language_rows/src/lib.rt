@@ -1,0 +1,14 @@
+//! Tests of the language from its texts: which program is refused and why, what is known of the
+//! statements of one that is not, and how it runs. The expected answers are worked out by hand.
+#![tactic(auto)]
+
+#[cfg(test)]
+mod checked;
+#[cfg(test)]
+mod faults;
+#[cfg(test)]
+mod limits;
+#[cfg(test)]
+mod readers;
+#[cfg(test)]
+mod runs;

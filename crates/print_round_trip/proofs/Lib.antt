@@ -1,0 +1,17 @@
+pub mod Tokens
+pub mod Lexed
+pub mod Words
+pub mod PrintedExpressions
+pub mod PrintedPrograms
+pub mod SpelledExpressions
+pub mod Weights
+pub mod Least
+pub mod Budgets
+pub mod SpelledPrograms
+pub mod ReadBack
+pub mod Numbers
+pub mod GoodTokens
+pub mod ReadWords
+pub mod ReadPrograms
+pub mod Numbered
+pub mod ReadAgain

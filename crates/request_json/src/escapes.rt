@@ -1,0 +1,70 @@
+//! Texts and numbers in JSON.
+ghost use Rattle.std.specs.Prelude.{◌≡◌, ◌<◌, ◌++◌, OnOk, decimal};
+ghost use Rattle.std.specs.Char.{digit_char};
+ghost use Rattle.json.specs.Print.{escape_byte, escape, quoted};
+
+use itoa::Buffer;
+use plain_values::Memory;
+
+/// Adds a number.
+pub(crate) fn put_number(line: &mut Vec<u8>, number: u64) -> Result<(), Memory>
+    ensures number { OnOk result (line.new.items ≡ line.old.items ++ decimal number) }
+{
+    let mut buffer = Buffer::new();
+    line.extend_from_slice(buffer.format(number).as_bytes())?;
+    Ok(())
+}
+
+/// The hexadecimal digit of a number below 16.
+fn hex_digit(number: u8) -> u8
+    requires { number < 16 }
+    ensures digit { result ≡ digit_char number }
+{
+    if number < 10 {
+        b'0' + number
+    } else {
+        b'a' + (number - 10)
+    }
+}
+
+/// Adds what stands in a JSON text for the byte.
+#[tactic(auto, unfolding(json::specs::Print::escape_byte))]
+fn put_escaped(line: &mut Vec<u8>, byte: u8) -> Result<(), Memory>
+    ensures escaped { OnOk result (line.new.items ≡ line.old.items ++ escape_byte byte) }
+{
+    match byte {
+        b'"' | b'\\' => line.extend_from_slice(&[b'\\', byte])?,
+        8 => line.extend_from_slice(b"\\b")?,
+        9 => line.extend_from_slice(b"\\t")?,
+        10 => line.extend_from_slice(b"\\n")?,
+        12 => line.extend_from_slice(b"\\f")?,
+        13 => line.extend_from_slice(b"\\r")?,
+        0..32 => {
+            let digits = [hex_digit(byte / 16), hex_digit(byte % 16)];
+            line.extend_from_slice(b"\\u00")?;
+            line.extend_from_slice(&digits)?;
+        }
+        _ => line.push(byte)?,
+    }
+    Ok(())
+}
+
+/// Adds the bytes of a text, each as it stands in a JSON text.
+fn put_escapes(line: &mut Vec<u8>, text: &[u8]) -> Result<(), Memory>
+    ensures escaped { OnOk result (line.new.items ≡ line.old.items ++ escape text.now) }
+{
+    for byte in text {
+        put_escaped(line, *byte)?;
+    }
+    Ok(())
+}
+
+/// Adds a text, in quotes.
+pub(crate) fn put_quoted(line: &mut Vec<u8>, text: &[u8]) -> Result<(), Memory>
+    ensures quoted { OnOk result (line.new.items ≡ line.old.items ++ quoted text.now) }
+{
+    line.push(b'"')?;
+    put_escapes(line, text)?;
+    line.push(b'"')?;
+    Ok(())
+}

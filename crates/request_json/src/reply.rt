@@ -1,0 +1,180 @@
+//! Replies.
+use imp_syntax::{Chain, StmtId};
+use plain_values::{Items, Text};
+
+/// What a line is answered.
+#[derive(Debug, Drop)]
+pub enum Reply {
+    /// The state at a location, as text.
+    State(Text),
+    /// The iteration of a loop did not end within the budget: there is no state.
+    Over {
+        /// The loop.
+        head: StmtId,
+        /// The call statements of its chain, outermost first.
+        chain: Chain,
+    },
+    /// The findings of all checks.
+    Report(Items<ReportItem>),
+    /// What was worked out.
+    Cost {
+        /// How many cells the last query filled.
+        cost: u64,
+        /// How many cells there are.
+        kept: u64,
+    },
+    /// The program.
+    Program {
+        /// The next statement number that is not used.
+        next: u32,
+        /// The program's text.
+        text: Text,
+    },
+    /// The program's text with the statements' numbers.
+    Listing(Text),
+    /// A run of the program.
+    Run {
+        /// How it ended.
+        end: RunEnd,
+        /// How many of its configurations stood at the location that was asked for, if one was.
+        reached: Option<u64>,
+    },
+    /// An edit is done: the next statement number that is not used.
+    Next(u32),
+    /// The statements that a state depends on.
+    Why(Items<StmtId>),
+    /// The number of a new ticket.
+    Ticket(u64),
+    /// A step filled so many cells, and is not done.
+    Pending(u64),
+    /// The ticket of this number is given up.
+    Cancelled(u64),
+    /// The request is refused.
+    Refused(Refusal),
+}
+
+/// What is found of the check of a statement.
+#[derive(Clone, Copy, Debug, PartialEq, Eq, Hash)]
+pub struct ReportItem {
+    /// The statement.
+    pub id: StmtId,
+    /// What its check asks.
+    pub check: CheckName,
+    /// What is found.
+    pub verdict: VerdictName,
+}
+
+/// What a check asks.
+#[derive(Clone, Copy, Debug, PartialEq, Eq, Hash)]
+pub enum CheckName {
+    /// The index of an array is within it.
+    Bounds,
+    /// A link is not null.
+    Null,
+    /// The condition of an `assert` holds.
+    Assert,
+}
+
+/// What is found of a check.
+#[derive(Clone, Copy, Debug, PartialEq, Eq, Hash)]
+pub enum VerdictName {
+    /// No run comes to the statement.
+    Dead,
+    /// No run fails at the check.
+    Safe,
+    /// A run may fail at the check.
+    May,
+}
+
+/// How a run ended.
+#[derive(Clone, Copy, Debug, PartialEq, Eq, Hash)]
+pub enum RunEnd {
+    /// It came to the end of the program.
+    Ended,
+    /// It failed at a statement.
+    Fault {
+        /// What failed.
+        fault: FaultName,
+        /// The statement.
+        id: StmtId,
+    },
+    /// This statement found no input.
+    Inputs(StmtId),
+    /// It took all steps that it was allowed, and is not finished.
+    Fuel,
+}
+
+/// What fails in a run.
+#[derive(Clone, Copy, Debug, PartialEq, Eq, Hash)]
+pub enum FaultName {
+    /// A number outside 64 bits.
+    Overflow,
+    /// A division or remainder by 0.
+    Zero,
+    /// An index outside its array.
+    Index,
+    /// An array of fewer than 0 or more than 1,000,000 elements.
+    Length,
+    /// The next or the item of null.
+    Null,
+    /// A condition that was claimed and is false.
+    Assert,
+}
+
+/// Why a request is refused, in the order of the numbers, which begin at 1.
+#[derive(Debug, Drop)]
+pub enum Refusal {
+    /// The line is not UTF-8, or no JSON.
+    NoJson,
+    /// The line is no object, has no text `do`, or a field of the request is missing or not as it
+    /// should be.
+    BadMember,
+    /// `do` names no request.
+    NoRequest,
+    /// There is no such statement.
+    NoStatement,
+    /// There is no such procedure.
+    NoProcedure,
+    /// The statement is none of which this can be asked.
+    WrongStatement,
+    /// The text of an edit is not read.
+    Unread {
+        /// A place in bytes, where tokens fail, or in tokens.
+        at: u64,
+        /// The fault's name.
+        name: Text,
+    },
+    /// The program would not be well formed.
+    IllFormed(ProgramFault),
+    /// The program would pass a limit.
+    Limit(ProgramFault),
+    /// No chain ends with the call string.
+    NoChain,
+    /// The call string has more than two members.
+    LongString,
+    /// The procedure to be dropped is main, or is still called.
+    StillCalled,
+    /// There is no such open ticket.
+    NoTicket,
+    /// As many tickets are open as there may be.
+    ManyTickets,
+    /// The line is too long.
+    LongLine,
+    /// The location of the ticket is no longer in the program.
+    Gone,
+    /// There is no edit to undo.
+    NothingToUndo,
+    /// There is nothing undone to do again.
+    NothingToRedo,
+}
+
+/// What is wrong with a program, and where.
+#[derive(Debug, Drop)]
+pub struct ProgramFault {
+    /// The statement, or number 0 where it is none.
+    pub at: StmtId,
+    /// The fault's name, or the limit's.
+    pub name: Text,
+    /// The procedure.
+    pub proc: Text,
+}
