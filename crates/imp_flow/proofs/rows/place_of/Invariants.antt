@@ -1,0 +1,8 @@
+use Rattle.std.proofs.Common.{◌≡◌, ◌+◌, drop, option_map}
+use Rattle.cell_rows.specs.Names.{place_of}
+use Rattle.imp_flow.specs.NodeRows.{breaks_of}
+use Rattle.imp_flow.proofs.rows.place_of.Given as goal
+
+-- the break is not among those so far
+abbrev pub invariant-loop-leave : goal.invariant-loop-leave
+invariant-loop-leave l = place_of l.stmt (breaks_of l.leaves) ≡ option_map (λ j. l.i + j) (place_of l.stmt (breaks_of (drop l.i l.leaves)))

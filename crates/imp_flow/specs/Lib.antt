@@ -1,0 +1,5 @@
+pub mod Near
+pub mod Nodes
+pub mod NodeRows
+pub mod Plans
+pub mod Inputs

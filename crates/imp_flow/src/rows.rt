@@ -1,0 +1,183 @@
+//! The rows of a statement's points.
+ghost use Rattle.std.specs.Prelude.{◌≡◌, ◌≤◌, ◌<◌, length, option_map, List, ◌∷◌};
+ghost use Rattle.cell_names.specs.declared.frame.Frame as frame;
+ghost use Rattle.cell_rows.specs.Names.{place_of};
+ghost use Rattle.imp_flow.specs.Near.{row_in};
+ghost use Rattle.imp_flow.specs.NodeRows.{engine_of, iterate_at, joined_at, breaks_of, joins_at, behind_loop, post_at, enter_at, branch_at, turn_at, next_at, fix_at, exit_at, leap_at};
+
+use crate::input::Input;
+use crate::node::{Leave, Node, Shape};
+use crate::row::{Binary, Row, Unary, iterate_at};
+use cell_names::{Frame, Point};
+use imp_slots::SlotCond;
+use imp_syntax::StmtId;
+use program_chains::Widening;
+
+/// The point behind a loop with its first breaks.
+fn joined_at(head: StmtId, leaves: &[Leave], count: usize) -> Point
+    requires there { count ≤ length leaves.now }
+    ensures is { result ≡ joined_at head (breaks_of leaves.now) count }
+{
+    if count == 0 {
+        Point::Exit(head)
+    } else {
+        Point::Leap(head, leaves[count - 1].stmt)
+    }
+}
+
+/// The row that joins a break to a loop's exit and the breaks before.
+fn joins_row<'a>(stays: bool, head: StmtId, leaves: &[Leave], place: usize) -> Option<Row<'a>>
+    ensures is { (w : List frame.Frame) → option_map (row_in w) result ≡ joins_at w stays head leaves.now place }
+{
+    match leaves.get(place) {
+        None => None,
+        Some(leave) => {
+            let left = joined_at(head, leaves, place);
+            Some(Row::Joins(stays, left, head, leave.front))
+        }
+    }
+}
+
+fn behind_loop<'a>(head: StmtId, cond: &'a SlotCond, leaves: &[Leave]) -> Option<Row<'a>>
+    ensures is { (w : List frame.Frame) → option_map (row_in w) result ≡ behind_loop w head cond.now leaves.now (length leaves.now) }
+{
+    let count = leaves.len();
+    if count == 0 {
+        Some(Row::One(Unary::Assume(cond, false), Input::here(Point::Fix(head))))
+    } else {
+        joins_row(false, head, leaves, count - 1)
+    }
+}
+
+/// Behind a statement.
+pub(crate) fn post_row(node: &Node) -> Option<Row<'_>>
+    ensures is { (w : List frame.Frame) → option_map (row_in w) result ≡ post_at w node.now }
+{
+    match &node.shape {
+        Shape::Act(stmt) => Some(Row::One(Unary::Post(stmt), Input::here(node.front))),
+        Shape::If(_, then, els) => Some(Row::Two(
+            Binary::Join,
+            Input::here(*then),
+            Input::here(*els),
+        )),
+        Shape::While(cond, _, leaves) => behind_loop(node.stmt, cond, leaves.as_slice()),
+        Shape::Call(call, _, end) => match end {
+            None => None,
+            Some(end) => {
+                let done = Input::inside(Frame::InCall(node.stmt), *end);
+                Some(Row::Two(Binary::Leave(call), Input::here(node.front), done))
+            }
+        },
+    }
+}
+
+/// Into the procedure that a statement calls.
+pub(crate) fn enter_row(node: &Node) -> Option<Row<'_>>
+    ensures is { (f : frame.Frame) (w : List frame.Frame) → option_map (row_in (f ∷ w)) result ≡ enter_at w node.now }
+{
+    match &node.shape {
+        Shape::Call(call, _, Some(_)) => Some(Row::One(Unary::Enter(call), Input::out(node.front))),
+        _ => None,
+    }
+}
+
+/// Into a block of an if: the first where `sense`.
+pub(crate) fn branch_row(node: &Node, sense: bool) -> Option<Row<'_>>
+    ensures is { (w : List frame.Frame) → option_map (row_in w) result ≡ branch_at w sense node.now }
+{
+    match &node.shape {
+        Shape::If(cond, _, _) => Some(Row::One(
+            Unary::Assume(cond, sense),
+            Input::here(node.front),
+        )),
+        _ => None,
+    }
+}
+
+/// Into a round of a loop, from the iterate of this index.
+pub(crate) fn turn_row(node: &Node, budget: u32, widening: Widening, index: u32) -> Option<Row<'_>>
+    ensures is { (f : frame.Frame) (w : List frame.Frame) → option_map (row_in (f ∷ w)) result ≡ turn_at w (engine_of budget widening) index node.now }
+{
+    match &node.shape {
+        Shape::While(cond, _, _) if index < budget => {
+            let from = iterate_at(node.stmt, node.front, index);
+            Some(Row::One(Unary::Assume(cond, true), Input::out(from)))
+        }
+        _ => None,
+    }
+}
+
+/// The iterate of a loop behind that of this index.
+pub(crate) fn next_row<'a>(
+    node: &'a Node,
+    marks: &'a [i64],
+    budget: u32,
+    widening: Widening,
+    index: u32,
+) -> Option<Row<'a>>
+    ensures is { (w : List frame.Frame) → option_map (row_in w) result ≡ next_at w (engine_of budget widening) marks.now index node.now }
+{
+    match &node.shape {
+        Shape::While(_, end, _) if index < budget => {
+            let operation = if index < widening.delay {
+                Binary::Join
+            } else {
+                Binary::Widen(marks)
+            };
+            let from = iterate_at(node.stmt, node.front, index);
+            let round = Input::inside(Frame::InLoop(node.stmt, index), *end);
+            Some(Row::Two(operation, Input::here(from), round))
+        }
+        _ => None,
+    }
+}
+
+/// Where the iterates of a loop stop.
+pub(crate) fn fix_row(node: &Node) -> Option<Row<'_>>
+    ensures is { (w : List frame.Frame) → option_map (row_in w) result ≡ fix_at w node.now }
+{
+    match &node.shape {
+        Shape::While(_, _, _) => Some(Row::Fixed(node.stmt, node.front)),
+        _ => None,
+    }
+}
+
+/// Behind a loop with breaks, by its condition alone.
+pub(crate) fn exit_row(node: &Node) -> Option<Row<'_>>
+    ensures is { (w : List frame.Frame) → option_map (row_in w) result ≡ exit_at w node.now }
+{
+    match &node.shape {
+        Shape::While(cond, _, leaves) if leaves.len() > 0 => Some(Row::One(
+            Unary::Exit(cond),
+            Input::here(Point::Fix(node.stmt)),
+        )),
+        _ => None,
+    }
+}
+
+/// Where a break stands among these.
+fn place_of(leaves: &[Leave], stmt: StmtId) -> Option<usize>
+    ensures is { result ≡ place_of stmt (breaks_of leaves.now) }
+{
+    for (i, leave) in leaves.iter().enumerate() {
+        if leave.stmt == stmt {
+            return Some(i);
+        }
+    }
+    None
+}
+
+/// Behind a loop with its breaks up to this one, which is not its last.
+pub(crate) fn leap_row(node: &Node, stmt: StmtId) -> Option<Row<'_>>
+    ensures is { (w : List frame.Frame) → option_map (row_in w) result ≡ leap_at w stmt node.now }
+{
+    match &node.shape {
+        Shape::While(_, _, leaves) => match place_of(leaves.as_slice(), stmt) {
+            Some(place) if place + 1 < leaves.len() => {
+                joins_row(true, node.stmt, leaves.as_slice(), place)
+            }
+            _ => None,
+        },
+        _ => None,
+    }
+}
