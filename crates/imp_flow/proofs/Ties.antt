@@ -1,6 +1,6 @@
 -- The rows by nodes are the rows by the table of statements.
-use Rattle.std.proofs.lemmas.List.{length-reverse, reverse-append, reverse-reverse}
-use Rattle.std.proofs.Common.{◌≡◌, ℕ, zero, suc, ◌<◌, ◌==◌, ℤ, cond, List, [], ◌∷◌, ◌++◌, length, map, reverse, Option, Some, None, Bool, true, false, if◌then◌else◌, nat_lt, slice_get, refl, sym, ap, ◌∙◌, subst, arith, append_assoc, append-nil}
+use Rattle.std.proofs.lemmas.List.{length-append, length-reverse, reverse-append, reverse-reverse}
+use Rattle.std.proofs.Common.{◌≡◌, ℕ, zero, suc, ◌+◌, ◌<◌, ◌==◌, ℤ, cond, List, [], ◌∷◌, ◌++◌, length, map, reverse, Option, Some, None, Bool, true, false, if◌then◌else◌, nat_lt, slice_get, refl, sym, ap, ◌∙◌, subst, arith, append_assoc, append-nil}
 use Rattle.std.specs.Option.{option_map}
 use Rattle.imp_slots.specs.Plain.{Guard, Invoke, Code, Stop, Simple, If, While, Call, Break, Routine}
 use Rattle.imp_slots.specs.Plain as plain
@@ -21,17 +21,13 @@ use Rattle.cell_rows.specs.Targets.{Text, text, deeper, texts}
 use Rattle.cell_rows.specs.Flat.{Flat, flat_of, flat, stand_in, by_text, flat_row}
 use Rattle.imp_flow.specs.declared.node.Leave.{Leave}
 use Rattle.imp_flow.specs.declared.node.Node.{Node}
-use Rattle.imp_flow.specs.Nodes.{leaving, body_end, callee_end, shape_of, node, block_nodes, nodes_of, node_of}
+use Rattle.imp_flow.specs.Nodes.{leaving, body_end, callee_end, shape_of, node_in, block_nodes, nodes_of, node_of}
 use Rattle.imp_flow.specs.NodeRows.{breaks_of, fronts_of, iterate_at, joined_at, where_so, joins_at, behind_loop, post_by, enter_by, branch_by, post_at, enter_at, branch_at, turn_at, next_at, fix_at, exit_at, leap_at}
 use Rattle.imp_flow.specs.Plans.{Plan, all_marks, or_none, marks_at, plan_nodes, by_node, next_of, node_row}
 
 map_both : {A B : Type 0} (f : A → B) (xs ys : List A) → map f (xs ++ ys) ≡ map f xs ++ map f ys
 map_both f [] ys = refl
 map_both f (x ∷ xs) ys = ap (λ k. f x ∷ k) (map_both f xs ys)
-
-length_both : {A : Type 0} (xs ys : List A) → length (xs ++ ys) ≡ length xs + length ys
-length_both [] ys = refl
-length_both (x ∷ xs) ys = ap suc (length_both xs ys)
 
 -- The breaks of a block, with the points in front of them.
 pub breaks_are : (c : Code) (p : Point) → breaks_of (leaving c p) ≡ break_numbers c
@@ -60,16 +56,21 @@ pub count_is : (c : Code) (p : Point) → length (leaving c p) ≡ breaks c
 count_is Stop p = refl
 count_is (Simple n e r) p = count_is r (Post n)
 count_is (If n g t e r) p =
-    length_both (leaving t (Then n)) (leaving e (Else n) ++ leaving r (Post n))
-    ∙ ap (λ k. length (leaving t (Then n)) + k) (length_both (leaving e (Else n)) (leaving r (Post n)))
-    ∙ rw (count_is t (Then n), count_is e (Else n), count_is r (Post n)) refl
+    omega (
+      arith,
+      length-append (leaving t (Then n)) (leaving e (Else n) ++ leaving r (Post n)),
+      length-append (leaving e (Else n)) (leaving r (Post n)),
+      count_is t (Then n),
+      count_is e (Else n),
+      count_is r (Post n),
+    )
 count_is (While n g b r) p = count_is r (Post n)
 count_is (Call n i q r) p = count_is r (Post n)
 count_is (Break n r) p = ap suc (count_is r (Post n))
 
 -- Each statement of the table has its node.
 abbrev text_node : List Routine → List ℕ → Text → Node
-text_node earlier loops t = node earlier (loops ++ t.loops) t.front (number t.code) (shape_of earlier t.code)
+text_node earlier loops t = node_in earlier (loops ++ t.loops) t.front (number t.code) (shape_of earlier t.code)
 
 abbrev entry_node : List Routine → List ℕ → ℕ × Text → Node
 entry_node earlier loops x = text_node earlier loops x.1
@@ -87,11 +88,11 @@ module _ (earlier : List Routine) where
   deeper_nodes : (loops : List ℕ) (n : ℕ) (xs : List (ℕ × Text)) → map (N (loops ++ n ∷ [])) xs ≡ map (N loops) (map (deeper n) xs)
   deeper_nodes loops n [] = refl
   deeper_nodes loops n (x ∷ xs) =
-      ap (λ ls. node earlier ls x.1.front (number x.1.code) (shape_of earlier x.1.code) ∷ map (N (loops ++ n ∷ [])) xs) (append_assoc loops (n ∷ []) x.1.loops)
+      ap (λ ls. node_in earlier ls x.1.front (number x.1.code) (shape_of earlier x.1.code) ∷ map (N (loops ++ n ∷ [])) xs) (append_assoc loops (n ∷ []) x.1.loops)
       ∙ ap (λ k. N loops (deeper n x) ∷ k) (deeper_nodes loops n xs)
 
-  first : (loops : List ℕ) (p : Point) (c : Code) (rest : List Node) → node earlier loops p (number c) (shape_of earlier c) ∷ rest ≡ text_node earlier loops (text [] p c) ∷ rest
-  first loops p c rest = ap (λ ls. node earlier ls p (number c) (shape_of earlier c) ∷ rest) (sym (append-nil loops))
+  first : (loops : List ℕ) (p : Point) (c : Code) (rest : List Node) → node_in earlier loops p (number c) (shape_of earlier c) ∷ rest ≡ text_node earlier loops (text [] p c) ∷ rest
+  first loops p c rest = ap (λ ls. node_in earlier ls p (number c) (shape_of earlier c) ∷ rest) (sym (append-nil loops))
 
   block_is : (loops : List ℕ) (p : Point) (c : Code) → block_nodes earlier loops p c ≡ map (N loops) (texts c p)
   block_is loops p Stop = refl
@@ -231,7 +232,7 @@ module _ (engine : Engine) (w : List Frame) where
     M = mark p 0 tt
 
     abbrev X : List ℕ → Code → Node
-    X loops c = node b.scope.earlier loops p (number c) (shape_of b.scope.earlier c)
+    X loops c = node_in b.scope.earlier loops p (number c) (shape_of b.scope.earlier c)
 
     pub post_is : (loops : List ℕ) (c : Code) → post_row engine bare w b M c ≡ post_at w (X loops c)
     post_is loops Stop = refl
@@ -295,7 +296,7 @@ module _ (engine : Engine) (w : List Frame) where
     leap_is k loops (Break n r) = refl
 
   -- of a fixed point, whose path's call sites are those of the place
-  pub fix_is : (b : B) (p : Point) → b.sites ≡ sites_of w → (loops : List ℕ) (c : Code) → fix_row engine bare w b (mark p 0 tt) c ≡ fix_at w (node b.scope.earlier loops p (number c) (shape_of b.scope.earlier c))
+  pub fix_is : (b : B) (p : Point) → b.sites ≡ sites_of w → (loops : List ℕ) (c : Code) → fix_row engine bare w b (mark p 0 tt) c ≡ fix_at w (node_in b.scope.earlier loops p (number c) (shape_of b.scope.earlier c))
   fix_is b p h loops Stop = refl
   fix_is b p h loops (Simple n e r) = refl
   fix_is b p h loops (If n g t e r) = refl

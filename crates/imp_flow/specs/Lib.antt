@@ -3,3 +3,4 @@ pub mod Nodes
 pub mod NodeRows
 pub mod Plans
 pub mod Inputs
+pub mod PlanCode

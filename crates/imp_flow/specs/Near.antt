@@ -16,6 +16,10 @@ use Rattle.imp_flow.specs.declared.row.Binary.TheVariants as two
 use Rattle.imp_flow.specs.declared.row.Row.{Row}
 use Rattle.imp_flow.specs.declared.row.Row.TheVariants.{Init, One, Two, Fixed, Joins}
 
+-- a part of a path, under a name that no type of the code has
+abbrev pub PathFrame : Type 0
+PathFrame = Frame
+
 -- A path has its last frame first.
 abbrev pub outside : List Frame → List Frame
 outside [] = []

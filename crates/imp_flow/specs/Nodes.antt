@@ -45,18 +45,18 @@ shape_of earlier (Break n r) = shape.Act act.Break
 
 module _ (earlier : List Routine) where
   -- a statement behind the point p, in these loops
-  abbrev pub node : List ℕ → Point → ℕ → Shape → Node
-  node loops p n s = record { stmt = n; place = length earlier; loops = loops; front = p; shape = s }
+  abbrev pub node_in : List ℕ → Point → ℕ → Shape → Node
+  node_in loops p n s = record { stmt = n; place = length earlier; loops = loops; front = p; shape = s }
 
   -- the statements of a block and all inside them, in the order of the text
   abbrev pub block_nodes : List ℕ → Point → Code → List Node
   block_nodes loops p Stop = []
-  block_nodes loops p (Simple n e r) = node loops p n (shape_of earlier (Simple n e r)) ∷ block_nodes loops (Post n) r
+  block_nodes loops p (Simple n e r) = node_in loops p n (shape_of earlier (Simple n e r)) ∷ block_nodes loops (Post n) r
   block_nodes loops p (If n g t e r) =
-      node loops p n (shape_of earlier (If n g t e r)) ∷ (block_nodes loops (Then n) t ++ (block_nodes loops (Else n) e ++ block_nodes loops (Post n) r))
-  block_nodes loops p (While n g b r) = node loops p n (shape_of earlier (While n g b r)) ∷ (block_nodes (loops ++ n ∷ []) Body b ++ block_nodes loops (Post n) r)
-  block_nodes loops p (Call n i q r) = node loops p n (shape_of earlier (Call n i q r)) ∷ block_nodes loops (Post n) r
-  block_nodes loops p (Break n r) = node loops p n (shape_of earlier (Break n r)) ∷ block_nodes loops (Post n) r
+      node_in loops p n (shape_of earlier (If n g t e r)) ∷ (block_nodes loops (Then n) t ++ (block_nodes loops (Else n) e ++ block_nodes loops (Post n) r))
+  block_nodes loops p (While n g b r) = node_in loops p n (shape_of earlier (While n g b r)) ∷ (block_nodes (loops ++ n ∷ []) Body b ++ block_nodes loops (Post n) r)
+  block_nodes loops p (Call n i q r) = node_in loops p n (shape_of earlier (Call n i q r)) ∷ block_nodes loops (Post n) r
+  block_nodes loops p (Break n r) = node_in loops p n (shape_of earlier (Break n r)) ∷ block_nodes loops (Post n) r
 
 -- all statements of these procedures, the last one first
 abbrev pub nodes_of : List Routine → List Node

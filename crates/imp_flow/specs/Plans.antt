@@ -1,5 +1,5 @@
 -- A program's rows by its nodes.
-use Rattle.std.specs.Prelude.{◌≡◌, ℕ, zero, suc, ℤ, List, [], ◌∷◌, length, map, reverse, Option, Some, None, slice_get}
+use Rattle.std.specs.Prelude.{◌≡◌, ℕ, zero, suc, ℤ, List, [], ◌∷◌, length, map, reverse, Option, Some, None, true, false, slice_get}
 use Rattle.imp_slots.specs.Plain.{Routine}
 use Rattle.program_chains.specs.declared.widening.Widening.{Widening}
 use Rattle.program_chains.specs.Marks.{marks}
@@ -37,10 +37,10 @@ abbrev pub plan_nodes : Plan → List Node
 plan_nodes plan = nodes_of (reverse plan.program)
 
 -- what is kept of a program
-pub record AreRight (plan : Plan) (nodes : List Node) (index : ℕ → Option ℕ) (marks : List (List ℤ)) : Type 0 where
-  pub nodes : nodes ≡ plan_nodes plan
-  pub index : (n : ℕ) → index n ≡ place_of 0 nodes n
-  pub marks : marks ≡ all_marks plan.engine.widening plan.program
+pub record AreRight (plan : Plan) (ns : List Node) (find : ℕ → Option ℕ) (all : List (List ℤ)) : Type 0 where
+  pub nodes : ns ≡ plan_nodes plan
+  pub index : (n : ℕ) → find n ≡ place_of 0 ns n
+  pub marks : all ≡ all_marks plan.engine.widening plan.program
 
 module _ (plan : Plan) where
   abbrev pub by_node : (n : ℕ) → (Node → Option Row) → Option Row

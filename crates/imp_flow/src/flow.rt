@@ -2,7 +2,7 @@
 ghost use Rattle.std.specs.Prelude.{ℕ, ◌≡◌, ◌<◌, option_map, IfOk, List, nat_eq, length, reverse};
 ghost use Rattle.std.specs.HashMap.{get};
 ghost use Rattle.std.specs.Option.{option_copied};
-ghost use Rattle.cell_names.specs.declared.frame.Frame as frame;
+ghost use Rattle.imp_flow.specs.Near.{PathFrame};
 ghost use Rattle.imp_slots.specs.Fits.{IsChecked};
 ghost use Rattle.imp_check.specs.Slots.{routines_of};
 ghost use Rattle.imp_flow.specs.Near.{last_frame, row_in};
@@ -49,6 +49,10 @@ impl Model for Flow {
     ghost use Rattle.imp_flow.specs.Plans.{Plan, plan_of, AreRight};
 
     ghost Value = { Plan };
+
+    ghost use Rattle.imp_flow.specs.PlanCode.{plan_code};
+
+    ghost coded = { plan_code };
 
     ghost view = { λ a. plan_of (routines_of a.prog) (engine_of a.budget a.widening) };
 
@@ -141,7 +145,7 @@ impl Flow {
     }
 
     fn entry_row(&self, frame: Option<Frame>) -> Option<Row<'_>>
-        ensures is { (w : List frame.Frame) → last_frame w ≡ frame → option_map (row_in w) result ≡ node_row self.now w Entry }
+        ensures is { (w : List PathFrame) → last_frame w ≡ frame → option_map (row_in w) result ≡ node_row self.now w Entry }
     {
         match frame {
             None => match self.prog.routines().last() {
@@ -154,7 +158,7 @@ impl Flow {
     }
 
     fn body_row(&self, frame: Option<Frame>) -> Option<Row<'_>>
-        ensures is { (w : List frame.Frame) → last_frame w ≡ frame → option_map (row_in w) result ≡ node_row self.now w Body }
+        ensures is { (w : List PathFrame) → last_frame w ≡ frame → option_map (row_in w) result ≡ node_row self.now w Body }
     {
         match frame {
             Some(Frame::InLoop(stmt, index)) => {
@@ -165,7 +169,7 @@ impl Flow {
     }
 
     fn iterate_row(&self, stmt: StmtId, index: u32) -> Option<Row<'_>>
-        ensures is { (w : List frame.Frame) → option_map (row_in w) result ≡ node_row self.now w (Iterate stmt index) }
+        ensures is { (w : List PathFrame) → option_map (row_in w) result ≡ node_row self.now w (Iterate stmt index) }
     {
         if index == 0 {
             return None;
@@ -179,7 +183,7 @@ impl Flow {
     /// the program has no such name in any path with this last frame. It takes constant time, by a hash, but for a
     /// [`Point::Leap`], which takes time linear in the breaks of its loop.
     pub fn row(&self, frame: Option<Frame>, point: Point) -> Option<Row<'_>>
-        ensures is { (w : List frame.Frame) → last_frame w ≡ frame → option_map (row_in w) result ≡ flat_row self.now.engine (reverse self.now.program) w point }
+        ensures is { (w : List PathFrame) → last_frame w ≡ frame → option_map (row_in w) result ≡ flat_row self.now.engine (reverse self.now.program) w point }
     {
         match point {
             Point::Entry => self.entry_row(frame),

@@ -2,7 +2,7 @@
 ghost use Rattle.std.specs.Prelude.{◌≡◌, ◌++◌, ◌<◌, length, reverse, take, IfOk, OnOk};
 ghost use Rattle.imp_slots.specs.Plain.{Stop};
 ghost use Rattle.imp_slots.specs.BlockViews.{before_code, number_of};
-ghost use Rattle.imp_flow.specs.Nodes.{callee_end, shape_of, node, block_nodes, nodes_of};
+ghost use Rattle.imp_flow.specs.Nodes.{callee_end, shape_of, node_in, block_nodes, nodes_of};
 
 use crate::leaves::{last_point, leaving};
 use crate::loops::Loops;
@@ -56,7 +56,7 @@ fn node_of(
     front: Point,
     node: &SlotNode,
 ) -> Result<Node, Memory>
-    ensures is { IfOk result (λ x. x ≡ node (reverse earlier.now) loops.now front (number_of node.now) (shape_of (reverse earlier.now) (before_code node.now Stop))) }
+    ensures is { IfOk result (λ x. x ≡ node_in (reverse earlier.now) loops.now front (number_of node.now) (shape_of (reverse earlier.now) (before_code node.now Stop))) }
 {
     let shape = shape_of(alloc, earlier, node)?;
     let loops = loops.clone()?;

@@ -1,6 +1,6 @@
 //! Rows.
 ghost use Rattle.std.specs.Prelude.{◌≡◌, List, option_map};
-ghost use Rattle.cell_names.specs.declared.frame.Frame as frame;
+ghost use Rattle.imp_flow.specs.Near.{PathFrame};
 ghost use Rattle.imp_flow.specs.Near.{input_name, row_in};
 ghost use Rattle.imp_flow.specs.NodeRows.{iterate_at};
 ghost use Rattle.imp_flow.specs.Inputs.{first_of, second_of, iterate_of, break_of};
@@ -50,7 +50,7 @@ pub enum Row<'a> {
 impl<'a> Row<'a> {
     /// The first input: of a fixed point the iterate 0, of a join behind a loop with breaks the left one; none of `Init`.
     pub fn first(&self) -> Option<Input>
-        ensures is { (w : List frame.Frame) → option_map (input_name w) result ≡ first_of (row_in w self.now) }
+        ensures is { (w : List PathFrame) → option_map (input_name w) result ≡ first_of (row_in w self.now) }
     {
         match self {
             Row::Init(_) => None,
@@ -63,7 +63,7 @@ impl<'a> Row<'a> {
 
     /// The second input of an operation on two values.
     pub fn second(&self) -> Option<Input>
-        ensures is { (w : List frame.Frame) → option_map (input_name w) result ≡ second_of (row_in w self.now) }
+        ensures is { (w : List PathFrame) → option_map (input_name w) result ≡ second_of (row_in w self.now) }
     {
         match self {
             Row::Two(_, _, b) => Some(*b),
@@ -73,7 +73,7 @@ impl<'a> Row<'a> {
 
     /// The iterate of an index, of a fixed point.
     pub fn iterate(&self, index: u32) -> Option<Input>
-        ensures is { (w : List frame.Frame) → option_map (input_name w) result ≡ iterate_of index (row_in w self.now) }
+        ensures is { (w : List PathFrame) → option_map (input_name w) result ≡ iterate_of index (row_in w self.now) }
     {
         match self {
             Row::Fixed(head, front) => Some(Input::here(iterate_at(*head, *front, index))),
@@ -83,7 +83,7 @@ impl<'a> Row<'a> {
 
     /// The right input of a join behind a loop with breaks, where the loop's index is this.
     pub fn before_break(&self, index: u32) -> Option<Input>
-        ensures is { (w : List frame.Frame) → option_map (input_name w) result ≡ break_of index (row_in w self.now) }
+        ensures is { (w : List PathFrame) → option_map (input_name w) result ≡ break_of index (row_in w self.now) }
     {
         match self {
             Row::Joins(_, _, head, front) => {

@@ -1,6 +1,6 @@
 //! The rows of a statement's points.
 ghost use Rattle.std.specs.Prelude.{◌≡◌, ◌≤◌, ◌<◌, length, option_map, List, ◌∷◌};
-ghost use Rattle.cell_names.specs.declared.frame.Frame as frame;
+ghost use Rattle.imp_flow.specs.Near.{PathFrame};
 ghost use Rattle.cell_rows.specs.Names.{place_of};
 ghost use Rattle.imp_flow.specs.Near.{row_in};
 ghost use Rattle.imp_flow.specs.NodeRows.{engine_of, iterate_at, joined_at, breaks_of, joins_at, behind_loop, post_at, enter_at, branch_at, turn_at, next_at, fix_at, exit_at, leap_at};
@@ -27,7 +27,7 @@ fn joined_at(head: StmtId, leaves: &[Leave], count: usize) -> Point
 
 /// The row that joins a break to a loop's exit and the breaks before.
 fn joins_row<'a>(stays: bool, head: StmtId, leaves: &[Leave], place: usize) -> Option<Row<'a>>
-    ensures is { (w : List frame.Frame) → option_map (row_in w) result ≡ joins_at w stays head leaves.now place }
+    ensures is { (w : List PathFrame) → option_map (row_in w) result ≡ joins_at w stays head leaves.now place }
 {
     match leaves.get(place) {
         None => None,
@@ -39,7 +39,7 @@ fn joins_row<'a>(stays: bool, head: StmtId, leaves: &[Leave], place: usize) -> O
 }
 
 fn behind_loop<'a>(head: StmtId, cond: &'a SlotCond, leaves: &[Leave]) -> Option<Row<'a>>
-    ensures is { (w : List frame.Frame) → option_map (row_in w) result ≡ behind_loop w head cond.now leaves.now (length leaves.now) }
+    ensures is { (w : List PathFrame) → option_map (row_in w) result ≡ behind_loop w head cond.now leaves.now (length leaves.now) }
 {
     let count = leaves.len();
     if count == 0 {
@@ -51,7 +51,7 @@ fn behind_loop<'a>(head: StmtId, cond: &'a SlotCond, leaves: &[Leave]) -> Option
 
 /// Behind a statement.
 pub(crate) fn post_row(node: &Node) -> Option<Row<'_>>
-    ensures is { (w : List frame.Frame) → option_map (row_in w) result ≡ post_at w node.now }
+    ensures is { (w : List PathFrame) → option_map (row_in w) result ≡ post_at w node.now }
 {
     match &node.shape {
         Shape::Act(stmt) => Some(Row::One(Unary::Post(stmt), Input::here(node.front))),
@@ -73,7 +73,7 @@ pub(crate) fn post_row(node: &Node) -> Option<Row<'_>>
 
 /// Into the procedure that a statement calls.
 pub(crate) fn enter_row(node: &Node) -> Option<Row<'_>>
-    ensures is { (f : frame.Frame) (w : List frame.Frame) → option_map (row_in (f ∷ w)) result ≡ enter_at w node.now }
+    ensures is { (f : PathFrame) (w : List PathFrame) → option_map (row_in (f ∷ w)) result ≡ enter_at w node.now }
 {
     match &node.shape {
         Shape::Call(call, _, Some(_)) => Some(Row::One(Unary::Enter(call), Input::out(node.front))),
@@ -83,7 +83,7 @@ pub(crate) fn enter_row(node: &Node) -> Option<Row<'_>>
 
 /// Into a block of an if: the first where `sense`.
 pub(crate) fn branch_row(node: &Node, sense: bool) -> Option<Row<'_>>
-    ensures is { (w : List frame.Frame) → option_map (row_in w) result ≡ branch_at w sense node.now }
+    ensures is { (w : List PathFrame) → option_map (row_in w) result ≡ branch_at w sense node.now }
 {
     match &node.shape {
         Shape::If(cond, _, _) => Some(Row::One(
@@ -96,7 +96,7 @@ pub(crate) fn branch_row(node: &Node, sense: bool) -> Option<Row<'_>>
 
 /// Into a round of a loop, from the iterate of this index.
 pub(crate) fn turn_row(node: &Node, budget: u32, widening: Widening, index: u32) -> Option<Row<'_>>
-    ensures is { (f : frame.Frame) (w : List frame.Frame) → option_map (row_in (f ∷ w)) result ≡ turn_at w (engine_of budget widening) index node.now }
+    ensures is { (f : PathFrame) (w : List PathFrame) → option_map (row_in (f ∷ w)) result ≡ turn_at w (engine_of budget widening) index node.now }
 {
     match &node.shape {
         Shape::While(cond, _, _) if index < budget => {
@@ -115,7 +115,7 @@ pub(crate) fn next_row<'a>(
     widening: Widening,
     index: u32,
 ) -> Option<Row<'a>>
-    ensures is { (w : List frame.Frame) → option_map (row_in w) result ≡ next_at w (engine_of budget widening) marks.now index node.now }
+    ensures is { (w : List PathFrame) → option_map (row_in w) result ≡ next_at w (engine_of budget widening) marks.now index node.now }
 {
     match &node.shape {
         Shape::While(_, end, _) if index < budget => {
@@ -134,7 +134,7 @@ pub(crate) fn next_row<'a>(
 
 /// Where the iterates of a loop stop.
 pub(crate) fn fix_row(node: &Node) -> Option<Row<'_>>
-    ensures is { (w : List frame.Frame) → option_map (row_in w) result ≡ fix_at w node.now }
+    ensures is { (w : List PathFrame) → option_map (row_in w) result ≡ fix_at w node.now }
 {
     match &node.shape {
         Shape::While(_, _, _) => Some(Row::Fixed(node.stmt, node.front)),
@@ -144,7 +144,7 @@ pub(crate) fn fix_row(node: &Node) -> Option<Row<'_>>
 
 /// Behind a loop with breaks, by its condition alone.
 pub(crate) fn exit_row(node: &Node) -> Option<Row<'_>>
-    ensures is { (w : List frame.Frame) → option_map (row_in w) result ≡ exit_at w node.now }
+    ensures is { (w : List PathFrame) → option_map (row_in w) result ≡ exit_at w node.now }
 {
     match &node.shape {
         Shape::While(cond, _, leaves) if leaves.len() > 0 => Some(Row::One(
@@ -169,7 +169,7 @@ fn place_of(leaves: &[Leave], stmt: StmtId) -> Option<usize>
 
 /// Behind a loop with its breaks up to this one, which is not its last.
 pub(crate) fn leap_row(node: &Node, stmt: StmtId) -> Option<Row<'_>>
-    ensures is { (w : List frame.Frame) → option_map (row_in w) result ≡ leap_at w stmt node.now }
+    ensures is { (w : List PathFrame) → option_map (row_in w) result ≡ leap_at w stmt node.now }
 {
     match &node.shape {
         Shape::While(_, _, leaves) => match place_of(leaves.as_slice(), stmt) {
