@@ -16,3 +16,6 @@ pub use flow::Flow;
 pub use input::{Input, Way};
 pub use laws::inputs_are_asked;
 pub use row::{Binary, Row, Unary};
+
+#[cfg(test)]
+mod tests;
