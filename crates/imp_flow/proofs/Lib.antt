@@ -1,2 +1,4 @@
 pub mod IndexLemmas
 pub mod Ties
+pub mod TargetLists
+pub mod TargetTies

@@ -11,8 +11,12 @@ mod node;
 mod nodes;
 mod row;
 mod rows;
+mod steps;
+mod ways;
 
 pub use flow::Flow;
 pub use input::{Input, Way};
 pub use laws::inputs_are_asked;
 pub use row::{Binary, Row, Unary};
+pub use steps::{Step, Target};
+pub use ways::{target, targets};
