@@ -1,4 +1,6 @@
 pub mod IndexLemmas
 pub mod Ties
+pub mod FlowLemmas
+pub mod LeaveLemmas
 pub mod TargetLists
 pub mod TargetTies

@@ -1,6 +1,6 @@
 -- Targets by nodes are those by the text.
 use Rattle.std.proofs.lemmas.List.{length-reverse, reverse-reverse}
-use Rattle.std.proofs.Common.{◌≡◌, ◌≢◌, ℕ, zero, suc, ◌+◌, ◌-◌, ◌<◌, ◌≤◌, ◌==◌, List, [], ◌∷◌, ◌++◌, length, map, reverse, Option, Some, None, Bool, true, false, if◌then◌else◌, slice_get, refl, sym, ap, ◌∙◌, subst, arith, append_assoc, append-nil}
+use Rattle.std.proofs.Common.{◌≡◌, ◌≢◌, ℕ, zero, suc, ◌+◌, ◌-◌, ◌<◌, ◌≤◌, ◌==◌, List, [], ◌∷◌, ◌++◌, length, map, reverse, Option, Some, None, Bool, true, false, if◌then◌else◌, slice_get, Result, Ok, Err, IfOk, refl, sym, ap, ◌∙◌, subst, arith, append_assoc, append-nil}
 use Rattle.std.specs.Option.{option_map}
 use Rattle.std.specs.Str.{bytes_eq}
 use Rattle.imp_syntax.specs.declared.edit.Location.{Location}
@@ -313,9 +313,16 @@ module _ (plan : Plan) (checked : IsChecked plan.program) where
   in_there (End x) k ss r earlier f = ap (λ o. finish ss (if_some o (λ q. if bytes_eq x q.name then Some ([], last_point q.code Entry) else None))) (routine_at k r earlier f) ∙ end_is ss (last_point r.code Entry) (bytes_eq x r.name)
 
   -- The target by nodes is the target.
-  pub target_is : (l : Location) (z : List ℕ) → option_map target_of (target_along plan l z) ≡ target plan.program l z
+  target_is : (l : Location) (z : List ℕ) → option_map target_of (target_along plan l z) ≡ target plan.program l z
   target_is l z = go (way_along plan z) (ends z)
     where
       go : (a : Option Reached) → Ends a (way back z) → option_map target_of (if_some a (target_from plan l)) ≡ target plan.program l z
       go None h = sym (gone_there l (way back z) h)
       go (Some x) h = in_there l x.place x.steps h.routine h.earlier h.stands ∙ sym (ap (λ o. if_some o (λ y. target_in l y.steps y.procs)) h.is)
+
+  pub target_gone : (l : Location) (z : List ℕ) → None ≡ way_along plan z → None ≡ target plan.program l z
+  target_gone l z e = ap (λ o. option_map target_of (if_some o (target_from plan l))) e ∙ target_is l z
+
+  pub target_there : {E : Type 0} (l : Location) (z : List ℕ) (x : Reached) (y : Result (Option Target) E) → Some x ≡ way_along plan z → IfOk y (λ o. o ≡ target_from plan l x) → IfOk y (λ o. option_map target_of o ≡ target plan.program l z)
+  target_there l z x (Err e) h g = tt
+  target_there l z x (Ok o) h g = ap (option_map target_of) (g ∙ ap (λ a. if_some a (target_from plan l)) h) ∙ target_is l z

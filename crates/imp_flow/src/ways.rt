@@ -178,7 +178,6 @@ fn arrive(flow: &Flow, from: Reached, at: &Location) -> Result<Option<Target>, M
 /// # Errors
 ///
 /// [`Memory`] for want of memory.
-#[tactic(auto, using(crate::proofs::TargetTies::target_is))]
 pub fn target(
     alloc: Global,
     flow: &Flow,
