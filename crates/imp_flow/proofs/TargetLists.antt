@@ -1,6 +1,6 @@
 -- Targets of chains, one after another.
 use Rattle.std.proofs.lemmas.List.{reverse-append, reverse-reverse, take-append-drop}
-use Rattle.std.proofs.Common.{◌≡◌, ℕ, zero, suc, ◌+◌, ◌<◌, ◌≤◌, List, [], ◌∷◌, ◌++◌, length, map, reverse, take, drop, get_or, Option, Some, None, refl, sym, ap, ◌∙◌, subst, arith, append_assoc, drop-cons, add-one}
+use Rattle.std.proofs.Common.{◌≡◌, ℕ, zero, suc, ◌+◌, ◌<◌, ◌≤◌, List, [], ◌∷◌, ◌++◌, length, map, reverse, take, drop, get_or, Option, Some, None, Result, Ok, Err, IfOk, refl, sym, ap, ◌∙◌, subst, arith, append_assoc, drop-cons, add-one}
 use Rattle.imp_syntax.specs.declared.edit.Location.{Location}
 use Rattle.imp_slots.specs.Plain.{Routine}
 use Rattle.imp_slots.specs.Fits.{IsChecked}
@@ -31,10 +31,7 @@ module _ (plan : Plan) where
   gone_more [] z h = h
   gone_more (y ∷ ys) z h = ap (λ o. if_some o (way_into plan y)) (gone_more ys z h)
 
-  -- A chain goes on into a call, or is gone there, and then all longer ones.
-  pub chain_on : (xs : List ℕ) (i x : ℕ) (now next : Reached) → i < length xs → x ≡ get_or xs i x → way_along plan (reverse (take i xs)) ≡ Some now → Some next ≡ way_into plan x now → way_along plan (reverse (take (i + 1) xs)) ≡ Some next
-  chain_on xs i x now next h e a g = ap (way_along plan) (back xs i x h e) ∙ ap (λ o. if_some o (way_into plan x)) a ∙ sym g
-
+  -- A chain that is gone at a call is gone with all longer ones.
   pub chain_gone : (xs : List ℕ) (i x : ℕ) (now : Reached) → i < length xs → x ≡ get_or xs i x → way_along plan (reverse (take i xs)) ≡ Some now → None ≡ way_into plan x now → None ≡ way_along plan (reverse xs)
   chain_gone xs i x now h e a g =
       let here : way_along plan (reverse (take (i + 1) xs)) ≡ None = ap (way_along plan) (back xs i x h e) ∙ ap (λ o. if_some o (way_into plan x)) a ∙ sym g in
@@ -42,29 +39,6 @@ module _ (plan : Plan) where
       sym (ap (way_along plan) (sym all) ∙ gone_more (reverse (drop (i + 1) xs)) (reverse (take (i + 1) xs)) here)
 
 module _ (f : List ℕ → Option plain.Target) where
-  next_one : (xs : List (List ℕ)) (i : ℕ) (x : List ℕ) → i < length xs → x ≡ get_or xs i x → those_there f (map reverse (drop i xs)) ≡ with_one (f (reverse x)) (those_there f (map reverse (drop (i + 1) xs)))
-  next_one xs i x h e = rw (drop-cons xs i x h, add-one, ← e) refl
-
-  pub there_more : (ts : List Target) (t : Target) (xs : List (List ℕ)) (i : ℕ) (x : List ℕ) (all : List plain.Target) → i < length xs → x ≡ get_or xs i x → Some (target_of t) ≡ f (reverse x) →
-      map target_of ts ++ those_there f (map reverse (drop i xs)) ≡ all → map target_of (ts ++ t ∷ []) ++ those_there f (map reverse (drop (i + 1) xs)) ≡ all
-  there_more ts t xs i x all h e g a =
-      ap (λ k. k ++ those_there f (map reverse (drop (i + 1) xs))) (one_behind ts)
-      ∙ append_assoc (map target_of ts) (target_of t ∷ []) (those_there f (map reverse (drop (i + 1) xs)))
-      ∙ ap (λ o. map target_of ts ++ with_one o (those_there f (map reverse (drop (i + 1) xs)))) g
-      ∙ ap (λ k. map target_of ts ++ k) (sym (next_one xs i x h e))
-      ∙ a
-    where
-      one_behind : (ts : List Target) → map target_of (ts ++ t ∷ []) ≡ map target_of ts ++ target_of t ∷ []
-      one_behind [] = refl
-      one_behind (u ∷ us) = ap (λ k. target_of u ∷ k) (one_behind us)
-
-  pub there_not : (ts : List Target) (xs : List (List ℕ)) (i : ℕ) (x : List ℕ) (all : List plain.Target) → i < length xs → x ≡ get_or xs i x → None ≡ f (reverse x) →
-      map target_of ts ++ those_there f (map reverse (drop i xs)) ≡ all → map target_of ts ++ those_there f (map reverse (drop (i + 1) xs)) ≡ all
-  there_not ts xs i x all h e g a =
-      ap (λ o. map target_of ts ++ with_one o (those_there f (map reverse (drop (i + 1) xs)))) g
-      ∙ ap (λ k. map target_of ts ++ k) (sym (next_one xs i x h e))
-      ∙ a
-
   -- Where each chain has one, they are all there.
   those_all : (zs : List (List ℕ)) (ts : List plain.Target) → all_targets f zs ≡ Some ts → those_there f zs ≡ ts
   those_all [] ts e = cc
@@ -79,21 +53,13 @@ twice : (zs : List (List ℕ)) → map reverse (map reverse zs) ≡ zs
 twice [] = refl
 twice (z ∷ zs) = rw (reverse-reverse z, twice zs) refl
 
-module _ (program : List Routine) (l : Location) (string : List ℕ) (chains : List (List ℕ)) (us : List Target) where
-  -- The targets of the chains that are selected.
-  pub targets_are : (p : ℕ) → IsChecked program → chains ≡ map reverse (targets_of program l string) → map target_of us ≡ those_there (target program l) (map reverse chains) → procedure_of program l ≡ In p → targets program p l string ≡ Some (map target_of us)
-  targets_are p checked c u e =
-      let zs : List (List ℕ) = selected program p string in
-      let s = targets_some program checked l p string e in
-      let all : map reverse chains ≡ zs = ap (map reverse) (c ∙ ap (λ x. map reverse (selected_at program string x)) e) ∙ twice zs in
-      let same : map target_of us ≡ s.0 = u ∙ ap (those_there (target program l)) all ∙ those_all (target program l) zs s.0 s.1 in
-      s.1 ∙ ap Some (sym same)
-
-  pub targets_none : (r : Refusal) → chains ≡ map reverse (targets_of program l string) → map target_of us ≡ those_there (target program l) (map reverse chains) → procedure_of program l ≡ Misses r → us ≡ []
-  targets_none r c u e =
-      let none : chains ≡ [] = c ∙ ap (λ x. map reverse (selected_at program string x)) e in
-      empty us (u ∙ ap (λ zs. those_there (target program l) (map reverse zs)) none)
-    where
-      empty : (us : List Target) → map target_of us ≡ [] → us ≡ []
-      empty [] e = refl
-      empty (t ∷ ts) e = absurd cc
+-- The targets of the chains that are selected.
+pub targets_are : {E : Type 0} (program : List Routine) (l : Location) (string : List ℕ) (chains : List (List ℕ)) (y : Result (List Target) E) → IsChecked program → chains ≡ map reverse (targets_of program l string) →
+    IfOk y (λ ts. map target_of ts ≡ those_there (target program l) (map reverse chains)) → IfOk y (λ ts. (p : ℕ) → procedure_of program l ≡ In p → targets program p l string ≡ Some (map target_of ts))
+targets_are program l string chains (Err e) checked c u = tt
+targets_are program l string chains (Ok us) checked c u = λ p e.
+    let zs : List (List ℕ) = selected program p string in
+    let s = targets_some program checked l p string e in
+    let all : map reverse chains ≡ zs = ap (map reverse) (c ∙ ap (λ x. map reverse (selected_at program string x)) e) ∙ twice zs in
+    let same : map target_of us ≡ s.0 = u ∙ ap (those_there (target program l)) all ∙ those_all (target program l) zs s.0 s.1 in
+    s.1 ∙ ap Some (sym same)

@@ -200,7 +200,6 @@ fn all_targets(
     chains: &[Chain],
 ) -> Result<Items<Target>, Memory>
     ensures are { IfOk result (λ ts. map target_of ts ≡ those_there (target flow.now.program at.now) (map reverse chains.now)) }
-    ensures checked { IsChecked flow.now.program }
 {
     let mut found = Items::new(alloc);
     for chain in chains {
@@ -208,7 +207,6 @@ fn all_targets(
             found.push(target)?;
         }
     }
-    flow.program().routines();
     Ok(found)
 }
 
@@ -228,6 +226,8 @@ pub fn targets(
     ensures are { IfOk result (λ ts. (p : ℕ) → procedure_of flow.now.program at.now ≡ In p → targets flow.now.program p at.now string.now ≡ Some (map target_of ts)) }
     ensures none { IfOk result (λ ts. (r : Refusal) → procedure_of flow.now.program at.now ≡ Misses r → ts ≡ []) }
 {
-    let chains = call_contexts::targets(alloc, flow.program(), at, string)?;
+    let prog = flow.program();
+    prog.routines();
+    let chains = call_contexts::targets(alloc, prog, at, string)?;
     all_targets(alloc, flow, at, chains.as_slice())
 }
