@@ -1,6 +1,6 @@
 -- Targets by nodes are those by the text.
 use Rattle.std.proofs.lemmas.List.{length-reverse, reverse-reverse}
-use Rattle.std.proofs.Common.{◌≡◌, ◌≢◌, ℕ, zero, suc, ◌+◌, ◌-◌, ◌<◌, ◌≤◌, ◌==◌, List, [], ◌∷◌, ◌++◌, length, map, reverse, Option, Some, None, Bool, true, false, if◌then◌else◌, slice_get, Result, Ok, Err, IfOk, refl, sym, ap, ◌∙◌, subst, arith, append_assoc, append-nil}
+use Rattle.std.proofs.Common.{◌≡◌, ◌≢◌, ℕ, suc, ◌-◌, ◌<◌, List, [], ◌∷◌, ◌++◌, length, map, reverse, Option, Some, None, Bool, true, false, if◌then◌else◌, slice_get, Result, Ok, Err, IfOk, refl, sym, ap, ◌∙◌, subst, arith, append_assoc, append-nil}
 use Rattle.std.specs.Option.{option_map}
 use Rattle.std.specs.Str.{bytes_eq}
 use Rattle.imp_syntax.specs.declared.edit.Location.{Location}
@@ -10,8 +10,8 @@ use Rattle.imp_slots.specs.Fits.{Distinct, IsChecked}
 use Rattle.batch_meaning.specs.Places.{find, if_some, from}
 use Rattle.cell_names.specs.declared.frame.Point.{Point}
 use Rattle.cell_names.specs.declared.frame.Point.TheVariants.{Entry, Post, Fix}
-use Rattle.batch_sound.proofs.Procedures.{by_test, some_inj, look, look_get, look_from, look_below, from_behind, from_from, from_place, from_self}
-use Rattle.batch_sound.proofs.Places.{Member, here, there, in_left, in_right, Each, keys, keys_both, found, found_member}
+use Rattle.batch_sound.proofs.Procedures.{by_test, some_inj, look_get, look_from, look_below, from_behind, from_from, from_place, from_self}
+use Rattle.batch_sound.proofs.Places.{Member, here, there, in_left, in_right, keys, keys_both, found, found_member}
 use Rattle.cell_rows.specs.Names.{number}
 use Rattle.cell_rows.specs.Rows.{last_point}
 use Rattle.cell_rows.specs.Flat.{Flat, flat_of, flat}
@@ -21,11 +21,11 @@ use Rattle.cell_rows.proofs.FlatOnce.{flat_once, right_once}
 use Rattle.imp_flow.specs.declared.node.Node.{Node}
 use Rattle.imp_flow.specs.declared.node.Shape.TheVariants as shape
 use Rattle.imp_flow.specs.declared.steps.Step.{Step}
-use Rattle.imp_flow.specs.declared.steps.Step.TheVariants.{Take, Go}
+use Rattle.imp_flow.specs.declared.steps.Step.TheVariants.{Go}
 use Rattle.imp_flow.specs.declared.steps.Target.{Target}
 use Rattle.imp_flow.specs.declared.ways.Reached.{Reached}
 use Rattle.imp_flow.specs.Nodes.{shape_of, node_in, node_of, body_end}
-use Rattle.imp_flow.specs.Plans.{Plan, plan_nodes}
+use Rattle.imp_flow.specs.Plans.{Plan}
 use Rattle.imp_flow.specs.Reached.{step_of, target_of, into_loops, if_in, callee_at, is_while, reached, node_in_place, way_into, way_along, ending_at, target_from, target_along}
 use Rattle.imp_flow.proofs.Ties.{flat_node, nodes_are, Stands, all_stand, find_node}
 

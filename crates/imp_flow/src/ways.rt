@@ -45,7 +45,11 @@ fn node_in_place(flow: &Flow, place: usize, stmt: StmtId) -> Option<&Node>
     ensures is { option_copied result ≡ node_in_place flow.now place stmt }
 {
     let node = flow.node(stmt)?;
-    if node.place == place { Some(node) } else { None }
+    if node.place == place {
+        Some(node)
+    } else {
+        None
+    }
 }
 
 /// Main, which no step leads to.
