@@ -2,3 +2,5 @@ pub mod IndexLemmas
 pub mod Ties
 pub mod FlowLemmas
 pub mod LeaveLemmas
+pub mod TargetLists
+pub mod TargetTies

@@ -84,21 +84,28 @@ fn shown_point(alloc: Global, point: Point) -> Result<String, Fail> {
     }
 }
 
+fn shown_frame(alloc: Global, frame: Frame) -> Result<String, Fail> {
+    match frame {
+        Frame::InCall(n) => Ok(format!(in alloc; "call {}", n.number())?),
+        Frame::InLoop(n, k) => Ok(format!(in alloc; "round {} {k}", n.number())?),
+    }
+}
+
+fn shown_way(alloc: Global, way: Way) -> Result<String, Fail> {
+    match way {
+        Way::Here => Ok(format!(in alloc; "here")?),
+        Way::Out => Ok(format!(in alloc; "out")?),
+        Way::Into(frame) => shown_frame(alloc, frame),
+    }
+}
+
 fn shown_input(alloc: Global, input: Option<Input>) -> Result<String, Fail> {
     match input {
         None => Ok(format!(in alloc; "-")?),
-        Some(Input { way, point }) => {
-            let point = shown_point(alloc, point)?;
-            match way {
-                Way::Here => Ok(point),
-                Way::Out => Ok(format!(in alloc; "out {point}")?),
-                Way::Into(Frame::InCall(n)) => {
-                    Ok(format!(in alloc; "call {} {point}", n.number())?)
-                }
-                Way::Into(Frame::InLoop(n, k)) => {
-                    Ok(format!(in alloc; "round {} {k} {point}", n.number())?)
-                }
-            }
+        Some(input) => {
+            let way = shown_way(alloc, input.way)?;
+            let point = shown_point(alloc, input.point)?;
+            Ok(format!(in alloc; "{way} {point}")?)
         }
     }
 }
@@ -147,15 +154,31 @@ fn inputs(rt: HostRuntime) -> Result<(), Fail> {
         ("round", 3, 0, "body", 0, 0, "out post 2, -, -, -"),
         ("round", 3, 2, "body", 0, 0, "out iterate 3 2, -, -, -"),
         ("", 0, 0, "body", 0, 0, "no row"),
-        ("", 0, 0, "post", 2, 0, "entry, -, -, -"),
-        ("", 0, 0, "then", 4, 0, "body, -, -, -"),
-        ("", 0, 0, "post", 4, 0, "post 5, post 6, -, -"),
-        ("", 0, 0, "iterate", 3, 1, "post 2, round 3 0 post 4, -, -"),
-        ("", 0, 0, "fix", 3, 0, "post 2, -, iterate 3 4, -"),
-        ("", 0, 0, "exit", 3, 0, "fix 3, -, -, -"),
-        ("", 0, 0, "post", 3, 0, "exit 3, -, -, round 3 4 then 4"),
+        ("", 0, 0, "post", 2, 0, "here entry, -, -, -"),
+        ("", 0, 0, "then", 4, 0, "here body, -, -, -"),
+        ("", 0, 0, "post", 4, 0, "here post 5, here post 6, -, -"),
+        (
+            "",
+            0,
+            0,
+            "iterate",
+            3,
+            1,
+            "here post 2, round 3 0 post 4, -, -",
+        ),
+        ("", 0, 0, "fix", 3, 0, "here post 2, -, here iterate 3 4, -"),
+        ("", 0, 0, "exit", 3, 0, "here fix 3, -, -, -"),
+        (
+            "",
+            0,
+            0,
+            "post",
+            3,
+            0,
+            "here exit 3, -, -, round 3 4 then 4",
+        ),
         ("", 0, 0, "leap", 3, 5, "no row"),
-        ("", 0, 0, "post", 7, 0, "post 3, call 7 post 1, -, -"),
+        ("", 0, 0, "post", 7, 0, "here post 3, call 7 post 1, -, -"),
         ("", 0, 0, "post", 9, 0, "no row"),
     ];
     for (way, site, index, kind, number, other, wanted) in rows {
@@ -170,19 +193,33 @@ fn inputs(rt: HostRuntime) -> Result<(), Fail> {
     Ok(())
 }
 
+/// The name of an input of a row of a name with this path.
+fn named(names: &mut Names, path: PathId, input: Option<Input>) -> Result<Name, Fail>
+    requires there { path < length names.old.paths }
+    ensures there { IfOk result (λ x. x.path < length names.new.paths) }
+{
+    match input {
+        None => Err("no input".into()),
+        Some(Input { way, point }) => Ok(Input { way, point }.name(names, path)?),
+    }
+}
+
 #[test]
 fn names_of_inputs(rt: HostRuntime) -> Result<(), Fail> {
     let alloc = rt.alloc();
     let mut names = Names::new(alloc);
     let flow = flow_of(alloc, "proc main() { while (0 == 0) { skip; } }")?;
-    let round = second_input(&flow, None, Point::Iterate(StmtId::new(1), 3)).unwrap();
-    let round = round.name(&mut names, PathId::root())?;
+    let round = second_input(&flow, None, Point::Iterate(StmtId::new(1), 3));
+    let round = named(&mut names, PathId::root(), round)?;
     assert_eq!(rt; round.point, Point::Post(StmtId::new(2)));
     let (before, last) = names.last_frame(round.path).unwrap();
     assert_eq!(rt; before, PathId::root());
     assert_eq!(rt; last, Frame::InLoop(StmtId::new(1), 2));
-    let outside = first_input(&flow, Some(last), Point::Body).unwrap();
-    let outside = outside.name(&mut names, round.path)?;
+    let outside = named(
+        &mut names,
+        round.path,
+        first_input(&flow, Some(last), Point::Body),
+    )?;
     let wanted = Name {
         path: before,
         point: Point::Iterate(StmtId::new(1), 2),
