@@ -4,3 +4,7 @@ pub mod FlowLemmas
 pub mod LeaveLemmas
 pub mod TargetLists
 pub mod TargetTies
+pub mod ShiftCode
+pub mod ShiftRows
+pub mod ShiftPrograms
+pub mod ShiftPlaces

@@ -5,3 +5,4 @@ pub mod Plans
 pub mod Inputs
 pub mod PlanCode
 pub mod Reached
+pub mod Shifts

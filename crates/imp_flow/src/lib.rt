@@ -28,6 +28,7 @@ mod node;
 mod nodes;
 mod row;
 mod rows;
+mod shifts;
 mod steps;
 mod ways;
 
@@ -35,6 +36,7 @@ pub use flow::Flow;
 pub use input::{Input, Way};
 pub use laws::inputs_are_asked;
 pub use row::{Binary, Row, Unary};
+pub use shifts::procedures_shift_no_rows;
 pub use steps::{Step, Target};
 pub use ways::{target, targets};
 
