@@ -1,2 +1,3 @@
 pub mod IndexLemmas
 pub mod Ties
+pub mod ChangedLeaves

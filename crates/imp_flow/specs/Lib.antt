@@ -4,3 +4,4 @@ pub mod NodeRows
 pub mod Plans
 pub mod Inputs
 pub mod PlanCode
+pub mod Changed

@@ -1,6 +1,7 @@
 //! The rows of a checked program, looked up by statement numbers.
 #![tactic(auto)]
 
+mod changed;
 mod flow;
 mod index;
 mod input;
@@ -12,6 +13,7 @@ mod nodes;
 mod row;
 mod rows;
 
+pub use changed::points_changed;
 pub use flow::Flow;
 pub use input::{Input, Way};
 pub use laws::inputs_are_asked;

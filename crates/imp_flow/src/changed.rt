@@ -1,0 +1,119 @@
+//! The statements that a change of a program touches.
+ghost use Rattle.std.specs.Prelude.{◌≡◌, true, false, IsTrue, MatchBool, IfOk, reverse};
+ghost use Rattle.batch_meaning.specs.Places.{main_layout};
+ghost use Rattle.plain_values.specs.Equal.{same};
+ghost use Rattle.imp_slots.specs.PartCodes.{layout_code};
+ghost use Rattle.imp_flow.specs.Changed.{AreChanged, IsChanged, Stays, is_bare, same_leaves, same_rounds, same_shapes};
+ghost use Rattle.imp_flow.specs.Plans.{marks_at};
+
+use crate::flow::Flow;
+use crate::node::{Leave, Node, Shape};
+use cell_names::Point;
+use imp_syntax::StmtId;
+use plain_values::Memory;
+use std::alloc::Global;
+use std::collections::BTreeSet;
+
+/// Whether two loops' breaks give the same rows behind the loops. Of the last break only the point in front of it counts.
+#[tactic(auto, using(crate::proofs::ChangedLeaves::last_is))]
+fn same_leaves(leaves: &[Leave], others: &[Leave]) -> bool
+    ensures is { result ≡ same_leaves leaves.now others.now }
+{
+    match (leaves.split_last(), others.split_last()) {
+        (None, None) => true,
+        (Some((last, before)), Some((other, others))) => {
+            last.front == other.front && before == others
+        }
+        _ => false,
+    }
+}
+
+/// Whether two loops, whose bodies end at these points, have the same rounds.
+fn same_rounds(old: &Flow, new: &Flow, node: &Node, other: &Node, end: Point, round: Point) -> bool
+    ensures is { result ≡ same_rounds old.now.engine (marks_at old.now node.now.place) (marks_at new.now other.now.place) end round }
+{
+    let budget = old.budget();
+    budget == 0
+        || (end == round
+            && (budget <= old.widening().delay || old.marks(node.place) == new.marks(other.place)))
+}
+
+/// Whether two statements have the same rows, where the points in front of them are the same.
+fn same_shapes(old: &Flow, new: &Flow, node: &Node, other: &Node) -> bool
+    ensures is { result ≡ same_shapes old.now.engine (marks_at old.now node.now.place) (marks_at new.now other.now.place) node.now.shape other.now.shape }
+{
+    match (&node.shape, &other.shape) {
+        (Shape::Act(a), Shape::Act(b)) => a == b,
+        (Shape::If(a, then, els), Shape::If(b, before, behind)) => {
+            a == b && *then == *before && *els == *behind
+        }
+        (Shape::While(a, end, leaves), Shape::While(b, round, others)) => {
+            a == b
+                && same_leaves(leaves.as_slice(), others.as_slice())
+                && same_rounds(old, new, node, other, *end, *round)
+        }
+        (Shape::Call(a, _, Some(end)), Shape::Call(b, _, Some(last))) => a == b && *end == *last,
+        _ => false,
+    }
+}
+
+/// Whether no point of a statement with this shape has a row.
+fn is_bare(shape: &Shape) -> bool
+    ensures is { result ≡ is_bare shape.now }
+{
+    matches!(shape, Shape::Call(_, _, None))
+}
+
+/// Whether each point of a statement keeps its row.
+fn stays(old: &Flow, new: &Flow, stmt: StmtId) -> bool
+    requires one { old.now.engine ≡ new.now.engine }
+    ensures is { MatchBool result (Stays old.now new.now stmt) (IsChanged old.now new.now stmt) }
+{
+    let Some(node) = old.node(stmt) else {
+        return true;
+    };
+    if is_bare(&node.shape) {
+        return true;
+    }
+    match new.node(stmt) {
+        None => false,
+        Some(other) => node.front == other.front && same_shapes(old, new, node, other),
+    }
+}
+
+/// Whether the start of main keeps its row: main has the same variables.
+fn same_start(old: &Flow, new: &Flow) -> bool
+    ensures is { result ≡ same layout_code (main_layout (reverse old.now.program)) (main_layout (reverse new.now.program)) }
+{
+    match (
+        old.program().routines().last(),
+        new.program().routines().last(),
+    ) {
+        (Some(main), Some(other)) => main.layout() == other.layout(),
+        _ => unreachable!(),
+    }
+}
+
+/// The statements that a change of a program touches: the numbers of those that have a changed point, each once and
+/// rising, with 0 in front where the start of main is changed. A point is changed where it has a row in the old
+/// program, and the new one has none for it or another. A statement is told by its number, so a statement that is gone
+/// is touched, and one that is new is not.
+///
+/// It takes time linear in the old program, times the logarithm of how many statements are touched, and for each
+/// statement the time to compare what it uses: its conditions and expressions, the layout of a callee, and the marks
+/// and breaks of a loop.
+pub fn points_changed(alloc: Global, old: &Flow, new: &Flow) -> Result<Vec<u32>, Memory>
+    requires one { old.now.engine ≡ new.now.engine }
+    ensures are { IfOk result (λ ns. AreChanged old.now new.now ns.items) }
+{
+    let mut changed = BTreeSet::new(alloc);
+    if !same_start(old, new) {
+        changed.insert(0)?;
+    }
+    for node in old.nodes() {
+        if !stays(old, new, node.stmt) {
+            changed.insert(node.stmt.number())?;
+        }
+    }
+    Ok(changed.into_iter().collect(alloc)?)
+}
