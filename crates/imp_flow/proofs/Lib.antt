@@ -1,3 +1,5 @@
 pub mod IndexLemmas
 pub mod Ties
+pub mod FlowLemmas
+pub mod LeaveLemmas
 pub mod ChangedLeaves

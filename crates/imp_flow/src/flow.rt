@@ -1,5 +1,5 @@
 //! The flow of a program.
-ghost use Rattle.std.specs.Prelude.{ℕ, ◌≡◌, ◌<◌, option_map, IfOk, List, nat_eq, length, reverse};
+ghost use Rattle.std.specs.Prelude.{ℕ, ◌≡◌, ◌<◌, option_map, IfOk, Some, List, ◌∷◌, nat_eq, length, reverse};
 ghost use Rattle.std.specs.HashMap.{get};
 ghost use Rattle.std.specs.Option.{option_copied};
 ghost use Rattle.imp_flow.specs.Near.{PathFrame};
@@ -10,6 +10,8 @@ ghost use Rattle.imp_flow.specs.NodeRows.{engine_of};
 ghost use Rattle.imp_flow.specs.Nodes.{node_of};
 ghost use Rattle.imp_flow.specs.Plans.{all_marks, marks_at, plan_nodes, plan_of, node_row};
 ghost use Rattle.cell_names.specs.declared.frame.Point.TheVariants.{Entry, Body, Iterate};
+ghost use Rattle.batch_meaning.specs.Places.{main_layout};
+ghost use Rattle.cell_rows.specs.Rows.{Init};
 ghost use Rattle.cell_rows.specs.Flat.{flat_row};
 
 use crate::index::{index_of, node_of};
@@ -144,30 +146,59 @@ impl Flow {
         }
     }
 
-    fn entry_row(&self, frame: Option<Frame>) -> Option<Row<'_>>
+    /// The start of main.
+    fn main_row(&self) -> Option<Row<'_>>
+        ensures is { (w : List PathFrame) → option_map (row_in w) result ≡ Some (Init (main_layout (reverse self.now.program))) }
+    {
+        match self.prog.routines().last() {
+            None => unreachable!(),
+            Some(main) => Some(Row::Init(main.layout())),
+        }
+    }
+
+    /// The start of a procedure's body.
+    fn entry_row(&self, frame: Frame) -> Option<Row<'_>>
+        ensures is { (w : List PathFrame) → option_map (row_in (frame ∷ w)) result ≡ node_row self.now (frame ∷ w) Entry }
+    {
+        match frame {
+            Frame::InCall(stmt) => enter_row(self.node(stmt)?),
+            Frame::InLoop(_, _) => None,
+        }
+    }
+
+    /// The start of a loop's body.
+    fn body_row(&self, frame: Frame) -> Option<Row<'_>>
+        ensures is { (w : List PathFrame) → option_map (row_in (frame ∷ w)) result ≡ node_row self.now (frame ∷ w) Body }
+    {
+        match frame {
+            Frame::InCall(_) => None,
+            Frame::InLoop(stmt, index) => {
+                turn_row(self.node(stmt)?, self.budget, self.widening, index)
+            }
+        }
+    }
+
+    /// The start of a procedure's body, or of main's.
+    fn first_row(&self, frame: Option<Frame>) -> Option<Row<'_>>
         ensures is { (w : List PathFrame) → last_frame w ≡ frame → option_map (row_in w) result ≡ node_row self.now w Entry }
     {
         match frame {
-            None => match self.prog.routines().last() {
-                Some(main) => Some(Row::Init(main.layout())),
-                None => unreachable!(),
-            },
-            Some(Frame::InCall(stmt)) => enter_row(self.node(stmt)?),
-            Some(Frame::InLoop(_, _)) => None,
+            None => self.main_row(),
+            Some(frame) => self.entry_row(frame),
         }
     }
 
-    fn body_row(&self, frame: Option<Frame>) -> Option<Row<'_>>
+    /// The start of a loop's body.
+    fn turn_row(&self, frame: Option<Frame>) -> Option<Row<'_>>
         ensures is { (w : List PathFrame) → last_frame w ≡ frame → option_map (row_in w) result ≡ node_row self.now w Body }
     {
         match frame {
-            Some(Frame::InLoop(stmt, index)) => {
-                turn_row(self.node(stmt)?, self.budget, self.widening, index)
-            }
-            _ => None,
+            None => None,
+            Some(frame) => self.body_row(frame),
         }
     }
 
+    #[tactic(auto, using(crate::proofs::FlowLemmas::iterate_found, crate::proofs::FlowLemmas::iterate_gone))]
     fn iterate_row(&self, stmt: StmtId, index: u32) -> Option<Row<'_>>
         ensures is { (w : List PathFrame) → option_map (row_in w) result ≡ node_row self.now w (Iterate stmt index) }
     {
@@ -179,15 +210,12 @@ impl Flow {
         next_row(node, marks, self.budget, self.widening, index - 1)
     }
 
-    /// The row of a name, by the last frame of its path and its point: exactly that of the program, and `None` where
-    /// the program has no such name in any path with this last frame. It takes constant time, by a hash, but for a
-    /// [`Point::Leap`], which takes time linear in the breaks of its loop.
-    pub fn row(&self, frame: Option<Frame>, point: Point) -> Option<Row<'_>>
-        ensures is { (w : List PathFrame) → last_frame w ≡ frame → option_map (row_in w) result ≡ flat_row self.now.engine (reverse self.now.program) w point }
+    fn node_row(&self, frame: Option<Frame>, point: Point) -> Option<Row<'_>>
+        ensures is { (w : List PathFrame) → last_frame w ≡ frame → option_map (row_in w) result ≡ node_row self.now w point }
     {
         match point {
-            Point::Entry => self.entry_row(frame),
-            Point::Body => self.body_row(frame),
+            Point::Entry => self.first_row(frame),
+            Point::Body => self.turn_row(frame),
             Point::Then(stmt) => branch_row(self.node(stmt)?, true),
             Point::Else(stmt) => branch_row(self.node(stmt)?, false),
             Point::Post(stmt) => post_row(self.node(stmt)?),
@@ -196,5 +224,15 @@ impl Flow {
             Point::Exit(stmt) => exit_row(self.node(stmt)?),
             Point::Leap(stmt, last) => leap_row(self.node(stmt)?, last),
         }
+    }
+
+    /// The row of a name, by the last frame of its path and its point: exactly that of the program, and `None` where
+    /// the program has no such name in any path with this last frame. It takes constant time, by a hash, but for a
+    /// [`Point::Leap`], which takes time linear in the breaks of its loop.
+    #[tactic(auto, using(crate::proofs::Ties::rows_tie))]
+    pub fn row(&self, frame: Option<Frame>, point: Point) -> Option<Row<'_>>
+        ensures is { (w : List PathFrame) → last_frame w ≡ frame → option_map (row_in w) result ≡ flat_row self.now.engine (reverse self.now.program) w point }
+    {
+        self.node_row(frame, point)
     }
 }

@@ -3,7 +3,7 @@ ghost use Rattle.std.specs.Prelude.{◌≡◌, ◌<◌, length, IfOk, OnErr};
 ghost use Rattle.cell_names.specs.Paths.{path_at, name_in};
 ghost use Rattle.cell_names.specs.Known.{KeepsNumbers};
 ghost use Rattle.imp_flow.specs.declared.input.Way.TheVariants.{Here, Out, Into};
-ghost use Rattle.imp_flow.specs.Near.{input_name};
+ghost use Rattle.imp_flow.specs.Near.{outside, near, input_name};
 
 use cell_names::{Frame, Name, Names, PathId, Point};
 use plain_values::Memory;
@@ -71,17 +71,36 @@ impl Input {
         ensures names { names.new.names ≡ names.old.names }
         ensures err { OnErr result (names.new ≡ names.old) }
     {
-        let path = match self.way {
-            Way::Here => path,
-            Way::Out => match names.last_frame(path) {
-                Some((before, _)) => before,
-                None => path,
-            },
-            Way::Into(frame) => names.add_path(path, frame)?,
-        };
-        Ok(Name {
-            path,
-            point: self.point,
-        })
+        let Input { way, point } = self;
+        let path = near(names, path, way)?;
+        Ok(Name { path, point })
+    }
+}
+
+/// A path without its last frame; the empty path stays.
+fn outside(names: &Names, path: PathId) -> PathId
+    requires there { path < length names.now.paths }
+    ensures is { path_at names.now.paths result ≡ outside (path_at names.now.paths path) }
+    ensures within { result < length names.now.paths }
+{
+    match names.last_frame(path) {
+        None => path,
+        Some((before, _)) => before,
+    }
+}
+
+/// The path of an input.
+fn near(names: &mut Names, path: PathId, way: Way) -> Result<PathId, Memory>
+    requires there { path < length names.old.paths }
+    ensures is { IfOk result (λ p. path_at names.new.paths p ≡ near (path_at names.old.paths path) way) }
+    ensures within { IfOk result (λ p. p < length names.new.paths) }
+    ensures kept { KeepsNumbers names.old.paths names.new.paths }
+    ensures names { names.new.names ≡ names.old.names }
+    ensures err { OnErr result (names.new ≡ names.old) }
+{
+    match way {
+        Way::Here => Ok(path),
+        Way::Out => Ok(outside(names, path)),
+        Way::Into(frame) => names.add_path(path, frame),
     }
 }

@@ -13,6 +13,7 @@ use plain_values::{Items, Memory};
 use std::alloc::Global;
 
 /// The last point of a block that begins at a point.
+#[tactic(auto, using(crate::proofs::LeaveLemmas::last_is, crate::proofs::LeaveLemmas::last_none))]
 pub(crate) fn last_point(block: &SlotBlock, first: Point) -> Point
     ensures is { result ≡ last_point block.now first }
 {

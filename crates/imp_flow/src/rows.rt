@@ -1,5 +1,5 @@
 //! The rows of a statement's points.
-ghost use Rattle.std.specs.Prelude.{◌≡◌, ◌≤◌, ◌<◌, length, option_map, List, ◌∷◌};
+ghost use Rattle.std.specs.Prelude.{◌≡◌, ◌≤◌, ◌<◌, length, option_map, IfSome, List, ◌∷◌};
 ghost use Rattle.imp_flow.specs.Near.{PathFrame};
 ghost use Rattle.cell_rows.specs.Names.{place_of};
 ghost use Rattle.imp_flow.specs.Near.{row_in};
@@ -14,6 +14,7 @@ use imp_syntax::StmtId;
 use program_chains::Widening;
 
 /// The point behind a loop with its first breaks.
+#[tactic(auto, using(crate::proofs::LeaveLemmas::joined_last))]
 fn joined_at(head: StmtId, leaves: &[Leave], count: usize) -> Point
     requires there { count ≤ length leaves.now }
     ensures is { result ≡ joined_at head (breaks_of leaves.now) count }
@@ -156,8 +157,10 @@ pub(crate) fn exit_row(node: &Node) -> Option<Row<'_>>
 }
 
 /// Where a break stands among these.
+#[tactic(auto, using(crate::proofs::LeaveLemmas::place_found, crate::proofs::LeaveLemmas::place_passed, crate::proofs::LeaveLemmas::place_none))]
 fn place_of(leaves: &[Leave], stmt: StmtId) -> Option<usize>
     ensures is { result ≡ place_of stmt (breaks_of leaves.now) }
+    ensures within { IfSome result (λ i. i < length leaves.now) }
 {
     for (i, leave) in leaves.iter().enumerate() {
         if leave.stmt == stmt {

@@ -14,5 +14,5 @@ decreases-add_node l = node_size l.node.now
 abbrev pub invariant-add_leaving-loop-node : goal.invariant-add_leaving-loop-node
 invariant-add_leaving-loop-node l = record {
   is : code_of l.node-items ≡ l.block;
-  told : l.leaves ++ leaving (code_of (drop l.node-index l.node-items)) l.front ≡ l.initial.leaves ++ leaving l.block l.initial.first;
+  told : l.leaves ++ leaving (code_of (drop l.node-index l.node-items)) l.front ≡ l.initial.leaves ++ leaving l.block l.fn.first;
 }

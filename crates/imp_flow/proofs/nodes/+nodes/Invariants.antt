@@ -14,5 +14,5 @@ decreases-add_node l = node_size l.node.now
 abbrev pub invariant-add_block-loop-node : goal.invariant-add_block-loop-node
 invariant-add_block-loop-node l = record {
   is : code_of l.node-items ≡ l.block;
-  told : l.nodes ++ block_nodes (reverse l.earlier) l.loops l.front (code_of (drop l.node-index l.node-items)) ≡ l.initial.nodes ++ block_nodes (reverse l.earlier) l.loops l.initial.first l.block;
+  told : l.nodes ++ block_nodes (reverse l.earlier) l.loops l.front (code_of (drop l.node-index l.node-items)) ≡ l.initial.nodes ++ block_nodes (reverse l.earlier) l.loops l.fn.first l.block;
 }
