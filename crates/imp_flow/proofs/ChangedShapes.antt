@@ -391,3 +391,10 @@ module _ (engine : Engine) (ms os : List ℤ) (n a b : ℕ) (us vs : List ℕ) w
     told_shapes (Call i m (Some u)) (While h x ks) b c d = no (first_lost p p (Call i m (Some u)) (While h x ks) refl (λ q e. e))
     told_shapes (Call i m (Some u)) (Call j k None) b c d = no (first_lost p p (Call i m (Some u)) (Call j k None) refl (λ q e. e))
     told_shapes (Call i m (Some u)) (Call j k (Some v)) b c d = told_call i j m k u v
+
+  -- of the same number
+  pub told_nodes : (p q : Point) (s t : Shape) → is_bare s ≡ false → AreOnce s → AreOnce t →
+      Verdict (Kept (F p s) (G q t)) (Lost n (F p s) (G q t)) (points.ghosts.eq p q && same_shapes engine ms os s t)
+  told_nodes p q s t b c d =
+      and_then (told p q (points.ghosts.eq p q) (point_decides p q) (λ h. first_lost p q s t b (λ e k. h (sym e))))
+      (λ e. subst (λ z. Verdict (Kept (F p s) (G z t)) (Lost n (F p s) (G z t)) (same_shapes engine ms os s t)) e (told_shapes p s t b c d))

@@ -6,3 +6,4 @@ pub mod ChangedRows
 pub mod ChangedLeaves
 pub mod ChangedBreaks
 pub mod ChangedShapes
+pub mod ChangedStays
