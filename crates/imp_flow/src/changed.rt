@@ -1,7 +1,8 @@
 //! The statements that a change of a program touches.
-ghost use Rattle.std.specs.Prelude.{◌≡◌, true, false, IsTrue, MatchBool, IfOk, reverse};
+ghost use Rattle.std.specs.Prelude.{◌≡◌, ◌<◌, MatchBool, IfOk, length, reverse};
 ghost use Rattle.batch_meaning.specs.Places.{main_layout};
 ghost use Rattle.plain_values.specs.Equal.{same};
+ghost use Rattle.imp_slots.specs.Fits.{IsChecked};
 ghost use Rattle.imp_slots.specs.PartCodes.{layout_code};
 ghost use Rattle.imp_flow.specs.Changed.{AreChanged, IsChanged, Stays, is_bare, same_leaves, same_rounds, same_shapes};
 ghost use Rattle.imp_flow.specs.Plans.{marks_at};
@@ -9,6 +10,7 @@ ghost use Rattle.imp_flow.specs.Plans.{marks_at};
 use crate::flow::Flow;
 use crate::node::{Leave, Node, Shape};
 use cell_names::Point;
+use imp_slots::Routine;
 use imp_syntax::StmtId;
 use plain_values::Memory;
 use std::alloc::Global;
@@ -67,6 +69,8 @@ fn is_bare(shape: &Shape) -> bool
 /// Whether each point of a statement keeps its row.
 fn stays(old: &Flow, new: &Flow, stmt: StmtId) -> bool
     requires one { old.now.engine ≡ new.now.engine }
+    requires old { IsChecked old.now.program }
+    requires new { IsChecked new.now.program }
     ensures is { MatchBool result (Stays old.now new.now stmt) (IsChanged old.now new.now stmt) }
 {
     let Some(node) = old.node(stmt) else {
@@ -81,14 +85,13 @@ fn stays(old: &Flow, new: &Flow, stmt: StmtId) -> bool
     }
 }
 
-/// Whether the start of main keeps its row: main has the same variables.
-fn same_start(old: &Flow, new: &Flow) -> bool
-    ensures is { result ≡ same layout_code (main_layout (reverse old.now.program)) (main_layout (reverse new.now.program)) }
+/// Whether the start of main keeps its row: main, the last procedure, has the same variables.
+fn same_start(old: &[Routine], new: &[Routine]) -> bool
+    requires old { 0 < length old.now }
+    requires new { 0 < length new.now }
+    ensures is { result ≡ same layout_code (main_layout (reverse old.now)) (main_layout (reverse new.now)) }
 {
-    match (
-        old.program().routines().last(),
-        new.program().routines().last(),
-    ) {
+    match (old.last(), new.last()) {
         (Some(main), Some(other)) => main.layout() == other.layout(),
         _ => unreachable!(),
     }
@@ -96,18 +99,24 @@ fn same_start(old: &Flow, new: &Flow) -> bool
 
 /// The statements that a change of a program touches: the numbers of those that have a changed point, each once and
 /// rising, with 0 in front where the start of main is changed. A point is changed where it has a row in the old
-/// program, and the new one has none for it or another. A statement is told by its number, so a statement that is gone
-/// is touched, and one that is new is not.
+/// program, and the new one has none for it or another. A statement is told by its number, so one that is gone is
+/// touched, and one that is new is not.
 ///
 /// It takes time linear in the old program, times the logarithm of how many statements are touched, and for each
-/// statement the time to compare what it uses: its conditions and expressions, the layout of a callee, and the marks
-/// and breaks of a loop.
+/// statement the time to compare what it uses: its conditions and expressions, the layout of a callee, and the breaks
+/// and marks of a loop.
+///
+/// # Errors
+///
+/// [`Memory`] alone.
 pub fn points_changed(alloc: Global, old: &Flow, new: &Flow) -> Result<Vec<u32>, Memory>
     requires one { old.now.engine ≡ new.now.engine }
     ensures are { IfOk result (λ ns. AreChanged old.now new.now ns.items) }
 {
+    let routines = old.program().routines();
+    let others = new.program().routines();
     let mut changed = BTreeSet::new(alloc);
-    if !same_start(old, new) {
+    if !same_start(routines, others) {
         changed.insert(0)?;
     }
     for node in old.nodes() {

@@ -1,2 +1,0 @@
-use Rattle.imp_flow.proofs.ChangedStays.{told_found}
-use Rattle.imp_flow.proofs.changed.is_bare.Goals as goal
