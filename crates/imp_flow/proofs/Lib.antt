@@ -7,3 +7,4 @@ pub mod ChangedLeaves
 pub mod ChangedBreaks
 pub mod ChangedShapes
 pub mod ChangedStays
+pub mod ChangedSet

@@ -1,5 +1,7 @@
 //! The statements that a change of a program touches.
-ghost use Rattle.std.specs.Prelude.{◌≡◌, ◌<◌, MatchBool, IfOk, length, reverse};
+ghost use Rattle.std.specs.Prelude.{◌≡◌, ℕ, ◌<◌, ◌==◌, ◌||◌, ◌&&◌, not, MatchBool, IfOk, OnOk, length, reverse};
+ghost use Rattle.std.specs.BTreeSet.{contains};
+ghost use Rattle.std.specs.Ordering.{nat_cmp};
 ghost use Rattle.batch_meaning.specs.Places.{main_layout};
 ghost use Rattle.plain_values.specs.Equal.{same};
 ghost use Rattle.imp_slots.specs.Fits.{IsChecked};
@@ -97,6 +99,16 @@ fn same_start(old: &[Routine], new: &[Routine]) -> bool
     }
 }
 
+/// Adds a number, unless what it stands for is kept.
+fn add_changed(changed: &mut BTreeSet<u32>, number: u32, is_kept: bool) -> Result<(), Memory>
+    ensures added { OnOk result ((n : ℕ) → contains nat_cmp changed.new n ≡ (contains nat_cmp changed.old n || (not is_kept && (n == number)))) }
+{
+    if !is_kept {
+        changed.insert(number)?;
+    }
+    Ok(())
+}
+
 /// The statements that a change of a program touches: the numbers of those that have a changed point, each once and
 /// rising, with 0 in front where the start of main is changed. A point is changed where it has a row in the old
 /// program, and the new one has none for it or another. A statement is told by its number, so one that is gone is
@@ -116,13 +128,10 @@ pub fn points_changed(alloc: Global, old: &Flow, new: &Flow) -> Result<Vec<u32>,
     let routines = old.program().routines();
     let others = new.program().routines();
     let mut changed = BTreeSet::new(alloc);
-    if !same_start(routines, others) {
-        changed.insert(0)?;
-    }
+    add_changed(&mut changed, 0, same_start(routines, others))?;
     for node in old.nodes() {
-        if !stays(old, new, node.stmt) {
-            changed.insert(node.stmt.number())?;
-        }
+        let stmt = node.stmt;
+        add_changed(&mut changed, stmt.number(), stays(old, new, stmt))?;
     }
     Ok(changed.into_iter().collect(alloc)?)
 }
