@@ -2,6 +2,8 @@ pub mod IndexLemmas
 pub mod Ties
 pub mod FlowLemmas
 pub mod LeaveLemmas
+pub mod TargetLists
+pub mod TargetTies
 pub mod ChangedRows
 pub mod ChangedLeaves
 pub mod ChangedBreaks

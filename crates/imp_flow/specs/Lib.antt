@@ -4,4 +4,5 @@ pub mod NodeRows
 pub mod Plans
 pub mod Inputs
 pub mod PlanCode
+pub mod Reached
 pub mod Changed

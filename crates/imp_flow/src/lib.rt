@@ -1,4 +1,21 @@
-//! The rows of a checked program, looked up by statement numbers.
+//! The flow of a checked program: from what each cell is computed, looked up by the number of one statement.
+//!
+//! A cell has a name, a path and a point of the block that the path leads to (`cell_names`). Its *row* is its
+//! operation and its inputs, left to right. [`Flow`] keeps a table of the program's statements: of each its
+//! procedure, the loops around it, the point in front of it, and what its points' rows need of the blocks inside
+//! it. [`Flow::row`] reads the row of a name off the table by the last frame of its path and its point, and follows
+//! no path; `flat_row` of crate `cell_rows` is what it answers, exactly. A row's inputs are relative to the path of
+//! its name ([`Input`]), and [`Input::name`] gives them their numbers.
+//!
+//! Inputs that are known only by values found before are asked of the row one by one: [`Row::iterate`] for a fixed
+//! point, [`Row::before_break`] for a join behind a loop with breaks, in the loop's last round.
+//! [`inputs_are_asked`] ties them to the machine of demands.
+//!
+//! [`targets`] gives what a query demands at a location under a call string: for each chain the loops and calls on
+//! the way, and a last point.
+//!
+//! A [`Flow`] is made in time linear in the program, times the nesting of loops. A row takes constant time, by a
+//! hash, and no memory.
 #![tactic(auto)]
 
 mod changed;
@@ -12,9 +29,16 @@ mod node;
 mod nodes;
 mod row;
 mod rows;
+mod steps;
+mod ways;
 
 pub use changed::points_changed;
 pub use flow::Flow;
 pub use input::{Input, Way};
 pub use laws::inputs_are_asked;
 pub use row::{Binary, Row, Unary};
+pub use steps::{Step, Target};
+pub use ways::{target, targets};
+
+#[cfg(test)]
+mod tests;
