@@ -278,7 +278,7 @@ module _ (engine : Engine) (ms os : List ℤ) (n a b : ℕ) (us vs : List ℕ) w
     widened : (ms : List ℤ) → next_operation engine ms engine.widening.delay ≡ Widens ms
     widened ms = let t : nat_lt engine.widening.delay engine.widening.delay ≡ false = grind (arith, nat_tests) in ap (λ t. if t then JoinsBoth else Widens ms) t
 
-    told_rounds : (g h : Guard) (x y : Point) (ls ks : List Leave) → Verdict (SameRounds x y) (Lost n (F p (While g x ls)) (G p (While h y ks))) (same_rounds engine ms os x y)
+    told_rounds : (g h : Guard) (x y : Point) (ls ks : List Leave) → Verdict (SameRounds x y) (Lost n (F p (While g x ls)) (G p (While h y ks))) (same_rounds engine (pointwise int_eq ms os) x y)
     told_rounds g h x y ls ks =
         or_else (engine.budget == 0) (λ z k t. absurd (none z k t))
         (λ z. and_then (told x y (points.ghosts.eq x y) (point_decides x y) (λ d. lost_round 0 g h x y ls ks (first z) (λ f k. d f)))

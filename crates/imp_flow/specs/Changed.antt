@@ -1,5 +1,5 @@
 -- The statements that a change of a program touches: those with a point whose row is gone, or another.
-use Rattle.std.specs.Prelude.{◌≡◌, ℕ, zero, suc, ℤ, List, [], ◌∷◌, Option, Some, None, Bool, true, false, ◌&&◌, ◌||◌, ◌==◌, nat_le, nat_eq, reverse}
+use Rattle.std.specs.Prelude.{◌≡◌, ℕ, zero, suc, ℤ, List, [], ◌∷◌, Option, Some, None, Bool, true, false, ◌&&◌, ◌||◌, ◌==◌, nat_le, reverse}
 use Rattle.std.specs.List.{Contains}
 use Rattle.std.specs.List.Sorted.{IsStrictlyIncreasing}
 use Rattle.std.specs.Cmp.Lexicographic.{pointwise}
@@ -16,12 +16,13 @@ use Rattle.cell_names.specs.declared.frame.Point.TheVariants.{Entry, Then, Else,
 use Rattle.cell_names.specs.contracts.frame.PointPartialEq.TheImpl as points
 use Rattle.cell_rows.specs.Rows.{Row}
 use Rattle.cell_rows.specs.Flat.{flat_row}
+use Rattle.imp_flow.specs.declared.changed.Pair.{Pair}
 use Rattle.imp_flow.specs.declared.node.Leave.{Leave}
 use Rattle.imp_flow.specs.contracts.node.LeavePartialEq.TheImpl as leaves
 use Rattle.imp_flow.specs.declared.node.Node.{Node}
 use Rattle.imp_flow.specs.declared.node.Shape.{Shape}
 use Rattle.imp_flow.specs.declared.node.Shape.TheVariants.{Act, If, While, Call}
-use Rattle.imp_flow.specs.Plans.{Plan}
+use Rattle.imp_flow.specs.Plans.{Plan, marks_at}
 
 -- The statement that a point in a path belongs to. The start of main belongs to 0, which is no statement's number, and
 -- so do the points that no program has.
@@ -88,17 +89,24 @@ same_ends (Some e) (Some f) = points.ghosts.eq e.0.front f.0.front && pointwise 
 abbrev pub same_leaves : List Leave → List Leave → Bool
 same_leaves ls ks = same_ends (last_leave ls) (last_leave ks)
 
-module _ (engine : Engine) (marks others : List ℤ) where
-  -- The ends of two loops' bodies give the same rounds, widened with these marks. There are rounds where the budget has
-  -- any, and they are widened from the delay on.
-  abbrev pub same_rounds : Point → Point → Bool
-  same_rounds p q = (engine.budget == 0) || (points.ghosts.eq p q && (nat_le engine.budget engine.widening.delay || pointwise int_eq marks others))
+-- The ends of two loops' bodies give the same rounds: there are rounds where the budget has any, and they are widened
+-- from the delay on.
+abbrev pub same_rounds : Engine → (same_marks : Bool) → Point → Point → Bool
+same_rounds engine same_marks p q = (engine.budget == 0) || (points.ghosts.eq p q && (nat_le engine.budget engine.widening.delay || same_marks))
 
+-- whether the procedures at these places have the same marks
+abbrev pub same_marks : (old new : Plan) → ℕ → ℕ → Bool
+same_marks old new p q = pointwise int_eq (marks_at old p) (marks_at new q)
+
+abbrev pub IsTold : (old new : Plan) → Pair → Type 0
+IsTold old new pair = pair.is_same ≡ same_marks old new pair.place pair.other
+
+module _ (engine : Engine) (marks others : List ℤ) where
   -- Behind the same point two statements with these shapes have the same rows.
   abbrev pub same_shapes : Shape → Shape → Bool
   same_shapes (Act s) (Act t) = same stmt_coded s t
   same_shapes (If g t e) (If h u f) = same guard_code g h && points.ghosts.eq t u && points.ghosts.eq e f
-  same_shapes (While g p ls) (While h q ks) = same guard_code g h && same_leaves ls ks && same_rounds p q
+  same_shapes (While g p ls) (While h q ks) = same guard_code g h && same_leaves ls ks && same_rounds engine (pointwise int_eq marks others) p q
   same_shapes (Call i c (Some p)) (Call j d (Some q)) = same invoke_code i j && points.ghosts.eq p q
   same_shapes _ _ = false
 

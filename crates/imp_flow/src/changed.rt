@@ -6,7 +6,7 @@ ghost use Rattle.batch_meaning.specs.Places.{main_layout};
 ghost use Rattle.plain_values.specs.Equal.{same};
 ghost use Rattle.imp_slots.specs.Fits.{IsChecked};
 ghost use Rattle.imp_slots.specs.PartCodes.{layout_code};
-ghost use Rattle.imp_flow.specs.Changed.{AreChanged, IsChanged, Stays, is_bare, same_leaves, same_rounds, same_shapes};
+ghost use Rattle.imp_flow.specs.Changed.{AreChanged, IsTold, IsChanged, Stays, is_bare, same_leaves, same_marks, same_rounds, same_shapes};
 ghost use Rattle.imp_flow.specs.Plans.{marks_at};
 
 use crate::flow::Flow;
@@ -17,6 +17,14 @@ use imp_syntax::StmtId;
 use plain_values::Memory;
 use std::alloc::Global;
 use std::collections::BTreeSet;
+
+/// A procedure of the old program and one of the new, by their places, and whether they have the same marks.
+#[derive(Clone, Copy)]
+struct Pair {
+    place: usize,
+    other: usize,
+    is_same: bool,
+}
 
 /// Whether two loops' breaks give the same rows behind the loops. Of the last break only the point in front of it counts.
 #[tactic(auto, using(crate::proofs::ChangedLeaves::last_is))]
@@ -32,31 +40,69 @@ fn same_leaves(leaves: &[Leave], others: &[Leave]) -> bool
     }
 }
 
-/// Whether two loops, whose bodies end at these points, have the same rounds.
-fn same_rounds(old: &Flow, new: &Flow, node: &Node, other: &Node, end: Point, round: Point) -> bool
-    ensures is { result ≡ same_rounds old.now.engine (marks_at old.now node.now.place) (marks_at new.now other.now.place) end round }
+/// Compares the marks of two procedures.
+fn pair_of(old: &Flow, new: &Flow, place: usize, other: usize) -> Pair
+    ensures told { IsTold old.now new.now result }
 {
-    let budget = old.budget();
-    budget == 0
-        || (end == round
-            && (budget <= old.widening().delay || old.marks(node.place) == new.marks(other.place)))
+    let is_same = old.marks(place) == new.marks(other);
+    Pair {
+        place,
+        other,
+        is_same,
+    }
+}
+
+/// The procedures of a statement: this pair where it is of them. So marks are compared once while statements of one
+/// procedure follow each other.
+fn pair_at(old: &Flow, new: &Flow, pair: Pair, node: &Node) -> Pair
+    requires told { IsTold old.now new.now pair }
+    ensures told { IsTold old.now new.now result }
+{
+    match new.node(node.stmt) {
+        None => pair,
+        Some(other) if pair.place == node.place && pair.other == other.place => pair,
+        Some(other) => pair_of(old, new, node.place, other.place),
+    }
+}
+
+/// Whether the procedures of two statements have the same marks.
+fn same_marks(old: &Flow, new: &Flow, pair: Pair, node: &Node, other: &Node) -> bool
+    requires told { IsTold old.now new.now pair }
+    ensures is { result ≡ same_marks old.now new.now node.now.place other.now.place }
+{
+    if pair.place == node.place && pair.other == other.place {
+        pair.is_same
+    } else {
+        old.marks(node.place) == new.marks(other.place)
+    }
+}
+
+/// Whether two loops, whose bodies end at these points, have the same rounds.
+fn same_rounds(flow: &Flow, same_marks: bool, end: Point, other: Point) -> bool
+    ensures is { result ≡ same_rounds flow.now.engine same_marks end other }
+{
+    let budget = flow.budget();
+    budget == 0 || (end == other && (budget <= flow.widening().delay || same_marks))
 }
 
 /// Whether two statements have the same rows, where the points in front of them are the same.
-fn same_shapes(old: &Flow, new: &Flow, node: &Node, other: &Node) -> bool
+fn same_shapes(old: &Flow, new: &Flow, pair: Pair, node: &Node, other: &Node) -> bool
+    requires told { IsTold old.now new.now pair }
     ensures is { result ≡ same_shapes old.now.engine (marks_at old.now node.now.place) (marks_at new.now other.now.place) node.now.shape other.now.shape }
 {
     match (&node.shape, &other.shape) {
         (Shape::Act(a), Shape::Act(b)) => a == b,
-        (Shape::If(a, then, els), Shape::If(b, before, behind)) => {
-            a == b && *then == *before && *els == *behind
+        (Shape::If(a, then, els), Shape::If(b, other_then, other_els)) => {
+            a == b && *then == *other_then && *els == *other_els
         }
-        (Shape::While(a, end, leaves), Shape::While(b, round, others)) => {
+        (Shape::While(a, end, leaves), Shape::While(b, other_end, others)) => {
             a == b
                 && same_leaves(leaves.as_slice(), others.as_slice())
-                && same_rounds(old, new, node, other, *end, *round)
+                && same_rounds(old, same_marks(old, new, pair, node, other), *end, *other_end)
         }
-        (Shape::Call(a, _, Some(end)), Shape::Call(b, _, Some(last))) => a == b && *end == *last,
+        (Shape::Call(a, _, Some(end)), Shape::Call(b, _, Some(other_end))) => {
+            a == b && *end == *other_end
+        }
         _ => false,
     }
 }
@@ -69,10 +115,11 @@ fn is_bare(shape: &Shape) -> bool
 }
 
 /// Whether each point of a statement keeps its row.
-fn stays(old: &Flow, new: &Flow, stmt: StmtId) -> bool
+fn stays(old: &Flow, new: &Flow, pair: Pair, stmt: StmtId) -> bool
     requires one { old.now.engine ≡ new.now.engine }
     requires old { IsChecked old.now.program }
     requires new { IsChecked new.now.program }
+    requires told { IsTold old.now new.now pair }
     ensures is { MatchBool result (Stays old.now new.now stmt) (IsChanged old.now new.now stmt) }
 {
     let Some(node) = old.node(stmt) else {
@@ -83,7 +130,7 @@ fn stays(old: &Flow, new: &Flow, stmt: StmtId) -> bool
     }
     match new.node(stmt) {
         None => false,
-        Some(other) => node.front == other.front && same_shapes(old, new, node, other),
+        Some(other) => node.front == other.front && same_shapes(old, new, pair, node, other),
     }
 }
 
@@ -114,9 +161,8 @@ fn add_changed(changed: &mut BTreeSet<u32>, number: u32, is_kept: bool) -> Resul
 /// program, and the new one has none for it or another. A statement is told by its number, so one that is gone is
 /// touched, and one that is new is not.
 ///
-/// It takes time linear in the old program, times the logarithm of how many statements are touched, and for each
-/// statement the time to compare what it uses: its conditions and expressions, the layout of a callee, and the breaks
-/// and marks of a loop.
+/// It takes time linear in the old program and in what its statements use, as conditions, layouts of callees, breaks of
+/// loops and marks of procedures, times the logarithm of how many statements are touched.
 ///
 /// # Errors
 ///
@@ -127,11 +173,13 @@ pub fn points_changed(alloc: Global, old: &Flow, new: &Flow) -> Result<Vec<u32>,
 {
     let routines = old.program().routines();
     let others = new.program().routines();
+    let mut pair = pair_of(old, new, 0, 0);
     let mut changed = BTreeSet::new(alloc);
     add_changed(&mut changed, 0, same_start(routines, others))?;
     for node in old.nodes() {
         let stmt = node.stmt;
-        add_changed(&mut changed, stmt.number(), stays(old, new, stmt))?;
+        pair = pair_at(old, new, pair, node);
+        add_changed(&mut changed, stmt.number(), stays(old, new, pair, stmt))?;
     }
     Ok(changed.into_iter().collect(alloc)?)
 }
