@@ -1,7 +1,6 @@
 -- Of two loops that differ in their breaks, one has a row that the other has not.
-use Rattle.std.proofs.lemmas.List.{length-append}
 use Rattle.std.proofs.lemmas.Option.{slice_get_past, slice_get_within}
-use Rattle.std.proofs.Common.{◌≡◌, ◌≢◌, ℕ, zero, suc, ◌+◌, ◌<◌, ◌≤◌, ◌==◌, ◌&&◌, if◌then◌else◌, nat_lt, List, [], ◌∷◌, ◌++◌, length, map, Option, Some, None, Bool, true, false, MatchBool, slice_get, refl, sym, ap, ap₂, subst, ◌∙◌, arith}
+use Rattle.std.proofs.Common.{◌≡◌, ◌≢◌, ℕ, zero, suc, ◌<◌, ◌≤◌, ◌==◌, ◌&&◌, if◌then◌else◌, nat_lt, List, [], ◌∷◌, ◌++◌, length, Option, Some, None, Bool, true, false, MatchBool, slice_get, refl, sym, ap, ap₂, subst, ◌∙◌, arith}
 use Rattle.std.proofs.lemmas.Bool.{and_parts}
 use Rattle.std.proofs.lemmas.Bool.Decides.{nat_tests}
 use Rattle.std.specs.Bool.{Decides}
@@ -12,7 +11,7 @@ use Rattle.batch_meaning.specs.Places.{if_some}
 use Rattle.batch_sound.proofs.Procedures.{by_test, some_inj}
 use Rattle.cell_names.specs.declared.frame.Frame.{Frame}
 use Rattle.cell_names.specs.declared.frame.Point.{Point}
-use Rattle.cell_names.specs.declared.frame.Point.TheVariants.{Fix, Exit, Leap}
+use Rattle.cell_names.specs.declared.frame.Point.TheVariants.{Fix}
 use Rattle.cell_names.specs.contracts.frame.PointPartialEq.TheImpl as points
 use Rattle.cell_names.proofs.Telling.{point_decides}
 use Rattle.cell_rows.specs.Names.{name, next_place, place_of, item}
@@ -21,7 +20,7 @@ use Rattle.cell_rows.proofs.BatchTie.{place_is}
 use Rattle.imp_flow.specs.declared.node.Leave.{Leave}
 use Rattle.imp_flow.specs.contracts.node.LeavePartialEq.TheImpl as leaves
 use Rattle.imp_flow.specs.contracts.node.LeaveEq.TheImpl.Laws as laws
-use Rattle.imp_flow.specs.NodeRows.{breaks_of, fronts_of, joined_at, joins_at, behind_loop}
+use Rattle.imp_flow.specs.NodeRows.{breaks_of, joined_at, joins_at, behind_loop}
 use Rattle.imp_flow.specs.Changed.{last_leave, same_ends, same_leaves}
 use Rattle.imp_flow.proofs.ChangedLeaves.{Split, none, some, split, last_behind, front_at, break_at, there, count_breaks, SameLeaves, same_but_last, leaping, found_leap, leap_there}
 

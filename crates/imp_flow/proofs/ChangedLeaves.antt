@@ -1,24 +1,18 @@
 -- The breaks of two loops that give different rows.
-use Rattle.std.proofs.lemmas.List.{length-append}
 use Rattle.std.proofs.lemmas.Bool.Decides.{nat_tests}
-use Rattle.std.proofs.lemmas.Option.{slice_get-map, slice_get_past, slice_get_within, slice_get-get_or}
-use Rattle.std.proofs.Common.{◌≡◌, ◌≢◌, ℕ, zero, suc, ◌+◌, ◌<◌, ◌≤◌, ◌==◌, ◌&&◌, if◌then◌else◌, nat_lt, ℤ, List, [], ◌∷◌, ◌++◌, length, map, Option, Some, None, Bool, true, false, MatchBool, slice_get, refl, sym, ap, subst, ◌∙◌, arith, add-one}
-use Rattle.std.specs.Bool.{Decides}
+use Rattle.std.proofs.lemmas.Option.{slice_get-map}
+use Rattle.std.proofs.Common.{◌≡◌, ◌≢◌, ℕ, zero, suc, ◌<◌, if◌then◌else◌, nat_lt, List, [], ◌∷◌, ◌++◌, length, Option, Some, None, Bool, true, false, slice_get, refl, sym, ap, subst, ◌∙◌, arith}
 use Rattle.std.specs.Option.{option_map}
-use Rattle.std.specs.Cmp.Lexicographic.{pointwise}
 use Rattle.imp_slots.specs.Plain.{Guard}
-use Rattle.imp_slots.specs.Fits.{Distinct}
 use Rattle.batch_meaning.specs.Places.{if_some}
 use Rattle.batch_sound.proofs.Procedures.{by_test, some_inj}
 use Rattle.cell_names.specs.declared.frame.Frame.{Frame}
-use Rattle.cell_names.specs.declared.frame.Point.{Point}
-use Rattle.cell_names.specs.declared.frame.Point.TheVariants.{Post, Fix, Exit, Leap}
-use Rattle.cell_rows.specs.Names.{name, next_place, place_of, item}
-use Rattle.cell_rows.specs.Rows.{Row, One, Joins, Assumes}
-use Rattle.cell_rows.proofs.BatchTie.{place_is}
+use Rattle.cell_names.specs.declared.frame.Point.TheVariants.{Leap}
+use Rattle.cell_rows.specs.Names.{next_place, place_of, item}
+use Rattle.cell_rows.specs.Rows.{Row}
 use Rattle.imp_flow.specs.declared.node.Leave.{Leave}
 use Rattle.imp_flow.specs.NodeRows.{breaks_of, fronts_of, joined_at, joins_at, behind_loop}
-use Rattle.imp_flow.specs.Changed.{last_of, last_leave, same_ends, same_leaves}
+use Rattle.imp_flow.specs.Changed.{last_of, last_leave}
 
 last_of_behind : (y : Leave) (xs : List Leave) (l : Leave) → last_of y (xs ++ l ∷ []) ≡ (l, y ∷ xs)
 last_of_behind y [] l = refl

@@ -1,20 +1,13 @@
 -- The rows of one statement's points, in all paths, and what of them is kept by another statement.
-use Rattle.std.proofs.Common.{◌≡◌, ◌≢◌, ℕ, zero, suc, ℤ, List, [], ◌∷◌, Option, Some, None, Bool, true, false, ◌&&◌, ◌||◌, MatchBool, refl, sym, ap, ◌∙◌}
+use Rattle.std.proofs.Common.{◌≡◌, ◌≢◌, ℕ, zero, suc, ℤ, List, [], ◌∷◌, Option, Some, None, Bool, true, false, ◌&&◌, ◌||◌, MatchBool, refl}
 use Rattle.std.specs.Bool.{Decides}
-use Rattle.imp_slots.specs.Plain.{Act as PlainAct, Guard, Invoke}
-use Rattle.imp_slots.specs.ActionViews.{act_of}
 use Rattle.batch_meaning.specs.Batch.{Engine}
-use Rattle.batch_meaning.specs.Places.{if_some}
 use Rattle.cell_names.specs.declared.frame.Frame.{Frame}
 use Rattle.cell_names.specs.declared.frame.Frame.TheVariants.{InCall, InLoop}
 use Rattle.cell_names.specs.declared.frame.Point.{Point}
 use Rattle.cell_names.specs.declared.frame.Point.TheVariants.{Entry, Then, Else, Body, Post, Iterate, Fix, Exit, Leap}
-use Rattle.cell_rows.specs.Names.{name}
-use Rattle.cell_rows.specs.Rows.{Row, One, Two, Fixed, Joins, Posts, Assumes, Enters}
-use Rattle.imp_flow.specs.declared.node.Leave.{Leave}
+use Rattle.cell_rows.specs.Rows.{Row}
 use Rattle.imp_flow.specs.declared.node.Node.{Node}
-use Rattle.imp_flow.specs.declared.node.Shape.{Shape}
-use Rattle.imp_flow.specs.declared.node.Shape.TheVariants.{Act, If, While, Call}
 use Rattle.imp_flow.specs.NodeRows.{post_at, enter_at, branch_at, turn_at, next_at, fix_at, exit_at, leap_at}
 use Rattle.imp_flow.specs.Changed.{owner, is_start}
 

@@ -1,8 +1,7 @@
 -- Two statements have the same rows where the test says so, and else one has a row that the other has not.
 use Rattle.std.proofs.lemmas.Bool.Decides.{nat_tests, Decides-int_eq}
 use Rattle.std.proofs.lemmas.Slice.Eq.{slice_eq-Decides}
-use Rattle.std.proofs.Common.{◌≡◌, ◌≢◌, ℕ, zero, suc, ◌<◌, ◌≤◌, ◌==◌, ◌&&◌, ◌||◌, if◌then◌else◌, nat_lt, nat_le, ℤ, List, [], ◌∷◌, length, Option, Some, None, Bool, true, false, MatchBool, slice_get, refl, sym, ap, ap₂, subst, ◌∙◌, arith}
-use Rattle.std.specs.Bool.{Decides}
+use Rattle.std.proofs.Common.{◌≡◌, ◌≢◌, ℕ, zero, suc, ◌<◌, ◌==◌, ◌&&◌, if◌then◌else◌, nat_lt, nat_le, ℤ, List, [], ◌∷◌, length, Option, Some, None, Bool, true, false, slice_get, refl, sym, ap, ap₂, subst, ◌∙◌, arith}
 use Rattle.std.specs.Cmp.Lexicographic.{pointwise}
 use Rattle.std.specs.Ordering.{int_eq}
 use Rattle.plain_values.specs.Equal.{same, same_Decides}
@@ -29,10 +28,10 @@ use Rattle.imp_flow.specs.declared.node.Leave.{Leave}
 use Rattle.imp_flow.specs.declared.node.Node.{Node}
 use Rattle.imp_flow.specs.declared.node.Shape.{Shape}
 use Rattle.imp_flow.specs.declared.node.Shape.TheVariants.{Act, If, While, Call}
-use Rattle.imp_flow.specs.NodeRows.{breaks_of, fronts_of, joined_at, iterate_at, where_so, joins_at, behind_loop, post_at, post_by, enter_at, enter_by, branch_at, branch_by, turn_at, next_at, fix_at, exit_at, leap_at}
+use Rattle.imp_flow.specs.NodeRows.{breaks_of, fronts_of, joined_at, iterate_at, where_so, joins_at, behind_loop, post_by, enter_by, branch_by, fix_at}
 use Rattle.imp_flow.specs.Changed.{is_bare, same_leaves, same_rounds, same_shapes}
-use Rattle.imp_flow.proofs.ChangedRows.{part, Kept, Lost, Keeps, Rows, kept_by, Verdict, yes, no, verdict, and_then, or_else, told, mapped, mapped_no}
-use Rattle.imp_flow.proofs.ChangedLeaves.{SameLeaves, behind_kept, leaping, leap_kept}
+use Rattle.imp_flow.proofs.ChangedRows.{part, Kept, Lost, Keeps, kept_by, Verdict, no, verdict, and_then, or_else, told, mapped, mapped_no}
+use Rattle.imp_flow.proofs.ChangedLeaves.{SameLeaves, behind_kept, leap_kept}
 use Rattle.imp_flow.proofs.ChangedBreaks.{LostLeaves, post, exit, leap, told_leaves}
 
 -- The breaks of a loop stand once.

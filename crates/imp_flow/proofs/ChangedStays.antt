@@ -1,5 +1,5 @@
 -- A statement's points keep their rows where its node does.
-use Rattle.std.proofs.Common.{◌≡◌, ◌≢◌, ℕ, zero, suc, ◌==◌, ◌&&◌, ℤ, cond, List, [], ◌∷◌, ◌++◌, reverse, Option, Some, None, Bool, true, false, refl, sym, ap, subst, ◌∙◌}
+use Rattle.std.proofs.Common.{◌≡◌, ℕ, zero, suc, ◌&&◌, ℤ, cond, List, [], ◌∷◌, ◌++◌, reverse, Option, Some, None, true, false, refl, sym, ap, subst, ◌∙◌}
 use Rattle.imp_slots.specs.Plain.{Code, Stop, Simple, If, While, Call, Break, Routine, Invoke, code_numbers}
 use Rattle.imp_slots.specs.Fits.{Distinct, IsChecked, routine_numbers}
 use Rattle.batch_meaning.specs.Batch.{Engine}
@@ -11,17 +11,15 @@ use Rattle.cell_names.specs.declared.frame.Frame.TheVariants.{InCall, InLoop}
 use Rattle.cell_names.specs.declared.frame.Point.{Point}
 use Rattle.cell_names.specs.declared.frame.Point.TheVariants.{Entry, Then, Else, Body, Post, Iterate, Fix, Exit, Leap}
 use Rattle.cell_names.specs.contracts.frame.PointPartialEq.TheImpl as points
-use Rattle.cell_names.proofs.Telling.{point_decides}
-use Rattle.cell_rows.specs.Names.{Nested, break_numbers}
+use Rattle.cell_rows.specs.Names.{Nested}
 use Rattle.cell_rows.specs.Rows.{Row}
 use Rattle.cell_rows.specs.Flat.{flat_row}
-use Rattle.cell_rows.proofs.Checked.{distinct_part, break_part, once_nested, own_part}
+use Rattle.cell_rows.proofs.Checked.{distinct_part, break_part, once_nested}
 use Rattle.cell_rows.proofs.FlatOnce.{left_once, right_once, once_reversed}
 use Rattle.imp_flow.specs.declared.node.Node.{Node}
 use Rattle.imp_flow.specs.declared.node.Shape.{Shape}
 use Rattle.imp_flow.specs.declared.node.Shape.TheVariants as shape
-use Rattle.imp_flow.specs.Nodes.{leaving, shape_of, node_in, block_nodes, nodes_of, node_of}
-use Rattle.imp_flow.specs.NodeRows.{breaks_of}
+use Rattle.imp_flow.specs.Nodes.{shape_of, node_in, block_nodes, nodes_of, node_of}
 use Rattle.imp_flow.specs.Plans.{Plan, marks_at, plan_nodes, node_row}
 use Rattle.imp_flow.specs.Changed.{owner, is_start, IsChanged, Stays, is_bare, same_shapes}
 use Rattle.imp_flow.proofs.Ties.{breaks_are, rows_tie}
@@ -180,7 +178,7 @@ module _ (old new : Plan) (one : old.engine ≡ new.engine) (n : ℕ) where
       let j : y.stmt ≡ n = (found_node (plan_nodes new) n y f).1 in
       let v = told_nodes old.engine (marks_at old x.place) (marks_at new y.place) n x.place y.place x.loops y.loops x.front y.front x.shape y.shape h c d in
       let P : Node → Node → Type 0 =
-          λ u z. Verdict (Kept (part old.engine (marks_at old x.place) u) (part old.engine (marks_at new y.place) z)) (Lost n (part old.engine (marks_at old x.place) u) (part old.engine (marks_at new y.place) z)) (points.ghosts.eq x.front y.front && same_shapes old.engine (marks_at old x.place) (marks_at new y.place) x.shape y.shape)
+      λ u z. Verdict (Kept (part old.engine (marks_at old x.place) u) (part old.engine (marks_at new y.place) z)) (Lost n (part old.engine (marks_at old x.place) u) (part old.engine (marks_at new y.place) z)) (points.ghosts.eq x.front y.front && same_shapes old.engine (marks_at old x.place) (marks_at new y.place) x.shape y.shape)
       in
       let number : Node → ℕ → Node = λ u m. record { stmt = m; place = u.place; loops = u.loops; front = u.front; shape = u.shape } in
       let w : P x (number y n) = subst (λ u. P u (number y n)) (ap (number x) (sym k)) v in

@@ -1,5 +1,5 @@
 -- The statements that a change of a program touches: those with a point whose row is gone, or another.
-use Rattle.std.specs.Prelude.{◌≡◌, ℕ, zero, suc, ℤ, List, [], ◌∷◌, Option, Some, None, Bool, true, false, ◌&&◌, ◌||◌, ◌==◌, nat_le, reverse}
+use Rattle.std.specs.Prelude.{◌≡◌, ℕ, ℤ, List, [], ◌∷◌, Option, Some, None, Bool, true, false, ◌&&◌, ◌||◌, ◌==◌, nat_le, reverse}
 use Rattle.std.specs.List.{Contains}
 use Rattle.std.specs.List.Sorted.{IsStrictlyIncreasing}
 use Rattle.std.specs.Cmp.Lexicographic.{pointwise}
@@ -19,7 +19,6 @@ use Rattle.cell_rows.specs.Flat.{flat_row}
 use Rattle.imp_flow.specs.declared.changed.Pair.{Pair}
 use Rattle.imp_flow.specs.declared.node.Leave.{Leave}
 use Rattle.imp_flow.specs.contracts.node.LeavePartialEq.TheImpl as leaves
-use Rattle.imp_flow.specs.declared.node.Node.{Node}
 use Rattle.imp_flow.specs.declared.node.Shape.{Shape}
 use Rattle.imp_flow.specs.declared.node.Shape.TheVariants.{Act, If, While, Call}
 use Rattle.imp_flow.specs.Plans.{Plan, marks_at}
@@ -98,6 +97,7 @@ same_rounds engine same_marks p q = (engine.budget == 0) || (points.ghosts.eq p 
 abbrev pub same_marks : (old new : Plan) → ℕ → ℕ → Bool
 same_marks old new p q = pointwise int_eq (marks_at old p) (marks_at new q)
 
+-- a pair of procedures says whether they have
 abbrev pub IsTold : (old new : Plan) → Pair → Type 0
 IsTold old new pair = pair.is_same ≡ same_marks old new pair.place pair.other
 

@@ -98,7 +98,12 @@ fn same_shapes(old: &Flow, new: &Flow, pair: Pair, node: &Node, other: &Node) ->
         (Shape::While(a, end, leaves), Shape::While(b, other_end, others)) => {
             a == b
                 && same_leaves(leaves.as_slice(), others.as_slice())
-                && same_rounds(old, same_marks(old, new, pair, node, other), *end, *other_end)
+                && same_rounds(
+                    old,
+                    same_marks(old, new, pair, node, other),
+                    *end,
+                    *other_end,
+                )
         }
         (Shape::Call(a, _, Some(end)), Shape::Call(b, _, Some(other_end))) => {
             a == b && *end == *other_end

@@ -1,4 +1,4 @@
-use Rattle.std.proofs.Common.{◌≡◌, Bool, Ok, List, subst, length, reverse, Some, slice_get, sym, ap, ap₂, ◌∙◌}
+use Rattle.std.proofs.Common.{Bool, Ok, List, subst, reverse, Some, sym, ap, ap₂, ◌∙◌}
 use Rattle.std.proofs.lemmas.Option.{slice_get-get_or}
 use Rattle.std.proofs.lemmas.Iterator.{items_from_collect}
 use Rattle.std.proofs.lemmas.Iterator.Consumers.{YieldsList-from_rest}

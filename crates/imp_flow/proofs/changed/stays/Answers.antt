@@ -1,6 +1,5 @@
-use Rattle.std.proofs.Common.{◌≡◌, ◌&&◌, true, false, None, Some, MatchBool, sym, ap, subst, ◌∙◌}
+use Rattle.std.proofs.Common.{◌&&◌, MatchBool, sym, ap, subst, ◌∙◌}
 use Rattle.std.specs.Option.{option_copied}
-use Rattle.cell_names.specs.contracts.frame.PointPartialEq.TheImpl as points
 use Rattle.imp_flow.specs.Plans.{marks_at}
 use Rattle.imp_flow.specs.Changed.{Stays, IsChanged, same_shapes}
 use Rattle.imp_flow.proofs.ChangedRows.{by_verdict}
