@@ -212,7 +212,9 @@ fn names_of_inputs(rt: HostRuntime) -> Result<(), Fail> {
     let round = second_input(&flow, None, Point::Iterate(StmtId::new(1), 3));
     let round = named(&mut names, PathId::root(), round)?;
     assert_eq!(rt; round.point, Point::Post(StmtId::new(2)));
-    let (before, last) = names.last_frame(round.path).unwrap();
+    let Some((before, last)) = names.last_frame(round.path) else {
+        return Err("no frame".into());
+    };
     assert_eq!(rt; before, PathId::root());
     assert_eq!(rt; last, Frame::InLoop(StmtId::new(1), 2));
     let outside = named(
