@@ -1,5 +1,5 @@
 //! The statements that a change of a program touches.
-ghost use Rattle.std.specs.Prelude.{◌≡◌, ℕ, ◌<◌, ◌==◌, ◌||◌, ◌&&◌, not, MatchBool, IfOk, OnOk, length, reverse};
+ghost use Rattle.std.specs.Prelude.{◌≡◌, ℕ, ◌<◌, ◌==◌, ◌||◌, ◌&&◌, not, MatchBool, IfOk, IfSome, OnOk, length, reverse};
 ghost use Rattle.std.specs.BTreeSet.{contains};
 ghost use Rattle.std.specs.Ordering.{nat_cmp};
 ghost use Rattle.batch_meaning.specs.Places.{main_layout};
@@ -7,7 +7,8 @@ ghost use Rattle.plain_values.specs.Equal.{same};
 ghost use Rattle.imp_slots.specs.Fits.{IsChecked};
 ghost use Rattle.imp_slots.specs.PartCodes.{layout_code};
 ghost use Rattle.imp_flow.specs.Changed.{AreChanged, IsTold, IsChanged, Stays, is_bare, same_leaves, same_marks, same_rounds, same_shapes};
-ghost use Rattle.imp_flow.specs.Plans.{marks_at};
+ghost use Rattle.imp_flow.specs.Nodes.{node_of};
+ghost use Rattle.imp_flow.specs.Plans.{marks_at, plan_nodes};
 
 use crate::flow::Flow;
 use crate::node::{Leave, Node, Shape};
@@ -43,6 +44,8 @@ fn same_leaves(leaves: &[Leave], others: &[Leave]) -> bool
 /// Compares the marks of two procedures.
 fn pair_of(old: &Flow, new: &Flow, place: usize, other: usize) -> Pair
     ensures told { IsTold old.now new.now result }
+    ensures place { result.place ≡ place }
+    ensures other { result.other ≡ other }
 {
     let is_same = old.marks(place) == new.marks(other);
     Pair {
@@ -52,11 +55,13 @@ fn pair_of(old: &Flow, new: &Flow, place: usize, other: usize) -> Pair
     }
 }
 
-/// The procedures of a statement: this pair where it is of them. So marks are compared once while statements of one
-/// procedure follow each other.
+/// The procedures of a statement, where the new program has it, and this pair where it has not. So marks are compared
+/// once while statements of one procedure follow each other.
 fn pair_at(old: &Flow, new: &Flow, pair: Pair, node: &Node) -> Pair
     requires told { IsTold old.now new.now pair }
     ensures told { IsTold old.now new.now result }
+    ensures place { IfSome (node_of (plan_nodes new.now) node.now.stmt) (λ x. result.place ≡ node.now.place) }
+    ensures other { IfSome (node_of (plan_nodes new.now) node.now.stmt) (λ x. result.other ≡ x.place) }
 {
     match new.node(node.stmt) {
         None => pair,
