@@ -1,5 +1,5 @@
 -- The index of nodes.
-use Rattle.std.proofs.Common.{ℕ, zero, suc, ◌≡◌, ◌+◌, ◌<◌, ◌≤◌, ◌==◌, cond, Bool, true, false, List, [], ◌∷◌, length, drop, get_or, slice_get, Option, Some, None, refl, sym, ap, ◌∙◌, arith, add-one, drop-cons}
+use Rattle.std.proofs.Common.{ℕ, zero, suc, ◌≡◌, ◌+◌, ◌<◌, ◌≤◌, ◌==◌, cond, Bool, true, false, List, [], ◌∷◌, length, drop, get_or, slice_get, Option, Some, None, refl, arith, add-one, drop-cons}
 use Rattle.imp_flow.specs.Nodes.{node_of, place_of}
 use Rattle.imp_flow.specs.declared.node.Node.{Node}
 

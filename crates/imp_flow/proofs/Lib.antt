@@ -8,3 +8,9 @@ pub mod ShiftCode
 pub mod ShiftRows
 pub mod ShiftPrograms
 pub mod ShiftPlaces
+pub mod ChangedRows
+pub mod ChangedLeaves
+pub mod ChangedBreaks
+pub mod ChangedShapes
+pub mod ChangedStays
+pub mod ChangedSet

@@ -15,7 +15,8 @@ use Rattle.cell_rows.specs.Names.{Mark, mark, Place, bare}
 use Rattle.cell_rows.specs.Rows.{Row, enter_row, turn_row, branch_row, post_row, next_row, fix_row, exit_row, leap_row}
 use Rattle.cell_rows.specs.Flat.{Flat, flat, stand_in, by_text, flat_row}
 use Rattle.cell_rows.proofs.FlatOnce.{keys_flat, either, right_once, once_reversed}
-use Rattle.imp_flow.specs.Shifts.{shift_routine, put_in, owner, KeepRows}
+use Rattle.imp_flow.specs.Shifts.{shift_routine, put_in, KeepRows}
+use Rattle.imp_flow.specs.Owners.{owner}
 use Rattle.imp_flow.proofs.ShiftCode.{numbers_shift}
 use Rattle.imp_flow.proofs.ShiftRows.{found_alike, same_row}
 

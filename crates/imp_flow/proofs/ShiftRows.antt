@@ -20,7 +20,8 @@ use Rattle.imp_flow.specs.declared.node.Shape.{Shape}
 use Rattle.imp_flow.specs.declared.node.Shape.TheVariants as shape
 use Rattle.imp_flow.specs.Nodes.{shape_of, node_in}
 use Rattle.imp_flow.specs.NodeRows.{post_at, enter_at, branch_at, turn_at, next_at, fix_at, exit_at, leap_at}
-use Rattle.imp_flow.specs.Shifts.{shift_routine, owner}
+use Rattle.imp_flow.specs.Owners.{owner}
+use Rattle.imp_flow.specs.Shifts.{shift_routine}
 use Rattle.imp_flow.proofs.Ties.{all_stand, post_is, enter_is, branch_is, turn_is, next_is, fix_is, exit_is, leap_is}
 use Rattle.imp_flow.proofs.ShiftCode.{literals_shift, number_shift, shift_entry, texts_shift, moved, without_place, shape_shift}
 

@@ -1,11 +1,10 @@
 -- The rows by nodes are the rows by the table of statements.
-use Rattle.std.proofs.lemmas.List.{length-append, length-reverse, reverse-append, reverse-reverse}
-use Rattle.std.proofs.Common.{◌≡◌, ℕ, zero, suc, ◌+◌, ◌<◌, ◌==◌, ℤ, cond, List, [], ◌∷◌, ◌++◌, length, map, reverse, Option, Some, None, Bool, true, false, if◌then◌else◌, nat_lt, slice_get, refl, sym, ap, ◌∙◌, subst, arith, append_assoc, append-nil}
+use Rattle.std.proofs.lemmas.List.{length-append, reverse-reverse}
+use Rattle.std.proofs.Common.{◌≡◌, ℕ, zero, suc, ◌<◌, ◌==◌, ℤ, cond, List, [], ◌∷◌, ◌++◌, length, map, reverse, Option, Some, None, Bool, true, false, if◌then◌else◌, nat_lt, slice_get, refl, sym, ap, ◌∙◌, subst, arith, append_assoc, append-nil}
 use Rattle.std.specs.Option.{option_map}
 use Rattle.imp_slots.specs.Plain.{Guard, Invoke, Code, Stop, Simple, If, While, Call, Break, Routine}
 use Rattle.imp_slots.specs.Plain as plain
 use Rattle.imp_slots.specs.ActionViews.{effect_of, action_of}
-use Rattle.program_chains.specs.declared.widening.Widening.{Widening}
 use Rattle.program_chains.specs.Marks.{marks}
 use Rattle.batch_meaning.specs.Batch.{Engine}
 use Rattle.batch_meaning.specs.Places.{find, if_some, from}
@@ -14,16 +13,16 @@ use Rattle.cell_names.specs.declared.frame.Frame.TheVariants.{InCall, InLoop}
 use Rattle.cell_names.specs.declared.frame.Point.{Point}
 use Rattle.cell_names.specs.declared.frame.Point.TheVariants.{Entry, Then, Else, Body, Post, Iterate, Fix, Exit, Leap}
 use Rattle.batch_sound.proofs.Procedures.{by_test, some_inj, look, look_get}
-use Rattle.batch_sound.proofs.Places.{Member, here, there, Each, none_there, each_more, each_both, each_as, found_member}
-use Rattle.cell_rows.specs.Names.{name, Mark, mark, Place, bare, number, breaks, break_numbers, place_of, item, iterate_point, start_of, when}
-use Rattle.cell_rows.specs.Rows.{Row, One, Two, Fixed as FixedRow, Joins, Assumes, Enters, Exits, Leaves, next_operation, last_point, leave_points, joined_point, joins_row, loop_row, enter_row, turn_row, branch_row, post_row, next_row, fix_row, exit_row, leap_row, sites_of}
+use Rattle.batch_sound.proofs.Places.{here, there, Each, none_there, each_more, each_both, each_as, found_member}
+use Rattle.cell_rows.specs.Names.{name, Mark, mark, Place, bare, number, breaks, break_numbers, place_of, iterate_point, start_of, when}
+use Rattle.cell_rows.specs.Rows.{Row, One, Two, Fixed as FixedRow, Assumes, Enters, Exits, Leaves, next_operation, last_point, leave_points, joined_point, joins_row, loop_row, enter_row, turn_row, branch_row, post_row, next_row, fix_row, exit_row, leap_row, sites_of}
 use Rattle.cell_rows.specs.Targets.{Text, text, deeper, texts}
 use Rattle.cell_rows.specs.Flat.{Flat, flat_of, flat, stand_in, by_text, flat_row}
 use Rattle.imp_flow.specs.declared.node.Leave.{Leave}
 use Rattle.imp_flow.specs.declared.node.Node.{Node}
-use Rattle.imp_flow.specs.Nodes.{leaving, body_end, callee_end, shape_of, node_in, block_nodes, nodes_of, node_of}
-use Rattle.imp_flow.specs.NodeRows.{breaks_of, fronts_of, iterate_at, joined_at, where_so, joins_at, behind_loop, post_by, enter_by, branch_by, post_at, enter_at, branch_at, turn_at, next_at, fix_at, exit_at, leap_at}
-use Rattle.imp_flow.specs.Plans.{Plan, all_marks, or_none, marks_at, plan_nodes, by_node, next_of, node_row}
+use Rattle.imp_flow.specs.Nodes.{leaving, body_end, shape_of, node_in, block_nodes, nodes_of, node_of}
+use Rattle.imp_flow.specs.NodeRows.{breaks_of, fronts_of, iterate_at, joined_at, where_so, joins_at, behind_loop, post_at, enter_at, branch_at, turn_at, next_at, fix_at, exit_at, leap_at}
+use Rattle.imp_flow.specs.Plans.{Plan, or_none, marks_at, by_node, next_of, node_row}
 
 map_both : {A B : Type 0} (f : A → B) (xs ys : List A) → map f (xs ++ ys) ≡ map f xs ++ map f ys
 map_both f [] ys = refl

@@ -5,4 +5,6 @@ pub mod Plans
 pub mod Inputs
 pub mod PlanCode
 pub mod Reached
+pub mod Owners
 pub mod Shifts
+pub mod Changed

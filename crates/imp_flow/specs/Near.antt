@@ -1,5 +1,5 @@
 -- Inputs of rows, and rows, by the path of the name that has them.
-use Rattle.std.specs.Prelude.{ℕ, List, [], ◌∷◌, Option, Some, None}
+use Rattle.std.specs.Prelude.{List, [], ◌∷◌, Option, Some, None}
 use Rattle.imp_slots.specs.ActionViews.{act_of}
 use Rattle.cell_names.specs.declared.frame.Frame.{Frame}
 use Rattle.cell_names.specs.Paths.{CellName}

@@ -1,6 +1,6 @@
 -- The rows of a statement's points, by its node alone.
-use Rattle.std.specs.Prelude.{ℕ, zero, suc, ℤ, List, [], ◌∷◌, length, map, Option, Some, None, Bool, true, false, if◌then◌else◌, nat_lt, slice_get}
-use Rattle.imp_slots.specs.Plain.{Guard, Invoke}
+use Rattle.std.specs.Prelude.{ℕ, zero, suc, ℤ, List, ◌∷◌, length, map, Option, Some, None, Bool, true, false, if◌then◌else◌, nat_lt, slice_get}
+use Rattle.imp_slots.specs.Plain.{Guard}
 use Rattle.imp_slots.specs.ActionViews.{act_of}
 use Rattle.program_chains.specs.declared.widening.Widening.{Widening}
 use Rattle.batch_meaning.specs.Batch.{Engine}
@@ -8,7 +8,7 @@ use Rattle.batch_meaning.specs.Places.{if_some}
 use Rattle.cell_names.specs.declared.frame.Frame.{Frame}
 use Rattle.cell_names.specs.declared.frame.Frame.TheVariants.{InCall, InLoop}
 use Rattle.cell_names.specs.declared.frame.Point.{Point}
-use Rattle.cell_names.specs.declared.frame.Point.TheVariants.{Post, Iterate, Fix, Exit, Leap}
+use Rattle.cell_names.specs.declared.frame.Point.TheVariants.{Iterate, Fix, Exit, Leap}
 use Rattle.cell_rows.specs.Names.{name, place_of, item}
 use Rattle.cell_rows.specs.Rows.{Posts, Assumes, Enters, Exits, JoinsBoth, Leaves, Row, One, Two, Fixed, Joins, next_operation, sites_of}
 use Rattle.imp_flow.specs.declared.node.Leave.{Leave}

@@ -1,5 +1,5 @@
 -- A program's rows by its nodes.
-use Rattle.std.specs.Prelude.{◌≡◌, ℕ, zero, suc, ℤ, List, [], ◌∷◌, length, map, reverse, Option, Some, None, true, false, slice_get}
+use Rattle.std.specs.Prelude.{◌≡◌, ℕ, zero, suc, ℤ, List, [], ◌∷◌, map, reverse, Option, Some, None, true, false, slice_get}
 use Rattle.imp_slots.specs.Plain.{Routine}
 use Rattle.program_chains.specs.declared.widening.Widening.{Widening}
 use Rattle.program_chains.specs.Marks.{marks}

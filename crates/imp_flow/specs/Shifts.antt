@@ -1,16 +1,15 @@
 -- A procedure that is put into a program, or dropped from it: places behind it shift, and rows of the others stay.
-use Rattle.std.specs.Prelude.{◌≡◌, ◌<◌, ℕ, suc, List, [], ◌∷◌, ◌++◌, length, map, reverse, take, drop, Some, if◌then◌else◌, nat_lt}
+use Rattle.std.specs.Prelude.{◌≡◌, ◌<◌, ℕ, suc, List, ◌∷◌, ◌++◌, length, map, reverse, take, drop, Some, if◌then◌else◌, nat_lt}
 use Rattle.imp_syntax.specs.Plain.{Procedure}
 use Rattle.imp_slots.specs.Plain.{Code, Stop, Simple, If, While, Call, Break, Routine, code_numbers}
 use Rattle.imp_slots.specs.Fits.{Absent, IsChecked}
 use Rattle.imp_check.specs.Slots.{routine_of, routines_of}
 use Rattle.batch_meaning.specs.Batch.{Engine}
 use Rattle.cell_names.specs.declared.frame.Frame.{Frame}
-use Rattle.cell_names.specs.declared.frame.Frame.TheVariants.{InCall, InLoop}
 use Rattle.cell_names.specs.declared.frame.Point.{Point}
-use Rattle.cell_names.specs.declared.frame.Point.TheVariants.{Entry, Then, Else, Body, Post, Iterate, Fix, Exit, Leap}
 use Rattle.cell_rows.specs.Rows.{Row}
 use Rattle.cell_rows.specs.Flat.{flat_row}
+use Rattle.imp_flow.specs.Owners.{owner}
 
 -- A place, where one more procedure stands behind the first k.
 abbrev pub shift : (k q : ℕ) → ℕ
@@ -31,23 +30,6 @@ shift_routine k r = record { name = r.name; layout = r.layout; code = shift_code
 -- A program with one more procedure behind the first k. These call none behind them, so their places stay.
 abbrev pub put_in : (k : ℕ) → Routine → List Routine → List Routine
 put_in k r program = take k program ++ r ∷ map (shift_routine k) (drop k program)
-
--- The statement that a point in a path belongs to. The start of main belongs to 0, which is no statement's number, and
--- so do the points that no program has.
-abbrev pub owner : List Frame → Point → ℕ
-owner [] Entry = 0
-owner (InCall n ∷ w) Entry = n
-owner (InLoop n k ∷ w) Entry = 0
-owner [] Body = 0
-owner (InCall n ∷ w) Body = 0
-owner (InLoop n k ∷ w) Body = n
-owner w (Then n) = n
-owner w (Else n) = n
-owner w (Post n) = n
-owner w (Iterate n k) = n
-owner w (Fix n) = n
-owner w (Exit n) = n
-owner w (Leap n k) = n
 
 -- What the rows of two programs are to each other, the new one with one more procedure: each row is a row of the new
 -- one; and a point that belongs to no statement of that procedure has the same row in both, or none in both.

@@ -14,10 +14,15 @@
 //! [`targets`] gives what a query demands at a location under a call string: for each chain the loops and calls on
 //! the way, and a last point.
 //!
+//! [`points_changed`] compares two programs: it gives the statements with a point that the new program lacks, or whose
+//! row it has another one for. A procedure more or less is no change to the others
+//! ([`procedures_shift_no_rows`]).
+//!
 //! A [`Flow`] is made in time linear in the program, times the nesting of loops. A row takes constant time, by a
 //! hash, and no memory.
 #![tactic(auto)]
 
+mod changed;
 mod flow;
 mod index;
 mod input;
@@ -32,6 +37,7 @@ mod shifts;
 mod steps;
 mod ways;
 
+pub use changed::points_changed;
 pub use flow::Flow;
 pub use input::{Input, Way};
 pub use laws::inputs_are_asked;

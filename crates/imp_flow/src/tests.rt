@@ -2,7 +2,7 @@
 ghost use Rattle.std.specs.Prelude.{◌≡◌, ◌<◌, ◌^◌, length, IfOk};
 ghost use Rattle.imp_check.specs.Programs.{AreNumbered};
 
-use crate::{Flow, Input, Row, Way};
+use crate::{Flow, Input, Row, Way, points_changed};
 use cell_names::{Frame, Name, Names, PathId, Point};
 use imp_check::{Checked, check, is_numbered};
 use imp_parse::parse_program;
@@ -227,5 +227,36 @@ fn names_of_inputs(rt: HostRuntime) -> Result<(), Fail> {
         point: Point::Iterate(StmtId::new(1), 2),
     };
     assert_eq!(rt; outside, wanted);
+    Ok(())
+}
+
+/// The numbers of the statements that a change from one text to the other touches.
+fn touched(alloc: Global, before: &str, after: &str) -> Result<String, Fail> {
+    let old = flow_of(alloc, before)?;
+    let new = flow_of(alloc, after)?;
+    let changed = points_changed(alloc, &old, &new)?;
+    let mut text = String::new(alloc);
+    for n in &changed {
+        let next = format!(in alloc; " {n}")?;
+        text.push_str(next.as_str())?;
+    }
+    Ok(text)
+}
+
+#[test]
+fn changes(rt: HostRuntime) -> Result<(), Fail> {
+    let alloc = rt.alloc();
+    let loops =
+        "proc main() { var i: int; i = 0; while (i < 3) { if (i == 1) { break; } i = i + 1; } i = 5; }";
+    assert_eq!(rt; touched(alloc, loops, loops)?.as_str(), "");
+    let guard =
+        "proc main() { var i: int; i = 0; while (i < 3) { if (i == 2) { break; } i = i + 1; } i = 5; }";
+    assert_eq!(rt; touched(alloc, loops, guard)?.as_str(), " 2 3");
+    let shorter =
+        "proc main() { var i: int; i = 0; while (i < 3) { if (i == 1) { break; } } i = 5; }";
+    assert_eq!(rt; touched(alloc, loops, shorter)?.as_str(), " 2 5 6");
+    let declared =
+        "proc main() { var i: int; var j: int; i = 0; while (i < 3) { if (i == 1) { break; } i = i + 1; } i = 5; }";
+    assert_eq!(rt; touched(alloc, loops, declared)?.as_str(), " 0");
     Ok(())
 }

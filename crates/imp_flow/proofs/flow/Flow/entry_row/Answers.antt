@@ -1,5 +1,4 @@
-use Rattle.std.proofs.Common.{◌∙◌, ap, sym}
-use Rattle.cell_names.specs.declared.frame.Frame.TheVariants.{InCall}
+use Rattle.std.proofs.Common.{◌∙◌, sym}
 use Rattle.imp_flow.proofs.FlowLemmas.{entry_found}
 use Rattle.imp_flow.proofs.flow.Flow.entry_row.Goals as goal
 

@@ -1,0 +1,12 @@
+use Rattle.std.specs.BTreeSet.{contains}
+use Rattle.std.specs.Ordering.{nat_cmp}
+use Rattle.imp_flow.specs.Changed.{IsTold}
+use Rattle.imp_flow.proofs.ChangedSet.{Noted}
+use Rattle.imp_flow.proofs.changed.points_changed.Given as goal
+
+-- what is known of the statements so far
+abbrev pub invariant-loop-node : goal.invariant-loop-node
+invariant-loop-node l = record {
+  told : IsTold l.old l.new l.pair;
+  noted : Noted l.old l.new l.node-items l.node-index (contains nat_cmp l.changed);
+}

@@ -1,0 +1,195 @@
+//! The statements that a change of a program touches.
+ghost use Rattle.std.specs.Prelude.{◌≡◌, ℕ, ◌<◌, ◌==◌, ◌||◌, ◌&&◌, not, MatchBool, IfOk, IfSome, OnOk, length, reverse};
+ghost use Rattle.std.specs.BTreeSet.{contains};
+ghost use Rattle.std.specs.Ordering.{nat_cmp};
+ghost use Rattle.batch_meaning.specs.Places.{main_layout};
+ghost use Rattle.plain_values.specs.Equal.{same};
+ghost use Rattle.imp_slots.specs.Fits.{IsChecked};
+ghost use Rattle.imp_slots.specs.PartCodes.{layout_code};
+ghost use Rattle.imp_flow.specs.Changed.{AreChanged, IsTold, IsChanged, Stays, is_bare, same_leaves, same_marks, same_rounds, same_shapes};
+ghost use Rattle.imp_flow.specs.Nodes.{node_of};
+ghost use Rattle.imp_flow.specs.Plans.{marks_at, plan_nodes};
+
+use crate::flow::Flow;
+use crate::node::{Leave, Node, Shape};
+use cell_names::Point;
+use imp_slots::Routine;
+use imp_syntax::StmtId;
+use plain_values::Memory;
+use std::alloc::Global;
+use std::collections::BTreeSet;
+
+/// A procedure of the old program and one of the new, by their places, and whether they have the same marks.
+#[derive(Clone, Copy)]
+struct Pair {
+    place: usize,
+    other: usize,
+    is_same: bool,
+}
+
+/// Whether two loops' breaks give the same rows behind the loops. Of the last break only the point in front of it counts.
+#[tactic(auto, using(crate::proofs::ChangedLeaves::last_is))]
+fn same_leaves(leaves: &[Leave], others: &[Leave]) -> bool
+    ensures is { result ≡ same_leaves leaves.now others.now }
+{
+    match (leaves.split_last(), others.split_last()) {
+        (None, None) => true,
+        (Some((last, before)), Some((other, others))) => {
+            last.front == other.front && before == others
+        }
+        _ => false,
+    }
+}
+
+/// Compares the marks of two procedures.
+fn pair_of(old: &Flow, new: &Flow, place: usize, other: usize) -> Pair
+    ensures told { IsTold old.now new.now result }
+    ensures place { result.place ≡ place }
+    ensures other { result.other ≡ other }
+{
+    let is_same = old.marks(place) == new.marks(other);
+    Pair {
+        place,
+        other,
+        is_same,
+    }
+}
+
+/// The procedures of a statement, where the new program has it, and this pair where it has not. So marks are compared
+/// once while statements of one procedure follow each other.
+fn pair_at(old: &Flow, new: &Flow, pair: Pair, node: &Node) -> Pair
+    requires told { IsTold old.now new.now pair }
+    ensures told { IsTold old.now new.now result }
+    ensures place { IfSome (node_of (plan_nodes new.now) node.now.stmt) (λ x. result.place ≡ node.now.place) }
+    ensures other { IfSome (node_of (plan_nodes new.now) node.now.stmt) (λ x. result.other ≡ x.place) }
+{
+    match new.node(node.stmt) {
+        None => pair,
+        Some(other) if pair.place == node.place && pair.other == other.place => pair,
+        Some(other) => pair_of(old, new, node.place, other.place),
+    }
+}
+
+/// Whether the procedures of two statements have the same marks.
+fn same_marks(old: &Flow, new: &Flow, pair: Pair, node: &Node, other: &Node) -> bool
+    requires told { IsTold old.now new.now pair }
+    ensures is { result ≡ same_marks old.now new.now node.now.place other.now.place }
+{
+    if pair.place == node.place && pair.other == other.place {
+        pair.is_same
+    } else {
+        old.marks(node.place) == new.marks(other.place)
+    }
+}
+
+/// Whether two loops, whose bodies end at these points, have the same rounds.
+fn same_rounds(flow: &Flow, same_marks: bool, end: Point, other: Point) -> bool
+    ensures is { result ≡ same_rounds flow.now.engine same_marks end other }
+{
+    let budget = flow.budget();
+    budget == 0 || (end == other && (budget <= flow.widening().delay || same_marks))
+}
+
+/// Whether two statements have the same rows, where the points in front of them are the same.
+fn same_shapes(old: &Flow, new: &Flow, pair: Pair, node: &Node, other: &Node) -> bool
+    requires told { IsTold old.now new.now pair }
+    ensures is { result ≡ same_shapes old.now.engine (marks_at old.now node.now.place) (marks_at new.now other.now.place) node.now.shape other.now.shape }
+{
+    match (&node.shape, &other.shape) {
+        (Shape::Act(a), Shape::Act(b)) => a == b,
+        (Shape::If(a, then, els), Shape::If(b, other_then, other_els)) => {
+            a == b && *then == *other_then && *els == *other_els
+        }
+        (Shape::While(a, end, leaves), Shape::While(b, other_end, others)) => {
+            a == b
+                && same_leaves(leaves.as_slice(), others.as_slice())
+                && same_rounds(
+                    old,
+                    same_marks(old, new, pair, node, other),
+                    *end,
+                    *other_end,
+                )
+        }
+        (Shape::Call(a, _, Some(end)), Shape::Call(b, _, Some(other_end))) => {
+            a == b && *end == *other_end
+        }
+        _ => false,
+    }
+}
+
+/// Whether no point of a statement with this shape has a row.
+fn is_bare(shape: &Shape) -> bool
+    ensures is { result ≡ is_bare shape.now }
+{
+    matches!(shape, Shape::Call(_, _, None))
+}
+
+/// Whether each point of a statement keeps its row.
+fn stays(old: &Flow, new: &Flow, pair: Pair, stmt: StmtId) -> bool
+    requires one { old.now.engine ≡ new.now.engine }
+    requires old { IsChecked old.now.program }
+    requires new { IsChecked new.now.program }
+    requires told { IsTold old.now new.now pair }
+    ensures is { MatchBool result (Stays old.now new.now stmt) (IsChanged old.now new.now stmt) }
+{
+    let Some(node) = old.node(stmt) else {
+        return true;
+    };
+    if is_bare(&node.shape) {
+        return true;
+    }
+    match new.node(stmt) {
+        None => false,
+        Some(other) => node.front == other.front && same_shapes(old, new, pair, node, other),
+    }
+}
+
+/// Whether the start of main keeps its row: main, the last procedure, has the same variables.
+fn same_start(old: &[Routine], new: &[Routine]) -> bool
+    requires old { 0 < length old.now }
+    requires new { 0 < length new.now }
+    ensures is { result ≡ same layout_code (main_layout (reverse old.now)) (main_layout (reverse new.now)) }
+{
+    match (old.last(), new.last()) {
+        (Some(main), Some(other)) => main.layout() == other.layout(),
+        _ => unreachable!(),
+    }
+}
+
+/// Adds a number, unless what it stands for is kept.
+fn add_changed(changed: &mut BTreeSet<u32>, number: u32, is_kept: bool) -> Result<(), Memory>
+    ensures added { OnOk result ((n : ℕ) → contains nat_cmp changed.new n ≡ (contains nat_cmp changed.old n || (not is_kept && (n == number)))) }
+{
+    if !is_kept {
+        changed.insert(number)?;
+    }
+    Ok(())
+}
+
+/// The statements that a change of a program touches: the numbers of those that have a changed point, each once and
+/// rising, with 0 in front where the start of main is changed. A point is changed where it has a row in the old
+/// program, and the new one has none for it or another. A statement is told by its number, so one that is gone is
+/// touched, and one that is new is not.
+///
+/// It takes time linear in the old program and in what its statements use, as conditions, layouts of callees, breaks of
+/// loops and marks of procedures, times the logarithm of how many statements are touched.
+///
+/// # Errors
+///
+/// [`Memory`] alone.
+pub fn points_changed(alloc: Global, old: &Flow, new: &Flow) -> Result<Vec<u32>, Memory>
+    requires one { old.now.engine ≡ new.now.engine }
+    ensures are { IfOk result (λ ns. AreChanged old.now new.now ns.items) }
+{
+    let routines = old.program().routines();
+    let others = new.program().routines();
+    let mut pair = pair_of(old, new, 0, 0);
+    let mut changed = BTreeSet::new(alloc);
+    add_changed(&mut changed, 0, same_start(routines, others))?;
+    for node in old.nodes() {
+        let stmt = node.stmt;
+        pair = pair_at(old, new, pair, node);
+        add_changed(&mut changed, stmt.number(), stays(old, new, pair, stmt))?;
+    }
+    Ok(changed.into_iter().collect(alloc)?)
+}
