@@ -234,6 +234,9 @@ fn names_of_inputs(rt: HostRuntime) -> Result<(), Fail> {
 fn touched(alloc: Global, before: &str, after: &str) -> Result<String, Fail> {
     let old = flow_of(alloc, before)?;
     let new = flow_of(alloc, after)?;
+    if old.budget() != new.budget() || old.widening() != new.widening() {
+        return Err("other settings".into());
+    }
     let changed = points_changed(alloc, &old, &new)?;
     let mut text = String::new(alloc);
     for n in &changed {
