@@ -226,8 +226,9 @@ impl Flow {
         }
     }
 
-    /// The row of a name, by the last frame of its path and its point: exactly that of the program, and `None` where
-    /// the program has no such name in any path with this last frame. It takes constant time, by a hash, but for a
+    /// The row of a name, by the last frame of its path and its point: for a name that the program has, exactly its
+    /// row. Only the statement of the point is looked up, so a name whose path the program lacks may have a row too;
+    /// there is `None` where the program has no such point. It takes constant time, by a hash, but for a
     /// [`Point::Leap`], which takes time linear in the breaks of its loop.
     #[tactic(auto, using(crate::proofs::Ties::rows_tie))]
     pub fn row(&self, frame: Option<Frame>, point: Point) -> Option<Row<'_>>
