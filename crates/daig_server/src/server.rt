@@ -96,17 +96,11 @@ impl Answerer for Server {
         alloc: Global,
         line: &[u8],
         steps: &mut Steps<L>,
-    ) -> Result<Vec<u8>, script_loop::Memory> {
-        match self.line(alloc, line, steps) {
-            Ok(reply) => Ok(reply),
-            Err(_) => Err(script_loop::Memory),
-        }
+    ) -> Result<Vec<u8>, Memory> {
+        self.line(alloc, line, steps)
     }
 
-    fn answer_long(&self, alloc: Global) -> Result<Vec<u8>, script_loop::Memory> {
-        match long_line(alloc) {
-            Ok(reply) => Ok(reply),
-            Err(_) => Err(script_loop::Memory),
-        }
+    fn answer_long(&self, alloc: Global) -> Result<Vec<u8>, Memory> {
+        long_line(alloc)
     }
 }

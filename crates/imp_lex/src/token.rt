@@ -1,6 +1,5 @@
 //! Tokens.
-use crate::Number;
-use plain_values::Text;
+use plain_values::{Number, Text};
 
 /// A token: its kind, and where it stands.
 #[derive(Debug, Drop)]

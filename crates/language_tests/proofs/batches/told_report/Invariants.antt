@@ -1,4 +1,4 @@
-use Rattle.batch_interp.proofs.tests.told_report.Given as goal
+use Rattle.language_tests.proofs.batches.told_report.Given as goal
 
 -- nothing is counted
 abbrev pub ghosts-reported : goal.ghosts-reported

@@ -1,6 +1,8 @@
 -- The statements of a block and what is known at them.
 use Rattle.std.specs.Prelude.{◌≡◌, ◌≢◌, ℕ, ℤ, List, [], ◌∷◌, ◌++◌, slice_get, Some, if◌then◌else◌}
 use Rattle.std.proofs.Common.{refl, sym, ap, subst}
+use Rattle.plain_values.proofs.Cases.{by_test, some_inj}
+use Rattle.plain_values.proofs.Members.{Member, here, there, in_left, in_right, Each, none_there, each_more, each_both, each_as, keys, keys_both}
 use Rattle.imp_slots.specs.Plain.{Layout, Invoke, Code, Stop, Simple, If, While, Call, Break, Routine, code_numbers}
 use Rattle.imp_slots.specs.Fits.{FitsCall, FitsCode, Absent, Distinct}
 use Rattle.program_chains.specs.Chains.{calls_to}
@@ -8,46 +10,6 @@ use Rattle.domain_laws.specs.Operations.{Operations}
 use Rattle.batch_meaning.specs.Values.{Value}
 use Rattle.batch_meaning.specs.Batch.{Engine}
 use Rattle.batch_meaning.specs.Places.{Spot, spots, find}
-use Rattle.batch_sound.proofs.Procedures.{by_test, some_inj}
-
-pub data Member {A : Type 0} : A → List A → Type 0 where
-  here : {x : A} {xs : List A} → Member x (x ∷ xs)
-  there : {x y : A} {xs : List A} → Member x xs → Member x (y ∷ xs)
-
-pub in_left : {A : Type 0} {x : A} {xs : List A} (ys : List A) → Member x xs → Member x (xs ++ ys)
-in_left ys here = here
-in_left ys (there m) = there (in_left ys m)
-
-pub in_right : {A : Type 0} {x : A} (xs : List A) {ys : List A} → Member x ys → Member x (xs ++ ys)
-in_right [] m = m
-in_right (y ∷ xs) m = there (in_right xs m)
-
--- what holds of each member
-pub record Each {A : Type 0} (P : A → Type 0) (xs : List A) : Type 0 where
-  pub at : (x : A) → Member x xs → P x
-
-pub none_there : {A : Type 0} (P : A → Type 0) → Each P []
-none_there P = record { at = λ x m. elim m [ ] }
-
-pub each_more : {A : Type 0} (P : A → Type 0) (x : A) (xs : List A) → P x → Each P xs → Each P (x ∷ xs)
-each_more {A} P x xs p e = record { at = go }
-  where
-    go : (y : A) → Member y (x ∷ xs) → P y
-    go y here = p
-    go y (there m) = e.at y m
-
-pub each_both : {A : Type 0} (P : A → Type 0) (xs ys : List A) → Each P xs → Each P ys → Each P (xs ++ ys)
-each_both P [] ys e f = f
-each_both P (x ∷ xs) ys e f = each_more P x (xs ++ ys) (e.at x here) (each_both P xs ys (record { at = λ y m. e.at y (there m) }) f)
-
--- the keys of a list of entries
-abbrev pub keys : {A : Type 0} → List (ℕ × A) → List ℕ
-keys [] = []
-keys (x ∷ xs) = x.0 ∷ keys xs
-
-pub keys_both : {A : Type 0} (xs ys : List (ℕ × A)) → keys (xs ++ ys) ≡ keys xs ++ keys ys
-keys_both [] ys = refl
-keys_both (x ∷ xs) ys = ap (λ k. x.0 ∷ k) (keys_both xs ys)
 
 absent_not : {A : Type 0} (n : ℕ) (x : ℕ × A) (xs : List (ℕ × A)) → Absent n (keys xs) → Member x xs → n ≢ x.0
 absent_not n x [] a m = elim m [ ]
@@ -67,14 +29,6 @@ found_member {A} n x (y ∷ xs) e =
     (by_test n y.0 (λ c. (if c then Some y.1 else find n xs) ≡ Some x → Member (n, x) (y ∷ xs))
     (λ k e. let i : y.1 ≡ x = cc in subst (λ (v : A). Member (n, v) (y ∷ xs)) i (subst (λ (j : ℕ). Member (j, y.1) (y ∷ xs)) (sym k) here))
     (λ k e. there (found_member n x xs e))) e
-
-pub key_member : {A : Type 0} (x : ℕ × A) (xs : List (ℕ × A)) → Member x xs → Member x.0 (keys xs)
-key_member x [] m = elim m [ ]
-key_member x (y ∷ xs) here = here
-key_member x (y ∷ xs) (there m) = there (key_member x xs m)
-
-pub each_as : {A : Type 0} (P Q : A → Type 0) (xs : List A) → ((x : A) → P x → Q x) → Each P xs → Each Q xs
-each_as P Q xs f e = record { at = λ x m. f x (e.at x m) }
 
 module _ {S : Type 0} (dom : Operations S) (engine : Engine) (marks : List ℤ) (z : List ℕ) (calls : ℕ → ℕ → Value S → Value S) where
   abbrev all : Code → Value S → List (ℕ × Spot S)

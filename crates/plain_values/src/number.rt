@@ -1,10 +1,10 @@
-//! Numbers of a text.
+//! Numbers of a program.
 ghost use Rattle.std.specs.Prelude.{◌≡◌, ◌<◌, ◌≤◌, ◌^◌};
-ghost use Rattle.imp_lex.specs.Numbers.{greatest};
+ghost use Rattle.plain_values.specs.Numbers.{greatest};
 
 use std::marker::Model;
 
-/// A number of a text, seen as its value: 0 to 2^63 - 1.
+/// A number of a program, seen as its value: 0 to 2^63 - 1.
 #[derive(Clone, Copy, Debug, PartialEq, Eq, Hash)]
 pub struct Number {
     value: u64,
@@ -12,7 +12,7 @@ pub struct Number {
 
 impl Model for Number {
     ghost use Rattle.std.specs.Prelude.{ℕ, ◌≤◌};
-    ghost use Rattle.imp_lex.specs.Numbers.{greatest};
+    ghost use Rattle.plain_values.specs.Numbers.{greatest};
 
     ghost Value = { ℕ };
 

@@ -3,6 +3,8 @@ use Rattle.std.specs.Prelude.{◌≡◌, ◌≢◌, ℕ, zero, suc, ◌<◌, ◌
 use Rattle.std.proofs.Common.{refl, sym, ap, ◌∙◌, arith, subst}
 use Rattle.std.proofs.lemmas.Bool.Decides.{nat_tests}
 use Rattle.std.proofs.lemmas.List.{reverse-append, reverse-reverse, length-reverse}
+use Rattle.plain_values.proofs.Cases.{by_test, some_inj}
+use Rattle.plain_values.proofs.Lists.{get_last, get_other}
 use Rattle.imp_slots.specs.Plain.{Routine}
 use Rattle.imp_slots.specs.Fits.{FitsCode, FitInTurn, IsChecked}
 use Rattle.program_chains.specs.Marks.{marks}
@@ -11,30 +13,10 @@ use Rattle.batch_meaning.specs.Values.{Value}
 use Rattle.batch_meaning.specs.Batch.{Engine, batch, procedure, calls_of}
 use Rattle.batch_meaning.specs.Places.{from}
 
-pub by_test : (a b : ℕ) (P : Bool → Type 0) → (a ≡ b → P true) → (a ≢ b → P false) → P (a == b)
-by_test a b P t f = go (a == b) refl
-  where
-    go : (c : Bool) → (a == b) ≡ c → P c
-    go true e = t (grind (arith, nat_tests))
-    go false e = f (grind (arith, nat_tests))
-
-pub some_inj : {A : Type 0} (a b : A) → Some a ≡ Some b → a ≡ b
-some_inj a b e = cc
-
 -- the routine at a place
 abbrev pub look : List Routine → ℕ → Option Routine
 look [] q = None
 look (r ∷ earlier) q = if q == length earlier then Some r else look earlier q
-
-get_last : (xs : List Routine) (r : Routine) → slice_get (xs ++ (r ∷ [])) (length xs) ≡ Some r
-get_last [] r = refl
-get_last (x ∷ xs) r = get_last xs r
-
-get_other : (xs : List Routine) (r : Routine) (q : ℕ) → q ≢ length xs → slice_get (xs ++ (r ∷ [])) q ≡ slice_get xs q
-get_other [] r zero n = absurd (n refl)
-get_other [] r (suc q) n = refl
-get_other (x ∷ xs) r zero n = refl
-get_other (x ∷ xs) r (suc q) n = get_other xs r q (λ e. n (ap suc e))
 
 pub look_get : (ps : List Routine) (q : ℕ) → look ps q ≡ slice_get (reverse ps) q
 look_get [] q = refl

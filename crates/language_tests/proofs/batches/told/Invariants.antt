@@ -1,4 +1,4 @@
-use Rattle.batch_interp.proofs.tests.told.Given as goal
+use Rattle.language_tests.proofs.batches.told.Given as goal
 
 -- nothing is counted
 abbrev pub ghosts-asked : goal.ghosts-asked

@@ -1,43 +1,17 @@
 //! The rows of programs from texts.
-ghost use Rattle.std.specs.Prelude.{◌≡◌, ◌<◌, ◌^◌, length, IfOk};
-ghost use Rattle.imp_check.specs.Programs.{AreNumbered};
+ghost use Rattle.std.specs.Prelude.{◌<◌, length, IfOk};
 
-use crate::{Flow, Input, Row, Way, points_changed};
+use crate::checked::checked;
 use cell_names::{Frame, Name, Names, PathId, Point};
-use imp_check::{Checked, check, is_numbered};
-use imp_parse::parse_program;
-use imp_syntax::{Program, StmtId};
+use imp_flow::{Flow, Input, Row, Way, points_changed};
+use imp_syntax::StmtId;
 use program_chains::Widening;
 use std::alloc::Global;
 use std::test::Fail;
 
-/// The bytes of a text that is not long.
-fn bytes_of(text: &str) -> Result<&[u8], Fail>
-    ensures short { IfOk result (λ bytes. length bytes.now < 2 ^ 31) }
-{
-    let bytes = text.as_bytes();
-    if bytes.len() < 1000000 {
-        Ok(bytes)
-    } else {
-        Err("a long text".into())
-    }
-}
-
-/// The program of a text.
-fn read(alloc: Global, text: &str) -> Result<Program, Fail>
-    ensures numbered { IfOk result (λ program. AreNumbered program) }
-{
-    let program = parse_program(alloc, bytes_of(text)?)?;
-    if is_numbered(alloc, &program)? {
-        Ok(program)
-    } else {
-        Err("numbers that are not the parser's".into())
-    }
-}
-
 /// The flow of a text that has no fault, with a budget of 100 and a delay of 1.
 fn flow_of(alloc: Global, text: &str) -> Result<Flow, Fail> {
-    let prog: Checked = check(alloc, read(alloc, text)?)?;
+    let prog = checked(alloc, text)?;
     let widening = Widening {
         delay: 1,
         thresholds: true,

@@ -1,4 +1,4 @@
-use Rattle.worked_rows.proofs.table.status.Given as goal
+use Rattle.server_tests.proofs.table.status.Given as goal
 
 -- nothing is counted
 abbrev pub ghosts-counted : goal.ghosts-counted

@@ -1,49 +1,19 @@
 //! Answers and reports over intervals, of programs from texts.
-ghost use Rattle.std.specs.Prelude.{◌≡◌, ◌<◌, ◌^◌, length, IfOk};
-ghost use Rattle.imp_check.specs.Programs.{AreNumbered};
+ghost use Rattle.std.specs.Prelude.{◌≡◌, ◌<◌};
 
-use crate::{Answer, QueryError, answer, batch_report};
+use crate::checked::checked;
+use batch_interp::{Answer, QueryError, answer, batch_report};
 use dom_interval::{Interval, IntervalState};
 use domain_laws::{Domain, Finding, Steps};
-use imp_check::{Checked, check, is_numbered};
-use imp_parse::parse_program;
+use imp_check::Checked;
 use imp_slots::Layout;
-use imp_syntax::{Chain, Location, Program, StmtId};
+use imp_syntax::{Chain, Location, StmtId};
 use plain_values::{Items, Text};
 use program_chains::Widening;
 use std::alloc::Global;
 use std::marker::Brand;
 use std::sync::ledger::{Blank, Ledger};
 use std::test::Fail;
-
-/// The bytes of a text that is not long.
-fn bytes_of(text: &str) -> Result<&[u8], Fail>
-    ensures short { IfOk result (λ bytes. length bytes.now < 2 ^ 31) }
-{
-    let bytes = text.as_bytes();
-    if bytes.len() < 1000000 {
-        Ok(bytes)
-    } else {
-        Err("a long text".into())
-    }
-}
-
-/// The program of a text.
-fn read(alloc: Global, text: &str) -> Result<Program, Fail>
-    ensures numbered { IfOk result (λ program. AreNumbered program) }
-{
-    let program = parse_program(alloc, bytes_of(text)?)?;
-    if is_numbered(alloc, &program)? {
-        Ok(program)
-    } else {
-        Err("numbers that are not the parser's".into())
-    }
-}
-
-/// The checked program of a text that has no fault.
-fn checked(alloc: Global, text: &str) -> Result<Checked, Fail> {
-    Ok(check(alloc, read(alloc, text)?)?)
-}
 
 /// `before 3`, `after 3`, `head 3`, or the end of `f` or `main`.
 fn location(alloc: Global, kind: &str, number: u32) -> Result<Location, Fail> {
