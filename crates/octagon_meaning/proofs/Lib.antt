@@ -1,2 +1,4 @@
 pub mod Fitting
+pub mod Guards
 pub mod Matrices
+pub mod Ranges
