@@ -46,7 +46,7 @@ use Rattle.octagon_meaning.proofs.Ranges.{AreProper, proper, range_at-covers, ra
 
 -- ---- joins
 
-alike : (kinds : List Bool) (a b : HalfMatrix) → FitsMatrix kinds a → FitsMatrix kinds b → same_kinds a b ≡ true
+pub alike : (kinds : List Bool) (a b : HalfMatrix) → FitsMatrix kinds a → FitsMatrix kinds b → same_kinds a b ≡ true
 alike kinds a b h k = (bools_Decide a.kinds b.kinds).1 (h.same_kinds ∙ sym k.same_kinds)
 
 join-entries : (kinds : List Bool) (a b : HalfMatrix) → FitsMatrix kinds a → FitsMatrix kinds b → HasEntries a.kinds (joined a b) (matrix_of a.kinds (joined a b))
@@ -128,7 +128,7 @@ widen_bound-limits ms d None b w h = refl
 widen_bound-limits ms d (Some x) None w h = refl
 widen_bound-limits ms d (Some x) (Some y) w h = cond-limits (int_lt x y) (next_mark ms d y) (Some x) (next_mark-limits ms d y w) h
 
-widen-entries : (ms : List ℤ) (kinds : List Bool) (a b : HalfMatrix) → FitsMatrix kinds a → FitsMatrix kinds b → HasEntries a.kinds (widened ms a b) (matrix_of a.kinds (widened ms a b))
+pub widen-entries : (ms : List ℤ) (kinds : List Bool) (a b : HalfMatrix) → FitsMatrix kinds a → FitsMatrix kinds b → HasEntries a.kinds (widened ms a b) (matrix_of a.kinds (widened ms a b))
 widen-entries ms kinds a b h k = tables-have_entries a.kinds (widened ms a b) h.matrix.few (widened-coherent ms a b h.matrix k.matrix (ap length (k.same_kinds ∙ sym h.same_kinds)))
 
 widen_matrix-fits : (ms : List ℤ) (kinds : List Bool) (a b : HalfMatrix) → AreWords ms → FitsMatrix kinds a → FitsMatrix kinds b → FitsMatrix kinds (matrix_of a.kinds (widened ms a b))

@@ -1,3 +1,5 @@
+pub mod Claims
+pub mod Convergence
 pub mod Covers
 pub mod Domain
 pub mod Forms

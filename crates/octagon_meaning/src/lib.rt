@@ -12,6 +12,30 @@
 //! the first 16 alone, so every operation is defined and right for every layout.
 #![tactic(auto)]
 
+ghost use Rattle.domain_laws.specs.Laws.{KeepsDead, Laws};
+ghost use Rattle.octagon_meaning.specs.Claims.{FormsAreSmall};
+ghost use Rattle.octagon_meaning.specs.Convergence.{WideningEnds};
+ghost use Rattle.octagon_meaning.specs.Covers.{covers};
+ghost use Rattle.octagon_meaning.specs.Domain.{octagons};
+
 mod form;
 
 pub use form::Form;
+
+/// A theorem, and no work: octagons keep the laws of a domain.
+pub fn octagons_are_a_domain()
+    ensures laws { Laws octagons covers }
+    ensures keeps_dead { KeepsDead octagons }
+{}
+
+/// A theorem, and no work: a state of v slots changes at most 4v²(m + 1) times under widening with m
+/// marks, whatever it is widened with, since widening never closes its left matrix.
+pub fn widening_ends()
+    ensures ends { WideningEnds }
+{}
+
+/// A theorem, and no work: the linear form of an expression that has a range has a constant from
+/// -2^64 to 2^64, however deep the expression is. So every matrix that is closed has small bounds.
+pub fn forms_are_small()
+    ensures small { FormsAreSmall }
+{}
