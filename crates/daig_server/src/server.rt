@@ -1,6 +1,6 @@
 //! The server of a program.
 ghost use Rattle.std.specs.Prelude.{◌≡◌, IfOk};
-ghost use Rattle.dom_interval.specs.Domain.{intervals};
+ghost use Rattle.interval_meaning.specs.Domain.{intervals};
 ghost use Rattle.request_json.specs.Replies.{reply_text};
 ghost use Rattle.daig_server.specs.Reply as of_reply;
 ghost use Rattle.daig_server.specs.Reply.{long_reply};
@@ -86,7 +86,7 @@ fn long_line(alloc: Global) -> Result<Vec<u8>, Memory>
 }
 
 impl Answerer for Server {
-    ghost use Rattle.dom_interval.specs.Domain.{intervals};
+    ghost use Rattle.interval_meaning.specs.Domain.{intervals};
     ghost use Rattle.daig_server.specs.Reply.{server};
 
     ghost machine = { server intervals };

@@ -1,5 +1,5 @@
 -- A domain that assumes comparisons rightly assumes guards rightly, and its verdicts are right.
-use Rattle.std.proofs.Common.{◌≡◌, refl, sym, ap, ◌∙◌, subst, ℕ, ℤ, Option, Some, None, Bool, true, false, not, if◌then◌else◌, ◌⊎◌, inl, inr}
+use Rattle.std.proofs.Common.{◌≡◌, refl, sym, ap, ◌∙◌, subst, ℕ, Option, Some, None, Bool, true, false, not, if◌then◌else◌, ◌⊎◌, inl, inr}
 use Rattle.std.proofs.lemmas.Bool.{and_parts}
 use Rattle.imp_syntax.specs.declared.words.Relation.{Relation}
 use Rattle.imp_slots.specs.Plain.{Layout, Term, Guard, Compare, CompareLinks, Not, And, Or}
@@ -9,8 +9,9 @@ use Rattle.concrete_sem.specs.Evaluation.{value_of, truth_of, relates, same_link
 use Rattle.imp_slots.specs.Plain.{Effect, Does}
 use Rattle.domain_laws.specs.declared.verdict.Verdict.TheVariants.{Dead, Safe, May}
 use Rattle.domain_laws.specs.Checks.{Check, check_of, checked_guard, opposite, positive}
-use Rattle.domain_laws.specs.Guards.{assumed, verdict_on, verdict_by}
-use Rattle.domain_laws.specs.CheckLaws.{andthen-gives, relates-opposite}
+use Rattle.domain_laws.specs.Guards.{assumed, verdict_on, verdict_by, Compares, Tells}
+use Rattle.domain_laws.specs.Claims.{same_truth}
+use Rattle.domain_laws.proofs.CheckLaws.{andthen-gives, relates-opposite}
 
 gives-same : {A : Type 0} {a b : A} → Gives a ≡ Gives b → a ≡ b
 gives-same h = cc
@@ -48,18 +49,6 @@ both-false (Gives true) n h = cc
 both-false (Gives false) n h = (refl, h)
 both-false (Faults k) n h = cc
 both-false LacksInput n h = cc
-
--- What is asked of comparisons and joins: states that fit stay so, and what a state describes stays described.
-pub record Compares {S : Type 0} (compare : Relation → Term → Term → S → S) (links : Bool → Option ℕ → Option ℕ → S → S) (join : S → S → S) (l : Layout) (Fits : S → Type 0) : Type 0 where
-  pub compare_keeps : (r : Relation) (a b : Term) (s : S) → fits_term l a ≡ true → fits_term l b ≡ true → Fits s → Fits (compare r a b s)
-  pub links_keep : (equal : Bool) (p q : Option ℕ) (s : S) → is_side l p ≡ true → is_side l q ≡ true → Fits s → Fits (links equal p q s)
-  pub join_keeps : (s t : S) → Fits s → Fits t → Fits (join s t)
-
-pub record Tells {S : Type 0} (compare : Relation → Term → Term → S → S) (links : Bool → Option ℕ → Option ℕ → S → S) (join : S → S → S) (l : Layout) (v : Variables) (Fits Covers : S → Type 0) : Type 0 where
-  pub compare_tells : (r : Relation) (a b : Term) (x y : ℤ) (s : S) → fits_term l a ≡ true → fits_term l b ≡ true → Fits s → value_of v a ≡ Gives x → value_of v b ≡ Gives y → relates r x y ≡ true → Covers s → Covers (compare r a b s)
-  pub links_tell : (equal : Bool) (p q : Option ℕ) (s : S) → is_side l p ≡ true → is_side l q ≡ true → Fits s → (if equal then same_link (side_at v p) (side_at v q) else not (same_link (side_at v p) (side_at v q))) ≡ true → Covers s → Covers (links equal p q s)
-  pub join_left : (s t : S) → Fits s → Fits t → Covers s → Covers (join s t)
-  pub join_right : (s t : S) → Fits s → Fits t → Covers t → Covers (join s t)
 
 module _ {S : Type 0} (compare : Relation → Term → Term → S → S) (links : Bool → Option ℕ → Option ℕ → S → S) (join : S → S → S) where
   -- assuming a guard is assuming it with the negation pushed inwards
@@ -168,11 +157,6 @@ module _ {S : Type 0} (assume : Guard → Bool → S → S) (is_empty : S → Bo
 
   pub verdict_by-safe : (e : Effect) (c : Check) (s : S) → check_of e ≡ Some c → verdict_by assume is_empty (Does e) s ≡ Safe → is_empty (assume (checked_guard c) false s) ≡ true
   verdict_by-safe e c s k h = verdict-safe c s (subst (λ o. verdict_on assume is_empty o s ≡ Safe) k h)
-
--- a guard with a truth value, as a guard that holds: it holds exactly where the guard has that truth value
-abbrev pub same_truth : Bool → Bool → Bool
-same_truth true c = c
-same_truth false c = not c
 
 not_not : (b : Bool) → not (not b) ≡ b
 not_not true = refl

@@ -6,13 +6,13 @@ use Rattle.std.specs.Int.{int_max, int_min}
 use Rattle.imp_slots.specs.Plain.{Numeric, Layout}
 use Rattle.concrete_sem.specs.Values.{Number, Variables}
 use Rattle.num_bounds.specs.Bounds.{Bounds}
-use Rattle.dom_interval.specs.State.{Intervals, Empty, Within}
-use Rattle.dom_interval.specs.Ranges.{extremes}
-use Rattle.dom_interval.specs.Widening.{mark_below, mark_above, widen_range, widen_slot, widen}
-use Rattle.dom_interval.specs.Covers.{measure, Holds}
-use Rattle.dom_interval.specs.SlotLaws.{FitsSlot, FitsRange, le-true}
-use Rattle.dom_interval.specs.CompareLaws.{FitsState, Describes, zip-fits, zip-left, zip-right}
-use Rattle.dom_interval.specs.declared.state.SlotRange.{SlotRange}
+use Rattle.interval_meaning.specs.State.{Intervals, Empty, Within}
+use Rattle.interval_meaning.specs.Ranges.{extremes}
+use Rattle.interval_meaning.specs.Widening.{mark_below, mark_above, widen_range, widen_slot, widen}
+use Rattle.interval_meaning.specs.Covers.{measure, Holds}
+use Rattle.interval_meaning.proofs.SlotLaws.{FitsSlot, FitsRange, le-true}
+use Rattle.interval_meaning.proofs.CompareLaws.{FitsState, Describes, zip-fits, zip-left, zip-right}
+use Rattle.interval_meaning.specs.declared.slot_range.SlotRange.{SlotRange}
 
 -- the mark below is not above, and within the extremes
 pub mark_below-bounds : (ms : List ℤ) (e : Bounds) (z : ℤ) → e.lo ≤ℤ z → z ≤ℤ e.hi → (e.lo ≤ℤ mark_below ms e z) × (mark_below ms e z ≤ℤ z)

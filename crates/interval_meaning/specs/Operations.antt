@@ -10,9 +10,9 @@ use Rattle.num_bounds.specs.Operations.{single, cut_of, hull_of}
 use Rattle.domain_laws.specs.Checks.{check_of}
 use Rattle.domain_laws.specs.Guards.{assumed, past_check, verdict_by}
 use Rattle.domain_laws.specs.declared.verdict.Verdict.{Verdict}
-use Rattle.dom_interval.specs.State.{Intervals, Empty, Within}
-use Rattle.dom_interval.specs.Ranges.{longest, full, range_at, with_range, if_range, range_of}
-use Rattle.dom_interval.specs.declared.state.SlotRange.{SlotRange}
+use Rattle.interval_meaning.specs.State.{Intervals, Empty, Within}
+use Rattle.interval_meaning.specs.Ranges.{longest, full, range_at, with_range, if_range, range_of}
+use Rattle.interval_meaning.specs.declared.slot_range.SlotRange.{SlotRange}
 
 -- Empty where a range is needed and there is none
 abbrev pub needs : Option Bounds → (Bounds → Intervals) → Intervals

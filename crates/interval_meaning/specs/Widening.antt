@@ -3,9 +3,9 @@ use Rattle.std.specs.Prelude.{◌&&◌, ℤ, int_le, if◌then◌else◌, List, 
 use Rattle.std.specs.Int.{int_max, int_min}
 use Rattle.std.specs.List.{zip}
 use Rattle.num_bounds.specs.Bounds.{Bounds}
-use Rattle.dom_interval.specs.State.{Intervals, Empty, Within}
-use Rattle.dom_interval.specs.Ranges.{extremes}
-use Rattle.dom_interval.specs.declared.state.SlotRange.{SlotRange}
+use Rattle.interval_meaning.specs.State.{Intervals, Empty, Within}
+use Rattle.interval_meaning.specs.Ranges.{extremes}
+use Rattle.interval_meaning.specs.declared.slot_range.SlotRange.{SlotRange}
 
 -- The greatest mark within the extremes that is not above z, and the low extreme where there is none. (It is not above z
 -- either, as z is within the extremes in every state that fits.)

@@ -1,10 +1,10 @@
 -- The intervals as a domain.
 use Rattle.domain_laws.specs.Operations.{Operations}
-use Rattle.dom_interval.specs.State.{Intervals, intervals_same}
-use Rattle.dom_interval.specs.Operations.{init, post, assume, join, enter, leave, shed, check, dead}
-use Rattle.dom_interval.specs.Widening.{widen}
-use Rattle.dom_interval.specs.Text.{text}
-use Rattle.dom_interval.specs.Covers.{fits}
+use Rattle.interval_meaning.specs.State.{Intervals, intervals_same}
+use Rattle.interval_meaning.specs.Operations.{init, post, assume, join, enter, leave, shed, check, dead}
+use Rattle.interval_meaning.specs.Widening.{widen}
+use Rattle.interval_meaning.specs.Text.{text}
+use Rattle.interval_meaning.specs.Covers.{fits}
 
 abbrev pub intervals : Operations Intervals
 intervals = record {

@@ -4,9 +4,9 @@ use Rattle.std.specs.List.{AllZip}
 use Rattle.imp_slots.specs.Plain.{Numeric, Layout}
 use Rattle.concrete_sem.specs.Values.{Number, Int, Array, Variables, Heap}
 use Rattle.num_bounds.specs.Bounds.{Within as Lies}
-use Rattle.dom_interval.specs.State.{Intervals, Empty, Within, bool_same}
-use Rattle.dom_interval.specs.Ranges.{extremes}
-use Rattle.dom_interval.specs.declared.state.SlotRange.{SlotRange}
+use Rattle.interval_meaning.specs.State.{Intervals, Empty, Within, bool_same}
+use Rattle.interval_meaning.specs.Ranges.{extremes}
+use Rattle.interval_meaning.specs.declared.slot_range.SlotRange.{SlotRange}
 
 -- what the range of a slot speaks of: an int, or the length of an array
 abbrev pub measure : Number → ℤ

@@ -5,7 +5,7 @@ use Rattle.imp_syntax.specs.declared.words.Operator.TheVariants.{Add, Subtract, 
 use Rattle.imp_slots.specs.Plain.{Term, Literal, Slot, Length, Negative, Binary}
 use Rattle.num_bounds.specs.Bounds.{Bounds, least, greatest}
 use Rattle.num_bounds.specs.Operations.{single, word, sums, differences, negations, products, quotients, word_if, remainders}
-use Rattle.dom_interval.specs.declared.state.SlotRange.{SlotRange}
+use Rattle.interval_meaning.specs.declared.slot_range.SlotRange.{SlotRange}
 
 -- the greatest length of an array
 abbrev pub longest : ℤ

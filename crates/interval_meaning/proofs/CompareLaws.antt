@@ -13,18 +13,19 @@ use Rattle.imp_slots.specs.Fits.{fits_term, fits_guard}
 use Rattle.concrete_sem.specs.Values.{Number, Variables, Gives, as_int, as_array, number_at}
 use Rattle.concrete_sem.specs.Evaluation.{value_of, truth_of, relates}
 use Rattle.concrete_sem.specs.Proper.{IsNumber}
-use Rattle.domain_laws.specs.GuardLaws.{Compares, Tells, assumed-fits, assumed-covers}
+use Rattle.domain_laws.specs.Guards.{Compares, Tells}
+use Rattle.domain_laws.proofs.GuardLaws.{assumed-fits, assumed-covers}
 use Rattle.num_bounds.specs.Bounds.{Bounds, IsRange, Within as Lies, least, greatest}
 use Rattle.num_bounds.specs.Operations.{cut_of, hull_of}
 use Rattle.num_bounds.specs.Meaning.{Covers}
 use Rattle.num_bounds.proofs.Ends.{cut-covers, between-left}
-use Rattle.dom_interval.specs.State.{Intervals, Empty, Within}
-use Rattle.dom_interval.specs.Ranges.{slot_at, range_at, with_range, range_of}
-use Rattle.dom_interval.specs.Operations.{needs, after, side_of, cut_side, cut_both, less, at_most, equal, is_single, lose_end, not_equal, related, compare, compare_ranges, compare_links, hull_slot, join, assume}
-use Rattle.dom_interval.specs.Covers.{measure, Holds}
-use Rattle.dom_interval.specs.SlotLaws.{FitsSlot, FitsRange, at-fits, at-holds, set-fits, cut-holds, int-at, array-at}
-use Rattle.dom_interval.specs.RangeLaws.{range_of-covers, range_of-range}
-use Rattle.dom_interval.specs.declared.state.SlotRange.{SlotRange}
+use Rattle.interval_meaning.specs.State.{Intervals, Empty, Within}
+use Rattle.interval_meaning.specs.Ranges.{slot_at, range_at, with_range, range_of}
+use Rattle.interval_meaning.specs.Operations.{needs, after, side_of, cut_side, cut_both, less, at_most, equal, is_single, lose_end, not_equal, related, compare, compare_ranges, compare_links, hull_slot, join, assume}
+use Rattle.interval_meaning.specs.Covers.{measure, Holds}
+use Rattle.interval_meaning.proofs.SlotLaws.{FitsSlot, FitsRange, at-fits, at-holds, set-fits, cut-holds, int-at, array-at}
+use Rattle.interval_meaning.proofs.RangeLaws.{range_of-covers, range_of-range}
+use Rattle.interval_meaning.specs.declared.slot_range.SlotRange.{SlotRange}
 
 -- a state that fits a frame's layout, and one that describes its variables
 abbrev pub FitsState : Layout → Intervals → Type 0

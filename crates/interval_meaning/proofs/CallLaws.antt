@@ -9,18 +9,18 @@ use Rattle.concrete_sem.specs.Values.{Number, Int, Array, Variables, Gives, andt
 use Rattle.concrete_sem.specs.Evaluation.{value_of, side_at}
 use Rattle.concrete_sem.specs.Passing.{first_number, first_link, first_variables, passed, over, pass, back}
 use Rattle.concrete_sem.specs.Proper.{IsNumber}
-use Rattle.domain_laws.specs.CheckLaws.{andthen-gives}
+use Rattle.domain_laws.proofs.CheckLaws.{andthen-gives}
 use Rattle.num_bounds.specs.Bounds.{Bounds, IsRange, Within as Lies}
 use Rattle.num_bounds.specs.Operations.{single}
 use Rattle.num_bounds.specs.Meaning.{Covers}
-use Rattle.dom_interval.specs.State.{Intervals, Empty, Within}
-use Rattle.dom_interval.specs.Ranges.{range_at, with_range, range_of, if_range}
-use Rattle.dom_interval.specs.Operations.{filled, init, in_front, argument_ranges, entered, enter, returned, leave}
-use Rattle.dom_interval.specs.Covers.{measure, Holds}
-use Rattle.dom_interval.specs.SlotLaws.{FitsSlot, FitsRange, range-fits, at-fits, at-kind, at-holds, set-fits, set-holds, array-at, kind-is, kind-none}
-use Rattle.dom_interval.specs.RangeLaws.{range_of-covers, range_of-range}
-use Rattle.dom_interval.specs.CompareLaws.{FitsState, Describes}
-use Rattle.dom_interval.specs.declared.state.SlotRange.{SlotRange}
+use Rattle.interval_meaning.specs.State.{Intervals, Empty, Within}
+use Rattle.interval_meaning.specs.Ranges.{range_at, with_range, range_of, if_range}
+use Rattle.interval_meaning.specs.Operations.{filled, init, in_front, argument_ranges, entered, enter, returned, leave}
+use Rattle.interval_meaning.specs.Covers.{measure, Holds}
+use Rattle.interval_meaning.proofs.SlotLaws.{FitsSlot, FitsRange, range-fits, at-fits, at-kind, at-holds, set-fits, set-holds, array-at, kind-is, kind-none}
+use Rattle.interval_meaning.proofs.RangeLaws.{range_of-covers, range_of-range}
+use Rattle.interval_meaning.proofs.CompareLaws.{FitsState, Describes}
+use Rattle.interval_meaning.specs.declared.slot_range.SlotRange.{SlotRange}
 
 gives-same : {A : Type 0} {a b : A} → Gives a ≡ Gives b → a ≡ b
 gives-same h = cc

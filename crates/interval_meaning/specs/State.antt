@@ -1,15 +1,15 @@
--- States of the intervals.
+-- States of the intervals, and the equality and the hashing of their slots.
 use Rattle.std.specs.Prelude.{ℕ, ℤ, ◌≡◌, refl, Bool, true, false, not, ◌&&◌, ◌++◌, List, Option, Some, None}
 use Rattle.std.specs.Ordering.{int_eq}
 use Rattle.std.specs.Bool.{Decides}
 use Rattle.std.specs.Cmp.{IsEquivalence, IsPartialEquivalence, decided, partial_equiv_from_equiv}
 use Rattle.std.specs.Coded.{Coded, code_by, coded×, coded_bool, coded_ℤ, coded_list, coded_option}
 use Rattle.std.proofs.Common.{ap, subst}
-use Rattle.std.proofs.lemmas.Bool.{and_parts, and_from, false≢true}
+use Rattle.std.proofs.lemmas.Bool.{and_parts, and_from}
 use Rattle.std.proofs.lemmas.Bool.Decides.{Decides-int_eq}
 use Rattle.std.specs.Hash as fed
-use lib.Pointwise.{pointwise, pointwise_decides}
-use Rattle.dom_interval.specs.declared.state.SlotRange.{SlotRange}
+use lib.Pointwise.{pointwise}
+use Rattle.interval_meaning.specs.declared.slot_range.SlotRange.{SlotRange}
 
 -- Empty, or a range for each numeric slot.
 pub data Intervals : Type 0 where
@@ -52,7 +52,7 @@ bool_self false = refl
 abbrev pub slot_same : SlotRange → SlotRange → Bool
 slot_same a b = bool_same a.is_array b.is_array && (int_eq a.range.lo b.range.lo && int_eq a.range.hi b.range.hi)
 
-slot_equal : (a b : SlotRange) → slot_same a b ≡ true → a ≡ b
+pub slot_equal : (a b : SlotRange) → slot_same a b ≡ true → a ≡ b
 slot_equal a b h =
     let p = and_parts (bool_same a.is_array b.is_array) (int_eq a.range.lo b.range.lo && int_eq a.range.hi b.range.hi) h in
     let q = and_parts (int_eq a.range.lo b.range.lo) (int_eq a.range.hi b.range.hi) p.1 in
@@ -63,7 +63,7 @@ slot_self a =
     and_from (bool_same a.is_array a.is_array) (int_eq a.range.lo a.range.lo && int_eq a.range.hi a.range.hi) (bool_self a.is_array)
     (and_from (int_eq a.range.lo a.range.lo) (int_eq a.range.hi a.range.hi) ((Decides-int_eq a.range.lo a.range.lo).1 refl) ((Decides-int_eq a.range.hi a.range.hi).1 refl))
 
-slot_Decides : (a b : SlotRange) → Decides (slot_same a b) (a ≡ b)
+pub slot_Decides : (a b : SlotRange) → Decides (slot_same a b) (a ≡ b)
 slot_Decides a b = (slot_equal a b, λ e. subst (λ z. slot_same a z ≡ true) e (slot_self a))
 
 pub slot_equiv : IsEquivalence slot_same
@@ -85,29 +85,7 @@ intervals_same Empty (Within qs) = false
 intervals_same (Within rs) Empty = false
 intervals_same (Within rs) (Within qs) = pointwise slot_same rs qs
 
-intervals_equal : (a b : Intervals) → intervals_same a b ≡ true → a ≡ b
-intervals_equal Empty Empty h = refl
-intervals_equal Empty (Within qs) h = absurd (false≢true h)
-intervals_equal (Within rs) Empty h = absurd (false≢true h)
-intervals_equal (Within rs) (Within qs) h = ap Within ((pointwise_decides slot_Decides rs qs).0 h)
-
-intervals_self : (a : Intervals) → intervals_same a a ≡ true
-intervals_self Empty = refl
-intervals_self (Within rs) = (pointwise_decides slot_Decides rs rs).1 refl
-
-pub intervals_Decides : (a b : Intervals) → Decides (intervals_same a b) (a ≡ b)
-intervals_Decides a b = (intervals_equal a b, λ e. subst (λ z. intervals_same a z ≡ true) e (intervals_self a))
-
-pub intervals_equiv : IsEquivalence intervals_same
-intervals_equiv = decided intervals_same intervals_Decides
-
-pub intervals_per : IsPartialEquivalence intervals_same
-intervals_per = partial_equiv_from_equiv intervals_equiv
-
 -- what a state feeds a hasher
 abbrev pub intervals_fed : Intervals → List (List ℕ)
 intervals_fed Empty = fed.u8 0
 intervals_fed (Within rs) = fed.u8 1 ++ fed.slice slot_fed rs
-
-pub intervals_fed-same : (a b : Intervals) → intervals_same a b ≡ true → intervals_fed a ≡ intervals_fed b
-intervals_fed-same a b h = ap intervals_fed (intervals_equal a b h)

@@ -14,7 +14,7 @@ use Rattle.concrete_sem.specs.declared.fault.FaultKind.TheVariants.{Overflow, Ze
 use Rattle.concrete_sem.specs.Values.{Variables, Gives, Faults, andthen, as_int, as_array, number_at, is_word, IsWord}
 use Rattle.concrete_sem.specs.Evaluation.{value_of, word as word_of, quotient, combine}
 use Rattle.concrete_sem.specs.Proper.{IsNumber}
-use Rattle.domain_laws.specs.CheckLaws.{andthen-gives}
+use Rattle.domain_laws.proofs.CheckLaws.{andthen-gives}
 use Rattle.num_bounds.specs.Bounds.{Bounds, IsRange, Within as Lies, least, greatest}
 use Rattle.num_bounds.specs.Operations.{word, word_if, sums, differences, negations, products, quotients, remainders, remainder_limit, least_remainder, greatest_remainder, magnitude}
 use Rattle.num_bounds.specs.Meaning.{Covers}
@@ -23,10 +23,10 @@ use Rattle.num_bounds.proofs.Sums.{sums-sound, differences-sound, negations-soun
 use Rattle.num_bounds.proofs.Products.{products-sound}
 use Rattle.num_bounds.proofs.Quotients.{quotients-sound, quotients-range}
 use Rattle.num_bounds.proofs.Remainders.{remainders-sound}
-use Rattle.dom_interval.specs.Ranges.{range_at, if_range, operation, range_of}
-use Rattle.dom_interval.specs.Covers.{measure, Holds}
-use Rattle.dom_interval.specs.SlotLaws.{FitsSlot, fits-range, at-fits, at-holds, int-at, array-at, word-fits}
-use Rattle.dom_interval.specs.declared.state.SlotRange.{SlotRange}
+use Rattle.interval_meaning.specs.Ranges.{range_at, if_range, operation, range_of}
+use Rattle.interval_meaning.specs.Covers.{measure, Holds}
+use Rattle.interval_meaning.proofs.SlotLaws.{FitsSlot, fits-range, at-fits, at-holds, int-at, array-at, word-fits}
+use Rattle.interval_meaning.specs.declared.slot_range.SlotRange.{SlotRange}
 
 gives-same : {A : Type 0} {a b : A} → Gives a ≡ Gives b → a ≡ b
 gives-same h = cc

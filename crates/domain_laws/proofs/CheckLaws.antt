@@ -17,7 +17,8 @@ use Rattle.imp_slots.specs.Fits.{fits_term, fits_guard, fits_effect, is_int, is_
 use Rattle.std.proofs.lemmas.Bool.{and_parts, and_from}
 use Rattle.imp_slots.specs.Plain as plain
 use Rattle.concrete_sem.specs.Evaluation.{relates, word, quotient, combine, value_of, truth_of, same_link}
-use Rattle.domain_laws.specs.Checks.{Check, Within, IsCell, check_of, checked_guard, fault_of, opposite}
+use Rattle.domain_laws.specs.Checks.{Check, Within, IsCell, check_of, checked_guard, opposite}
+use Rattle.domain_laws.specs.Claims.{ChecksTo, FailsCheck}
 
 not_not : (b : Bool) → not (not b) ≡ b
 not_not true = refl
@@ -218,11 +219,6 @@ link-in n [] p h = tt
 link-in n (l ∷ ls) zero h = h 0 None (omega arith)
 link-in n (l ∷ ls) (suc p) h = link-in n ls p (λ k d lt. h (suc k) d (omega arith))
 
--- the check, where there is one, has this truth value
-abbrev pub ChecksTo : Variables → Bool → Option Check → Type 0
-ChecksTo v b None = Unit {0}
-ChecksTo v b (Some c) = truth_of v (checked_guard c) ≡ Gives b
-
 cell-passed : (v : Variables) (cells : List Cell) (p : ℕ) (c : ℕ × Cell) → cell_of cells (link_at v p) ≡ Gives c → truth_of v (checked_guard (IsCell p)) ≡ Gives true
 unfolding truth_of
 cell-passed v cells p c h = ap Gives (cell-some cells (link_at v p) c h)
@@ -295,11 +291,6 @@ claim-failed (Gives true) h v n g = cc
 claim-failed (Gives false) h v n g = refl
 claim-failed (Faults k) h v n g = absurd (n (let e : k ≡ Failed = cc in ap Faults e))
 claim-failed LacksInput h v n g = cc
-
--- the fault of a statement's check comes, where there is a check
-abbrev pub FailsCheck : Heap → Variables → Effect → Option Check → Type 0
-FailsCheck h v e None = ⊥
-FailsCheck h v e (Some c) = effect_of e h v ≡ Faults (fault_of c)
 
 -- a statement that fails its check finds it false
 pub check-failed : (e : Effect) (h : Heap) (v : Variables) → All (IsLink (length h.cells)) v.links → FailsCheck h v e (check_of e) → ChecksTo v false (check_of e)

@@ -9,19 +9,21 @@ use Rattle.concrete_sem.specs.Proper.{IsProper}
 use Rattle.domain_laws.specs.declared.verdict.Verdict.TheVariants.{Dead, Safe}
 use Rattle.domain_laws.specs.Checks.{Check, check_of, checked_guard, fault_of}
 use Rattle.domain_laws.specs.Guards.{assumed, past_check, verdict_on}
-use Rattle.domain_laws.specs.CheckLaws.{ChecksTo, FailsCheck, FitsCheck, check-failed, check-fits}
-use Rattle.domain_laws.specs.GuardLaws.{verdict_by-dead, verdict_by-safe}
+use Rattle.domain_laws.specs.Claims.{ChecksTo, FailsCheck}
+use Rattle.domain_laws.proofs.CheckLaws.{FitsCheck, check-failed, check-fits}
+use Rattle.domain_laws.proofs.GuardLaws.{verdict_by-dead, verdict_by-safe}
 use Rattle.domain_laws.specs.Laws.{Fitting, Laws, KeepsDead}
-use Rattle.dom_interval.specs.State.{Intervals, Empty, Within, intervals_Decides}
-use Rattle.dom_interval.specs.Operations.{init, after, compare, compare_links, join, assume, does, post, enter, leave, check, dead}
-use Rattle.dom_interval.specs.Widening.{widen}
-use Rattle.dom_interval.specs.Covers.{covers, fits}
-use Rattle.dom_interval.specs.Domain.{intervals}
-use Rattle.dom_interval.specs.SlotLaws.{fits_slots-true, true-fits_slots}
-use Rattle.dom_interval.specs.CompareLaws.{FitsState, Describes, join-fits, join-left, join-right, assume-fits, assume-describes}
-use Rattle.dom_interval.specs.StepLaws.{post-fits, post-describes}
-use Rattle.dom_interval.specs.CallLaws.{init-fits, init-describes, enter-fits, enter-describes, leave-fits, leave-describes}
-use Rattle.dom_interval.specs.WidenLaws.{widen-fits, widen-left, widen-right}
+use Rattle.interval_meaning.specs.State.{Intervals, Empty, Within}
+use Rattle.interval_meaning.proofs.StateLaws.{intervals_Decides}
+use Rattle.interval_meaning.specs.Operations.{init, after, compare, compare_links, join, assume, does, post, enter, leave, check, dead}
+use Rattle.interval_meaning.specs.Widening.{widen}
+use Rattle.interval_meaning.specs.Covers.{covers, fits}
+use Rattle.interval_meaning.specs.Domain.{intervals}
+use Rattle.interval_meaning.proofs.SlotLaws.{fits_slots-true, true-fits_slots}
+use Rattle.interval_meaning.proofs.CompareLaws.{FitsState, Describes, join-fits, join-left, join-right, assume-fits, assume-describes}
+use Rattle.interval_meaning.proofs.StepLaws.{post-fits, post-describes}
+use Rattle.interval_meaning.proofs.CallLaws.{init-fits, init-describes, enter-fits, enter-describes, leave-fits, leave-describes}
+use Rattle.interval_meaning.proofs.WidenLaws.{widen-fits, widen-left, widen-right}
 
 -- the test of fitting, as a fact
 fits-state : (s : Intervals) (l : Layout) (ls : List Layout) → fits s (l ∷ ls) ≡ true → FitsState l s

@@ -16,18 +16,19 @@ use Rattle.concrete_sem.specs.Proper.{IsNumber, IsCell}
 use Rattle.domain_laws.specs.Checks.{Check, check_of, checked_guard}
 use Rattle.domain_laws.specs.Guards.{past_check}
 use Rattle.domain_laws.specs.Laws.{fits_act}
-use Rattle.domain_laws.specs.CheckLaws.{andthen-gives, ChecksTo, FitsCheck, check-passed, check-fits}
+use Rattle.domain_laws.specs.Claims.{ChecksTo}
+use Rattle.domain_laws.proofs.CheckLaws.{andthen-gives, FitsCheck, check-passed, check-fits}
 use Rattle.num_bounds.specs.Bounds.{Bounds, IsRange, Within as Lies}
 use Rattle.num_bounds.specs.Operations.{cut_of}
 use Rattle.num_bounds.proofs.Ends.{cut-covers, between-left}
-use Rattle.dom_interval.specs.State.{Intervals, Empty, Within}
-use Rattle.dom_interval.specs.Ranges.{longest, full, range_at, with_range, range_of}
-use Rattle.dom_interval.specs.Operations.{after, assume, does, post}
-use Rattle.dom_interval.specs.Covers.{measure, Holds}
-use Rattle.dom_interval.specs.SlotLaws.{FitsSlot, FitsRange, range-fits, at-fits, at-kind, at-holds, set-fits, set-holds, array-at}
-use Rattle.dom_interval.specs.RangeLaws.{range_of-covers, range_of-range}
-use Rattle.dom_interval.specs.CompareLaws.{FitsState, Describes, after-fits, needs-fits, needs-describes, assume-fits, assume-describes}
-use Rattle.dom_interval.specs.declared.state.SlotRange.{SlotRange}
+use Rattle.interval_meaning.specs.State.{Intervals, Empty, Within}
+use Rattle.interval_meaning.specs.Ranges.{longest, full, range_at, with_range, range_of}
+use Rattle.interval_meaning.specs.Operations.{after, assume, does, post}
+use Rattle.interval_meaning.specs.Covers.{measure, Holds}
+use Rattle.interval_meaning.proofs.SlotLaws.{FitsSlot, FitsRange, range-fits, at-fits, at-kind, at-holds, set-fits, set-holds, array-at}
+use Rattle.interval_meaning.proofs.RangeLaws.{range_of-covers, range_of-range}
+use Rattle.interval_meaning.proofs.CompareLaws.{FitsState, Describes, after-fits, needs-fits, needs-describes, assume-fits, assume-describes}
+use Rattle.interval_meaning.specs.declared.slot_range.SlotRange.{SlotRange}
 
 gives-same : {A : Type 0} {a b : A} → Gives a ≡ Gives b → a ≡ b
 gives-same h = cc

@@ -1,4 +1,4 @@
--- How often a state can change under widening.
+-- A state changes under widening so often and no more.
 use Rattle.std.proofs.Common.{◌≡◌, refl, sym, ap, ◌∙◌, subst, ℕ, suc, ◌+◌, ◌*◌, ◌<◌, ◌≤◌, ℤ, ◌≤ℤ◌, ◌<ℤ◌, int_le, int_lt, Bool, true, false, ◌&&◌, List, [], ◌∷◌, length, map, arith, if◌then◌else◌, ◌⊎◌, inl, inr}
 use Rattle.std.proofs.lemmas.Int.{ints, clamps}
 use Rattle.std.proofs.lemmas.Bool.{and_parts}
@@ -6,39 +6,14 @@ use Rattle.std.specs.Int.{int_max, int_min}
 use Rattle.std.specs.List.{AllZip, zip}
 use Rattle.imp_slots.specs.Plain.{Numeric, Layout}
 use Rattle.num_bounds.specs.Bounds.{Bounds}
-use Rattle.dom_interval.specs.State.{Intervals, Empty, Within}
-use Rattle.dom_interval.specs.Ranges.{extremes}
-use Rattle.dom_interval.specs.Widening.{mark_below, mark_above, widen_range, widen_slot, widen}
-use Rattle.dom_interval.specs.Covers.{fits}
-use Rattle.dom_interval.specs.SlotLaws.{FitsSlot, FitsRange, fits_slots-true}
-use Rattle.dom_interval.specs.WidenLaws.{mark_below-bounds, mark_above-bounds}
-use Rattle.dom_interval.specs.declared.state.SlotRange.{SlotRange}
-
--- how often a low end can still fall: to the marks between it and the low extreme, and to that extreme
-abbrev pub low_falls : List ℤ → Bounds → ℤ → ℕ
-low_falls [] e z = if int_lt e.lo z then 1 else 0
-low_falls (m ∷ ms) e z = (if int_lt e.lo m && int_lt m z then 1 else 0) + low_falls ms e z
-
--- how often a high end can still rise
-abbrev pub high_rises : List ℤ → Bounds → ℤ → ℕ
-high_rises [] e z = if int_lt z e.hi then 1 else 0
-high_rises (m ∷ ms) e z = (if int_lt m e.hi && int_lt z m then 1 else 0) + high_rises ms e z
-
-abbrev pub slot_changes : List ℤ → SlotRange → ℕ
-slot_changes ms s = low_falls ms (extremes s.is_array) s.range.lo + high_rises ms (extremes s.is_array) s.range.hi
-
-abbrev pub slots_changes : List ℤ → List SlotRange → ℕ
-slots_changes ms [] = 0
-slots_changes ms (r ∷ rs) = slot_changes ms r + slots_changes ms rs
-
--- the most changes of a state of so many slots, with so many marks
-abbrev pub most_changes : (slots marks : ℕ) → ℕ
-most_changes v m = 2 * v * (m + 1)
-
--- how often a state of a frame of this layout can still change; Empty changes once more
-unfoldable pub changes_left : List ℤ → Layout → Intervals → ℕ
-changes_left ms l Empty = most_changes (length l.numbers) (length ms) + 1
-changes_left ms l (Within rs) = slots_changes ms rs
+use Rattle.interval_meaning.specs.State.{Intervals, Empty, Within}
+use Rattle.interval_meaning.specs.Ranges.{extremes}
+use Rattle.interval_meaning.specs.Widening.{mark_below, mark_above, widen_range, widen_slot, widen}
+use Rattle.interval_meaning.specs.Covers.{fits}
+use Rattle.interval_meaning.proofs.SlotLaws.{FitsSlot, FitsRange, fits_slots-true}
+use Rattle.interval_meaning.proofs.WidenLaws.{mark_below-bounds, mark_above-bounds}
+use Rattle.interval_meaning.specs.declared.slot_range.SlotRange.{SlotRange}
+use Rattle.interval_meaning.specs.Convergence.{low_falls, high_rises, slot_changes, slots_changes, most_changes, changes_left, WideningEnds}
 
 lt-true : (a b : ℤ) → int_lt a b ≡ true → a <ℤ b
 lt-true a b h = grind (arith, ints)
@@ -338,14 +313,6 @@ slots_changes-most ms (k ∷ ks) (r ∷ rs) h =
   where
     spread : (n m : ℕ) → 2 * suc n * (m + 1) ≡ 2 * n * (m + 1) + 2 * (m + 1)
     spread n m = grind arith
-
--- The number of times a state can change under widening: each widening keeps the state, or leaves fewer changes; and no
--- state has more than two for each slot and each mark, and two more for each slot. Joins that come first add as many as
--- they are.
-pub record WideningEnds : Type 0 where
-  pub falls : (ms : List ℤ) (l : Layout) (ls : List Layout) (s t : Intervals) → fits s (l ∷ ls) ≡ true → fits t (l ∷ ls) ≡ true → (widen ms s t ≡ s) ⊎ (changes_left ms l (widen ms s t) < changes_left ms l s)
-  pub few : (ms : List ℤ) (l : Layout) (ls : List Layout) (rs : List SlotRange) → fits (Within rs) (l ∷ ls) ≡ true → changes_left ms l (Within rs) ≤ most_changes (length l.numbers) (length ms)
-  pub few_from_empty : (ms : List ℤ) (l : Layout) → changes_left ms l Empty ≡ most_changes (length l.numbers) (length ms) + 1
 
 state-step : (ms : List ℤ) (l : Layout) (ls : List Layout) (s t : Intervals) → fits s (l ∷ ls) ≡ true → fits t (l ∷ ls) ≡ true → (widen ms s t ≡ s) ⊎ (changes_left ms l (widen ms s t) < changes_left ms l s)
 unfolding widen changes_left fits

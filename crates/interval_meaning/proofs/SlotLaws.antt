@@ -9,10 +9,10 @@ use Rattle.imp_slots.specs.Fits.{is_kind}
 use Rattle.concrete_sem.specs.Values.{Number, Int, Array, is_word, IsWord}
 use Rattle.concrete_sem.specs.Proper.{IsNumber}
 use Rattle.num_bounds.specs.Bounds.{Bounds, IsRange, Within as Lies}
-use Rattle.dom_interval.specs.State.{bool_same}
-use Rattle.dom_interval.specs.Ranges.{extremes, slot_at, range_at, with_range, full}
-use Rattle.dom_interval.specs.Covers.{measure, Holds, fits_slot, fits_slots}
-use Rattle.dom_interval.specs.declared.state.SlotRange.{SlotRange}
+use Rattle.interval_meaning.specs.State.{bool_same}
+use Rattle.interval_meaning.specs.Ranges.{extremes, slot_at, range_at, with_range, full}
+use Rattle.interval_meaning.specs.Covers.{measure, Holds, fits_slot, fits_slots}
+use Rattle.interval_meaning.specs.declared.slot_range.SlotRange.{SlotRange}
 
 pub le-true : (a b : ℤ) → int_le a b ≡ true → a ≤ℤ b
 le-true a b h = grind (arith, ints)
