@@ -1,0 +1,6 @@
+pub mod Lists
+pub mod Values
+pub mod Rounds
+pub mod Blocks
+pub mod Places
+pub mod Changes
