@@ -1,12 +1,12 @@
 -- What a block or a procedure of the product gives is the pair of what the parts give.
-use Rattle.std.specs.Prelude.{◌≡◌, ℕ, ◌==◌, ℤ, List, [], ◌∷◌, ◌++◌, length, Bool, true, false, if◌then◌else◌}
+use Rattle.std.specs.Prelude.{◌≡◌, ℕ, ◌==◌, ℤ, List, [], ◌∷◌, ◌++◌, length, Bool, true, false}
 use Rattle.imp_slots.specs.Plain.{Guard, DoBreak, Does, Code, Stop, Simple, If, While, Call, Break, Routine}
 use Rattle.program_chains.specs.Marks.{marks}
 use Rattle.domain_laws.specs.Operations.{Operations}
 use Rattle.product_meaning.specs.Product.{product}
 use Rattle.batch_meaning.specs.Values.{Value, lift, lift2}
 use Rattle.batch_meaning.specs.Batch.{Engine, Passed, head_of, behind, batch, procedure, calls_of}
-use Rattle.product_answers.proofs.Lists.{turn_both}
+use Rattle.product_answers.proofs.Lists.{turn_both, chosen}
 use Rattle.product_answers.proofs.Values.{IsPair, ArePairs, pair_lift, pair_lift2, pair_joined}
 use Rattle.product_answers.proofs.Rounds.{Decides, pair_fix}
 
@@ -69,14 +69,10 @@ module _ {S T : Type 0} (a : Operations S) (b : Operations T) (da : Decides a) (
 
   pub pair_procedure : (rs : List Routine) (z : List ℕ) (q : ℕ) (v : Value S) (w : Value T) (u : Value (S × T)) → IsPair v w u → IsPair (procedure a engine rs z q v) (procedure b engine rs z q w) (procedure P engine rs z q u)
   pair_procedure [] z q v w u k = k
-  pair_procedure (r ∷ earlier) z q v w u k = by (q == length earlier)
-    where
-      by : (c : Bool) →
-          IsPair (if c then (batch a engine (marks engine.widening r) z (calls_of a engine earlier z) r.code v).value else procedure a engine earlier z q v)
-          (if c then (batch b engine (marks engine.widening r) z (calls_of b engine earlier z) r.code w).value else procedure b engine earlier z q w)
-          (if c then (batch P engine (marks engine.widening r) z (calls_of P engine earlier z) r.code u).value else procedure P engine earlier z q u)
-      by true = (pair_block (marks engine.widening r) z _ _ _ (λ n q v w u k. pair_procedure earlier (n ∷ z) q v w u k) r.code v w u k).value
-      by false = pair_procedure earlier z q v w u k
+  pair_procedure (r ∷ earlier) z q v w u k =
+      chosen IsPair (q == length earlier) _ _ _ _ _ _
+      (pair_block (marks engine.widening r) z _ _ _ (λ n q v w u k. pair_procedure earlier (n ∷ z) q v w u k) r.code v w u k).value
+      (pair_procedure earlier z q v w u k)
 
   pub pair_calls : (earlier : List Routine) (z : List ℕ) → CallsPair (calls_of a engine earlier z) (calls_of b engine earlier z) (calls_of P engine earlier z)
   pair_calls earlier z n q v w u k = pair_procedure earlier (n ∷ z) q v w u k

@@ -1,5 +1,5 @@
--- Three lists, or three options, of which a relation holds place by place.
-use Rattle.std.specs.Prelude.{List, [], ◌∷◌, ◌++◌, Option, Some, None}
+-- Three lists, options or choices of which a relation holds place by place.
+use Rattle.std.specs.Prelude.{List, [], ◌∷◌, ◌++◌, Option, Some, None, Bool, true, false, if◌then◌else◌}
 use Rattle.batch_meaning.specs.Places.{if_some}
 
 module _ {A B C : Type 0} (R : A → B → C → Type 0) where
@@ -36,3 +36,8 @@ there_then R Q f g h None (Some b) c k r = absurd r
 there_then R Q f g h (Some a) None c k r = absurd r
 there_then R Q f g h (Some a) (Some b) None k r = absurd r
 there_then R Q f g h (Some a) (Some b) (Some c) k r = k a b c r
+
+-- whichever of two is chosen
+pub chosen : {A B C : Type 0} (R : A → B → C → Type 0) (t : Bool) (a x : A) (b y : B) (c z : C) → R a b c → R x y z → R (if t then a else x) (if t then b else y) (if t then c else z)
+chosen R true a x b y c z h k = h
+chosen R false a x b y c z h k = k

@@ -10,8 +10,8 @@ use Rattle.domain_laws.specs.Operations.{Operations}
 use Rattle.product_meaning.specs.Product.{product}
 use Rattle.batch_meaning.specs.Values.{Value, State, lift}
 use Rattle.batch_meaning.specs.Batch.{Engine, Fixed, batch, calls_of}
-use Rattle.batch_meaning.specs.Places.{Spot, find, head_value, from, earlier_of, main_layout, spots, spots_in, end_of, value_in, entered, entry, value_at}
-use Rattle.product_answers.proofs.Lists.{InTurn, turn_both, WhereThere, there_then}
+use Rattle.batch_meaning.specs.Places.{Spot, if_some, find, head_value, from, earlier_of, main_layout, spots, spots_in, end_of, value_in, entered, entry, value_at}
+use Rattle.product_answers.proofs.Lists.{InTurn, turn_both, WhereThere, there_then, chosen}
 use Rattle.product_answers.proofs.Values.{IsPair, pair_lift, pair_lift2}
 use Rattle.product_answers.proofs.Rounds.{Decides}
 use Rattle.product_answers.proofs.Blocks.{P, CallsPair, pair_assume, pair_join, pair_head, pair_behind, pair_block, pair_calls}
@@ -43,15 +43,16 @@ module _ {S T : Type 0} where
   pair_find n (x ∷ xs) (y ∷ ys) [] h = absurd h
   pair_find n (x ∷ xs) (y ∷ ys) (p ∷ ps) h =
       subst (λ m. WhereThere PairSpot (find n (x ∷ xs)) (if n == m then Some y.1 else find n ys) (find n (p ∷ ps))) (sym h.0.0)
-      (subst (λ m. WhereThere PairSpot (find n (x ∷ xs)) (if n == x.0 then Some y.1 else find n ys) (if n == m then Some p.1 else find n ps)) (sym h.0.1) (by (n == x.0)))
-    where
-      by : (c : Bool) → WhereThere PairSpot (if c then Some x.1 else find n xs) (if c then Some y.1 else find n ys) (if c then Some p.1 else find n ps)
-      by true = h.0.2
-      by false = pair_find n xs ys ps h.1
+      (subst (λ m. WhereThere PairSpot (find n (x ∷ xs)) (if n == x.0 then Some y.1 else find n ys) (if n == m then Some p.1 else find n ps)) (sym h.0.1)
+      (chosen (WhereThere PairSpot) (n == x.0) _ _ _ _ _ _ h.0.2 (pair_find n xs ys ps h.1)))
 
   -- the same procedures, and pairs of values in front of the last one's body
   abbrev pub PairEntered : List Routine × Value S → List Routine × Value T → List Routine × Value (S × T) → Type 0
   PairEntered x y p = (y.0 ≡ x.0) × (p.0 ≡ x.0) × IsPair x.1 y.1 p.1
+
+-- the procedures and the value that a call enters with, if it is one
+abbrev callee : {S : Type 0} → Operations S → List Routine → Value S → Option (Invoke × ℕ) → Option (List Routine × Value S)
+callee dom rs v c = if_some c (λ k. Some (from (earlier_of rs) k.1, lift (dom.enter k.0.entering) v))
 
 module _ {S T : Type 0} (a : Operations S) (b : Operations T) (da : Decides a) (db : Decides b) (engine : Engine) (at_once : engine.widening.delay ≡ 0) where
   module _ (ms : List ℤ) (z : List ℕ) (ca : (n q : ℕ) → Value S → Value S) (cb : (n q : ℕ) → Value T → Value T) (cp : (n q : ℕ) → Value (S × T) → Value (S × T)) (calls : CallsPair a b da db engine at_once ca cb cp) where
@@ -95,11 +96,9 @@ module _ {S T : Type 0} (a : Operations S) (b : Operations T) (da : Decides a) (
 
   pair_end : (rs : List Routine) (z : List ℕ) (v : Value S) (w : Value T) (u : Value (S × T)) (name : List ℕ) → IsPair v w u → WhereThere IsPair (end_of a engine rs z v name) (end_of b engine rs z w name) (end_of (product a b) engine rs z u name)
   pair_end [] z v w u name k = tt
-  pair_end (r ∷ earlier) z v w u name k = by (bytes_eq name r.name) _ _ _ (pair_block a b da db engine at_once (marks engine.widening r) z _ _ _ (pair_calls a b da db engine at_once earlier z) r.code v w u k).value
-    where
-      by : (c : Bool) (x : Value S) (y : Value T) (p : Value (S × T)) → IsPair x y p → WhereThere IsPair (if c then Some x else None) (if c then Some y else None) (if c then Some p else None)
-      by true x y p j = j
-      by false x y p j = tt
+  pair_end (r ∷ earlier) z v w u name k =
+      chosen (WhereThere IsPair) (bytes_eq name r.name) _ None _ None _ None
+      (pair_block a b da db engine at_once (marks engine.widening r) z _ _ _ (pair_calls a b da db engine at_once earlier z) r.code v w u k).value tt
 
   pair_found : (rs : List Routine) (z : List ℕ) (n : ℕ) (v : Value S) (w : Value T) (u : Value (S × T)) → IsPair v w u → WhereThere PairSpot (find n (spots_in a engine rs z v)) (find n (spots_in b engine rs z w)) (find n (spots_in (product a b) engine rs z u))
   pair_found rs z n v w u k = pair_find n _ _ _ (pair_spots_in rs z v w u k)
@@ -114,12 +113,30 @@ module _ {S T : Type 0} (a : Operations S) (b : Operations T) (da : Decides a) (
   pair_value_in rs z v w u k (End name) = pair_end rs z v w u name k
 
   -- into the callee of a statement
-  into : (rs : List Routine) (x : Spot S) (y : Spot T) (p : Spot (S × T)) → PairSpot x y p → (cx cy cp : Option (Invoke × ℕ)) → cy ≡ cx → cp ≡ cx → Type 0
-  into rs x y p h cx cy cp e d = ?
+  called : (rs : List Routine) (x : Spot S) (y : Spot T) (p : Spot (S × T)) → PairSpot x y p →
+      WhereThere PairEntered (callee a rs x.before x.call) (callee b rs y.before y.call) (callee (product a b) rs p.before p.call)
+  called rs x y p h =
+      subst (λ c. WhereThere PairEntered (callee a rs x.before x.call) (callee b rs y.before c) (callee (product a b) rs p.before p.call)) (sym h.second_call)
+      (subst (λ c. WhereThere PairEntered (callee a rs x.before x.call) (callee b rs y.before x.call) (callee (product a b) rs p.before c)) (sym h.whole_call) (by x.call))
+    where
+      by : (c : Option (Invoke × ℕ)) → WhereThere PairEntered (callee a rs x.before c) (callee b rs y.before c) (callee (product a b) rs p.before c)
+      by None = tt
+      by (Some k) = (refl, refl, pair_lift (a.enter k.0.entering) (b.enter k.0.entering) x.before y.before p.before h.before)
+
+  pair_entered : (n : ℕ) (z : List ℕ) (x : List Routine × Value S) (y : List Routine × Value T) (p : List Routine × Value (S × T)) → PairEntered x y p → WhereThere PairEntered (entered a engine n z x) (entered b engine n z y) (entered (product a b) engine n z p)
+  pair_entered n z x y p h =
+      subst (λ rs. WhereThere PairEntered (entered a engine n z x) (entered b engine n z (rs, y.1)) (entered (product a b) engine n z p)) (sym h.0)
+      (subst (λ rs. WhereThere PairEntered (entered a engine n z x) (entered b engine n z (x.0, y.1)) (entered (product a b) engine n z (rs, p.1))) (sym h.1)
+      (there_then PairSpot PairEntered _ _ _ _ _ _ (called x.0) (pair_found x.0 z n x.1 y.1 p.1 h.2)))
 
   pair_entry : (rs : List Routine) (z : List ℕ) → WhereThere PairEntered (entry a engine rs z) (entry b engine rs z) (entry (product a b) engine rs z)
   pair_entry rs [] = (refl, refl, refl)
-  pair_entry rs (n ∷ z) = ?
+  pair_entry rs (n ∷ z) = there_then PairEntered PairEntered _ _ _ _ _ _ (pair_entered n z) (pair_entry rs z)
 
   pub pair_value : (program : List Routine) (l : Location) (z : List ℕ) → WhereThere IsPair (value_at a engine program l z) (value_at b engine program l z) (value_at (product a b) engine program l z)
-  pair_value program l z = ?
+  pair_value program l z = there_then PairEntered IsPair _ _ _ _ _ _ there (pair_entry (reverse program) z)
+    where
+      there : (x : List Routine × Value S) (y : List Routine × Value T) (p : List Routine × Value (S × T)) → PairEntered x y p → WhereThere IsPair (value_in a engine x.0 z x.1 l) (value_in b engine y.0 z y.1 l) (value_in (product a b) engine p.0 z p.1 l)
+      there x y p h =
+          subst (λ rs. WhereThere IsPair (value_in a engine x.0 z x.1 l) (value_in b engine rs z y.1 l) (value_in (product a b) engine p.0 z p.1 l)) (sym h.0)
+          (subst (λ rs. WhereThere IsPair (value_in a engine x.0 z x.1 l) (value_in b engine x.0 z y.1 l) (value_in (product a b) engine rs z p.1 l)) (sym h.1) (pair_value_in x.0 z x.1 y.1 p.1 h.2 l))

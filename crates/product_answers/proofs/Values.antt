@@ -40,4 +40,5 @@ module _ {S T : Type 0} where
   pair_joined a b engine v w u [] (y ∷ ws) us e d = absurd d
   pair_joined a b engine v w u (x ∷ vs) [] us e d = absurd d
   pair_joined a b engine v w u (x ∷ vs) (y ∷ ws) [] e d = absurd d
-  pair_joined a b engine v w u (x ∷ vs) (y ∷ ws) (p ∷ us) e d = pair_joined a b engine _ _ _ vs ws us (pair_lift2 a.join b.join v w u x y p e d.0) d.1
+  pair_joined a b engine v w u (x ∷ vs) (y ∷ ws) (p ∷ us) e d =
+      pair_joined a b engine (lift2 a.join v x) (lift2 b.join w y) (lift2 (product a b).join u p) vs ws us (pair_lift2 a.join b.join v w u x y p e d.0) d.1
