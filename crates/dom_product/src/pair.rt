@@ -11,7 +11,7 @@ use std::marker::Model;
 use std::sync::ledger::Ledger;
 
 /// Two domains as one.
-#[derive(Debug)]
+#[derive(Debug, Drop)]
 pub struct Pair<A: Domain, B: Domain> {
     first: A,
     second: B,
@@ -178,7 +178,11 @@ impl<A: Domain, B: Domain> Domain for Pair<A, B> {
         Ok(text)
     }
 
-    fn copy(&self, alloc: Global, s: &(A::State, B::State)) -> Result<(A::State, B::State), Memory> {
+    fn copy(
+        &self,
+        alloc: Global,
+        s: &(A::State, B::State),
+    ) -> Result<(A::State, B::State), Memory> {
         let first = self.first.copy(alloc, &s.0)?;
         let second = self.second.copy(alloc, &s.1)?;
         Ok((first, second))
