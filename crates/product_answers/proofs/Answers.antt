@@ -8,7 +8,6 @@ use Rattle.domain_laws.specs.Operations.{Operations}
 use Rattle.product_meaning.specs.Product.{product}
 use Rattle.batch_meaning.specs.Values.{Value, State, lift}
 use Rattle.batch_meaning.specs.Batch.{Engine}
-use Rattle.batch_meaning.specs.Places.{value_at}
 use Rattle.batch_meaning.specs.Answers.{Answer, Refuses, Answers, Found, In, Misses, procedure_of, all_values, summed, sum_of, answer_in, answer}
 use Rattle.batch_meaning.specs.declared.refusal.Refusal.TheVariants.{LongString}
 use Rattle.product_answers.specs.Claims.{AnswersPairs}

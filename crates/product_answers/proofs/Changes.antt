@@ -1,5 +1,5 @@
 -- How often a pair can still change under widening.
-use Rattle.std.specs.Prelude.{◌≡◌, ◌≤◌, ◌<◌, ◌⊎◌, ℕ, ◌+◌, ℤ, List, ◌∷◌, length, true}
+use Rattle.std.specs.Prelude.{◌≡◌, ◌<◌, ◌⊎◌, ℕ, ◌+◌, ℤ, List, ◌∷◌}
 use Rattle.std.proofs.Common.{ap, arith, inl, inr}
 use Rattle.imp_slots.specs.Plain.{Layout}
 use Rattle.domain_laws.specs.Operations.{Operations}

@@ -1,5 +1,5 @@
 -- What is known at a location under a chain is the pair of what the parts know there.
-use Rattle.std.specs.Prelude.{◌≡◌, ℕ, ◌==◌, ℤ, List, [], ◌∷◌, ◌++◌, reverse, Option, Some, None, Bool, true, false, if◌then◌else◌}
+use Rattle.std.specs.Prelude.{◌≡◌, ℕ, ◌==◌, ℤ, List, [], ◌∷◌, reverse, Option, Some, None, true, false, if◌then◌else◌}
 use Rattle.std.specs.Str.{bytes_eq}
 use Rattle.std.proofs.Common.{refl, sym, subst}
 use Rattle.imp_syntax.specs.declared.edit.Location.{Location}
@@ -8,13 +8,13 @@ use Rattle.imp_slots.specs.Plain.{DoBreak, Does, Invoke, Code, Stop, Simple, If,
 use Rattle.program_chains.specs.Marks.{marks}
 use Rattle.domain_laws.specs.Operations.{Operations}
 use Rattle.product_meaning.specs.Product.{product}
-use Rattle.batch_meaning.specs.Values.{Value, State, lift}
-use Rattle.batch_meaning.specs.Batch.{Engine, Fixed, batch, calls_of}
-use Rattle.batch_meaning.specs.Places.{Spot, if_some, find, head_value, from, earlier_of, main_layout, spots, spots_in, end_of, value_in, entered, entry, value_at}
+use Rattle.batch_meaning.specs.Values.{Value, lift}
+use Rattle.batch_meaning.specs.Batch.{Engine, Fixed}
+use Rattle.batch_meaning.specs.Places.{Spot, if_some, find, head_value, from, earlier_of, spots, spots_in, end_of, value_in, entered, entry, value_at}
 use Rattle.product_answers.proofs.Lists.{InTurn, turn_both, WhereThere, there_then, chosen}
 use Rattle.product_answers.proofs.Values.{IsPair, pair_lift, pair_lift2}
 use Rattle.product_answers.proofs.Rounds.{Decides}
-use Rattle.product_answers.proofs.Blocks.{P, CallsPair, pair_assume, pair_join, pair_head, pair_behind, pair_block, pair_calls}
+use Rattle.product_answers.proofs.Blocks.{CallsPair, pair_assume, pair_join, pair_head, pair_behind, pair_block, pair_calls}
 
 module _ {S T : Type 0} where
   abbrev pub IsPairFixed : Fixed S → Fixed T → Fixed (S × T) → Type 0
@@ -79,9 +79,10 @@ module _ {S T : Type 0} (a : Operations S) (b : Operations T) (da : Decides a) (
     pair_spots (While n g c r) v w u k =
         let body = pair_block a b da db engine at_once ms z ca cb cp calls c in
         let head = pair_head a b da db engine at_once ms z ca cb cp calls n g c body v w u k in
-        let j = pair_behind a b da db engine at_once ms z ca cb cp calls g c body _ _ _ head in
-        ((refl, refl, record { before = k; head = head; after = j; second_call = refl; whole_call = refl }),
-        turn_both PairEntry _ _ _ _ _ _ (pair_spots c _ _ _ (pair_assume a b da db engine at_once g true _ _ _ head)) (pair_spots r _ _ _ j))
+        let j = pair_behind a b da db engine at_once ms z ca cb cp calls g c body _ _ _ head in (
+          (refl, refl, record { before = k; head = head; after = j; second_call = refl; whole_call = refl }),
+          turn_both PairEntry _ _ _ _ _ _ (pair_spots c _ _ _ (pair_assume a b da db engine at_once g true _ _ _ head)) (pair_spots r _ _ _ j),
+        )
     pair_spots (Call n i q r) v w u k =
         let done = calls n q _ _ _ (pair_lift (a.enter i.entering) (b.enter i.entering) v w u k) in
         let j = pair_lift2 (a.leave i.returning) (b.leave i.returning) v w u _ _ _ k done in

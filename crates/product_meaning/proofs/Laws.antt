@@ -1,5 +1,5 @@
 -- The laws of a product, from those of its parts.
-use Rattle.std.specs.Prelude.{◌≡◌, refl, ◌&&◌, ◌⊎◌, List, ◌∷◌, Bool, true}
+use Rattle.std.specs.Prelude.{◌≡◌, refl, ◌&&◌, ◌⊎◌, List, ◌∷◌, Bool}
 use Rattle.std.proofs.Common.{ap, inl, inr}
 use Rattle.std.proofs.lemmas.Bool.{and_parts, and_from}
 use Rattle.imp_slots.specs.Plain.{Does}
@@ -32,7 +32,7 @@ module _ {S T : Type 0} (a : Operations S) (b : Operations T) where
     fitting = product_fitting a b p.fitting q.fitting;
     same = λ s t. (
       (λ e. let z = and_parts (a.same s.0 t.0) (b.same s.1 t.1) e in λ i. ((p.same s.0 t.0).0 z.0 i, (q.same s.1 t.1).0 z.1 i)),
-      (λ e. and_from (a.same s.0 t.0) (b.same s.1 t.1) ((p.same s.0 t.0).1 (ap (λ (x : S × T). x.0) e)) ((q.same s.1 t.1).1 (ap (λ (x : S × T). x.1) e)))
+      (λ e. and_from (a.same s.0 t.0) (b.same s.1 t.1) ((p.same s.0 t.0).1 (ap (λ (x : S × T). x.0) e)) ((q.same s.1 t.1).1 (ap (λ (x : S × T). x.1) e))),
     );
     post = λ e l ls s h v vs x f k w g c.
         let z = fits_parts a b s (l ∷ ls) k in
