@@ -1,0 +1,5 @@
+pub mod Linked
+pub mod Held
+pub mod Walks
+pub mod Cells
+pub mod Agrees

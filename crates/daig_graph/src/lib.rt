@@ -1,0 +1,14 @@
+//! The graph of cells.
+#![tactic(auto)]
+
+mod graph;
+mod inputs;
+mod items;
+mod lists;
+mod pool;
+mod value;
+
+pub use graph::{Graph, Use};
+pub use inputs::Inputs;
+pub use items::Items;
+pub use value::Value;
