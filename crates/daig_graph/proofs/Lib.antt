@@ -5,3 +5,9 @@ pub mod Removing
 pub mod Linking
 pub mod Walking
 pub mod Listing
+pub mod UseLemmas
+pub mod Maps
+pub mod Agreeing
+pub mod CellFilled
+pub mod CellGone
+pub mod Owning

@@ -1,5 +1,5 @@
 -- What a graph holds.
-use Rattle.std.specs.Prelude.{◌≡◌, ℕ, List, Option, Some, slice_get}
+use Rattle.std.specs.Prelude.{◌≡◌, ◌≢◌, ℕ, List, Option, Some, IsSome, slice_get}
 use Rattle.std.specs.Ordering.{nat_cmp}
 use Rattle.std.specs.FinMap.{FinMap, get}
 use Rattle.daig_graph.specs.declared.value.Value.{Value}
@@ -25,3 +25,11 @@ module _ {V : Type 0} (cells : FinMap nat_cmp (Filled V)) where
   -- a cell belongs to a statement
   abbrev pub IsOwned : ℕ → ℕ → Type 0
   IsOwned n x = (f : Filled V) × (get cells x ≡ Some f) × (f.owner ≡ n)
+
+  -- all of these are cells
+  abbrev pub AreCells : List ℕ → Type 0
+  AreCells xs = (i x : ℕ) → slice_get xs i ≡ Some x → IsSome (get cells x)
+
+  -- no cell has this one as an input
+  abbrev pub IsUnused : ℕ → Type 0
+  IsUnused x = (y i : ℕ) (f : Filled V) → get cells y ≡ Some f → slice_get f.inputs i ≢ Some x

@@ -3,3 +3,4 @@ pub mod Held
 pub mod Walks
 pub mod Cells
 pub mod Agrees
+pub mod Uses

@@ -46,6 +46,10 @@ impl<V> Model for Graph<V> {
 
     ghost Value = { Cells V };
 
+    ghost use Rattle.std.specs.Coded.{codes};
+
+    ghost coded = { Prim.hlevel (codes, map.code) };
+
     ghost use Rattle.daig_graph.specs.Agrees.{filled_cells, Agrees};
 
     ghost view = { λ a. record {

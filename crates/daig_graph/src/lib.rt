@@ -1,11 +1,13 @@
 //! The graph of cells.
 #![tactic(auto)]
 
+mod filling;
 mod graph;
 mod inputs;
 mod items;
 mod lists;
 mod pool;
+mod reading;
 mod value;
 
 pub use graph::{Graph, Use};
