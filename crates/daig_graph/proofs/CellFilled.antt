@@ -117,8 +117,8 @@ module _ {V : Type 0} (cells new_cells : ℕ → Option (Cell V)) (keys new_keys
 
 -- the map has the new cell, and the others as before
 pub map-fill : {V : Type 0} (slots new_slots : List (Option (Cell V))) (keys new_keys : ℕ → Option ℕ) (owned new_owned : Held ℕ) (uses new_uses : Held Use) (key : ℕ) (n : Cell V)
-  → Agrees (λ k. get_or slots k None) keys owned uses → Fills (λ k. get_or slots k None) (λ k. get_or new_slots k None) keys new_keys owned new_owned uses new_uses key n
-  → cell_map new_slots ≡ insert (cell_map slots) n.number (filled n)
+    → Agrees (λ k. get_or slots k None) keys owned uses → Fills (λ k. get_or slots k None) (λ k. get_or new_slots k None) keys new_keys owned new_owned uses new_uses key n
+    → cell_map new_slots ≡ insert (cell_map slots) n.number (filled n)
 map-fill {V} slots new_slots keys new_keys owned new_owned uses new_uses key n agrees f =
     let next = agrees-fill (λ k. get_or slots k None) (λ k. get_or new_slots k None) keys new_keys owned new_owned uses new_uses key n agrees f in
     insert-is (cell_map slots) (cell_map new_slots) n.number (filled n) (get-number new_slots new_keys new_owned new_uses next key n f.here)

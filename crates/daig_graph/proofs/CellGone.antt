@@ -77,8 +77,8 @@ module _ {V : Type 0} (cells new_cells : ℕ → Option (Cell V)) (keys new_keys
         let h = was k c e in
         let u = agrees.use_there k i x c h s in
         let other : (j : ℕ) → j < length r.uses.items → slice_get r.uses.items j ≢ Some u.0 = λ j l at.
-            let own = own_use j u.0 at in
-            left k c e (same_key k c h (ap (λ a. a.1.cell) (some-inj (sym u.2 ∙ own.1)))) in
+        let own = own_use j u.0 at in
+        left k c e (same_key k c h (ap (λ a. a.1.cell) (some-inj (sym u.2 ∙ own.1)))) in
         (u.0, u.1, m.unlinks.others u.0 other ∙ u.2)
 
     use_back : (u x : ℕ) (y : Use) → held new_uses u ≡ Some (x, y) → (k : ℕ) × (c : Cell V) × (new_cells k ≡ Some c) × (c.number ≡ y.cell) × (slice_get c.uses.items y.place ≡ Some u) × (slice_get c.inputs.items y.place ≡ Some x)
@@ -86,8 +86,8 @@ module _ {V : Type 0} (cells new_cells : ℕ → Option (Cell V)) (keys new_keys
         let other : (j : ℕ) → j < length r.uses.items → slice_get r.uses.items j ≢ Some u = λ j l at. none-some (sym (m.unlinks.gone j u l at) ∙ e) in
         let b = agrees.use_back u x y (sym (m.unlinks.others u other) ∙ e) in
         let ne : b.0 ≢ key = λ same.
-            let at = ap (λ c. slice_get c.uses.items y.place) (some-inj (sym m.there ∙ ap cells (sym same) ∙ b.2)) ∙ b.4 in
-            other y.place (place-below r.uses.items y.place u at) at in
+        let at = ap (λ c. slice_get c.uses.items y.place) (some-inj (sym m.there ∙ ap cells (sym same) ∙ b.2)) ∙ b.4 in
+        other y.place (place-below r.uses.items y.place u at) at in
         (b.0, b.1, m.others b.0 ne ∙ b.2, b.3, b.4, b.5)
 
     closed : (k i x : ℕ) (c : Cell V) → new_cells k ≡ Some c → slice_get c.inputs.items i ≡ Some x → (j : ℕ) × (new_keys x ≡ Some j)
@@ -101,8 +101,8 @@ module _ {V : Type 0} (cells new_cells : ℕ → Option (Cell V)) (keys new_keys
 
 -- the map lacks the cell, and has the others as before
 pub map-remove : {V : Type 0} (slots new_slots : List (Option (Cell V))) (keys new_keys : ℕ → Option ℕ) (owned new_owned : Held ℕ) (uses new_uses : Held Use) (key : ℕ) (r : Cell V)
-  → Agrees (λ k. get_or slots k None) keys owned uses → Empties (λ k. get_or slots k None) (λ k. get_or new_slots k None) keys new_keys owned new_owned uses new_uses key r
-  → cell_map new_slots ≡ remove (cell_map slots) r.number
+    → Agrees (λ k. get_or slots k None) keys owned uses → Empties (λ k. get_or slots k None) (λ k. get_or new_slots k None) keys new_keys owned new_owned uses new_uses key r
+    → cell_map new_slots ≡ remove (cell_map slots) r.number
 map-remove {V} slots new_slots keys new_keys owned new_owned uses new_uses key r agrees m =
     let next = agrees-remove (λ k. get_or slots k None) (λ k. get_or new_slots k None) keys new_keys owned new_owned uses new_uses key r agrees m in
     remove-is (cell_map slots) (cell_map new_slots) r.number (get-absent new_slots new_keys new_owned new_uses next r.number m.keys_gone)

@@ -35,7 +35,7 @@ module _ {T : Type 0} (slots : List (Option (Member T))) (firsts : ℕ → Optio
   shown k x h =
       let m = walk-at (λ k. get_or slots k None) (firsts list) own_walk.0 own_walk.1 h.0 (k, x) h.1 in
       let l = walk-list (λ k. get_or slots k None) linked list (firsts list) own_walk.0 own_walk.1
-        (λ j n a b. let f = linked.first list j a in ap (λ o. o.list) (some-inj (sym b ∙ f.1)) ∙ f.2) h.0 (k, x) h.1 m.0 m.1 in
+      (λ j n a b. let f = linked.first list j a in ap (λ o. o.list) (some-inj (sym b ∙ f.1)) ∙ f.2) h.0 (k, x) h.1 m.0 m.1 in
       held-is k ∙ ap held_at m.1 ∙ ap (λ a. Some (a, m.0.item)) l ∙ ap (λ y. Some (list, y)) m.2
 
   met : (k : ℕ) (x : T) → held v k ≡ Some (list, x) → IsIn own_walk.0 (k, x)

@@ -52,7 +52,7 @@ module _ {V : Type 0} where
       get-insert-other (cell_map slots) c.number (filled c) n (λ e. h zero c refl (sym e)) ∙ map-none slots n (λ k d e. h (suc k) d e)
 
   pub map-some : (slots : List (Option (Cell V))) (n k : ℕ) (c : Cell V) → get_or slots k None ≡ Some c → c.number ≡ n
-    → ((j : ℕ) (d : Cell V) → get_or slots j None ≡ Some d → d.number ≡ n → j ≡ k) → get (cell_map slots) n ≡ Some (filled c)
+      → ((j : ℕ) (d : Cell V) → get_or slots j None ≡ Some d → d.number ≡ n → j ≡ k) → get (cell_map slots) n ≡ Some (filled c)
   map-some [] n k c e is once = none-some e
   map-some (None ∷ slots) n zero c e is once = none-some e
   map-some (None ∷ slots) n (suc k) c e is once = map-some slots n k c e is (λ j d f s. suc-inj (once (suc j) d f s))
@@ -64,7 +64,7 @@ module _ {V : Type 0} where
       ap (get (cell_map (Some d ∷ slots))) (sym is) ∙ ap (λ o. get (insert (cell_map slots) o.number (filled o)) c.number) same ∙ get-insert-here (cell_map slots) c.number (filled c)
   map-some (Some d ∷ slots) n (suc k) c e is once =
       get-insert-other (cell_map slots) d.number (filled d) n (λ s. absurd (omega (arith, once zero d refl (sym s))))
-          ∙ map-some slots n k c e is (λ j o f s. suc-inj (once (suc j) o f s))
+      ∙ map-some slots n k c e is (λ j o f s. suc-inj (once (suc j) o f s))
     where
       suc-inj : {a b : ℕ} → suc a ≡ suc b → a ≡ b
       suc-inj e = omega (arith, e)
@@ -77,5 +77,5 @@ module _ {V : Type 0} where
       let absent = map-none slots c.number (λ k d e s. absurd (omega (arith, once (suc k) zero d c e refl s))) in
       let rest = map-len slots (λ j k d o e f s. let h = once (suc j) (suc k) d o e f s in omega (arith, h)) in
       len-insert nat_cmp_total (cell_map slots) c.number (filled c)
-          ∙ ap (λ o. cond (is_some o) (len (cell_map slots)) (len (cell_map slots) + 1)) absent
-          ∙ omega (arith, rest, sum_by-cons (λ (o : Option (Cell V)). cond (is_some o) 1 0) (Some c) slots)
+      ∙ ap (λ o. cond (is_some o) (len (cell_map slots)) (len (cell_map slots) + 1)) absent
+      ∙ omega (arith, rest, sum_by-cons (λ (o : Option (Cell V)). cond (is_some o) 1 0) (Some c) slots)

@@ -70,9 +70,11 @@ module _ {V : Type 0} (slots : List (Option (Cell V))) (keys : ℕ → Option �
       to : IsIn items x → IsOwned v list x
       to h =
           let k = item-held owned list items are x h in
-          let p = agrees.own_back k.0 list x k.1 in
-          (filled p.1, ap (get v) (sym p.3) ∙ there p.0 p.1 p.2,
-            ap (λ a. a.0) (some-inj (sym (agrees.own_there p.0 p.1 p.2) ∙ ap (held owned) p.4 ∙ k.1)))
+          let p = agrees.own_back k.0 list x k.1 in (
+            filled p.1,
+            ap (get v) (sym p.3) ∙ there p.0 p.1 p.2,
+            ap (λ a. a.0) (some-inj (sym (agrees.own_there p.0 p.1 p.2) ∙ ap (held owned) p.4 ∙ k.1)),
+          )
 
       from : IsOwned v list x → IsIn items x
       from h =

@@ -60,12 +60,16 @@ module _ {T : Type 0} (old new : ℕ → Option (Member T)) (firsts new_firsts :
       | inl same ↦ let k_is : key ≡ k = some-inj (sym p.head ∙ ap new_firsts (sym same) ∙ e) in (put_member, ap new (sym k_is) ∙ p.here, sym same, refl)
       | inr ne ↦
           let there = linked.first l k (sym (p.heads l ne) ∙ e) in
-          let b = became k there.0 there.1 in
-          (b.to, b.at, b.list_same ∙ there.2, elim b.before_is [
-            | inl h ↦ h ∙ there.3
-            | inr h ↦ let own = linked.first list k h.0 in
-                absurd (ne (sym there.2 ∙ ap (λ o. o.list) (some-inj (sym there.1 ∙ own.1)) ∙ own.2))
-          ])
+          let b = became k there.0 there.1 in (
+            b.to,
+            b.at,
+            b.list_same ∙ there.2,
+            elim b.before_is [
+              | inl h ↦ h ∙ there.3
+              | inr h ↦ let own = linked.first list k h.0 in
+                  absurd (ne (sym there.2 ∙ ap (λ o. o.list) (some-inj (sym there.1 ∙ own.1)) ∙ own.2))
+            ],
+          )
     ]
 
     next_front : (k : ℕ) (m : Member T) → new k ≡ Some m → m.before ≡ None → new_firsts m.list ≡ Some k

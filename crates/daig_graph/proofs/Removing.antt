@@ -66,25 +66,35 @@ module _ {T : Type 0} (old new : ℕ → Option (Member T)) (firsts new_firsts :
     became : (k : ℕ) (m : Member T) → k ≢ key → old k ≡ Some m → (to : Member T) × (new k ≡ Some to) × Became k m to
     became k m ne e = elim (has_number r.before k) [
       | inl b ↦
-          let side = next_of_before linked p.there k m b e in
-          (record m { next = r.next }, p.before k m b e, record {
-            list_same = refl;
-            next_is = inl (b, side.0, refl);
-            before_is = inr (refl, λ h. sides_apart linked p.there k b (is_next k m e h));
-          })
+          let side = next_of_before linked p.there k m b e in (
+            record m { next = r.next },
+            p.before k m b e,
+            record {
+              list_same = refl;
+              next_is = inl (b, side.0, refl);
+              before_is = inr (refl, λ h. sides_apart linked p.there k b (is_next k m e h));
+            },
+          )
       | inr b ↦ elim (has_number r.next k) [
         | inl a ↦
-            let side = before_of_next linked p.there k m a e in
-            (record m { before = r.before }, p.next k m a e, record {
-              list_same = refl;
-              next_is = inr (refl, λ h. b (is_before k m e h));
-              before_is = inl (a, side.0, refl);
-            })
-        | inr a ↦ (m, p.others k ne b a ∙ e, record {
-          list_same = refl;
-          next_is = inr (refl, λ h. b (is_before k m e h));
-          before_is = inr (refl, λ h. a (is_next k m e h));
-        })
+            let side = before_of_next linked p.there k m a e in (
+              record m { before = r.before },
+              p.next k m a e,
+              record {
+                list_same = refl;
+                next_is = inr (refl, λ h. b (is_before k m e h));
+                before_is = inl (a, side.0, refl);
+              },
+            )
+        | inr a ↦ (
+          m,
+          p.others k ne b a ∙ e,
+          record {
+            list_same = refl;
+            next_is = inr (refl, λ h. b (is_before k m e h));
+            before_is = inr (refl, λ h. a (is_next k m e h));
+          },
+        )
       ]
     ]
 
@@ -107,13 +117,17 @@ module _ {T : Type 0} (old new : ℕ → Option (Member T)) (firsts new_firsts :
         kept other =
             let there = linked.first l k (sym (p.heads l other) ∙ e) in
             let ne : k ≢ key = λ same.
-                let is : there.0 ≡ r = some-inj (sym there.1 ∙ ap old same ∙ p.there) in
-                other (sym (ap (λ o. o.before) is) ∙ there.3) (sym there.2 ∙ ap (λ o. o.list) is) in
-            let b = became k there.0 ne there.1 in
-            (b.0, b.1, b.2.list_same ∙ there.2, elim b.2.before_is [
-              | inl h ↦ none-some (sym there.3 ∙ h.1)
-              | inr h ↦ h.0 ∙ there.3
-            ])
+            let is : there.0 ≡ r = some-inj (sym there.1 ∙ ap old same ∙ p.there) in
+            other (sym (ap (λ o. o.before) is) ∙ there.3) (sym there.2 ∙ ap (λ o. o.list) is) in
+            let b = became k there.0 ne there.1 in (
+              b.0,
+              b.1,
+              b.2.list_same ∙ there.2,
+              elim b.2.before_is [
+                | inl h ↦ none-some (sym there.3 ∙ h.1)
+                | inr h ↦ h.0 ∙ there.3
+              ],
+            )
 
         by : (o : Option ℕ) → r.before ≡ o → (l ≡ r.list) ⊎ (l ≢ r.list) → (m : Member T) × (new k ≡ Some m) × (m.list ≡ l) × (m.before ≡ None)
         by (Some j) h side = kept (λ none. none-some (sym none ∙ h))
@@ -133,17 +147,21 @@ module _ {T : Type 0} (old new : ℕ → Option (Member T)) (firsts new_firsts :
           | inr h ↦
               let first = linked.front k w.0 w.1 (sym h.0 ∙ none) in
               p.heads w.0.list (λ b same.
-                left k m e (some-inj (sym first ∙ ap firsts same ∙ linked.front key r p.there b))) ∙ first
+              left k m e (some-inj (sym first ∙ ap firsts same ∙ linked.front key r p.there b))) ∙ first
         ]
 
     -- what stands in front of a member that is left has it behind itself
     facing : (k j : ℕ) (n : Member T) → j ≢ key → k ≢ key → old j ≡ Some n → n.next ≡ Some k → (to : Member T) × (new j ≡ Some to) × (to.list ≡ n.list) × (to.next ≡ Some k)
     facing k j n nj nk e a =
-        let b = became j n nj e in
-        (b.0, b.1, b.2.list_same, elim b.2.next_is [
-          | inl h ↦ absurd (nk (some-inj (sym a ∙ h.1)))
-          | inr h ↦ h.0 ∙ a
-        ])
+        let b = became j n nj e in (
+          b.0,
+          b.1,
+          b.2.list_same,
+          elim b.2.next_is [
+            | inl h ↦ absurd (nk (some-inj (sym a ∙ h.1)))
+            | inr h ↦ h.0 ∙ a
+          ],
+        )
 
     next_back : (k j : ℕ) (m : Member T) → new k ≡ Some m → m.before ≡ Some j → (n : Member T) × (new j ≡ Some n) × (n.list ≡ m.list) × (n.next ≡ Some k)
     next_back k j m e some =
@@ -163,11 +181,15 @@ module _ {T : Type 0} (old new : ℕ → Option (Member T)) (firsts new_firsts :
 
     backing : (k j : ℕ) (n : Member T) → j ≢ key → k ≢ key → old j ≡ Some n → n.before ≡ Some k → (to : Member T) × (new j ≡ Some to) × (to.list ≡ n.list) × (to.before ≡ Some k)
     backing k j n nj nk e a =
-        let b = became j n nj e in
-        (b.0, b.1, b.2.list_same, elim b.2.before_is [
-          | inl h ↦ absurd (nk (some-inj (sym a ∙ h.1)))
-          | inr h ↦ h.0 ∙ a
-        ])
+        let b = became j n nj e in (
+          b.0,
+          b.1,
+          b.2.list_same,
+          elim b.2.before_is [
+            | inl h ↦ absurd (nk (some-inj (sym a ∙ h.1)))
+            | inr h ↦ h.0 ∙ a
+          ],
+        )
 
     next_ahead : (k j : ℕ) (m : Member T) → new k ≡ Some m → m.next ≡ Some j → (n : Member T) × (new j ≡ Some n) × (n.list ≡ m.list) × (n.before ≡ Some k)
     next_ahead k j m e some =
@@ -208,8 +230,8 @@ module _ {T : Type 0} (old new : ℕ → Option (Member T)) (firsts new_firsts :
       where
         by : (o : Option (Member T)) → old k ≡ o → held_at (new k) ≡ held_at (old k)
         by None h = ap held_at (p.others k ne
-          (λ b. let n = linked.back key k r p.there b in none-some (sym h ∙ n.1))
-          (λ a. let n = linked.ahead key k r p.there a in none-some (sym h ∙ n.1)))
+            (λ b. let n = linked.back key k r p.there b in none-some (sym h ∙ n.1))
+            (λ a. let n = linked.ahead key k r p.there a in none-some (sym h ∙ n.1)))
         by (Some m) h = elim (has_number r.before k) [
           | inl b ↦ ap held_at (p.before k m b h) ∙ sym (ap held_at h)
           | inr b ↦ elim (has_number r.next k) [

@@ -32,8 +32,8 @@ links-none old cell inputs keys = record {
 pub links-more : (old mid new : Held Use) (cell : ℕ) (inputs keys : List ℕ) (n x u : ℕ) → Links old mid cell inputs keys n → n < length keys → slice_get inputs n ≡ Some x → Puts mid new x (record { cell = cell; place = n }) u → Links old new cell inputs (set keys n u) (n + 1)
 links-more old mid new cell inputs keys n x u links within at puts = record {
   kept = λ v e h.
-    let was = links.kept v e h in
-    puts.others v (λ same. none-some (sym puts.fresh ∙ ap (held mid) (sym same) ∙ was)) ∙ was;
+      let was = links.kept v e h in
+      puts.others v (λ same. none-some (sym puts.fresh ∙ ap (held mid) (sym same) ∙ was)) ∙ was;
   there = λ i z l h. elim (same_number i n) [
     | inl same ↦
         let is : x ≡ z = some-inj (sym at ∙ ap (slice_get inputs) (sym same) ∙ h) in

@@ -20,7 +20,7 @@ module _ {T : Type 0} where
     held-new k = ap (λ s. get_or s k None) w_is ∙ held-get new k
 
     pub Puts-views : (list key : ℕ) (item : T) (m : Member T) → get_or old key None ≡ None → get_or new key None ≡ Some m → m.list ≡ list → m.item ≡ item
-      → ((k : ℕ) → k ≢ key → held_at (get_or new k None) ≡ held_at (get_or old k None)) → Puts v w list item key
+        → ((k : ℕ) → k ≢ key → held_at (get_or new k None) ≡ held_at (get_or old k None)) → Puts v w list item key
     Puts-views list key item m fresh here l i others = record {
       fresh = held-old key ∙ ap held_at fresh;
       here = held-new key ∙ ap held_at here ∙ ap (λ a. Some (a, m.item)) l ∙ ap (λ x. Some (list, x)) i;
@@ -28,7 +28,7 @@ module _ {T : Type 0} where
     }
 
     pub Takes-views : (key : ℕ) → get_or new key None ≡ None
-      → ((k : ℕ) → k ≢ key → held_at (get_or new k None) ≡ held_at (get_or old k None)) → Takes v w key
+        → ((k : ℕ) → k ≢ key → held_at (get_or new k None) ≡ held_at (get_or old k None)) → Takes v w key
     Takes-views key gone others = record {
       gone = held-new key ∙ ap held_at gone;
       others = λ k ne. held-new k ∙ others k ne ∙ sym (held-old k);

@@ -31,7 +31,7 @@ module _ {T : Type 0} (members : ℕ → Option (Member T)) where
   module _ {firsts : ℕ → Option ℕ} (linked : AreLinked members firsts) where
     -- from a member on, where it is known of those with lower ranks
     walk_behind : (k : ℕ) (m : Member T) → members k ≡ Some m → ((j : ℕ) (n : Member T) → members j ≡ Some n → linked.rank j < linked.rank k → (es : List (ℕ × T)) × IsWalk members (Some j) es)
-      → (o : Option ℕ) → m.next ≡ o → (es : List (ℕ × T)) × IsWalk members o es
+        → (o : Option ℕ) → m.next ≡ o → (es : List (ℕ × T)) × IsWalk members o es
     walk_behind k m e lower None h = ([], refl)
     walk_behind k m e lower (Some j) h =
         let a = linked.ahead k j m e h in
@@ -49,7 +49,7 @@ module _ {T : Type 0} (members : ℕ → Option (Member T)) where
 
     -- all of the list of the first
     pub walk-list : (l : ℕ) (at : Option ℕ) (es : List (ℕ × T)) → IsWalk members at es → ((k : ℕ) (m : Member T) → at ≡ Some k → members k ≡ Some m → m.list ≡ l)
-      → (i : ℕ) (p : ℕ × T) → slice_get es i ≡ Some p → (m : Member T) → members p.0 ≡ Some m → m.list ≡ l
+        → (i : ℕ) (p : ℕ × T) → slice_get es i ≡ Some p → (m : Member T) → members p.0 ≡ Some m → m.list ≡ l
     walk-list l at [] w h i p e m s = cc
     walk-list l at (q ∷ es) w h zero p e m s = let same : q ≡ p = cc in h p.0 m (w.1 ∙ ap (λ r. Some r.0) same) s
     walk-list l at (q ∷ es) w h (suc i) p e m s =
@@ -83,7 +83,7 @@ module _ {T : Type 0} (members : ℕ → Option (Member T)) where
 
     -- each member of the list is met
     walk_up : (l : ℕ) (es : List (ℕ × T)) → IsWalk members (firsts l) es → (k : ℕ) (m : Member T) → members k ≡ Some m → m.list ≡ l
-      → ((j : ℕ) (n : Member T) → members j ≡ Some n → n.list ≡ l → linked.rank k < linked.rank j → (x : T) × IsIn es (j, x)) → (o : Option ℕ) → m.before ≡ o → (x : T) × IsIn es (k, x)
+        → ((j : ℕ) (n : Member T) → members j ≡ Some n → n.list ≡ l → linked.rank k < linked.rank j → (x : T) × IsIn es (j, x)) → (o : Option ℕ) → m.before ≡ o → (x : T) × IsIn es (k, x)
     walk_up l es w k m e s higher None b = starts es (ap firsts (sym s) ∙ linked.front k m e b) w
       where
         starts : (es : List (ℕ × T)) {o : Option ℕ} → o ≡ Some k → IsWalk members o es → (x : T) × IsIn es (k, x)
@@ -140,9 +140,9 @@ module _ {T : Type 0} (members : ℕ → Option (Member T)) where
   walk-is (suc n) (Some k) (p ∷ es) w l =
       let key : k ≡ p.0 = some-inj w.1 in
       ap (λ o. at_member k o (walk n members)) (ap members key ∙ w.2)
-          ∙ ap (λ r. (k, w.0.item) ∷ r) (walk-is n w.0.next es w.4 (omega (arith, l)))
-          ∙ ap (λ a. (a, w.0.item) ∷ es) key
-          ∙ ap (λ x. (p.0, x) ∷ es) w.3
+      ∙ ap (λ r. (k, w.0.item) ∷ r) (walk-is n w.0.next es w.4 (omega (arith, l)))
+      ∙ ap (λ a. (a, w.0.item) ∷ es) key
+      ∙ ap (λ x. (p.0, x) ∷ es) w.3
 
   -- one member on
   pub walk-step : (n k : ℕ) (m : Member T) → members k ≡ Some m → IsWalk members (Some k) (walk n members (Some k)) → (walk n members (Some k) ≡ (k, m.item) ∷ walk n members m.next) × IsWalk members m.next (walk n members m.next)

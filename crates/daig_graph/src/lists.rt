@@ -67,7 +67,12 @@ impl<T: Copy> Lists<T> {
         ensures takes { Takes self.old self.new key }
         ensures room { self.old.room ≤ self.new.room }
     {
-        let Member { list, item: _, before, next } = self.members.remove(key);
+        let Member {
+            list,
+            item: _,
+            before,
+            next,
+        } = self.members.remove(key);
         set_next(&mut self.members, before, next);
         set_before(&mut self.members, next, before);
         set_first(&mut self.firsts, list, before, next);

@@ -34,8 +34,8 @@ linked g c =
     subst P c.as_slice.ensures c.link_inputs.ensures.links
 
 fills : (g : _) (c : goal.After-insert g) → Fills (get c.self.inside.cells) (get c.insert_reserved-key.new.self) (map_get nat_eq c.self.inside.keys) (map_get nat_eq c.insert.new.self)
-  c.self.inside.owned c.push-own.new.self c.self.inside.uses c.link_inputs.new.uses c.insert_reserved-key.result
-  (record { number = c.args.cell; owner = c.args.owner; value = c.args.value; own = c.push-own.result; inputs = c.inputs.inside.cells; uses = c.link_inputs.new.keys })
+    c.self.inside.owned c.push-own.new.self c.self.inside.uses c.link_inputs.new.uses c.insert_reserved-key.result
+    (record { number = c.args.cell; owner = c.args.owner; value = c.args.value; own = c.push-own.result; inputs = c.inputs.inside.cells; uses = c.link_inputs.new.keys })
 fills g c =
     let u = inserted g c in
     record {
@@ -57,5 +57,5 @@ invariant_of-self g c = agrees-fill _ _ _ _ _ _ _ _ _ _ c.self.invariant (fills 
 pub returns-clause-fills : goal.returns-clause-fills
 returns-clause-fills g c =
     map-fill c.self.inside.cells.slots c.insert_reserved-key.new.self.slots _ _ _ _ _ _ _ _ c.self.invariant (fills g c)
-        ∙ ap (λ m. insert m c.args.cell (record { owner = c.args.owner; value = c.args.value; inputs = c.inputs.inside.cells.items })) (cells-is g c)
-        ∙ ap (λ l. insert c.args.self.now.cells c.args.cell (record { owner = c.args.owner; value = c.args.value; inputs = l })) c.inputs.view_is
+    ∙ ap (λ m. insert m c.args.cell (record { owner = c.args.owner; value = c.args.value; inputs = c.inputs.inside.cells.items })) (cells-is g c)
+    ∙ ap (λ l. insert c.args.self.now.cells c.args.cell (record { owner = c.args.owner; value = c.args.value; inputs = l })) c.inputs.view_is

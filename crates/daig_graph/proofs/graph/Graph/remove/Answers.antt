@@ -33,7 +33,7 @@ unlink-requires-clause-once g c m n u a b =
     (ap (λ l. slice_get l m) (sym c.as_slice.ensures) ∙ a) (ap (λ l. slice_get l n) (sym c.as_slice.ensures) ∙ b)
 
 empties : (g : _) (c : goal.Joined-removed-3 g) → Empties (get c.self.inside.cells) (get c.remove-removed.new.self) (map_get nat_eq c.self.inside.keys) (map_get nat_eq c.remove.new.self)
-  c.self.inside.owned c.remove-2.new.self c.self.inside.uses c.unlink.new.uses c.in-Some.key c.remove-removed.result
+    c.self.inside.owned c.remove-2.new.self c.self.inside.uses c.unlink.new.uses c.in-Some.key c.remove-removed.result
 empties g c =
     let number = number-is g c in
     let u = c.remove.ensures.updates in
@@ -57,5 +57,5 @@ pub returns-clause-removes : goal.returns-clause-removes
 returns-clause-removes g c =
     let number = number-is g c in
     map-remove c.self.inside.cells.slots c.remove-removed.new.self.slots _ _ _ _ _ _ _ _ c.self.invariant (empties g c)
-        ∙ ap (λ m. remove m c.remove-removed.result.number) (ap (λ v. v.cells) c.self.view_is)
-        ∙ ap (remove c.args.self.now.cells) number
+    ∙ ap (λ m. remove m c.remove-removed.result.number) (ap (λ v. v.cells) c.self.view_is)
+    ∙ ap (remove c.args.self.now.cells) number

@@ -14,5 +14,7 @@ invariant_of-result g c =
     subst P (sym (first_is g c)) (whole c.self.inside.members.slots (map_get nat_eq c.self.inside.firsts) c.self.invariant c.args.self.now (sym (ap (λ v. v.slots) c.self.view_is)) c.args.list)
 
 pub returns : goal.returns
-returns g c = record { items = listed c.self.inside.members.slots (map_get nat_eq c.self.inside.firsts) c.self.invariant c.args.self.now (sym (ap (λ v. v.slots) c.self.view_is)) c.args.list _
-  (ap (λ o. map (λ e. e.1) (walk (length c.self.inside.members.slots) (get c.self.inside.members) o)) (first_is g c)) }
+returns g c = record {
+  items = listed c.self.inside.members.slots (map_get nat_eq c.self.inside.firsts) c.self.invariant c.args.self.now (sym (ap (λ v. v.slots) c.self.view_is)) c.args.list _
+      (ap (λ o. map (λ e. e.1) (walk (length c.self.inside.members.slots) (get c.self.inside.members) o)) (first_is g c));
+}
