@@ -4,7 +4,7 @@ ghost use Rattle.std.specs.Prelude.{◌≡◌, ◌<◌};
 use crate::Pair;
 use dom_interval::{Interval, IntervalState};
 use domain_laws::{Domain, Steps, Verdict};
-use imp_lex::Number;
+use plain_values::Number;
 use imp_slots::{
     Layout, NumericSlot, SlotAction, SlotCond, SlotCondNode, SlotExpr, SlotExprNode, SlotStmt,
 };
