@@ -1,4 +1,4 @@
-//! Tokens.
+//! Tokens, their kinds and their spans: what `tokens` gives.
 use plain_values::{Number, Text};
 
 /// A token: its kind, and where it stands.

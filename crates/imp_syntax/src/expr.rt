@@ -1,4 +1,4 @@
-//! Expressions.
+//! Expressions and sides, seen as plain trees (`expression_of`, `operand_of`).
 ghost use Rattle.std.specs.Prelude.{◌≡◌, IfOk};
 ghost use Rattle.imp_syntax.specs.Views.{expression_of};
 
