@@ -5,7 +5,8 @@ use Rattle.imp_slots.specs.ActionViews.{effect_of}
 use Rattle.imp_slots.specs.BlockViews.{before_code, code_of}
 use Rattle.imp_slots.specs.declared.blocks.SlotNode.{SlotNode}
 use Rattle.imp_slots.specs.declared.blocks.SlotNode.TheVariants as node
-use Rattle.domain_laws.specs.Checks.{Check, check_of}
+use Rattle.analysis_words.specs.declared.findings.Check as asked
+use Rattle.domain_laws.specs.Checks.{Check, check_of, kind_if}
 use Rattle.domain_laws.specs.Operations.{Operations}
 use Rattle.batch_meaning.specs.Values.{Value, lift}
 use Rattle.batch_meaning.specs.Batch.{head_of}
@@ -21,6 +22,15 @@ use Rattle.batch_interp.proofs.Lists.{drop_item, drop_none, append_none}
 map_both : {A B : Type 0} (f : A → B) (xs ys : List A) → map f (xs ++ ys) ≡ map f xs ++ map f ys
 map_both f [] ys = refl
 map_both f (x ∷ xs) ys = ap (λ zs. f x ∷ zs) (map_both f xs ys)
+
+-- a statement has a check where its check asks something
+pub asks : (o : Option Check) (r : Option asked.Check) (k : asked.Check) → r ≡ kind_if o → r ≡ Some k → true ≡ is_checked o
+asks None r k e h = absurd cc
+asks (Some c) r k e h = refl
+
+pub asks_nothing : (o : Option Check) (r : Option asked.Check) → r ≡ kind_if o → r ≡ None → false ≡ is_checked o
+asks_nothing None r e h = refl
+asks_nothing (Some c) r e h = absurd cc
 
 pub one_claim : (n : ℕ) (e : Effect) (o : Option Check) → is_checked o ≡ true → claims (checked_one n e o) ≡ (n, e) ∷ []
 one_claim n e None h = absurd cc

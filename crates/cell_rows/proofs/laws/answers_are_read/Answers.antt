@@ -1,7 +1,7 @@
 use Rattle.std.specs.Prelude.{if◌then◌else◌, Bool}
 use Rattle.std.proofs.Common.{ap, ◌∙◌}
 use Rattle.batch_meaning.specs.Answers.{Refuses, answer_in, procedure_of}
-use Rattle.batch_meaning.specs.declared.refusal.Refusal.TheVariants.{LongString}
+use Rattle.analysis_words.specs.declared.refusal.Refusal.TheVariants.{LongString}
 use Rattle.demand_order.specs.Asking.{value_of}
 use Rattle.cell_rows.specs.Claims.{rows_of}
 use Rattle.cell_rows.proofs.Ways.{targets_some}
