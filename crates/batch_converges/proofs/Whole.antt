@@ -16,7 +16,7 @@ use Rattle.domain_laws.specs.Laws.{Laws}
 use Rattle.batch_meaning.specs.Values.{Value, State, lift}
 use Rattle.batch_meaning.specs.Batch.{Engine, calls_of}
 use Rattle.batch_meaning.specs.Places.{Spot, spots, find, from, main_layout, if_some, head_value, value_in, entered, entry, value_at}
-use Rattle.batch_meaning.specs.declared.refusal.Refusal.TheVariants.{LongString}
+use Rattle.analysis_words.specs.declared.refusal.Refusal.TheVariants.{LongString}
 use Rattle.batch_meaning.specs.Answers.{Answer, Refuses, Answers, Found, In, Misses, procedure_of, all_values, summed, sum_of, answer_in, answer}
 use Rattle.batch_sound.proofs.Values.{Fit, fit_enter}
 use Rattle.plain_values.proofs.Cases.{some_inj, by_test}

@@ -6,7 +6,8 @@ use Rattle.imp_slots.specs.ActionViews.{effect_of}
 use Rattle.imp_slots.specs.BlockViews.{before_code, code_of}
 use Rattle.imp_slots.specs.declared.blocks.SlotNode.{SlotNode}
 use Rattle.imp_slots.specs.declared.blocks.SlotNode.TheVariants as node
-use Rattle.domain_laws.specs.Checks.{Check, check_of}
+use Rattle.analysis_words.specs.declared.findings.Check as asked
+use Rattle.domain_laws.specs.Checks.{Check, check_of, kind_if}
 use Rattle.domain_laws.specs.Operations.{Operations}
 use Rattle.batch_meaning.specs.Values.{Value, lift}
 use Rattle.batch_meaning.specs.Batch.{head_of}
@@ -18,6 +19,15 @@ use Rattle.batch_interp.specs.Reporting.{claim_of, claims, before_one, befores, 
 use Rattle.batch_interp.specs.declared.value.Answer.{Answer}
 use Rattle.batch_interp.specs.declared.claim.Claim.{Claim}
 use Rattle.plain_values.proofs.Lists.{drop_item}
+
+-- a statement has a check where its check asks something
+pub asks : (o : Option Check) (r : Option asked.Check) (k : asked.Check) → r ≡ kind_if o → r ≡ Some k → true ≡ is_checked o
+asks None r k e h = absurd cc
+asks (Some c) r k e h = refl
+
+pub asks_nothing : (o : Option Check) (r : Option asked.Check) → r ≡ kind_if o → r ≡ None → false ≡ is_checked o
+asks_nothing None r e h = refl
+asks_nothing (Some c) r e h = absurd cc
 
 pub one_claim : (n : ℕ) (e : Effect) (o : Option Check) → is_checked o ≡ true → claims (checked_one n e o) ≡ (n, e) ∷ []
 one_claim n e None h = absurd cc

@@ -8,18 +8,18 @@ use Rattle.imp_slots.specs.Fits.{Distinct, IsChecked}
 use Rattle.program_chains.specs.Chains.{ending_in, chains, selected, holder}
 use Rattle.program_chains.specs.Claims.{PlacesAreFound}
 use Rattle.domain_laws.specs.Operations.{Operations}
-use Rattle.domain_laws.specs.Checks.{Check, check_of}
-use Rattle.domain_laws.specs.declared.findings.Check.{Check as Kind}
-use Rattle.domain_laws.specs.declared.findings.Finding.{Finding}
+use Rattle.domain_laws.specs.Checks.{Check, check_of, kind_of, kind_if}
+use Rattle.analysis_words.specs.declared.findings.Check.{Check as Kind}
+use Rattle.analysis_words.specs.declared.findings.Finding.{Finding}
 use Rattle.alarm_report.specs.declared.Found.{Found}
 use Rattle.alarm_report.specs.declared.Found.TheVariants.{Absent, Over as OverBudget, State as At}
-use Rattle.alarm_report.specs.Reporting.{kind_of_check, verdict_for}
-use Rattle.batch_meaning.specs.declared.refusal.Refusal.TheVariants.{NoStatement}
+use Rattle.alarm_report.specs.Reporting.{verdict_for}
+use Rattle.analysis_words.specs.declared.refusal.Refusal.TheVariants.{NoStatement}
 use Rattle.batch_meaning.specs.Values.{Value, lift, lift2}
 use Rattle.batch_meaning.specs.Batch.{Engine, head_of, behind}
 use Rattle.batch_meaning.specs.Places.{Spot, spot, if_some, entry, value_in, value_at}
 use Rattle.batch_meaning.specs.Answers.{found_or, all_values, sum_of, answer_in, answer}
-use Rattle.batch_meaning.specs.Report.{Checked, checked_one, checked_in, checked_statements, kind_of, verdict_on, finding}
+use Rattle.batch_meaning.specs.Report.{Checked, checked_one, checked_in, checked_statements, verdict_on, finding}
 use Rattle.batch_interp.specs.Answered.{value_of}
 use Rattle.batch_interp.specs.Frames.{Plan, earlier, marks_at, calls_in, passed}
 use Rattle.batch_interp.specs.Seeking.{places}
@@ -217,11 +217,11 @@ verdict_same dom engine e Absent v h = ap (λ o. verdict_on dom engine e (answer
 verdict_same dom engine e OverBudget v h = ap (λ o. verdict_on dom engine e (answered o)) (sym h.2)
 verdict_same dom engine e (At s) v h = ap (λ o. verdict_on dom engine e (answered o)) (sym h)
 
-kind_same : (o : Option Check) (k : Kind) → kind_of_check o ≡ Some k → k ≡ kind_for o
+kind_same : (o : Option Check) (k : Kind) → kind_if o ≡ Some k → k ≡ kind_for o
 kind_same None k h = absurd cc
 kind_same (Some c) k h = cc
 
-pub report_made : {S : Type 0} (dom : Operations S) (engine : Engine) (n : ℕ) (e : Effect) (g : Found S) (v : Option (Value S)) (f : Finding) → f.id ≡ n → kind_of_check (check_of e) ≡ Some f.check → f.verdict ≡ verdict_for dom (Does e) g → IsFoundOf g v → f ≡ found_from dom engine (n, e) v
+pub report_made : {S : Type 0} (dom : Operations S) (engine : Engine) (n : ℕ) (e : Effect) (g : Found S) (v : Option (Value S)) (f : Finding) → f.id ≡ n → kind_if (check_of e) ≡ Some f.check → f.verdict ≡ verdict_for dom (Does e) g → IsFoundOf g v → f ≡ found_from dom engine (n, e) v
 report_made dom engine n e g v f i k w h =
     let kind : f.check ≡ kind_for (check_of e) = kind_same (check_of e) f.check k in
     let verdict : f.verdict ≡ verdict_on dom engine e (answered v) = w ∙ verdict_same dom engine e g v h in

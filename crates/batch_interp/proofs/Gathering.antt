@@ -2,7 +2,7 @@
 use Rattle.std.proofs.Common.{ℕ, ◌≡◌, ◌+◌, ◌<◌, ◌≤◌, List, [], ◌∷◌, length, drop, reverse, map, get_or, Option, Some, None, refl, sym, ap, ◌∙◌}
 use Rattle.std.proofs.lemmas.List.{reverse-reverse, drop_all}
 use Rattle.domain_laws.specs.Operations.{Operations}
-use Rattle.batch_meaning.specs.declared.refusal.Refusal.TheVariants.{NoStatement}
+use Rattle.analysis_words.specs.declared.refusal.Refusal.TheVariants.{NoStatement}
 use Rattle.batch_meaning.specs.Values.{Value, lift}
 use Rattle.batch_meaning.specs.Batch.{Engine, joined}
 use Rattle.batch_meaning.specs.Places.{if_some}

@@ -16,8 +16,8 @@ use Rattle.program_chains.specs.Marks.{marks}
 use Rattle.program_chains.specs.Claims.{PlacesAreFound}
 use Rattle.domain_laws.specs.Operations.{Operations}
 use Rattle.domain_laws.specs.Laws.{Laws}
-use Rattle.batch_meaning.specs.declared.refusal.Refusal.{Refusal}
-use Rattle.batch_meaning.specs.declared.refusal.Refusal.TheVariants.{LongString, NoProcedure, NoStatement, NoChain}
+use Rattle.analysis_words.specs.declared.refusal.Refusal.{Refusal}
+use Rattle.analysis_words.specs.declared.refusal.Refusal.TheVariants.{LongString, NoProcedure, NoStatement, NoChain}
 use Rattle.batch_meaning.specs.Values.{Value, State, lift}
 use Rattle.batch_meaning.specs.Batch.{Engine, calls_of}
 use Rattle.batch_meaning.specs.Places.{Spot, spots, find, from, main_layout, if_some, head_value, value_in, entered, entry, value_at}

@@ -5,7 +5,7 @@ use Rattle.concrete_sem.proofs.Programs.{from_match}
 use Rattle.imp_syntax.specs.declared.edit.Location.TheVariants.{Before, End}
 use Rattle.imp_slots.specs.Plain.{Effect, Does, Code, Stop, Simple, If, While, Call, Break, Routine}
 use Rattle.imp_slots.specs.Fits.{IsChecked}
-use Rattle.concrete_sem.specs.declared.fault.FaultKind.{FaultKind}
+use Rattle.analysis_words.specs.declared.fault.FaultKind.{FaultKind}
 use Rattle.concrete_sem.specs.Values.{Variables, Heap, Attempt, Gives, Faults, LacksInput, IsWord}
 use Rattle.concrete_sem.specs.Evaluation.{truth_of}
 use Rattle.concrete_sem.specs.Effects.{effect_of}
@@ -15,16 +15,16 @@ use Rattle.concrete_sem.specs.Reach.{first_number, location_of, standing, after_
 use Rattle.concrete_sem.specs.WellFormed.{IsWork, IsWellFormed, DoTheirWork}
 use Rattle.concrete_sem.specs.Claims.{StepsKeepForm, StartIsWellFormed}
 use Rattle.program_chains.specs.Claims.{PlacesAreFound}
-use Rattle.domain_laws.specs.declared.verdict.Verdict.TheVariants.{Dead, Safe}
-use Rattle.domain_laws.specs.declared.findings.Finding.{Finding}
-use Rattle.domain_laws.specs.Checks.{Check, Within, IsCell, Claims, fault_of}
+use Rattle.analysis_words.specs.declared.verdict.Verdict.TheVariants.{Dead, Safe}
+use Rattle.analysis_words.specs.declared.findings.Finding.{Finding}
+use Rattle.domain_laws.specs.Checks.{Check, Within, IsCell, Claims, fault_of, kind_of}
 use Rattle.domain_laws.specs.Operations.{Operations}
 use Rattle.domain_laws.specs.Laws.{Laws}
-use Rattle.batch_meaning.specs.declared.refusal.Refusal.TheVariants.{LongString, NoProcedure, NoStatement, WrongStatement, NoChain}
+use Rattle.analysis_words.specs.declared.refusal.Refusal.TheVariants.{LongString, NoProcedure, NoStatement, WrongStatement, NoChain}
 use Rattle.batch_meaning.specs.Values.{State, Over}
 use Rattle.batch_meaning.specs.Batch.{Engine}
 use Rattle.batch_meaning.specs.Answers.{Answer, Refuses, Answers, answer}
-use Rattle.batch_meaning.specs.Report.{Checked, checked_statements, kind_of, verdict_on, finding}
+use Rattle.batch_meaning.specs.Report.{Checked, checked_statements, verdict_on, finding}
 use Rattle.batch_sound.specs.Theorem.{failing, AreReportsSound}
 use Rattle.plain_values.proofs.Cases.{some_inj}
 use Rattle.plain_values.proofs.Members.{Member}

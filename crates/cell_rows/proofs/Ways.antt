@@ -7,8 +7,8 @@ use Rattle.imp_syntax.specs.declared.edit.Location.TheVariants.{Before, After, H
 use Rattle.imp_slots.specs.Plain.{Invoke, Code, Stop, Simple, If, While, Call, Break, Routine, code_numbers}
 use Rattle.imp_slots.specs.Fits.{Distinct, IsChecked}
 use Rattle.program_chains.specs.Chains.{calls_to, extended, through, chains_within, chains, ends_in, ending_in, selected, has, holder_from, holder, named_from, named, has_while, is_while}
-use Rattle.batch_meaning.specs.declared.refusal.Refusal.{Refusal}
-use Rattle.batch_meaning.specs.declared.refusal.Refusal.TheVariants.{NoProcedure, NoStatement}
+use Rattle.analysis_words.specs.declared.refusal.Refusal.{Refusal}
+use Rattle.analysis_words.specs.declared.refusal.Refusal.TheVariants.{NoProcedure, NoStatement}
 use Rattle.batch_meaning.specs.Answers.{Found, In, Misses, found_or, found_loop, procedure_of}
 use Rattle.batch_meaning.specs.Places.{find, if_some, from}
 use Rattle.cell_names.specs.declared.frame.Point.{Point}

@@ -1,4 +1,5 @@
-//! The server of a program.
+//! The server of one program, which replies to each line as the machine `server` of
+//! `specs/Reply.antt`.
 ghost use Rattle.std.specs.Prelude.{◌≡◌, IfOk};
 ghost use Rattle.interval_meaning.specs.Domain.{intervals};
 ghost use Rattle.request_json.specs.Replies.{reply_text};

@@ -1,7 +1,7 @@
 //! How programs run.
 use crate::checked::checked;
 use concrete_sem::FaultKind;
-use imp_run::{End, Outcome, run};
+use imp_run::{Outcome, RunEnd as End, run};
 use imp_syntax::{Location, StmtId};
 use std::alloc::Global;
 use std::test::Fail;

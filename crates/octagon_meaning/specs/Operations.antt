@@ -16,7 +16,7 @@ use Rattle.num_bounds.specs.Bounds.{Bounds}
 use Rattle.num_bounds.specs.Operations.{cut_of}
 use Rattle.domain_laws.specs.Checks.{check_of}
 use Rattle.domain_laws.specs.Guards.{assumed, past_check, verdict_by}
-use Rattle.domain_laws.specs.declared.verdict.Verdict.{Verdict}
+use Rattle.analysis_words.specs.declared.verdict.Verdict.{Verdict}
 use Rattle.octagon_meaning.specs.declared.form.Form.{Form}
 use Rattle.octagon_meaning.specs.Forms.{form_of, slot_form}
 use Rattle.octagon_meaning.specs.Matrices.{assigned, meets_range, side_at_least, side_at_most, with_difference, without}

@@ -9,7 +9,7 @@ use Rattle.product_meaning.specs.Product.{product}
 use Rattle.batch_meaning.specs.Values.{Value, State, lift}
 use Rattle.batch_meaning.specs.Batch.{Engine}
 use Rattle.batch_meaning.specs.Answers.{Answer, Refuses, Answers, Found, In, Misses, procedure_of, all_values, summed, sum_of, answer_in, answer}
-use Rattle.batch_meaning.specs.declared.refusal.Refusal.TheVariants.{LongString}
+use Rattle.analysis_words.specs.declared.refusal.Refusal.TheVariants.{LongString}
 use Rattle.product_answers.specs.Claims.{AnswersPairs}
 use Rattle.product_answers.proofs.Lists.{WhereThere, there_then, chosen}
 use Rattle.product_answers.proofs.Values.{IsPair, ArePairs, pair_lift, pair_joined}

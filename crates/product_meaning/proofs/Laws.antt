@@ -4,8 +4,8 @@ use Rattle.std.proofs.Common.{ap, inl, inr}
 use Rattle.std.proofs.lemmas.Bool.{and_parts, and_from}
 use Rattle.imp_slots.specs.Plain.{Does}
 use Rattle.concrete_sem.specs.Values.{Variables, Heap}
-use Rattle.domain_laws.specs.declared.verdict.Verdict.{Verdict}
-use Rattle.domain_laws.specs.declared.verdict.Verdict.TheVariants.{Dead, Safe, May}
+use Rattle.analysis_words.specs.declared.verdict.Verdict.{Verdict}
+use Rattle.analysis_words.specs.declared.verdict.Verdict.TheVariants.{Dead, Safe, May}
 use Rattle.domain_laws.specs.Operations.{Operations}
 use Rattle.domain_laws.specs.Laws.{Laws, KeepsDead}
 use Rattle.product_meaning.specs.Product.{product, stronger, covered_by_both}

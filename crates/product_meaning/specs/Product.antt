@@ -1,8 +1,8 @@
 -- The product of two domains (Cousot and Cousot, POPL 1979, direct product): a state is one of each.
 use Rattle.std.specs.Prelude.{◌&&◌, List, ◌++◌, codes}
 use Rattle.concrete_sem.specs.Values.{Variables, Heap}
-use Rattle.domain_laws.specs.declared.verdict.Verdict.{Verdict}
-use Rattle.domain_laws.specs.declared.verdict.Verdict.TheVariants.{Dead, Safe, May}
+use Rattle.analysis_words.specs.declared.verdict.Verdict.{Verdict}
+use Rattle.analysis_words.specs.declared.verdict.Verdict.TheVariants.{Dead, Safe, May}
 use Rattle.domain_laws.specs.Operations.{Operations}
 
 -- dead where either is, else safe where either is, else may

@@ -1,7 +1,7 @@
 use Rattle.std.specs.Prelude.{if◌then◌else◌, Bool}
 use Rattle.std.proofs.Common.{ap, ◌∙◌}
 use Rattle.batch_meaning.specs.Answers.{Refuses, answer_in, procedure_of}
-use Rattle.batch_meaning.specs.declared.refusal.Refusal.TheVariants.{LongString}
+use Rattle.analysis_words.specs.declared.refusal.Refusal.TheVariants.{LongString}
 use Rattle.cells_sound.proofs.read_answers_are_sound.Goals as goal
 
 pub returns : goal.returns

@@ -1,10 +1,7 @@
 //! Findings.
-ghost use Rattle.std.specs.Prelude.{◌≡◌, [], ◌∷◌, ◌++◌, OnOk, OnErr, IfOk};
-
 use crate::Verdict;
 use imp_syntax::StmtId;
-use plain_values::{Items, Memory};
-use std::alloc::Global;
+use plain_values::Items;
 
 /// What the check of a statement asks.
 #[derive(Clone, Copy, Debug, PartialEq, Eq, Hash)]
