@@ -140,7 +140,7 @@ fn answers_without_a_string(rt: HostRuntime) -> Result<(), Fail> {
         ((COUNTS, 2, 0, false), ("after", 3), "i=[10,max] n=[10,10]"),
         ((COUNTS, 100, 0, true), ("after", 3), "i=[10,10] n=[10,10]"),
         ((COUNTS, 100, 20, false), ("main", 0), "i=[10,10] n=[10,10]"),
-        ((COUNTS, 100, 0, false), ("after", 5), "NoStatement"),
+        ((COUNTS, 100, 0, false), ("after", 5), "Refused(NoStatement)"),
         ((COUNTS, 100, 0, false), ("head", 4), "WrongStatement"),
         ((COUNTS, 100, 0, false), ("f", 0), "NoProcedure"),
         ((BRANCHES, 1, 0, false), ("after", 2), "over 3"),
@@ -167,7 +167,7 @@ fn answers_under_a_string(rt: HostRuntime) -> Result<(), Fail> {
     let second = told(alloc, how, ("f", 0), &[5])?;
     assert_eq!(rt; second.as_str(), "x=[2,2]");
     let none = told(alloc, how, ("f", 0), &[4, 5])?;
-    assert_eq!(rt; none.as_str(), "NoChain");
+    assert_eq!(rt; none.as_str(), "Refused(NoChain)");
     let long = told(alloc, how, ("f", 0), &[4, 5, 6])?;
     assert_eq!(rt; long.as_str(), "LongString");
     Ok(())
