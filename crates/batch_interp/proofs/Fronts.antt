@@ -1,7 +1,7 @@
 -- What is known in front of the statements of a procedure that have a check.
 use Rattle.std.proofs.Common.{ℕ, zero, suc, ◌≡◌, ◌+◌, ◌<◌, ◌≤◌, true, false, List, [], ◌∷◌, ◌++◌, length, drop, map, reverse, get_or, slice_get, option_map, Option, Some, None, MatchOption, Result, Ok, Err, IfOk, refl, sym, ap, subst, ◌∙◌, arith, append_assoc, add-one}
 use Rattle.std.specs.Prelude.{Contains}
-use Rattle.std.proofs.lemmas.List.{reverse-append, reverse-reverse}
+use Rattle.std.proofs.lemmas.List.{reverse-append, reverse-reverse, append-nil}
 use Rattle.imp_syntax.specs.declared.edit.Location.TheVariants.{Before}
 use Rattle.imp_slots.specs.Plain.{Guard, Effect, Does, DoBreak, Invoke, Code, Stop, Simple, If, While, Call, Break, Routine, code_numbers}
 use Rattle.imp_slots.specs.Fits.{Distinct, IsChecked}
@@ -29,8 +29,11 @@ use Rattle.batch_interp.specs.Totalling.{first_of, behind_first, all_added, answ
 use Rattle.batch_interp.specs.declared.claim.Claim.{Claim}
 use Rattle.batch_interp.specs.declared.value.Answer.{Answer}
 use Rattle.batch_interp.specs.declared.walks.Entered.{Entered}
-use Rattle.batch_interp.proofs.Lists.{append_none, drop_item}
-use Rattle.batch_interp.proofs.Members.{Member, here, there, in_left, in_right, found, has_member, All2, all2_both, all2_as, AllOf, all_both, all_as}
+use Rattle.plain_values.proofs.Lists.{drop_item}
+use Rattle.plain_values.proofs.Members.{Member, here, there, in_left, in_right}
+use Rattle.batch_meaning.proofs.Places.{found}
+use Rattle.batch_sound.proofs.Chains.{has_member}
+use Rattle.batch_interp.proofs.Members.{All2, all2_both, all2_as, AllOf, all_both, all_as}
 use Rattle.batch_interp.proofs.Once.{once_at}
 use Rattle.batch_interp.proofs.Seekings.{numbers_of_places}
 use Rattle.batch_interp.proofs.Walkings.{before_there}
@@ -251,7 +254,7 @@ add_one dom all all' before before' left left' o next x l p v a =
     ∙ ap (λ zs. all_added dom (map value_of (reverse before)) (map value_of zs)) (sym (reversed left left' next l)))
 
 pub add_none : {S : Type 0} (dom : Operations S) (all before left : List (Answer S)) → left ≡ [] → map value_of all ++ all_added dom (map value_of (reverse before)) (map value_of (reverse left)) ≡ map value_of all
-add_none dom all before left e = ap (λ zs. map value_of all ++ all_added dom (map value_of (reverse before)) (map value_of (reverse zs))) e ∙ append_none (map value_of all)
+add_none dom all before left e = ap (λ zs. map value_of all ++ all_added dom (map value_of (reverse before)) (map value_of (reverse zs))) e ∙ append-nil (map value_of all)
 
 first_drop : {S : Type 0} (xs : List (Answer S)) (i : ℕ) → first_of (map value_of (drop i xs)) ≡ option_map value_of (slice_get xs i)
 first_drop [] zero = refl

@@ -4,12 +4,11 @@ ghost use Rattle.std.specs.Prelude.{◌≡◌, ◌<◌};
 use crate::Pair;
 use dom_interval::{Interval, IntervalState};
 use domain_laws::{Domain, Steps, Verdict};
-use imp_lex::Number;
 use imp_slots::{
     Layout, NumericSlot, SlotAction, SlotCond, SlotCondNode, SlotExpr, SlotExprNode, SlotStmt,
 };
 use imp_syntax::Relation;
-use plain_values::{Items, Text};
+use plain_values::{Items, Number, Text};
 use std::alloc::Global;
 use std::marker::Brand;
 use std::sync::ledger::{Blank, Ledger};

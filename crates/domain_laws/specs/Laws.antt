@@ -1,6 +1,6 @@
 -- The laws of a domain: its operations describe what steps do. What a state describes depends on the heap and the frames'
 -- variables alone, the last frame's first.
-use Rattle.std.specs.Prelude.{◌≡◌, ◌↔◌, List, [], ◌∷◌, Some, Bool, true, ℤ, ◌<ℤ◌, All}
+use Rattle.std.specs.Prelude.{◌≡◌, ◌↔◌, List, [], ◌∷◌, Some, Bool, true, ℤ, All}
 use Rattle.imp_slots.specs.Plain.{Layout, Guard, Effect, Act, DoBreak, Does, Invoke}
 use Rattle.imp_slots.specs.Fits.{fits_guard, fits_effect, fits_invoke}
 pub use Rattle.program_chains.specs.Marks.{IsRising}

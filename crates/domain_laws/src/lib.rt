@@ -9,7 +9,7 @@
 //! `specs/Checks.antt` gives the check of a statement and the negation of a condition, and
 //! `specs/Guards.antt` how a domain assumes a condition from what it does with comparisons. A
 //! domain whose comparisons and joins are right assumes conditions rightly, and its verdicts are
-//! right (`specs/GuardLaws.antt`).
+//! right (`proofs/GuardLaws.antt`).
 //!
 //! A trait has no cost of its own: each domain says what its operations cost.
 #![tactic(auto)]

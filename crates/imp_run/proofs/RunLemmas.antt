@@ -1,6 +1,7 @@
 -- Runs that end, and runs that go on.
 use Rattle.std.specs.Prelude.{◌≡◌, ℕ, zero, suc, ◌+◌, List, Bool, true, false, Option, Some, None}
 use Rattle.std.proofs.Common.{refl, sym, ap, ◌∙◌, arith}
+use Rattle.plain_values.proofs.Cases.{some_inj}
 use Rattle.imp_slots.specs.Plain.{Routine}
 use Rattle.concrete_sem.specs.Steps.{Config, Step}
 use Rattle.concrete_sem.specs.Steps as steps
@@ -20,23 +21,20 @@ pub after-counted : (n : ℕ) (b : Bool) (r : Run) → after_more n (counted b r
 after-counted n true r = ap (λ m. let q : Run = record { end = r.end; reached = m } in q) (omega arith)
 after-counted n false r = ap (λ m. let q : Run = record { end = r.end; reached = m } in q) (omega arith)
 
-some_same : {A : Type 0} (x y : A) → Some x ≡ Some y → x ≡ y
-some_same x y h = cc
-
 module _ (program : List Routine) (here : Config → Bool) where
   abbrev ended_by : Config → Ending → Run
   ended_by c end = counted (here c) (ends (end_of end))
 
   -- a step that is the last one of a run
   pub run-ends : (s : Stepped) (left : ℕ) (end : Ending) (c c2 : Config) → IsEndAfter s left (Some end) → steps.step program c ≡ step_of s c2 → run_from program here left c ≡ counted (here c) (ends (end_of end))
-  run-ends Ended zero end c c2 h is = rw is (ap (ended_by c) (sym (some_same end e.Ended h)))
-  run-ends Ended (suc n) end c c2 h is = rw is (ap (ended_by c) (sym (some_same end e.Ended h)))
-  run-ends Next zero end c c2 h is = rw is (ap (ended_by c) (sym (some_same end e.FuelUsedUp h)))
+  run-ends Ended zero end c c2 h is = rw is (ap (ended_by c) (sym (some_inj end e.Ended h)))
+  run-ends Ended (suc n) end c c2 h is = rw is (ap (ended_by c) (sym (some_inj end e.Ended h)))
+  run-ends Next zero end c c2 h is = rw is (ap (ended_by c) (sym (some_inj end e.FuelUsedUp h)))
   run-ends Next (suc n) end c c2 h is = absurd (cc)
-  run-ends (Fault n k) zero end c c2 h is = rw is (ap (ended_by c) (sym (some_same end e.FuelUsedUp h)))
-  run-ends (Fault n k) (suc m) end c c2 h is = rw is (ap (ended_by c) (sym (some_same end (e.Fault n k) h)))
-  run-ends (NoInput n) zero end c c2 h is = rw is (ap (ended_by c) (sym (some_same end e.FuelUsedUp h)))
-  run-ends (NoInput n) (suc k) end c c2 h is = rw is (ap (ended_by c) (sym (some_same end (e.InputsUsedUp n) h)))
+  run-ends (Fault n k) zero end c c2 h is = rw is (ap (ended_by c) (sym (some_inj end e.FuelUsedUp h)))
+  run-ends (Fault n k) (suc m) end c c2 h is = rw is (ap (ended_by c) (sym (some_inj end (e.Fault n k) h)))
+  run-ends (NoInput n) zero end c c2 h is = rw is (ap (ended_by c) (sym (some_inj end e.FuelUsedUp h)))
+  run-ends (NoInput n) (suc k) end c c2 h is = rw is (ap (ended_by c) (sym (some_inj end (e.InputsUsedUp n) h)))
 
   -- a step after which the run goes on
   pub run-goes-on : (s : Stepped) (left : ℕ) (c c2 : Config) → IsEndAfter s left None → steps.step program c ≡ step_of s c2 → (k : ℕ) × (left ≡ suc k) × (run_from program here left c ≡ counted (here c) (run_from program here k c2))

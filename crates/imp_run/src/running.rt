@@ -1,4 +1,4 @@
-//! Runs.
+//! Runs: how one ends, and how often it stands at a location (`run`).
 ghost use Rattle.std.specs.Prelude.{◌≡◌, ◌+◌, ◌<◌, ◌-◌, length, ◌^◌, Some, slice_get, IfOk};
 ghost use Rattle.std.specs.Option.{option_copied};
 ghost use Rattle.concrete_sem.specs.Steps.{start};
