@@ -60,7 +60,7 @@ impl<S> Memo<S> {
     pub fn get(&mut self, key: &Key) -> Option<usize>
         ensures value { result ≡ lookup (⟦<Key as PartialEq>⟧.eq key.now) self.old.entries }
         ensures recent { self.new ≡ lru_cache (promoted (⟦<Key as PartialEq>⟧.eq key.now) self.old.entries) self.old.cap }
-        ensures result { (dom : Operations S) (operations : List Operation) (states : List S) → AreResults dom operations states self.old.entries → IfSome result (IsResult dom operations states key.now) }
+        ensures found { (dom : Operations S) (operations : List Operation) (states : List S) → AreResults dom operations states self.old.entries → IfSome result (IsResult dom operations states key.now) }
         ensures results { (dom : Operations S) (operations : List Operation) (states : List S) → AreResults dom operations states self.old.entries → AreResults dom operations states self.new.entries }
     {
         self.cache.get(key).copied()
