@@ -7,12 +7,12 @@ use std::marker::Model;
 
 /// What is left of a list, seen as the list of its items.
 #[derive(Drop)]
-pub struct Items<'a, T> {
+pub struct Walk<'a, T> {
     pub(crate) members: &'a Slab<Member<T>>,
     pub(crate) next: Option<usize>,
 }
 
-impl<'a, T> Model for Items<'a, T> {
+impl<'a, T> Model for Walk<'a, T> {
     ghost use Rattle.std.specs.Prelude.{List, map};
 
     ghost Value = { List T };
@@ -25,7 +25,7 @@ impl<'a, T> Model for Items<'a, T> {
     ghost invariant = { λ a. IsWalk (get a.members.now) a.next (left a.members.now a.next) };
 }
 
-impl<'a, T: Copy> Iterator for Items<'a, T> {
+impl<'a, T: Copy> Iterator for Walk<'a, T> {
     type Item = T;
 
     ghost next_gives = { YieldsFirst (λ rest. rest) };

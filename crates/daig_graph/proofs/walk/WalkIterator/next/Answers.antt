@@ -2,7 +2,7 @@ use Rattle.std.proofs.Common.{◌≡◌, ℕ, List, [], ◌∷◌, map, length, 
 use Rattle.slab.specs.Slab.{get}
 use Rattle.daig_graph.specs.Walks.{IsWalk, walk}
 use Rattle.daig_graph.proofs.Walking.{walk-step}
-use Rattle.daig_graph.proofs.items.ItemsIterator.next.Goals as goal
+use Rattle.daig_graph.proofs.walk.WalkIterator.next.Goals as goal
 
 pub invariant_of-self : goal.invariant_of-self
 invariant_of-self g c =
