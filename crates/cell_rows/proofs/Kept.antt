@@ -1,5 +1,5 @@
 -- Over an edit: cells that are kept hold the new program's values.
-use Rattle.std.proofs.Common.{reverse, ◌≡◌, Bool, true, List, length, Some, sym, ap, ◌∙◌}
+use Rattle.std.proofs.Common.{reverse, ◌≡◌, Bool, true, List, Some, sym, ap, ◌∙◌}
 use Rattle.imp_slots.specs.Plain.{Routine}
 use Rattle.imp_slots.specs.Fits.{IsChecked}
 use Rattle.domain_laws.specs.Operations.{Operations}

@@ -1,5 +1,5 @@
 -- A name of a program has a row by number.
-use Rattle.std.proofs.Common.{reverse, ◌≡◌, List, [], Some, true, false, sym, ◌∙◌}
+use Rattle.std.proofs.Common.{reverse, List, [], true, false, sym, ◌∙◌}
 use Rattle.imp_slots.specs.Plain.{Routine}
 use Rattle.imp_slots.specs.Fits.{IsChecked}
 use Rattle.domain_laws.specs.declared.verdict.Verdict.TheVariants.{May}

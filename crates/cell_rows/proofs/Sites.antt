@@ -1,25 +1,14 @@
 -- The call sites of the block that a path leads to are the path's.
-use Rattle.std.proofs.Common.{◌≡◌, ℕ, zero, suc, List, [], ◌∷◌, Option, Some, None, Bool, true, false, if◌then◌else◌, refl, sym, ap, ◌∙◌, subst, nat_lt, slice_get}
-use Rattle.imp_slots.specs.Plain.{Guard, Code, Stop, Simple, If, While, Call, Break, Routine}
-use Rattle.domain_laws.specs.Operations.{Operations}
-use Rattle.batch_meaning.specs.Values.{State}
+use Rattle.std.proofs.Common.{◌≡◌, ℕ, List, [], ◌∷◌, Some, None, Bool, true, false, if◌then◌else◌, sym, ap, ◌∙◌, nat_lt}
+use Rattle.imp_slots.specs.Plain.{Code, Stop, Simple, If, While, Call, Break, Routine}
 use Rattle.batch_meaning.specs.Batch.{Engine}
-use Rattle.batch_meaning.specs.Places.{find, if_some, from, main_layout}
+use Rattle.batch_meaning.specs.Places.{from}
 use Rattle.cell_names.specs.declared.frame.Frame.{Frame}
 use Rattle.cell_names.specs.declared.frame.Frame.TheVariants.{InCall, InLoop}
-use Rattle.cell_names.specs.declared.frame.Point.{Point}
-use Rattle.cell_names.specs.declared.frame.Point.TheVariants.{Entry, Then, Else, Body, Post, Iterate, Fix, Exit, Leap}
-use Rattle.cell_names.specs.Paths.{CellName}
 use Rattle.batch_sound.proofs.Procedures.{some_inj}
-use Rattle.batch_sound.proofs.Places.{found_member}
-use Rattle.demand_order.specs.Asking.{inputs_of}
-use Rattle.cell_rows.specs.Names.{name, Mark, At, Place, bare, number, breaks, break_numbers, place_of, level_of, start_of, in_call, in_loop, round_place, statement, follow, when}
-use Rattle.cell_rows.specs.Rows as R
-use Rattle.cell_rows.specs.Rows.{Row, Op, op_of, Init, One, Two, Fixed as FixedRow, Joins, sites_of, row_at, branch_row, post_row, next_row, fix_row, exit_row, leap_row, enter_row, turn_row, joins_row, loop_row, leave_points, joined_point, last_point}
-use Rattle.cell_rows.specs.Cells.{plain, Cell, table, row_of_name, by_row, operation_row, nothing}
-use Rattle.cell_rows.proofs.Levels.{keyed}
+use Rattle.cell_rows.specs.Names.{Mark, Place, bare, start_of, in_call, in_loop, round_place, follow}
+use Rattle.cell_rows.specs.Rows.{sites_of}
 use Rattle.cell_rows.proofs.Lookup.{unstated}
-use Rattle.cell_rows.proofs.Edits.{SameIn}
 
 module _ (engine : Engine) (program : List Routine) where
   abbrev Q : Type 0

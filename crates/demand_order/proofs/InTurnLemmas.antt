@@ -61,10 +61,10 @@ module _ {T : Type 0} (s : System T) (law : IsAcyclic s) where
         λ x. (
           λ m. order-needed s law kept xs (ceiling s xs) low x (ap (λ v. member s.same v x) (sym (turns-one kept xss)) ∙ m),
           λ n.
-          ap (λ v. member s.same v x) (turns-one kept xss)
-          ∙ (elim (or_cases (kept x) (member s.same (fill_all s kept [] xs) x) (needed-seen s law kept xs (ceiling s xs) low x c n.0)) [
-            | inl k ↦ not_both (kept x) k n.1
-            | inr m ↦ m
-          ]),
+              ap (λ v. member s.same v x) (turns-one kept xss)
+              ∙ (elim (or_cases (kept x) (member s.same (fill_all s kept [] xs) x) (needed-seen s law kept xs (ceiling s xs) low x c n.0)) [
+                | inl k ↦ not_both (kept x) k n.1
+                | inr m ↦ m
+              ]),
         ),
       )
