@@ -17,11 +17,20 @@ use Rattle.cell_rows.specs.Cells.{Cell, plain, operation_row}
 use Rattle.cell_rows.specs.Flat.{Flat, flat, stand_in, by_text, flat_row}
 use Rattle.cell_rows.proofs.Listed.{numbered}
 
-abbrev is_leap : Point → Bool
+abbrev pub is_leap : Point → Bool
 is_leap (Leap n b) = true
 is_leap _ = false
 
-abbrev fix_number : Point → ℕ
+abbrev pub is_exit : Point → Bool
+is_exit (Exit n) = true
+is_exit _ = false
+
+-- whether the operation passes an index on
+abbrev exits : R.Unary → Bool
+exits (R.Exits guard) = true
+exits _ = false
+
+abbrev pub fix_number : Point → ℕ
 fix_number (Fix n) = n
 fix_number _ = 0
 
@@ -31,12 +40,12 @@ join_number (Leap n k) = n
 join_number _ = 0
 
 -- The row of a fixed point has the number of its point, its path and the call sites there; that of a join behind a loop
--- with breaks the number of its point and its path, and whether it passes an index on hangs on its point.
+-- with breaks the number of its point and its path. Whether a row passes an index on hangs on its point.
 abbrev pub Shape : List Frame → Point → Row → Type 0
 Shape w p (Init layout) = Unit {0}
-Shape w p (One op a) = Unit {0}
+Shape w p (One op a) = exits op ≡ is_exit p
 Shape w p (Two op a b) = Unit {0}
-Shape w p (FixedRow n z v q) = (fix_number p ≡ n) × (z ≡ sites_of w) × (v ≡ w)
+Shape w p (FixedRow n z v q) = (p ≡ Fix n) × (z ≡ sites_of w) × (v ≡ w)
 Shape w p (Joins stays l n v q) = (stays ≡ is_leap p) × (join_number p ≡ n) × (v ≡ w)
 
 abbrev pub Shaped : List Frame → Point → Option Row → Type 0
@@ -77,36 +86,36 @@ module _ (engine : Engine) (program : List Routine) where
   enter_shape v w n b y (Simple m effect r) = tt
   enter_shape v w n b y (If m guard t e r) = tt
   enter_shape v w n b y (While m guard t r) = tt
-  enter_shape v w n b y (Call m call q r) = then_shape v Entry (in_call engine bare b n y (Call m call q r)) (λ d. One (R.Enters call.entering) (name w y.point)) (λ d. tt)
+  enter_shape v w n b y (Call m call q r) = then_shape v Entry (in_call engine bare b n y (Call m call q r)) (λ d. One (R.Enters call.entering) (name w y.point)) (λ d. refl)
   enter_shape v w n b y (Break m r) = tt
 
   turn_shape : (v w : List Frame) (n k : ℕ) (b : Q) (y : U) (d : Code) → Shaped v Body (turn_row engine bare w b n k y d)
   turn_shape v w n k b y Stop = tt
   turn_shape v w n k b y (Simple m effect r) = tt
   turn_shape v w n k b y (If m guard t e r) = tt
-  turn_shape v w n k b y (While m guard t r) = when_shape v Body (nat_lt k engine.budget) _ tt
+  turn_shape v w n k b y (While m guard t r) = when_shape v Body (nat_lt k engine.budget) _ refl
   turn_shape v w n k b y (Call m call q r) = tt
   turn_shape v w n k b y (Break m r) = tt
 
-  branch_shape : (w : List Frame) (p : Point) (h : Bool) (b : Q) (y : U) (d : Code) → Shaped w p (branch_row engine bare w h b y d)
-  branch_shape w p h b y Stop = tt
-  branch_shape w p h b y (Simple m effect r) = tt
-  branch_shape w p h b y (If m guard t e r) = tt
-  branch_shape w p h b y (While m guard t r) = tt
-  branch_shape w p h b y (Call m call q r) = tt
-  branch_shape w p h b y (Break m r) = tt
+  branch_shape : (w : List Frame) (p : Point) → false ≡ is_exit p → (h : Bool) (b : Q) (y : U) (d : Code) → Shaped w p (branch_row engine bare w h b y d)
+  branch_shape w p e h b y Stop = tt
+  branch_shape w p e h b y (Simple m effect r) = tt
+  branch_shape w p e h b y (If m guard t f r) = e
+  branch_shape w p e h b y (While m guard t r) = tt
+  branch_shape w p e h b y (Call m call q r) = tt
+  branch_shape w p e h b y (Break m r) = tt
 
   loop_shape : (w : List Frame) (n m : ℕ) (guard : Guard) (body : Code) (k : ℕ) → n ≡ m → Shaped w (Post n) (loop_row engine bare w m guard body k)
-  loop_shape w n m guard body zero e = tt
+  loop_shape w n m guard body zero e = refl
   loop_shape w n m guard body (suc i) e = joins_shape w (Post n) false m body i refl e
 
   post_shape : (w : List Frame) (n : ℕ) (b : Q) (y : U) (d : Code) → n ≡ number d → Shaped w (Post n) (post_row engine bare w b y d)
   post_shape w n b y Stop e = tt
-  post_shape w n b y (Simple m effect r) e = tt
+  post_shape w n b y (Simple m effect r) e = refl
   post_shape w n b y (If m guard t x r) e = tt
   post_shape w n b y (While m guard t r) e = loop_shape w n m guard t (breaks t) e
   post_shape w n b y (Call m call q r) e = then_shape w (Post n) (in_call engine bare b m y (Call m call q r)) (λ d. Two (R.Leaves call.returning) (name w y.point) (name (InCall m ∷ w) (last_point d.code Entry))) (λ d. tt)
-  post_shape w n b y (Break m r) e = tt
+  post_shape w n b y (Break m r) e = refl
 
   next_shape : (w : List Frame) (p : Point) (k : ℕ) (b : Q) (y : U) (d : Code) → Shaped w p (next_row engine bare w k b y d)
   next_shape w p k b y Stop = tt
@@ -120,17 +129,17 @@ module _ (engine : Engine) (program : List Routine) where
   fix_shape w n b y Stop e z = tt
   fix_shape w n b y (Simple m effect r) e z = tt
   fix_shape w n b y (If m guard t x r) e z = tt
-  fix_shape w n b y (While m guard t r) e z = (e, z, refl)
+  fix_shape w n b y (While m guard t r) e z = (ap Fix e, z, refl)
   fix_shape w n b y (Call m call q r) e z = tt
   fix_shape w n b y (Break m r) e z = tt
 
-  exit_shape : (w : List Frame) (p : Point) (b : Q) (y : U) (d : Code) → Shaped w p (exit_row engine bare w b y d)
-  exit_shape w p b y Stop = tt
-  exit_shape w p b y (Simple m effect r) = tt
-  exit_shape w p b y (If m guard t e r) = tt
-  exit_shape w p b y (While m guard t r) = when_shape w p (nat_lt 0 (breaks t)) _ tt
-  exit_shape w p b y (Call m call q r) = tt
-  exit_shape w p b y (Break m r) = tt
+  exit_shape : (w : List Frame) (n : ℕ) (b : Q) (y : U) (d : Code) → Shaped w (Exit n) (exit_row engine bare w b y d)
+  exit_shape w n b y Stop = tt
+  exit_shape w n b y (Simple m effect r) = tt
+  exit_shape w n b y (If m guard t e r) = tt
+  exit_shape w n b y (While m guard t r) = when_shape w (Exit n) (nat_lt 0 (breaks t)) _ refl
+  exit_shape w n b y (Call m call q r) = tt
+  exit_shape w n b y (Break m r) = tt
 
   leap_shape : (w : List Frame) (n k : ℕ) (b : Q) (y : U) (d : Code) → n ≡ number d → Shaped w (Leap n k) (leap_row engine bare w k b y d)
   leap_shape w n k b y Stop e = tt
@@ -155,13 +164,13 @@ module _ (engine : Engine) (program : List Routine) where
   flat_shaped [] Body = tt
   flat_shaped (InCall n ∷ w) Body = tt
   flat_shaped (InLoop n k ∷ w) Body = by_number (InLoop n k ∷ w) w Body n (λ b. turn_row engine bare w b n k) (λ b y d z e. turn_shape (InLoop n k ∷ w) w n k b y d)
-  flat_shaped w (Then n) = by_number w w (Then n) n (branch_row engine bare w true) (λ b y d z e. branch_shape w (Then n) true b y d)
-  flat_shaped w (Else n) = by_number w w (Else n) n (branch_row engine bare w false) (λ b y d z e. branch_shape w (Else n) false b y d)
+  flat_shaped w (Then n) = by_number w w (Then n) n (branch_row engine bare w true) (λ b y d z e. branch_shape w (Then n) refl true b y d)
+  flat_shaped w (Else n) = by_number w w (Else n) n (branch_row engine bare w false) (λ b y d z e. branch_shape w (Else n) refl false b y d)
   flat_shaped w (Post n) = by_number w w (Post n) n (post_row engine bare w) (λ b y d z e. post_shape w n b y d e)
   flat_shaped w (Iterate n zero) = tt
   flat_shaped w (Iterate n (suc k)) = by_number w w (Iterate n (suc k)) n (next_row engine bare w k) (λ b y d z e. next_shape w (Iterate n (suc k)) k b y d)
   flat_shaped w (Fix n) = by_number w w (Fix n) n (fix_row engine bare w) (λ b y d z e. fix_shape w n b y d e z)
-  flat_shaped w (Exit n) = by_number w w (Exit n) n (exit_row engine bare w) (λ b y d z e. exit_shape w (Exit n) b y d)
+  flat_shaped w (Exit n) = by_number w w (Exit n) n (exit_row engine bare w) (λ b y d z e. exit_shape w n b y d)
   flat_shaped w (Leap n k) = by_number w w (Leap n k) n (leap_row engine bare w k) (λ b y d z e. leap_shape w n k b y d e)
 
 module _ {S : Type 0} (dom : Operations S) (engine : Engine) where
@@ -179,7 +188,7 @@ module _ {S : Type 0} (dom : Operations S) (engine : Engine) where
       two (v ∷ []) = refl
       two (v ∷ u ∷ vs) = refl
   same_shape w p (FixedRow n z v q) (FixedRow m y u t) h k e vs =
-      let i : n ≡ m = sym h.0 ∙ k.0 in
+      let i : n ≡ m = ap fix_number (sym h.0 ∙ k.0) in
       let j : z ≡ y = h.1 ∙ sym k.1 in
       subst (λ (m : ℕ). operation_row dom engine (FixedRow n z v q) vs ≡ operation_row dom engine (FixedRow m y u t) vs) i
       (subst (λ (y : List ℕ). operation_row dom engine (FixedRow n z v q) vs ≡ operation_row dom engine (FixedRow n y u t) vs) j refl)

@@ -16,7 +16,7 @@ use Rattle.cell_rows.specs.Cells.{Cell, by_row, asks_row, most_row, right_of}
 use Rattle.cell_rows.specs.Flat.{flat_row}
 use Rattle.kept_set.specs.Touched.{Edit, old_rows, asked, KeepsRow}
 use Rattle.kept_set.specs.RowTest.{OnlyLeft, SameAsked}
-use Rattle.cell_rows.proofs.FlatShapes.{Shape, Shaped, flat_shaped}
+use Rattle.cell_rows.proofs.FlatShapes.{fix_number, Shape, Shaped, flat_shaped}
 use Rattle.kept_set.proofs.Plans.{same_rows_stay}
 
 module _ {S : Type 0} (dom : Operations S) (engine : Engine) (f : CellName → Cell S) where
@@ -117,7 +117,7 @@ module _ {S : Type 0} (dom : Operations S) (engine : Engine) (f : CellName → C
       let a = by_fixed n z w p in
       let b = by_fixed m y u q in
       let i = (tail_same (name w p) (name u q) a.0 b.0 (sym a.1 ∙ e ∙ b.1)).0 in
-      inl (ap (λ n. FixedRow n z w p) (sym h.0 ∙ k.0) ∙ ap (λ z. FixedRow m z w p) (h.1 ∙ sym k.1) ∙ ap (λ w. FixedRow m y w p) (h.2 ∙ sym k.2) ∙ ap (λ (c : CellName). FixedRow m y u c.point) i)
+      inl (ap (λ n. FixedRow n z w p) (ap fix_number (sym h.0 ∙ k.0)) ∙ ap (λ z. FixedRow m z w p) (h.1 ∙ sym k.1) ∙ ap (λ w. FixedRow m y w p) (h.2 ∙ sym k.2) ∙ ap (λ (c : CellName). FixedRow m y u c.point) i)
   told x pt (Joins s l n w p) (Joins t k m u q) h i o e = joins_told x pt s t l k n m w u p q h i e
   told x pt r q h k o e = absurd cc
 

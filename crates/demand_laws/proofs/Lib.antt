@@ -1,0 +1,6 @@
+pub mod Walking
+pub mod Summing
+pub mod Demanded
+pub mod Machine
+pub mod Reported
+pub mod Indexing

@@ -1,0 +1,4 @@
+pub mod Indices
+pub mod Walks
+pub mod Reports
+pub mod Claims
