@@ -11,7 +11,7 @@ use Rattle.cell_names.specs.declared.frame.Point.TheVariants.{Entry, Then, Else,
 use Rattle.cell_names.specs.Paths.{CellName}
 use Rattle.demand_order.specs.Order.{member}
 use Rattle.demand_order.specs.Asking.{Rows, AreRows, inputs_of}
-use Rattle.demand_order.proofs.OrderLemmas.{or_left}
+use Rattle.std.proofs.lemmas.Bool.{or_left}
 use Rattle.demand_order.proofs.AskingProofs.{asks-next}
 use Rattle.cell_rows.specs.Names.{name, start_point, mark, Place, bare, breaks, break_numbers, place_of, in_call, when}
 use Rattle.cell_rows.specs.Rows as R

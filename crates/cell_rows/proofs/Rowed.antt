@@ -2,7 +2,7 @@
 use Rattle.std.proofs.Common.{reverse, List, [], true, false, sym, ◌∙◌}
 use Rattle.imp_slots.specs.Plain.{Routine}
 use Rattle.imp_slots.specs.Fits.{IsChecked}
-use Rattle.domain_laws.specs.declared.verdict.Verdict.TheVariants.{May}
+use Rattle.analysis_words.specs.declared.verdict.Verdict.TheVariants.{May}
 use Rattle.domain_laws.specs.Operations.{Operations}
 use Rattle.batch_meaning.specs.Batch.{Engine}
 use Rattle.cell_names.specs.Paths.{CellName}

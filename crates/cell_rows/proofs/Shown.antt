@@ -3,7 +3,7 @@ use Rattle.std.proofs.Common.{ℕ, List, [], ◌∷◌, map, true, false}
 use Rattle.imp_slots.specs.Plain.{Code, Stop, Simple, If, While, Call, Break}
 use Rattle.batch_meaning.specs.Batch.{Engine}
 use Rattle.cell_names.specs.declared.frame.Point.TheVariants.{Then, Else, Body, Post}
-use Rattle.batch_sound.proofs.Places.{Member, here, there, in_left, in_right, Each, each_more, each_both, none_there, each_as}
+use Rattle.plain_values.proofs.Members.{Member, here, there, in_left, in_right, Each, each_more, each_both, none_there, each_as}
 use Rattle.cell_rows.specs.Names.{Scope, Mark, At, bare, number, behind_it, inside, entry, level}
 use Rattle.cell_rows.specs.Targets.{Text, text, deeper, texts}
 

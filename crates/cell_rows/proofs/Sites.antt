@@ -5,7 +5,7 @@ use Rattle.batch_meaning.specs.Batch.{Engine}
 use Rattle.batch_meaning.specs.Places.{from}
 use Rattle.cell_names.specs.declared.frame.Frame.{Frame}
 use Rattle.cell_names.specs.declared.frame.Frame.TheVariants.{InCall, InLoop}
-use Rattle.batch_sound.proofs.Procedures.{some_inj}
+use Rattle.plain_values.proofs.Cases.{some_inj}
 use Rattle.cell_rows.specs.Names.{Mark, Place, bare, start_of, in_call, in_loop, round_place, follow}
 use Rattle.cell_rows.specs.Rows.{sites_of}
 use Rattle.cell_rows.proofs.Lookup.{unstated}

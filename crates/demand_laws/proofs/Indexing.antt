@@ -9,7 +9,8 @@ use Rattle.cell_names.specs.declared.frame.Frame.{Frame}
 use Rattle.cell_names.specs.declared.frame.Point.{Point}
 use Rattle.cell_names.specs.declared.frame.Point.TheVariants.{Entry, Then, Else, Body, Post, Iterate, Fix, Exit, Leap}
 use Rattle.cell_names.specs.Paths.{CellName}
-use Rattle.batch_sound.proofs.Places.{Each, each_more, each_both, none_there, found_member}
+use Rattle.plain_values.proofs.Members.{Each, each_more, each_both, none_there}
+use Rattle.batch_meaning.proofs.Places.{found_member}
 use Rattle.demand_order.specs.Order.{member}
 use Rattle.demand_order.specs.Asking.{value_of, inputs_of}
 use Rattle.demand_order.proofs.AskingProofs.{value-is, gather-asked}

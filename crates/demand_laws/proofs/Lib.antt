@@ -4,3 +4,4 @@ pub mod Demanded
 pub mod Machine
 pub mod Reported
 pub mod Indexing
+pub mod Worked

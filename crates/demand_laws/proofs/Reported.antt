@@ -4,7 +4,7 @@ use Rattle.imp_syntax.specs.declared.edit.Location.TheVariants.{Before}
 use Rattle.imp_slots.specs.Plain.{Routine}
 use Rattle.imp_slots.specs.Fits.{IsChecked}
 use Rattle.domain_laws.specs.Operations.{Operations}
-use Rattle.domain_laws.specs.declared.findings.Finding.{Finding}
+use Rattle.analysis_words.specs.declared.findings.Finding.{Finding}
 use Rattle.batch_meaning.specs.Batch.{Engine}
 use Rattle.batch_meaning.specs.Answers.{Answer, In, procedure_of, answer_in, summed}
 use Rattle.batch_meaning.specs.Report.{Checked, kind_of, verdict_on, finding}

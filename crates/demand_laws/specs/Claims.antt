@@ -5,12 +5,12 @@ use Rattle.imp_syntax.specs.declared.edit.Location.TheVariants.{Before}
 use Rattle.imp_slots.specs.Plain.{Routine}
 use Rattle.imp_slots.specs.Fits.{IsChecked}
 use Rattle.domain_laws.specs.Operations.{Operations}
-use Rattle.domain_laws.specs.declared.findings.Finding.{Finding}
+use Rattle.analysis_words.specs.declared.findings.Finding.{Finding}
 use Rattle.batch_meaning.specs.Values.{Value, State, Over}
 use Rattle.batch_meaning.specs.Batch.{Engine}
 use Rattle.batch_meaning.specs.Answers.{In, Answers, procedure_of, answer_in, summed}
 use Rattle.batch_meaning.specs.Report.{Checked, kind_of, verdict_on, finding}
-use Rattle.demand_order.specs.Order.{member, fill_all}
+use Rattle.demand_order.specs.Order.{System, member, fill_all}
 use Rattle.demand_order.specs.OrderLaws.{IsDistinct, Needed, IsClosed}
 use Rattle.demand_order.specs.Asking.{Rows, value_of, inputs_of, system_of}
 use Rattle.demand_order.specs.InTurn.{missing_in_turn, all_demanded}
@@ -32,23 +32,38 @@ use Rattle.demand_laws.specs.Reports.{report_demands}
 abbrev pub DemandIsNext : Type 0 → Type 0
 DemandIsNext S = (f : CellName → Cell S) (ts : List Target) (k : ℕ) → k ≤ length (demanded f ts) → next_demanded ts (map f (take k (demanded f ts))) ≡ slice_get (demanded f ts) k
 
--- A walk begins with all demanded names to come, and the values of all targets.
+-- A walk begins with all demanded names to come, and asks for the first to come.
 abbrev pub WalkStarts : Type 0 → Type 0
-WalkStarts S = (f : CellName → Cell S) (ts : List Target) → (names_left f (start ts) ≡ demanded f ts) × (values_left f (start ts) ≡ map (value_of_target f) ts)
+WalkStarts S = (f : CellName → Cell S) (ts : List Target) → names_left f (start ts) ≡ demanded f ts
 
--- It asks for the first name to come.
 abbrev pub WalkAsks : Type 0 → Type 0
 WalkAsks S = (f : CellName → Cell S) (k : Walk) → asks k ≡ slice_get (names_left f k) 0
 
--- With that name's value it goes on to the rest, and has found the first target's value or none.
+-- With that name's cell it goes on to the rest.
 abbrev pub WalkGoes : Type 0 → Type 0
-WalkGoes S =
-    (f : CellName → Cell S) (k : Walk) (y : CellName) → asks k ≡ Some y →
-    (names_left f k ≡ y ∷ names_left f (goes (f y) k)) × (values_left f k ≡ found (f y) k ++ values_left f (goes (f y) k))
+WalkGoes S = (f : CellName → Cell S) (k : Walk) (y : CellName) → asks k ≡ Some y → names_left f k ≡ y ∷ names_left f (goes (f y) k)
+
+-- It begins with the values of all targets to come, and each cell that is the last of a target gives the next.
+abbrev pub WalkHasAll : Type 0 → Type 0
+WalkHasAll S = (f : CellName → Cell S) (ts : List Target) → values_left f (start ts) ≡ map (value_of_target f) ts
+
+abbrev pub WalkFinds : Type 0 → Type 0
+WalkFinds S = (f : CellName → Cell S) (k : Walk) (y : CellName) → asks k ≡ Some y → values_left f k ≡ found (f y) k ++ values_left f (goes (f y) k)
 
 -- The values of the rows by number.
 abbrev pub found_by : {S : Type 0} → Operations S → Engine → List Routine → (CellName → CellName → Bool) → CellName → Cell S
 found_by dom engine program same = value_of (rows_of dom engine program same)
+
+-- The names with their inputs.
+abbrev pub names_of : {S : Type 0} → Operations S → Engine → List Routine → (CellName → CellName → Bool) → System CellName
+names_of dom engine program same = system_of (rows_of dom engine program same)
+
+-- What a report fills over a kept set, and the names that it demands.
+abbrev pub report_fills : {S : Type 0} → Operations S → Engine → List Routine → (CellName → CellName → Bool) → (CellName → Bool) → List CellName
+report_fills dom engine program same kept = missing_in_turn (names_of dom engine program same) kept (report_demands (found_by dom engine program same) program)
+
+abbrev pub report_names : {S : Type 0} → Operations S → Engine → List Routine → (CellName → CellName → Bool) → List CellName
+report_names dom engine program same = all_demanded (report_demands (found_by dom engine program same) program)
 
 -- Of a checked program, for any domain.
 abbrev pub OfPrograms : {S : Type 0} → Operations S → (Engine → List Routine → (CellName → CellName → Bool) → Type 0) → Type 0
@@ -81,7 +96,7 @@ RowsAnswer dom = OfPrograms dom (λ engine program same. (x : CellName) (r : Row
 abbrev pub MachineRuns : {S : Type 0} → Operations S → Type 0
 MachineRuns {S} dom =
     OfPrograms dom (λ engine program same. (ts : List Target) →
-    (d : Demand CellName (Cell S)) × (d.system ≡ system_of (rows_of dom engine program same)) × (d.value ≡ found_by dom engine program same) × (d.names ≡ demanded (found_by dom engine program same) ts))
+    (d : Demand CellName (Cell S)) × (d.system ≡ names_of dom engine program same) × (d.value ≡ found_by dom engine program same) × (d.names ≡ demanded (found_by dom engine program same) ts))
 
 -- The names that a location's targets demand are names of the program, ..
 abbrev pub DemandedAreNames : {S : Type 0} → Operations S → Type 0
@@ -93,18 +108,23 @@ DemandedAreNames dom =
 abbrev pub NeededAreNames : {S : Type 0} → Operations S → Type 0
 NeededAreNames dom =
     OfPrograms dom (λ engine program same. (l : Location) (string : List ℕ) (p : ℕ) (ts : List Target) (x : CellName) → targets program p l string ≡ Some ts →
-    Needed (system_of (rows_of dom engine program same)) (demanded (found_by dom engine program same) ts) x → HasName engine program x)
+    Needed (names_of dom engine program same) (demanded (found_by dom engine program same) ts) x → HasName engine program x)
 
--- A report's demands, made in turn over a closed set, fill each name once that some of them needs and that was not kept,
--- and no others: in the order in which one demand for all would.
+-- A report's demands in turn fill what one demand for all their names fills, in the same order, ..
+abbrev pub ReportIsOneDemand : {S : Type 0} → Operations S → Type 0
+ReportIsOneDemand dom =
+    OfPrograms dom (λ engine program same. (kept : CellName → Bool) → report_fills dom engine program same kept ≡ fill_all (names_of dom engine program same) kept [] (report_names dom engine program same))
+
+-- .. each name once, ..
+abbrev pub ReportFillsOnce : {S : Type 0} → Operations S → Type 0
+ReportFillsOnce dom =
+    OfPrograms dom (λ engine program same. (kept : CellName → Bool) → IsClosed (names_of dom engine program same) kept → IsDistinct same (report_fills dom engine program same kept))
+
+-- .. and exactly those that some of them needs and that were not kept.
 abbrev pub ReportFillsUnion : {S : Type 0} → Operations S → Type 0
 ReportFillsUnion dom =
-    OfPrograms dom (λ engine program same. (kept : CellName → Bool) → IsClosed (system_of (rows_of dom engine program same)) kept →
-    (missing_in_turn (system_of (rows_of dom engine program same)) kept (report_demands (found_by dom engine program same) program)
-        ≡ fill_all (system_of (rows_of dom engine program same)) kept [] (all_demanded (report_demands (found_by dom engine program same) program)))
-    × IsDistinct same (missing_in_turn (system_of (rows_of dom engine program same)) kept (report_demands (found_by dom engine program same) program))
-    × ((x : CellName) → (member same (missing_in_turn (system_of (rows_of dom engine program same)) kept (report_demands (found_by dom engine program same) program)) x ≡ true)
-        ↔ (Needed (system_of (rows_of dom engine program same)) (all_demanded (report_demands (found_by dom engine program same) program)) x × (kept x ≡ false))))
+    OfPrograms dom (λ engine program same. (kept : CellName → Bool) (x : CellName) → IsClosed (names_of dom engine program same) kept →
+    (member same (report_fills dom engine program same kept) x ≡ true) ↔ (Needed (names_of dom engine program same) (report_names dom engine program same) x × (kept x ≡ false)))
 
 -- The verdict on a checked statement is made of the values at its targets.
 abbrev pub VerdictsAreRead : {S : Type 0} → Operations S → Type 0

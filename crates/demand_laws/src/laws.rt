@@ -1,6 +1,6 @@
 //! The theorems, each the contract of a function that does nothing.
 
-ghost use Rattle.demand_laws.specs.Claims.{AnswersAreJoined, AnswersAreTargets, CellsCompareStates, DemandedAreNames, DemandIsNext, FirstOverAnswers, IndexIsZero, IteratesHaveNone, MachineRuns, NeededAreNames, ReportFillsUnion, RowsAnswer, VerdictsAreRead, WalkAsks, WalkGoes, WalkStarts};
+ghost use Rattle.demand_laws.specs.Claims.{AnswersAreJoined, AnswersAreTargets, CellsCompareStates, DemandedAreNames, DemandIsNext, FirstOverAnswers, IndexIsZero, IteratesHaveNone, MachineRuns, NeededAreNames, ReportFillsOnce, ReportFillsUnion, ReportIsOneDemand, RowsAnswer, VerdictsAreRead, WalkAsks, WalkFinds, WalkGoes, WalkHasAll, WalkStarts};
 
 use cell_rows::rows_give_values;
 use domain_laws::Domain;
@@ -12,6 +12,8 @@ pub fn demands_are_walked<S>()
     ensures starts { WalkStarts S }
     ensures asks { WalkAsks S }
     ensures goes { WalkGoes S }
+    ensures all { WalkHasAll S }
+    ensures finds { WalkFinds S }
 {}
 
 /// The answer at a location: the join, from left to right, of what is found at its targets, each shed; or the
@@ -33,8 +35,11 @@ pub fn rows_are_a_machine<D: Domain>()
     rows_give_values::<D>();
 }
 
-/// A report fills each cell that one of its statements needs and that was not kept, once.
+/// A report fills each cell that one of its statements needs and that was not kept, once: so many it costs.
+/// Its verdicts are made of what is found at the targets of each checked statement.
 pub fn reports_fill_union<D: Domain>()
+    ensures one { (d : D) → ReportIsOneDemand (D.operations d) }
+    ensures once { (d : D) → ReportFillsOnce (D.operations d) }
     ensures union { (d : D) → ReportFillsUnion (D.operations d) }
     ensures verdicts { (d : D) → VerdictsAreRead (D.operations d) }
 {}

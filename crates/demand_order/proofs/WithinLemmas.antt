@@ -7,7 +7,8 @@ use Rattle.demand_order.specs.Leading.{LeadsTo, itself, Stays}
 use Rattle.demand_order.specs.Leading as lead
 use Rattle.demand_order.specs.Within.{inputs_if, within, AreDependents, AreCellsOf}
 use Rattle.demand_order.proofs.OrderLemmas.{not_both}
-use Rattle.demand_order.proofs.TurnedLemmas.{and_both, both_and, not_true, not_false}
+use Rattle.std.proofs.lemmas.Bool.{and_parts, and_from, not-true}
+use Rattle.demand_order.proofs.TurnedLemmas.{not_false}
 
 -- the inputs of what stays stay
 pub stays-closed : {T : Type 0} (s : System T) (those : T → Type 0) (cells : T → Bool) → IsClosed s cells → (x y : T) → Stays s those cells x → member s.same (s.inputs x) y ≡ true → Stays s those cells y
@@ -47,6 +48,6 @@ module _ {T : Type 0} (s : System T) (cells : T → Bool) where
     -- what a plan leaves
     pub leaves-rest : IsClosed s cells → (users : T → List T) (peak : ℕ) (plan : List T) → IsPlan (within s cells) users peak xs plan → (x : T) → (without s cells plan x ≡ true) ↔ Stays s those cells x
     leaves-rest closed users peak plan p x = (
-      λ h. let b = and_both (cells x) (not (member s.same plan x)) h in record { had = b.0; free = λ l. not_both (member s.same plan x) (p.each x (there-leads closed x b.0 l)) (not_true (member s.same plan x) b.1) },
-      λ k. both_and (cells x) (not (member s.same plan x)) k.had (not_false (member s.same plan x) (λ m. k.free (leads-there x (p.only x m)))),
+      λ h. let b = and_parts (cells x) (not (member s.same plan x)) h in record { had = b.0; free = λ l. not_both (member s.same plan x) (p.each x (there-leads closed x b.0 l)) (not-true (member s.same plan x) b.1) },
+      λ k. and_from (cells x) (not (member s.same plan x)) k.had (not_false (member s.same plan x) (λ m. k.free (leads-there x (p.only x m)))),
     )

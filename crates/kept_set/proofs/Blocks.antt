@@ -8,8 +8,9 @@ use Rattle.cell_names.specs.declared.frame.Frame.{Frame}
 use Rattle.cell_names.specs.declared.frame.Frame.TheVariants.{InCall, InLoop}
 use Rattle.cell_names.specs.declared.frame.Point.{Point}
 use Rattle.cell_names.specs.declared.frame.Point.TheVariants.{Entry, Body}
-use Rattle.batch_sound.proofs.Procedures.{some_inj}
-use Rattle.batch_sound.proofs.Places.{Member, keys, found, found_member}
+use Rattle.plain_values.proofs.Cases.{some_inj}
+use Rattle.plain_values.proofs.Members.{Member, keys}
+use Rattle.batch_meaning.proofs.Places.{found, found_member}
 use Rattle.cell_rows.specs.Names.{start_point, Scope, At, mark, Place, bare, number, level_of, scope_of, start_of, in_call, in_loop, round_place, follow}
 use Rattle.cell_rows.specs.Targets.{Text, text, texts}
 use Rattle.cell_rows.specs.Flat.{Flat, flat}

@@ -10,7 +10,7 @@ use Rattle.cell_names.specs.declared.frame.Frame.TheVariants.{InCall, InLoop}
 use Rattle.cell_names.specs.declared.frame.Point.{Point}
 use Rattle.cell_names.specs.declared.frame.Point.TheVariants.{Entry, Then, Else, Body, Post, Iterate, Fix, Exit, Leap}
 use Rattle.cell_names.specs.Paths.{CellName}
-use Rattle.batch_sound.proofs.Places.{keys}
+use Rattle.plain_values.proofs.Members.{keys}
 use Rattle.cell_rows.specs.Names.{name, start_point, mark, Place, bare, number, breaks, break_numbers, place_of, level_of, iterate_point, start_of, in_call, in_loop, round_place, statement, follow, when, branch_mark, post_mark, next_mark, fix_mark, exit_mark, leap_of, leap_mark, mark_at, is_entry}
 use Rattle.cell_rows.specs.Rows as R
 use Rattle.cell_rows.specs.Rows.{Row, One, branch_row, post_row, next_row, fix_row, exit_row, leap_row, enter_row, turn_row, joins_row}

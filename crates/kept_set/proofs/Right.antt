@@ -5,7 +5,7 @@ use Rattle.domain_laws.specs.Operations.{Operations}
 use Rattle.cell_names.specs.Paths.{CellName}
 use Rattle.demand_order.specs.Order.{member}
 use Rattle.demand_order.specs.Asking.{Rows, AreRows, value_of, inputs_of}
-use Rattle.demand_order.proofs.OrderLemmas.{or_left, or_right}
+use Rattle.std.proofs.lemmas.Bool.{or_left, or_right}
 use Rattle.demand_order.proofs.AskingProofs.{value-is}
 use Rattle.cell_rows.specs.Names.{IsSame}
 use Rattle.cell_rows.specs.Rows.{Row, op_of}

@@ -5,8 +5,8 @@ use Rattle.imp_slots.specs.Plain.{Routine}
 use Rattle.imp_slots.specs.Fits.{Absent, Distinct, IsChecked}
 use Rattle.batch_meaning.specs.Places.{from}
 use Rattle.cell_names.specs.declared.frame.Point.TheVariants.{Entry}
-use Rattle.batch_sound.proofs.Procedures.{by_test}
-use Rattle.batch_sound.proofs.Places.{Member, here, there, in_left, in_right, Each, each_both, none_there, each_as}
+use Rattle.plain_values.proofs.Cases.{by_test}
+use Rattle.plain_values.proofs.Members.{Member, here, there, in_left, in_right, Each, each_both, none_there, each_as}
 use Rattle.cell_rows.specs.Targets.{Text, texts}
 use Rattle.cell_rows.specs.Flat.{Flat, flat_of, flat}
 use Rattle.cell_rows.proofs.Listed.{each_map}

@@ -5,7 +5,9 @@ use Rattle.demand_laws.proofs.laws.demands_are_walked.Goals as goal
 pub returns : goal.returns
 returns g c = record {
   next = λ f ts k h. demand_next f ts k h;
-  starts = λ f ts. (start_names f ts, start_values f ts);
+  starts = λ f ts. start_names f ts;
   asks = λ f k. walk_asks f k;
-  goes = λ f k y e. walk_goes f k y e;
+  goes = λ f k y e. (walk_goes f k y e).0;
+  all = λ f ts. start_values f ts;
+  finds = λ f k y e. (walk_goes f k y e).1;
 }
