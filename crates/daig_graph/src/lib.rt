@@ -26,7 +26,7 @@ mod value;
 pub use graph::{Graph, Use};
 pub use inputs::Inputs;
 pub use items::Items;
-pub use value::Value;
+pub use value::{SharedChain, Value};
 
 #[cfg(test)]
 mod tests;

@@ -1,5 +1,6 @@
 //! A thousand cells, filled and removed.
-ghost use Rattle.std.specs.Prelude.{◌≡◌, ◌<◌, ◌^◌, IsTrue, length};
+ghost use Rattle.std.specs.Prelude.{◌≡◌, ◌<◌, false};
+ghost use Rattle.daig_graph.specs.Cells.{IsUnused};
 
 use crate::{Graph, Inputs, Use, Value};
 use plain_values::Memory;
@@ -39,7 +40,9 @@ fn take(graph: &mut Graph<usize>, cell: usize) -> bool {
     true
 }
 
-fn is_used(graph: &Graph<usize>, cell: usize) -> bool {
+fn is_used(graph: &Graph<usize>, cell: usize) -> bool
+    ensures unused { result ≡ false → IsUnused graph.now.cells cell }
+{
     let mut uses = graph.dependents(cell);
     uses.next().is_some()
 }
