@@ -4,4 +4,5 @@ pub mod Demanded
 pub mod Machine
 pub mod Reported
 pub mod Indexing
+pub mod Stopping
 pub mod Worked

@@ -7,7 +7,8 @@ use Rattle.domain_laws.specs.Operations.{Operations}
 use Rattle.analysis_words.specs.declared.findings.Finding.{Finding}
 use Rattle.batch_meaning.specs.Batch.{Engine}
 use Rattle.batch_meaning.specs.Answers.{Answer, In, procedure_of, answer_in, summed}
-use Rattle.batch_meaning.specs.Report.{Checked, kind_of, verdict_on, finding}
+use Rattle.domain_laws.specs.Checks.{kind_of}
+use Rattle.batch_meaning.specs.Report.{Checked, verdict_on, finding}
 use Rattle.std.specs.Prelude.{Some}
 use Rattle.cell_names.specs.Paths.{CellName}
 use Rattle.cell_rows.specs.Names.{IsSame}

@@ -28,10 +28,10 @@ module _ {S : Type 0} (s : S) where
   asks_through_the_call = refl
 
   -- An Over of the inner loop is the target's value, and the walk goes on to the next.
-  over_is_found : found (cell {S} (Over 7 (4 ∷ [])) 0) in_round ≡ Over 7 (4 ∷ []) ∷ []
+  over_is_found : found (cell {S = S} (Over 7 (4 ∷ [])) 0) in_round ≡ Over 7 (4 ∷ []) ∷ []
   over_is_found = refl
 
-  over_ends_the_target : goes (cell {S} (Over 7 (4 ∷ [])) 0) in_round ≡ start (last ∷ [])
+  over_ends_the_target : goes (cell {S = S} (Over 7 (4 ∷ [])) 0) in_round ≡ start (last ∷ [])
   over_ends_the_target = refl
 
   last_is_found : found (cell (State s) 0) (start (last ∷ [])) ≡ State s ∷ []

@@ -1,5 +1,5 @@
 -- What is claimed of demands, answers, reports and indices.
-use Rattle.std.specs.Prelude.{◌≡◌, ◌↔◌, ◌≤◌, ℕ, Bool, true, false, List, [], ◌∷◌, ◌++◌, fold, length, map, take, Some, slice_get, reverse}
+use Rattle.std.specs.Prelude.{◌≡◌, ◌↔◌, ◌≤◌, ℕ, Bool, true, false, List, [], ◌∷◌, ◌++◌, fold, length, map, take, Some, None, slice_get, reverse}
 use Rattle.imp_syntax.specs.declared.edit.Location.{Location}
 use Rattle.imp_syntax.specs.declared.edit.Location.TheVariants.{Before}
 use Rattle.imp_slots.specs.Plain.{Routine}
@@ -9,7 +9,8 @@ use Rattle.analysis_words.specs.declared.findings.Finding.{Finding}
 use Rattle.batch_meaning.specs.Values.{Value, State, Over}
 use Rattle.batch_meaning.specs.Batch.{Engine}
 use Rattle.batch_meaning.specs.Answers.{In, Answers, procedure_of, answer_in, summed}
-use Rattle.batch_meaning.specs.Report.{Checked, kind_of, verdict_on, finding}
+use Rattle.domain_laws.specs.Checks.{kind_of}
+use Rattle.batch_meaning.specs.Report.{Checked, verdict_on, finding}
 use Rattle.demand_order.specs.Order.{System, member, fill_all}
 use Rattle.demand_order.specs.OrderLaws.{IsDistinct, Needed, IsClosed}
 use Rattle.demand_order.specs.Asking.{Rows, value_of, inputs_of, system_of}
@@ -20,11 +21,12 @@ use Rattle.cell_names.specs.declared.frame.Point.TheVariants.{Fix}
 use Rattle.cell_names.specs.Paths.{CellName}
 use Rattle.cell_rows.specs.Names.{IsSame, name}
 use Rattle.cell_rows.specs.Rows.{Row}
-use Rattle.cell_rows.specs.Cells.{Cell, asks_row, operation_row}
+use Rattle.cell_rows.specs.Cells.{Cell, wants_first, ends_first, asks_row, operation_row}
 use Rattle.cell_rows.specs.Flat.{flat_row}
 use Rattle.cell_rows.specs.Targets.{Target, next_demanded, demanded, targets, value_of_target}
 use Rattle.cell_rows.specs.Claims.{HasName, rows_of, demands_of}
 use Rattle.demand_laws.specs.Indices.{carries_index}
+use Rattle.demand_laws.specs.Stops.{last_state, goes_on, stops_with}
 use Rattle.demand_laws.specs.Walks.{Walk, start, asks, goes, found, names_left, values_left}
 use Rattle.demand_laws.specs.Reports.{report_demands}
 
@@ -145,3 +147,14 @@ IteratesHaveNone dom =
 -- Such cells are the same exactly where their values are.
 abbrev pub CellsCompareStates : Type 0 → Type 0
 CellsCompareStates S = (a b : Cell S) → a.index ≡ 0 → b.index ≡ 0 → (a ≡ b) ↔ (a.value ≡ b.value)
+
+-- Where the iterates so far want another, that one wants the next by itself and the one before it, ..
+abbrev pub LastTwoGoOn : {S : Type 0} → Operations S → Type 0
+LastTwoGoOn {S} dom =
+    (engine : Engine) (vs : List (Cell S)) (v : Cell S) → wants_first dom engine vs ≡ true → wants_first dom engine (vs ++ v ∷ []) ≡ goes_on dom engine.budget (length vs) (last_state None vs) v.value
+
+-- .. and if it wants none, the fixed point is what these two say.
+abbrev pub LastTwoStop : {S : Type 0} → Operations S → Type 0
+LastTwoStop {S} dom =
+    (engine : Engine) (over : Value S) (vs : List (Cell S)) (v : Cell S) → wants_first dom engine vs ≡ true → wants_first dom engine (vs ++ v ∷ []) ≡ false →
+    ends_first dom engine over (vs ++ v ∷ []) ≡ stops_with dom over (length vs) (last_state None vs) v.value

@@ -1,6 +1,6 @@
 //! The theorems, each the contract of a function that does nothing.
 
-ghost use Rattle.demand_laws.specs.Claims.{AnswersAreJoined, AnswersAreTargets, CellsCompareStates, DemandedAreNames, DemandIsNext, FirstOverAnswers, IndexIsZero, IteratesHaveNone, MachineRuns, NeededAreNames, ReportFillsOnce, ReportFillsUnion, ReportIsOneDemand, RowsAnswer, VerdictsAreRead, WalkAsks, WalkFinds, WalkGoes, WalkHasAll, WalkStarts};
+ghost use Rattle.demand_laws.specs.Claims.{AnswersAreJoined, AnswersAreTargets, CellsCompareStates, DemandedAreNames, DemandIsNext, FirstOverAnswers, IndexIsZero, IteratesHaveNone, LastTwoGoOn, LastTwoStop, MachineRuns, NeededAreNames, ReportFillsOnce, ReportFillsUnion, ReportIsOneDemand, RowsAnswer, VerdictsAreRead, WalkAsks, WalkFinds, WalkGoes, WalkHasAll, WalkStarts};
 
 use cell_rows::rows_give_values;
 use domain_laws::Domain;
@@ -50,4 +50,10 @@ pub fn indices_stay<D: Domain>()
     ensures zero { (d : D) → IndexIsZero (D.operations d) }
     ensures iterates { (d : D) → IteratesHaveNone (D.operations d) }
     ensures compared { CellsCompareStates D.State }
+{}
+
+/// The iterates of a loop are asked for, and its fixed point is found, by the last two alone.
+pub fn iterates_stop<D: Domain>()
+    ensures more { (d : D) → LastTwoGoOn (D.operations d) }
+    ensures fixed { (d : D) → LastTwoStop (D.operations d) }
 {}

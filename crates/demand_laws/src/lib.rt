@@ -8,11 +8,12 @@
 //!
 //! A cell holds a value with an index: a fixed point its loop's, which what leaves the loop by a break needs to
 //! find its last round. Only fixed points, exits and leaps carry one; so the iterates of a loop are compared by
-//! the numbers of their cells' contents (`specs/Indices.antt`).
+//! the numbers of their cells' contents (`specs/Indices.antt`). They are asked for, and the fixed point found, by
+//! the last two alone (`specs/Stops.antt`).
 //!
 //! The functions do nothing when they run; each carries its theorem as its clauses.
 #![tactic(auto)]
 
 mod laws;
 
-pub use laws::{answers_are_joined, demands_are_walked, indices_stay, reports_fill_union, rows_are_a_machine};
+pub use laws::{answers_are_joined, demands_are_walked, indices_stay, iterates_stop, reports_fill_union, rows_are_a_machine};
