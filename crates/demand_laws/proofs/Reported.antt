@@ -1,5 +1,5 @@
 -- What a report fills, and what its verdicts are made of.
-use Rattle.std.proofs.Common.{◌≡◌, ℕ, Bool, List, [], map, refl, ap, ◌∙◌}
+use Rattle.std.proofs.Common.{◌≡◌, ℕ, Bool, List, [], map, ap, ◌∙◌}
 use Rattle.imp_syntax.specs.declared.edit.Location.TheVariants.{Before}
 use Rattle.imp_slots.specs.Plain.{Routine}
 use Rattle.imp_slots.specs.Fits.{IsChecked}

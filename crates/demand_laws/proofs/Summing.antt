@@ -1,9 +1,9 @@
 -- The answer over several chains.
-use Rattle.std.proofs.Common.{◌≡◌, ℕ, List, [], ◌∷◌, ◌++◌, fold, map, refl, ap, ◌∙◌}
+use Rattle.std.proofs.Common.{◌≡◌, ℕ, List, [], ◌∷◌, ◌++◌, fold, map, refl, ap}
 use Rattle.domain_laws.specs.Operations.{Operations}
 use Rattle.batch_meaning.specs.Values.{Value, State, Over, lift}
 use Rattle.batch_meaning.specs.Batch.{Engine, joined}
-use Rattle.batch_meaning.specs.Answers.{Answer, Answers, summed}
+use Rattle.batch_meaning.specs.Answers.{Answers, summed}
 use Rattle.cell_rows.proofs.Linked.{joined_over}
 
 module _ {S : Type 0} (dom : Operations S) (engine : Engine) where

@@ -1,6 +1,6 @@
 -- A walk to a statement in a loop of a procedure that is called in a loop, and then to one of main, name by name.
-use Rattle.std.specs.Prelude.{◌≡◌, ℕ, List, [], ◌∷◌, Some, refl}
-use Rattle.batch_meaning.specs.Values.{Value, State, Over}
+use Rattle.std.specs.Prelude.{◌≡◌, List, [], ◌∷◌, Some, refl}
+use Rattle.batch_meaning.specs.Values.{State, Over}
 use Rattle.cell_names.specs.declared.frame.Frame.TheVariants.{InCall, InLoop}
 use Rattle.cell_names.specs.declared.frame.Point.TheVariants.{Post, Fix}
 use Rattle.cell_rows.specs.Names.{name}

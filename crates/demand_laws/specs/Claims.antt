@@ -5,7 +5,6 @@ use Rattle.imp_syntax.specs.declared.edit.Location.TheVariants.{Before}
 use Rattle.imp_slots.specs.Plain.{Routine}
 use Rattle.imp_slots.specs.Fits.{IsChecked}
 use Rattle.domain_laws.specs.Operations.{Operations}
-use Rattle.analysis_words.specs.declared.findings.Finding.{Finding}
 use Rattle.batch_meaning.specs.Values.{Value, State, Over}
 use Rattle.batch_meaning.specs.Batch.{Engine}
 use Rattle.batch_meaning.specs.Answers.{In, Answers, procedure_of, answer_in, summed}
@@ -13,7 +12,7 @@ use Rattle.domain_laws.specs.Checks.{kind_of}
 use Rattle.batch_meaning.specs.Report.{Checked, verdict_on, finding}
 use Rattle.demand_order.specs.Order.{System, member, fill_all}
 use Rattle.demand_order.specs.OrderLaws.{IsDistinct, Needed, IsClosed}
-use Rattle.demand_order.specs.Asking.{Rows, value_of, inputs_of, system_of}
+use Rattle.demand_order.specs.Asking.{value_of, inputs_of, system_of}
 use Rattle.demand_order.specs.InTurn.{missing_in_turn, all_demanded}
 use Rattle.demand_order.specs.Machine.{Demand}
 use Rattle.cell_names.specs.declared.frame.Frame.{Frame}
@@ -24,7 +23,7 @@ use Rattle.cell_rows.specs.Rows.{Row}
 use Rattle.cell_rows.specs.Cells.{Cell, wants_first, ends_first, asks_row, operation_row}
 use Rattle.cell_rows.specs.Flat.{flat_row}
 use Rattle.cell_rows.specs.Targets.{Target, next_demanded, demanded, targets, value_of_target}
-use Rattle.cell_rows.specs.Claims.{HasName, rows_of, demands_of}
+use Rattle.cell_rows.specs.Claims.{HasName, rows_of}
 use Rattle.demand_laws.specs.Indices.{carries_index}
 use Rattle.demand_laws.specs.Stops.{last_state, goes_on, stops_with}
 use Rattle.demand_laws.specs.Walks.{Walk, start, asks, goes, found, names_left, values_left}

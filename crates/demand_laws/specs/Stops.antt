@@ -1,5 +1,5 @@
 -- Where the iterates of a loop stop, for code that looks at the last two of them alone.
-use Rattle.std.specs.Prelude.{ℕ, suc, pred, List, [], ◌∷◌, Option, Some, None, Bool, true, false, if◌then◌else◌, nat_lt}
+use Rattle.std.specs.Prelude.{ℕ, pred, List, [], ◌∷◌, Option, Some, None, Bool, false, if◌then◌else◌, nat_lt}
 use Rattle.domain_laws.specs.Operations.{Operations}
 use Rattle.batch_meaning.specs.Values.{Value, State, Over}
 use Rattle.cell_rows.specs.Cells.{Cell, cell, plain}
