@@ -27,9 +27,11 @@ use Rattle.dbm_close.specs.CloseOf.{close_of}
 use Rattle.dbm_close.specs.Laws.{AreInSlots}
 use Rattle.dbm_close.specs.declared.closed.Closed.{Closed}
 use Rattle.dbm_close.specs.declared.closed.Closed.TheVariants.{Empty, Matrix}
+use Rattle.octagon_meaning.specs.declared.source.Source.{Source}
+use Rattle.octagon_meaning.specs.declared.source.Source.TheVariants.{FromSlot, InRange}
 use Rattle.octagon_meaning.specs.Covers.{measure, values}
 use Rattle.octagon_meaning.specs.Matrices.{meets_range, without}
-use Rattle.octagon_meaning.specs.Operations.{kinds_of, Source, FromSlot, InRange, in_front, source_of, with_source, sources, copied, entered, meet_sources, entered_by, enter, init, returned, leave}
+use Rattle.octagon_meaning.specs.Operations.{kinds_of, in_front, source_of, with_source, sources, copied, entered, meet_sources, entered_by, enter, init, returned, leave}
 use Rattle.octagon_meaning.specs.Ranges.{if_range, range_at, range_of}
 use Rattle.octagon_meaning.specs.States.{after, closed}
 use Rattle.octagon_meaning.proofs.Fitting.{Ready, FitsMatrix, FitsState, Describes, fits-ready, kinds-few, close-fits, close-describes, closed-fits, closed-describes, after-fits, after-describes}

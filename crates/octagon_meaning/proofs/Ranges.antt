@@ -24,7 +24,7 @@ use Rattle.num_bounds.proofs.Quotients.{quotients-sound}
 use Rattle.num_bounds.proofs.Remainders.{remainders-sound}
 use Rattle.dbm_core.proofs.HalfLemmas.{entry-outside}
 use Rattle.dbm_core.proofs.ValuationLemmas.{node_value-flip}
-use Rattle.dbm_core.specs.Half.{HalfMatrix, entry, nodes}
+use Rattle.dbm_core.specs.Half.{HalfMatrix, IsMatrix, entry, nodes}
 use Rattle.dbm_core.specs.Nodes.{flip}
 use Rattle.dbm_core.specs.Valuations.{IsSatisfiedBy, node_value}
 use Rattle.dbm_close.proofs.LawLemmas.{range-sound}
@@ -108,13 +108,19 @@ no_kind [] k l = refl
 no_kind (b ∷ bs) zero l = absurd (omega arith)
 no_kind (b ∷ bs) (suc k) l = no_kind bs k (omega arith)
 
+-- what is no slot has the full range
+pub range_at-outside : (m : HalfMatrix) → IsMatrix m → (k : ℕ) → length m.kinds ≤ k → range_at m k ≡ record { lo = least; hi = greatest }
+unfolding range_at
+range_at-outside m h k l =
+    let e : entry m (2 * k) (2 * k + 1) ≡ None = entry-outside m h (2 * k) (2 * k + 1) (inl (omega arith)) in
+    let f : entry m (2 * k + 1) (2 * k) ≡ None = entry-outside m h (2 * k + 1) (2 * k) (inl (omega arith)) in
+    rw (e, f, no_kind m.kinds k l) refl
+
 pub range_at-covers : (kinds : List Bool) (m : HalfMatrix) (x : ℕ → ℤ) → FitsMatrix kinds m → AreProper kinds x → IsSatisfiedBy m x → (k : ℕ) → Lies (x k) (range_at m k)
 unfolding range_at
 range_at-covers kinds m x h a s k = elim (cases_lt k (length m.kinds)) [
   | inl l ↦ range-sound (entry m) m.kinds x (subst (λ ks. AreInSlots ks x) (sym h.same_kinds) a.slots) s k l
-  | inr l ↦ let e : entry m (2 * k) (2 * k + 1) ≡ None = entry-outside m h.matrix (2 * k) (2 * k + 1) (inl (omega arith)) in
-      let f : entry m (2 * k + 1) (2 * k) ≡ None = entry-outside m h.matrix (2 * k + 1) (2 * k) (inl (omega arith)) in
-      rw (e, f, no_kind m.kinds k l) (let w = a.words k in (omega (arith, ints, w.0), omega (arith, ints, w.1)))
+  | inr l ↦ subst (Lies (x k)) (sym (range_at-outside m h.matrix k l)) (a.words k)
 ]
 
 -- ---- the ranges of expressions

@@ -18,6 +18,8 @@ use Rattle.domain_laws.specs.Checks.{check_of}
 use Rattle.domain_laws.specs.Guards.{assumed, past_check, verdict_by}
 use Rattle.domain_laws.specs.declared.verdict.Verdict.{Verdict}
 use Rattle.octagon_meaning.specs.declared.form.Form.{Form}
+use Rattle.octagon_meaning.specs.declared.source.Source.{Source}
+use Rattle.octagon_meaning.specs.declared.source.Source.TheVariants.{FromSlot, InRange}
 use Rattle.octagon_meaning.specs.Forms.{form_of, slot_form}
 use Rattle.octagon_meaning.specs.Matrices.{assigned, meets_range, side_at_least, side_at_most, with_difference, without}
 use Rattle.octagon_meaning.specs.Ranges.{if_range, longest, range_at, range_of}
@@ -130,11 +132,6 @@ post DoBreak s = Empty
 post (Does e) s = after (closed (past_check assume (check_of e) s)) (does e)
 
 -- ---- layouts and calls
-
--- where a slot of a frame that is entered has its value from: 0, a slot of the caller, or a range
-pub data Source : Type 0 where
-  FromSlot : ℕ → Source
-  InRange : Bounds → Source
 
 abbrev pub in_front : Source → Option (List Source) → Option (List Source)
 in_front r None = None
