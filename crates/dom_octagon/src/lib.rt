@@ -9,6 +9,7 @@
 //! come to an end.
 #![tactic(auto)]
 
+mod assign;
 mod evaluate;
 mod matrices;
 mod state;
