@@ -1,5 +1,5 @@
 -- Entering and leaving calls, main's first state, and the last frame alone.
-use Rattle.std.proofs.Common.{◌≡◌, ℕ, ◌<◌, ◌-◌, Bool, true, false, List, [], ◌∷◌, ◌++◌, ◌⊎◌, inl, inr, map, length, set, Option, None, Some, refl, sym, ◌∙◌, ap, subst, arith}
+use Rattle.std.proofs.Common.{◌≡◌, ℕ, suc, ◌<◌, ◌-◌, Bool, true, false, List, [], ◌∷◌, ◌++◌, ◌⊎◌, inl, inr, map, length, set, Option, None, Some, refl, sym, ◌∙◌, ap, subst, arith}
 use Rattle.std.specs.List.{remove}
 use Rattle.std.proofs.lemmas.List.{length-map}
 use Rattle.imp_slots.specs.Plain.{Numeric, Layout, Argument, IntArgument, ArrayArgument, LinkArgument, Entering, Returning, NumericResult, LinkResult, Invoke}
@@ -39,9 +39,7 @@ single-describes ns ms f variables next heap s h k c d =
 over-length : {A : Type 0} (xs ys : List A) → length (over xs ys) ≡ length ys
 over-length [] ys = refl
 over-length (x ∷ xs) [] = refl
-over-length (x ∷ xs) (y ∷ ys) = λ i. length (x ∷ []) + over-length xs ys i
-  where
-    use Rattle.std.proofs.Common.{◌+◌}
+over-length (x ∷ xs) (y ∷ ys) = ap suc (over-length xs ys)
 
 map-over : {A B : Type 0} (f : A → B) (xs ys : List A) → map f (over xs ys) ≡ over (map f xs) (map f ys)
 map-over f [] ys = refl
@@ -121,7 +119,7 @@ returned-framed ns n (Some (LinkResult to from)) g f = record {
 }
 
 no-graphs : (ns : List ℕ) → FitsState ns (Graphs [])
-no-graphs ns = record { few = search; rise = refl; each_fits = λ g i. absurd i }
+no-graphs ns = record { few = omega arith; rise = refl; each_fits = λ g i. absurd i }
 
 pub leave-fits : (ns : List ℕ) (n : ℕ) (o : Option Returning) (s d : Segments) → FitsState (ns ++ n ∷ []) d → FitsState ns (leave o s d)
 unfolding leave
@@ -185,13 +183,17 @@ no-node (n ∷ names) k (inr i) = no-node names k i
 
 in-order : (names : List (List ℕ)) → InOrder [] (map first_link names ++ []) 0
 in-order [] = refl
-in-order (n ∷ names) = (0, record {
-  le = search;
-  stays = λ e. tt;
-  begins = λ l. absurd (omega arith);
-  goes = λ j l m. absurd (omega arith);
-  stops = λ j l m. absurd (omega arith);
-}, in-order names)
+in-order (n ∷ names) = (
+  0,
+  record {
+    le = omega arith;
+    stays = λ e. tt;
+    begins = λ l. absurd (omega arith);
+    goes = λ j l m. absurd (omega arith);
+    stops = λ j l m. absurd (omega arith);
+  },
+  in-order names,
+)
 
 started-fits : (l : Layout) → FitsGraph (length l.links ∷ []) (started l)
 started-fits l = record {
@@ -205,7 +207,7 @@ started-fits l = record {
 pub init-fits : (l : Layout) → FitsState (length l.links ∷ []) (init l)
 unfolding init
 init-fits l = record {
-  few = search;
+  few = omega arith;
   rise = refl;
   each_fits = λ g i. elim i [ inl e ↦ subst (FitsGraph (length l.links ∷ [])) (sym e) (started-fits l) | inr n ↦ absurd n ];
 }
@@ -220,11 +222,14 @@ init-describes l heap =
     let cells : ℕ → List ℕ = λ k. [] in (
       started l,
       inl refl,
-      (cells, record {
-        starts = ap (λ v. v ∷ []) (start-null cells l.links);
-        counts = λ k h. absurd (omega arith);
-        links = λ k h. absurd (omega arith);
-        once = λ k h. absurd (omega arith);
-        apart = λ j k c h. absurd (omega arith);
-      }),
+      (
+        cells,
+        record {
+          starts = ap (λ v. v ∷ []) (start-null cells l.links);
+          counts = λ k h. absurd (omega arith);
+          links = λ k h. absurd (omega arith);
+          once = λ k h. absurd (omega arith);
+          apart = λ j k c h. absurd (omega arith);
+        },
+      ),
     )

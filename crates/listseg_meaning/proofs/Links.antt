@@ -1,5 +1,5 @@
 -- What comparisons of links tell, and what assuming a guard keeps and describes.
-use Rattle.std.proofs.Common.{◌≡◌, ℕ, Bool, true, false, not, if◌then◌else◌, List, [], ◌∷◌, ◌++◌, ◌×◌, Option, None, Some, refl, sym, ◌∙◌, ap, subst}
+use Rattle.std.proofs.Common.{◌≡◌, ℕ, Bool, true, false, not, if◌then◌else◌, List, [], ◌∷◌, ◌++◌, ◌⊎◌, inl, inr, Option, None, Some, refl, sym, ◌∙◌, ap, subst}
 use Rattle.std.specs.Prelude.{◌↔◌, nat_eq}
 use Rattle.std.specs.Cmp.{both_ways}
 use Rattle.std.proofs.lemmas.Bool.Decides.{nat_tests}
@@ -8,7 +8,8 @@ use Rattle.imp_slots.specs.Plain.{Layout, Guard}
 use Rattle.imp_slots.specs.Fits.{fits_guard}
 use Rattle.concrete_sem.specs.Values.{Variables, Gives, link_at}
 use Rattle.concrete_sem.specs.Evaluation.{truth_of, same_link, side_at}
-use Rattle.domain_laws.proofs.GuardLaws.{Compares, Tells, assumed-fits, assumed-covers}
+use Rattle.domain_laws.specs.Guards.{Compares, Tells}
+use Rattle.domain_laws.proofs.GuardLaws.{assumed-fits, assumed-covers}
 use Rattle.shape_graph.specs.Shape.{Shape, IsGraph}
 use Rattle.shape_graph.specs.Covers.{Covers}
 use Rattle.shape_steps.specs.Steps.{slot_of, argument_of}

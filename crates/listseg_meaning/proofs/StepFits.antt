@@ -1,5 +1,5 @@
 -- Steps on graphs keep frames and targets.
-use Rattle.std.proofs.Common.{◌≡◌, ℕ, ◌<◌, Bool, true, false, List, [], ◌∷◌, ◌⊎◌, inl, inr, map, length, Option, None, Some, refl, sym, ◌∙◌, ap, subst}
+use Rattle.std.proofs.Common.{◌≡◌, ℕ, ◌<◌, Bool, true, false, List, [], ◌∷◌, ◌⊎◌, inl, inr, map, length, Option, None, Some, refl, sym, ◌∙◌, ap, subst, arith}
 use Rattle.imp_slots.specs.Plain.{Layout, Effect, Skip, Assert, SetInt, Input, ReadElement, ReadItem, MakeArray, CopyArray, WriteElement, SetNull, MakeCell, CopyLink, ReadNext, WriteNext, WriteItem, Act, DoBreak, Does}
 use Rattle.imp_slots.specs.Fits.{fits_effect}
 use Rattle.domain_laws.specs.Checks.{Check, check_of, checked_guard}
@@ -90,7 +90,7 @@ past_check-fits ns l None s f h = h
 past_check-fits ns l (Some c) s f h = assume-fits ns l (checked_guard c) true s f h
 
 no-graphs : (ns : List ℕ) → FitsState ns (Graphs [])
-no-graphs ns = record { few = search; rise = refl; each_fits = λ g i. absurd i }
+no-graphs ns = record { few = omega arith; rise = refl; each_fits = λ g i. absurd i }
 
 pub post-fits : (ns : List ℕ) (l : Layout) (a : Act) (s : Segments) → fits_act l a ≡ true → FitsState ns s → FitsState ns (post a s)
 unfolding post

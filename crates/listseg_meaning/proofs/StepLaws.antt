@@ -1,5 +1,5 @@
 -- What a statement's effect makes of what a state describes, the statement's operation describes.
-use Rattle.std.proofs.Common.{◌≡◌, ℕ, zero, suc, ◌<◌, ℤ, pos, Bool, true, false, if◌then◌else◌, List, [], ◌∷◌, ◌++◌, ◌×◌, inl, inr, map, length, set, Option, None, Some, refl, sym, ◌∙◌, ap, subst}
+use Rattle.std.proofs.Common.{◌≡◌, ℕ, zero, suc, ◌<◌, ℤ, pos, Bool, true, false, if◌then◌else◌, List, [], ◌∷◌, ◌++◌, inl, inr, map, length, set, Option, None, Some, refl, sym, ◌∙◌, ap, subst}
 use Rattle.std.specs.Prelude.{slice_get}
 use Rattle.std.proofs.lemmas.List.{length-map, map-append, map-set}
 use Rattle.imp_slots.specs.Plain.{Layout, Effect, Skip, Assert, SetInt, Input, ReadElement, ReadItem, MakeArray, CopyArray, WriteElement, SetNull, MakeCell, CopyLink, ReadNext, WriteNext, WriteItem, Does}
@@ -10,8 +10,9 @@ use Rattle.concrete_sem.specs.Values.{Int, Array, Variables, Cell, Heap, Attempt
 use Rattle.concrete_sem.specs.Evaluation.{value_of, truth_of}
 use Rattle.concrete_sem.specs.Effects.{new_array, element, with_element, cell_of, with_cell, take_input, effect_of}
 use Rattle.domain_laws.specs.Checks.{Check, check_of, checked_guard}
+use Rattle.domain_laws.specs.Claims.{ChecksTo}
 use Rattle.domain_laws.specs.Guards.{past_check}
-use Rattle.domain_laws.proofs.CheckLaws.{andthen-gives, ChecksTo, FitsCheck, check-passed, check-fits}
+use Rattle.domain_laws.proofs.CheckLaws.{andthen-gives, FitsCheck, check-passed, check-fits}
 use Rattle.shape_graph.specs.Shape.{Shape, IsGraph, In}
 use Rattle.shape_graph.specs.Covers.{Covers}
 use Rattle.shape_steps.specs.Steps.{set_last, AnyCovers, forget_of, new_cell_of, slot_of}
@@ -127,6 +128,7 @@ module _ (ns : List ℕ) (h : Heap) (v : Variables) (vs : List Variables) (x : H
       after =
           ap (set (nexts h) c.0) (slot_of-push (main_first vs) v.links q)
           ∙ sym (map-set (λ (d : Cell). d.next) h.cells c.0 (record { item = c.1.item; next = link_at v q }))
+
       by : (t : Option ℕ) → slot_of g.frames p ≡ t → AnyCovers (write_at g t q) before (nexts (with_cell h c.0 (record { item = c.1.item; next = link_at v q })))
       by None e = absurd (no-nil p c.0 g d l e)
       by (Some k) e =
