@@ -27,7 +27,7 @@ put-grows : (g : Shape) (gs : List Shape) → (put g gs ≡ gs) ⊎ (length (put
 put-grows g [] = inr (omega arith)
 put-grows g (h ∷ hs) = put-cases g h hs (shape_cmp g h) (put-grows g hs)
 
-union-le : (gs hs : List Shape) → length gs ≤ length (union gs hs)
+pub union-le : (gs hs : List Shape) → length gs ≤ length (union gs hs)
 union-le gs [] = omega arith
 union-le gs (h ∷ hs) =
     let l = union-le (put h gs) hs in

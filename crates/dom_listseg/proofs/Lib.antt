@@ -1,0 +1,5 @@
+pub mod Collected
+pub mod Assumed
+pub mod Findings
+pub mod Left
+pub mod Written
