@@ -3,6 +3,7 @@ use Rattle.std.proofs.Common.{◌≡◌, true, false, List, [], ◌∷◌, Optio
 use Rattle.imp_slots.specs.Plain.{Returning}
 use Rattle.shape_graph.specs.Shape.{Shape}
 use Rattle.listseg_meaning.specs.State.{Segments, Top, Graphs}
+use Rattle.listseg_meaning.specs.Sets.{capped}
 use Rattle.listseg_meaning.specs.Operations.{each, returned, leave, dead}
 
 -- by the graphs of the callee's state
@@ -22,3 +23,15 @@ unfolding leave dead
 leave_dead o Top d h = cc
 leave_dead o (Graphs []) d h = refl
 leave_dead o (Graphs (g ∷ gs)) d h = cc
+
+pub leave_done : (o : Option Returning) (s d : Segments) → dead d ≡ true → leave o s d ≡ Graphs []
+unfolding leave dead
+leave_done o s Top h = cc
+leave_done o Top (Graphs []) h = refl
+leave_done o (Graphs []) (Graphs []) h = refl
+leave_done o (Graphs (g ∷ gs)) (Graphs []) h = none
+  where
+    none : each (λ (h : Shape). returned o h ∷ []) (Graphs []) ≡ Graphs []
+    unfolding capped
+    none = refl
+leave_done o s (Graphs (g ∷ gs)) h = cc

@@ -62,6 +62,7 @@ fn entered_sides(alloc: Global, entering: &Entering) -> Result<Vec<Option<u32>>,
 }
 
 // The targets of sides.
+#[tactic(auto, using(crate::proofs::Collected::map_next))]
 fn targets(alloc: Global, graph: &Graph, sides: &[Option<u32>]) -> Result<Vec<Option<usize>>, Memory>
     ensures exact { IfOk result (λ v. v.items ≡ map (steps.argument_of graph.now.frames) sides.now) }
 {
@@ -82,6 +83,7 @@ fn entered_graph(alloc: Global, sides: &[Option<u32>], graph: &Graph) -> Result<
 }
 
 // The graphs with a frame of the callee.
+#[tactic(auto, unfolding(listseg_meaning::specs::Operations::enter), using(crate::proofs::Collected::single_next))]
 fn entered_graphs(
     alloc: Global,
     entering: &Entering,
@@ -140,6 +142,7 @@ fn returned_graph(
 }
 
 // The graphs without their last frame, with the result taken.
+#[tactic(auto, using(crate::proofs::Collected::single_next))]
 fn returned_graphs(
     alloc: Global,
     returning: Option<Returning>,
@@ -156,7 +159,7 @@ fn returned_graphs(
 }
 
 /// The state behind a call.
-#[tactic(auto, unfolding(listseg_meaning::specs::Operations::leave), using(crate::proofs::Left::leave_graphs, crate::proofs::Left::leave_top))]
+#[tactic(auto, unfolding(listseg_meaning::specs::Operations::leave), using(crate::proofs::Left::leave_graphs, crate::proofs::Left::leave_top, crate::proofs::Left::leave_dead, crate::proofs::Left::leave_done))]
 pub fn left(
     alloc: Global,
     returning: Option<Returning>,
@@ -176,6 +179,7 @@ pub fn left(
 }
 
 // The last frames of graphs alone.
+#[tactic(auto, unfolding(listseg_meaning::specs::Operations::shed), using(crate::proofs::Collected::single_next))]
 fn last_frames(alloc: Global, graphs: &[Graph]) -> Result<SegmentState, Memory>
     ensures exact { IfOk result (λ t. t ≡ operations.shed (Graphs graphs.now)) }
 {

@@ -17,6 +17,7 @@ use shape_graph::Graph;
 use std::alloc::Global;
 
 // What a statement that changes a link makes of graphs.
+#[tactic(auto, using(crate::proofs::Collected::step_next))]
 fn moved_graphs(
     alloc: Global,
     action: &SlotAction,
