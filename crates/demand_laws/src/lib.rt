@@ -16,4 +16,7 @@
 
 mod laws;
 
-pub use laws::{answers_are_joined, demands_are_walked, indices_stay, iterates_stop, reports_fill_union, rows_are_a_machine};
+pub use laws::{
+    answers_are_joined, demands_are_walked, indices_stay, iterates_stop, reports_fill_union,
+    rows_are_a_machine,
+};
