@@ -10,7 +10,7 @@ use Rattle.concrete_sem.specs.Values.{Number, Int, Array, Variables, Gives, andt
 use Rattle.concrete_sem.specs.Evaluation.{value_of, side_at}
 use Rattle.concrete_sem.specs.Passing.{first_number, first_link, first_variables, passed, over, pass, back}
 use Rattle.concrete_sem.specs.Proper.{IsNumber}
-use Rattle.domain_laws.specs.CheckLaws.{andthen-gives}
+use Rattle.domain_laws.proofs.CheckLaws.{andthen-gives}
 use Rattle.num_bounds.specs.Bounds.{Bounds, Within as Lies}
 use Rattle.num_bounds.specs.Meaning.{Covers}
 use Rattle.dbm_core.proofs.HalfLemmas.{entry-coherent, entry-outside}

@@ -11,7 +11,8 @@ use Rattle.imp_slots.specs.Fits.{fits_term, fits_guard}
 use Rattle.concrete_sem.specs.Values.{Variables, Gives}
 use Rattle.concrete_sem.specs.Evaluation.{value_of, truth_of, relates}
 use Rattle.concrete_sem.specs.Proper.{IsNumber}
-use Rattle.domain_laws.specs.GuardLaws.{Compares, Tells, assumed-fits, assumed-covers}
+use Rattle.domain_laws.specs.Guards.{Compares, Tells}
+use Rattle.domain_laws.proofs.GuardLaws.{assumed-fits, assumed-covers}
 use Rattle.domain_laws.specs.Laws.{IsRising}
 use Rattle.num_bounds.specs.Bounds.{Bounds, Within as Lies}
 use Rattle.num_bounds.specs.Meaning.{Covers}

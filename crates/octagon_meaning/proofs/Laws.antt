@@ -10,8 +10,9 @@ use Rattle.concrete_sem.specs.Proper.{IsProper}
 use Rattle.analysis_words.specs.declared.verdict.Verdict.TheVariants.{Dead, Safe}
 use Rattle.domain_laws.specs.Checks.{Check, check_of, checked_guard, fault_of}
 use Rattle.domain_laws.specs.Guards.{assumed, past_check, verdict_by, verdict_on}
-use Rattle.domain_laws.specs.GuardLaws.{verdict_by-dead, verdict_by-safe}
-use Rattle.domain_laws.specs.CheckLaws.{ChecksTo, FailsCheck, FitsCheck, check-failed, check-fits}
+use Rattle.domain_laws.proofs.GuardLaws.{verdict_by-dead, verdict_by-safe}
+use Rattle.domain_laws.specs.Claims.{ChecksTo, FailsCheck}
+use Rattle.domain_laws.proofs.CheckLaws.{FitsCheck, check-failed, check-fits}
 use Rattle.domain_laws.specs.Laws.{Fitting, Laws, KeepsDead}
 use Rattle.dbm_close.specs.declared.closed.Closed.{Closed}
 use Rattle.dbm_close.specs.declared.closed.Closed.TheVariants.{Empty, Matrix}

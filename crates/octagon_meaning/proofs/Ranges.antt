@@ -14,7 +14,7 @@ use Rattle.analysis_words.specs.declared.fault.FaultKind.TheVariants.{Overflow, 
 use Rattle.concrete_sem.specs.Values.{Number, Int, Array, Variables, Gives, Faults, andthen, as_int, as_array, number_at, is_word, IsWord}
 use Rattle.concrete_sem.specs.Evaluation.{value_of, word as word_of, quotient, combine}
 use Rattle.concrete_sem.specs.Proper.{IsNumber}
-use Rattle.domain_laws.specs.CheckLaws.{andthen-gives}
+use Rattle.domain_laws.proofs.CheckLaws.{andthen-gives}
 use Rattle.num_bounds.specs.Bounds.{Bounds, Within as Lies, least, greatest}
 use Rattle.num_bounds.specs.Operations.{word, word_if, sums, differences, negations, products, quotients, remainders}
 use Rattle.num_bounds.specs.Meaning.{Covers}

@@ -15,7 +15,8 @@ use Rattle.concrete_sem.specs.Proper.{IsNumber}
 use Rattle.domain_laws.specs.Checks.{Check, check_of, checked_guard}
 use Rattle.domain_laws.specs.Guards.{past_check}
 use Rattle.domain_laws.specs.Laws.{fits_act}
-use Rattle.domain_laws.specs.CheckLaws.{andthen-gives, ChecksTo, FitsCheck, check-passed, check-fits}
+use Rattle.domain_laws.specs.Claims.{ChecksTo}
+use Rattle.domain_laws.proofs.CheckLaws.{andthen-gives, FitsCheck, check-passed, check-fits}
 use Rattle.num_bounds.specs.Bounds.{Within as Lies}
 use Rattle.num_bounds.specs.Operations.{cut_of}
 use Rattle.num_bounds.proofs.Ends.{cut-covers}
