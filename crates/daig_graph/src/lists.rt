@@ -4,8 +4,8 @@ ghost use Rattle.std.specs.HashMap.{get as map_get, Updates as UpdatesMap, spare
 ghost use Rattle.slab.specs.Slab.{get, slab_len, HasRoomFor, ContainsKey, SameValues, Updates};
 ghost use Rattle.daig_graph.specs.Held.{held, Puts, Takes, AreItems};
 
-use crate::walk::Walk;
 use crate::pool::{Lists, Member};
+use crate::walk::Walk;
 use slab::Slab;
 use std::alloc::{AllocError, Global};
 use std::collections::HashMap;

@@ -6,8 +6,8 @@ ghost use Rattle.daig_graph.specs.Held.{IsIn, IsOnce};
 ghost use Rattle.daig_graph.specs.Cells.{AreCells, IsOwned, IsUse};
 
 use crate::graph::{Cell, Graph, Use};
-use crate::walk::Walk;
 use crate::value::Value;
+use crate::walk::Walk;
 
 impl<V> Graph<V> {
     /// The value of a cell, or `None` where it is not there.
