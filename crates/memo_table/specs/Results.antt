@@ -51,4 +51,4 @@ AddsResult S old key n new = (dom : Operations S) (operations : List Operation) 
 -- what is a result stays one, however the tables grow
 abbrev pub ResultsStay : Type 0 → Type 0
 ResultsStay S = (dom : Operations S) (operations later_operations : List Operation) (states later : List S) (entries : List (Key × ℕ))
-  → KeepsNumbers operations later_operations → KeepsNumbers states later → AreResults dom operations states entries → AreResults dom later_operations later entries
+    → KeepsNumbers operations later_operations → KeepsNumbers states later → AreResults dom operations states entries → AreResults dom later_operations later entries
