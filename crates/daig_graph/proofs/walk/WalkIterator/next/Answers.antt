@@ -1,4 +1,4 @@
-use Rattle.std.proofs.Common.{◌≡◌, ℕ, List, [], ◌∷◌, map, length, Option, Some, None, sym, ap, ◌∙◌, subst, arith}
+use Rattle.std.proofs.Common.{ℕ, map, length, Option, sym, ap, ◌∙◌, subst, arith}
 use Rattle.slab.specs.Slab.{get}
 use Rattle.daig_graph.specs.Walks.{IsWalk, walk}
 use Rattle.daig_graph.proofs.Walking.{walk-step}
