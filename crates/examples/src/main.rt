@@ -64,9 +64,14 @@ fn words_for(alloc: Global, name: &str) -> Result<Vec<String>, Error> {
     Ok(words)
 }
 
+/// Runs an example, counting nothing.
+fn is_served(rt: &HostRuntime, name: &str) -> Result<bool, Error> {
+    is_as_expected::<Brand>(rt, name, Blank::new(1))
+}
+
 fn main(rt: HostRuntime) -> Result<(), Error> {
     for name in SERVED {
-        let verdict = if is_as_expected::<Brand>(&rt, name, Blank::new(1))? {
+        let verdict = if is_served(&rt, name)? {
             "as expected"
         } else {
             "differs"

@@ -1,4 +1,4 @@
-use Rattle.examples.proofs.main.Given as goal
+use Rattle.examples.proofs.is_served.Given as goal
 
 -- nothing is counted
 abbrev pub ghosts-is_as_expected : goal.ghosts-is_as_expected
