@@ -1,2 +1,5 @@
+pub mod Kinds
 pub mod Tables
+pub mod Tight
 pub mod Words
+pub mod Written

@@ -1,8 +1,9 @@
 -- Matrices that closures give.
 use Rattle.std.specs.Prelude.{◌≡◌, ℕ, ◌<◌, ◌≤◌, ◌+◌, ◌*◌, ◌^◌, ◌/◌, ◌%◌, eqb, not, ◌&&◌, ℤ, pos, neg_ℤ, ◌+ℤ◌, ◌-ℤ◌, ◌≤ℤ◌, Option, Some, None, Bool, true, false, if◌then◌else◌, List, length, Result, Ok, Err, IfOk, refl}
-use Rattle.std.proofs.Common.{arith, ap, sym, ◌∙◌, subst}
+use Rattle.std.proofs.Common.{arith, ap, sym, ◌∙◌, subst, inl, inr, slice_get}
+use Rattle.std.proofs.lemmas.Bool.{cases_lt}
 use Rattle.std.proofs.lemmas.Int.{ints}
-use Rattle.dbm_core.proofs.HalfLemmas.{HasEntries-from_kept, entry-coherent}
+use Rattle.dbm_core.proofs.HalfLemmas.{HasEntries-from_kept, entry-coherent, entry-outside}
 use Rattle.dbm_core.proofs.LimitLemmas.{AreWithin-entries, IsZeroAtMost-entries, zero-at_most}
 use Rattle.dbm_core.proofs.NodeLemmas.{flip-even}
 use Rattle.dbm_core.proofs.TableLemmas.{tables-determine, tables-have_entries}
@@ -14,6 +15,10 @@ use Rattle.dbm_core.specs.Tables.{matrix_of}
 use Rattle.dbm_core.specs.Weights.{add_weight}
 use Rattle.octagon_meaning.specs.Matrices.{carried, shift, shifted, turned}
 use Rattle.octagon_meaning.proofs.Matrices.{shifted-coherent, shifted-diagonal, turned-below}
+use Rattle.octagon_meaning.specs.declared.source.Source.{Source}
+use Rattle.octagon_meaning.specs.declared.source.Source.TheVariants.{FromSlot, InRange}
+use Rattle.octagon_meaning.specs.Operations.{copied, entered}
+use Rattle.octagon_meaning.proofs.Calls.{entered-coherent, entered-diagonal, zeros-coherent, zeros-diagonal}
 use Rattle.dom_octagon.specs.Limits.{IsReady}
 
 -- a closure's matrix is that of its table
@@ -70,3 +75,43 @@ carried-is_ready m x i c h l w = table-is_ready m.kinds (shifted (entry m) x i c
 -- the limits of states are small
 pub limited-ready : (m : HalfMatrix) → IsLimited (2 ^ 64) m → IsReady m
 limited-ready m h = record { diagonal = zero-at_most (nodes m) (entry m) h.diagonal; within = AreWithin-more (nodes m) (2 ^ 64) (2 ^ 70) (entry m) (omega arith) h.within }
+
+-- ---- the tables of layouts and calls
+
+within_more : (a : Option ℤ) → IsWithin (2 ^ 64) a → IsWithin (2 ^ 70) a
+within_more None h = tt
+within_more (Some x) h = let p : neg_ℤ (pos (2 ^ 64)) ≤ℤ x = h.0 in let q : x ≤ℤ pos (2 ^ 64) = h.1 in (omega (arith, ints), omega (arith, ints))
+
+zero_within : IsWithin (2 ^ 70) (Some (pos 0))
+zero_within = (omega (arith, ints), omega (arith, ints))
+
+pub zeros-are_ready : (kinds : List Bool) → length kinds ≤ 16 → IsReady (matrix_of kinds (λ i j. Some (pos 0)))
+zeros-are_ready kinds few = table-is_ready kinds (λ i j. Some (pos 0)) few (zeros-coherent (2 * length kinds)) (zeros-diagonal (2 * length kinds)) (λ i j hi hj. zero_within)
+
+-- a bound of a state, at nodes or elsewhere
+pub bound_within : (m : HalfMatrix) (i j : ℕ) → IsMatrix m → IsLimited (2 ^ 64) m → IsWithin (2 ^ 64) (entry m i j)
+bound_within m i j h l = elim (cases_lt i (nodes m)) [
+  | inl p ↦ elim (cases_lt j (nodes m)) [
+    | inl q ↦ l.within i j p q
+    | inr q ↦ subst (IsWithin (2 ^ 64)) (sym (entry-outside m h i j (inr q))) tt
+  ]
+  | inr p ↦ subst (IsWithin (2 ^ 64)) (sym (entry-outside m h i j (inl p))) tt
+]
+
+copied-within : (m : HalfMatrix) → IsMatrix m → IsLimited (2 ^ 64) m → (i j : ℕ) (s t : Option Source) → IsWithin (2 ^ 70) (copied m i j s t)
+copied-within m h l i j (Some (FromSlot x)) (Some (FromSlot y)) = within_more (entry m (2 * x + i % 2) (2 * y + j % 2)) (bound_within m (2 * x + i % 2) (2 * y + j % 2) h l)
+copied-within m h l i j (Some (FromSlot x)) (Some (InRange r)) = tt
+copied-within m h l i j (Some (FromSlot x)) None = tt
+copied-within m h l i j (Some (InRange r)) t = tt
+copied-within m h l i j None (Some t) = tt
+copied-within m h l i j None None = zero_within
+
+entered-within : (m : HalfMatrix) → IsMatrix m → IsLimited (2 ^ 64) m → (ss : List Source) (n : ℕ) → AreWithin n (2 ^ 70) (entered m ss)
+entered-within m h l ss n i j hi hj = by (eqb i j)
+  where
+    by : (b : Bool) → IsWithin (2 ^ 70) (if b then Some (pos 0) else copied m i j (slice_get ss (i / 2)) (slice_get ss (j / 2)))
+    by true = zero_within
+    by false = copied-within m h l i j (slice_get ss (i / 2)) (slice_get ss (j / 2))
+
+pub entered-is_ready : (m : HalfMatrix) (kinds : List Bool) (ss : List Source) → IsMatrix m → IsLimited (2 ^ 64) m → length kinds ≤ 16 → IsReady (matrix_of kinds (entered m ss))
+entered-is_ready m kinds ss h l few = table-is_ready kinds (entered m ss) few (entered-coherent m h ss (2 * length kinds)) (entered-diagonal m ss (2 * length kinds)) (entered-within m h l ss (2 * length kinds))

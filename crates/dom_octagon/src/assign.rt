@@ -1,5 +1,5 @@
 //! Assignments.
-ghost use Rattle.std.specs.Prelude.{◌≡◌, ◌<◌, ◌≤◌, ◌*◌, ◌^◌, ◌/◌, Some, IfOk, length};
+ghost use Rattle.std.specs.Prelude.{◌≡◌, ◌<◌, ◌^◌, ◌-ℤ◌, Some, IfOk};
 ghost use Rattle.dbm_core.specs.Half.{entry, nodes};
 ghost use Rattle.dbm_core.specs.Limits.{IsLimited, IsWithin};
 ghost use Rattle.dbm_core.specs.Weights.{add_weight};
@@ -52,6 +52,15 @@ fn shift(x: usize, c: i128, a: usize) -> i128
     }
 }
 
+/// How much farther node b is from what it was than node a.
+fn apart(x: usize, c: i128, a: usize, b: usize) -> i128
+    requires small { IsWithin (2 ^ 64) (Some c) }
+    ensures value { result ≡ matrices.shift x c b -ℤ matrices.shift x c a }
+    ensures small { IsWithin (2 ^ 65) (Some result) }
+{
+    shift(x, c, b) - shift(x, c, a)
+}
+
 /// A bound and a number.
 fn plus(bound: Option<i128>, by: i128) -> Option<i128>
     requires bound { IsWithin (2 ^ 64) bound }
@@ -74,7 +83,7 @@ fn shifted(m: &Matrix, x: usize, i: usize, c: i128, a: usize, b: usize) -> Optio
 {
     let _kinds = m.kinds();
     let bound = m.get(turned(x, i, a), turned(x, i, b));
-    plus(bound, shift(x, c, b) - shift(x, c, a))
+    plus(bound, apart(x, c, a, b))
 }
 
 /// Every bound on slot x carried over: the slot gets the value of its node i and a constant.

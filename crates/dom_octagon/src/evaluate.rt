@@ -23,11 +23,10 @@ pub struct Valued {
 }
 
 /// The range of a slot of a closed matrix, the full one where there is no such slot.
-pub fn range(m: &Matrix, x: u32) -> Range
+pub fn range(m: &Matrix, x: usize) -> Range
     requires tight { IsTight m.now }
     ensures exact { result ≡ range_at m.now x }
 {
-    let x = x as usize;
     if x < m.kinds().len() {
         let (low, high) = slot_range(m, x);
         return Range::from_ends(low as i64, high as i64);
@@ -52,7 +51,7 @@ pub fn slot(m: &Matrix, x: u32) -> Valued
     ensures good { IsGoodForm result.form }
 {
     Valued {
-        range: range(m, x),
+        range: range(m, x as usize),
         form: Some(slot_form(x as usize)),
     }
 }

@@ -10,8 +10,14 @@
 #![tactic(auto)]
 
 mod assign;
+mod close;
+mod compare;
 mod evaluate;
+mod guards;
+mod joins;
 mod matrices;
 mod state;
+mod statements;
+mod verdicts;
 
 pub use state::OctagonState;

@@ -134,8 +134,8 @@ eq-true a b h = grind (arith, nat_tests)
 true-eq : (a b : ℕ) → a ≡ b → nat_eq a b ≡ true
 true-eq a b h = grind (arith, nat_tests)
 
-pub kinds-few : (ks : List Numeric) → length (kinds_of ks) ≤ 16
-kinds-few ks = omega (arith, length-take 16 (map (λ (k : Numeric). k.is_array) ks))
+pub kinds_few : (ks : List Numeric) → length (kinds_of ks) ≤ 16
+kinds_few ks = omega (arith, length-take 16 (map (λ (k : Numeric). k.is_array) ks))
 
 pub fits_matrix-true : (l : Layout) (m : HalfMatrix) → fits_matrix l m ≡ true → FitsMatrix (kinds_of l.numbers) m
 fits_matrix-true l m h =
@@ -146,7 +146,7 @@ fits_matrix-true l m h =
     let z : HasZeroDiagonal (nodes m) (entry m) = λ i hi. zero-true (entry m i i) (not-false _ (some_below-false (nodes m) (λ i. not (option_eq int_eq (entry m i i) (Some (pos 0)))) (not-true _ r.0) i hi)) in
     record {
       matrix = record {
-        few = subst (λ ks. length ks ≤ 16) (sym k) (kinds-few l.numbers);
+        few = subst (λ ks. length ks ≤ 16) (sym k) (kinds_few l.numbers);
         fits = eq-true (length m.kept) (2 * (length m.kinds * (length m.kinds + 1))) q.0;
         diagonal = λ a la. (z (2 * a) (omega arith) ∙ sym (z (2 * a + 1) (omega arith)));
       };

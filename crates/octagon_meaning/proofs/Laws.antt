@@ -9,7 +9,7 @@ use Rattle.concrete_sem.specs.Passing.{first_variables, pass, back}
 use Rattle.concrete_sem.specs.Proper.{IsProper}
 use Rattle.domain_laws.specs.declared.verdict.Verdict.TheVariants.{Dead, Safe}
 use Rattle.domain_laws.specs.Checks.{Check, check_of, checked_guard, fault_of}
-use Rattle.domain_laws.specs.Guards.{assumed, past_check, verdict_on}
+use Rattle.domain_laws.specs.Guards.{assumed, past_check, verdict_by, verdict_on}
 use Rattle.domain_laws.specs.GuardLaws.{verdict_by-dead, verdict_by-safe}
 use Rattle.domain_laws.specs.CheckLaws.{ChecksTo, FailsCheck, FitsCheck, check-failed, check-fits}
 use Rattle.domain_laws.specs.Laws.{Fitting, Laws, KeepsDead}
@@ -170,6 +170,19 @@ check_empty (Does e) = by (check_of e)
     by : (o : Option Check) → verdict_on assume dead o Empty ≡ Dead
     by None = refl
     by (Some c) = refl
+
+-- of an empty state every check is dead
+pub verdict_empty : (a : Act) (s : Closed) → dead (closed s) ≡ true → check a s ≡ Dead
+unfolding check
+verdict_empty a s h = by a
+  where
+    on : (o : Option Check) → verdict_on assume dead o (closed s) ≡ Dead
+    on None = rw h refl
+    on (Some c) = rw h refl
+
+    by : (a : Act) → verdict_by assume dead a (closed s) ≡ Dead
+    by DoBreak = on None
+    by (Does e) = on (check_of e)
 
 pub octagon_keeps_dead : KeepsDead octagons
 octagon_keeps_dead e l ls s f g h = let w = dead-empty s h in ap (post (Does e)) w ∙ post_empty e ∙ sym w
