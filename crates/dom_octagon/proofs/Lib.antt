@@ -1,3 +1,4 @@
+pub mod Joins
 pub mod Kinds
 pub mod Tables
 pub mod Tight

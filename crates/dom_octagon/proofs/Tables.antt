@@ -73,8 +73,8 @@ carried-is_ready m x i c h l w = table-is_ready m.kinds (shifted (entry m) x i c
     (shifted-diagonal (entry m) x i c (length m.kinds) (zero-at_most (nodes m) (entry m) l.diagonal)) (shifted-within (entry m) (length m.kinds) x i c l.within w)
 
 -- the limits of states are small
-pub limited-ready : (m : HalfMatrix) → IsLimited (2 ^ 64) m → IsReady m
-limited-ready m h = record { diagonal = zero-at_most (nodes m) (entry m) h.diagonal; within = AreWithin-more (nodes m) (2 ^ 64) (2 ^ 70) (entry m) (omega arith) h.within }
+pub limited_ready : (m : HalfMatrix) → IsLimited (2 ^ 64) m → IsReady m
+limited_ready m h = record { diagonal = zero-at_most (nodes m) (entry m) h.diagonal; within = AreWithin-more (nodes m) (2 ^ 64) (2 ^ 70) (entry m) (omega arith) h.within }
 
 -- ---- the tables of layouts and calls
 

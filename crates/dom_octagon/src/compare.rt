@@ -77,6 +77,7 @@ fn at_most_matrix(m: &mut Matrix, a: Option<Form>, b: Option<Form>, l: Range, r:
     }
 }
 
+#[tactic(auto, using(crate::proofs::Tables::limited_ready))]
 fn less(
     alloc: Global,
     m: &Matrix,
@@ -98,6 +99,7 @@ fn less(
     closed_matrix(alloc, &copy)
 }
 
+#[tactic(auto, using(crate::proofs::Tables::limited_ready))]
 fn at_most(
     alloc: Global,
     m: &Matrix,
@@ -119,6 +121,7 @@ fn at_most(
     closed_matrix(alloc, &copy)
 }
 
+#[tactic(auto, using(crate::proofs::Tables::limited_ready))]
 fn equal(
     alloc: Global,
     m: &Matrix,

@@ -1,7 +1,10 @@
 //! Joins and widenings.
-ghost use Rattle.std.specs.Prelude.{◌≡◌, ◌^◌, IfOk};
+ghost use Rattle.std.specs.Prelude.{◌≡◌, ◌^◌, true, IfOk};
 ghost use Rattle.dbm_core.specs.Limits.{IsLimited};
+ghost use Rattle.dbm_core.specs.Operations as dbm;
+ghost use Rattle.dbm_core.specs.Tables.{matrix_of};
 ghost use Rattle.octagon_meaning.specs.Operations as operations;
+ghost use Rattle.dom_octagon.specs.Limits.{IsReady};
 
 use crate::OctagonState;
 use crate::close::{closed, closed_matrix, copy_of, within};
@@ -11,10 +14,38 @@ use plain_values::Memory;
 use std::alloc::Global;
 
 /// Whether two matrices have the same kinds of slots.
+#[tactic(auto, using(crate::proofs::Joins::kinds_alike))]
 fn alike(a: &Matrix, b: &Matrix) -> bool
     ensures exact { result ≡ operations.same_kinds a.now b.now }
+    ensures same { result ≡ true → b.now.kinds ≡ a.now.kinds }
 {
     a.kinds() == b.kinds()
+}
+
+/// The greater bound at each pair.
+fn join_of(alloc: Global, a: &Matrix, b: &Matrix) -> Result<Matrix, Memory>
+    requires same { b.now.kinds ≡ a.now.kinds }
+    requires left { IsLimited (2 ^ 64) a.now }
+    requires right { IsLimited (2 ^ 64) b.now }
+    ensures value { IfOk result (λ r. r ≡ matrix_of a.now.kinds (dbm.joined a.now b.now)) }
+    ensures ready { IfOk result IsReady }
+{
+    let _left = a.kinds();
+    let _right = b.kinds();
+    a.join(alloc, b)
+}
+
+/// The left matrix widened by the right one.
+fn widening_of(alloc: Global, marks: &[i64], a: &Matrix, b: &Matrix) -> Result<Matrix, Memory>
+    requires same { b.now.kinds ≡ a.now.kinds }
+    requires left { IsLimited (2 ^ 64) a.now }
+    requires right { IsLimited (2 ^ 64) b.now }
+    ensures value { IfOk result (λ r. r ≡ matrix_of a.now.kinds (dbm.widened marks.now a.now b.now)) }
+    ensures limited { IfOk result (IsLimited (2 ^ 64)) }
+{
+    let _left = a.kinds();
+    let _right = b.kinds();
+    a.widen(alloc, marks, b)
 }
 
 fn join_matrices(alloc: Global, a: Matrix, b: Matrix) -> Result<OctagonState, Memory>
@@ -23,7 +54,7 @@ fn join_matrices(alloc: Global, a: Matrix, b: Matrix) -> Result<OctagonState, Me
     ensures exact { IfOk result (λ s. s ≡ operations.join_matrices a b) }
 {
     if alike(&a, &b) {
-        let join = a.join(alloc, &b)?;
+        let join = join_of(alloc, &a, &b)?;
         return closed_matrix(alloc, &join);
     }
     Ok(within(a))
@@ -62,7 +93,7 @@ fn widen_matrices(
     ensures exact { IfOk result (λ s. s ≡ operations.widen_matrices marks.now a.now b.now) }
 {
     if alike(a, b) {
-        return Ok(within(a.widen(alloc, marks, b)?));
+        return Ok(within(widening_of(alloc, marks, a, b)?));
     }
     Ok(within(a.copy(alloc)?))
 }

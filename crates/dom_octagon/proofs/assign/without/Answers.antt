@@ -8,7 +8,7 @@ use Rattle.dbm_core.specs.Limits.{IsLimited}
 use Rattle.dbm_core.specs.Operations.{forgotten}
 use Rattle.octagon_meaning.proofs.Exact.{without-is}
 use Rattle.octagon_meaning.specs.Matrices as matrices
-use Rattle.dom_octagon.proofs.Tables.{limited-ready}
+use Rattle.dom_octagon.proofs.Tables.{limited_ready}
 use Rattle.dom_octagon.specs.Limits.{IsReady}
 use Rattle.dom_octagon.proofs.assign.without.Goals as goal
 
@@ -17,4 +17,4 @@ returns-clause-value c = entries-if_ok-then (HasEntries c.args.m.now.kinds (forg
     (λ r. without-is c.args.m.now r c.args.k c.kinds-kinds.ensures.matrix) c.forget.ensures.entries
 
 pub returns-clause-ready : goal.returns-clause-ready
-returns-clause-ready c = entries-if_ok-then (IsLimited (2 ^ 64)) IsReady c.forget.result limited-ready (c.forget.ensures.limited (2 ^ 64) c.requires.limited)
+returns-clause-ready c = entries-if_ok-then (IsLimited (2 ^ 64)) IsReady c.forget.result limited_ready (c.forget.ensures.limited (2 ^ 64) c.requires.limited)
