@@ -1,12 +1,12 @@
 -- Layouts and calls: what a state describes stays described over entering and leaving, and states that fit stay so.
-use Rattle.std.proofs.Common.{◌≡◌, refl, sym, ap, ◌∙◌, subst, ℕ, zero, suc, ◌<◌, ◌≤◌, ◌+◌, ◌*◌, ◌/◌, ◌%◌, nat_lt, ℤ, pos, neg_ℤ, ◌-ℤ◌, ◌≤ℤ◌, Bool, true, false, ◌&&◌, ◌||◌, List, [], ◌∷◌, map, drop, length, slice_get, slice_index_or, Option, Some, None, arith, if◌then◌else◌, ◌⊎◌, inl, inr, eqb, cond}
+use Rattle.std.proofs.Common.{◌≡◌, refl, sym, ap, ◌∙◌, subst, ℕ, zero, suc, ◌<◌, ◌≤◌, ◌+◌, ◌*◌, ◌/◌, ◌%◌, nat_lt, ℤ, pos, neg_ℤ, ◌-ℤ◌, Bool, true, false, ◌&&◌, ◌||◌, List, [], ◌∷◌, map, drop, length, slice_get, slice_index_or, Option, Some, None, arith, if◌then◌else◌, ◌⊎◌, inl, inr, eqb, cond}
 use Rattle.std.proofs.lemmas.Int.{ints}
 use Rattle.std.proofs.lemmas.Bool.{and_parts, cases_eq, cases_lt, eq-eqb, ne_eqb}
 use Rattle.std.proofs.lemmas.Bool.Decides.{nat_tests}
 use Rattle.std.specs.List.{AllZip}
 use Rattle.imp_slots.specs.Plain.{Numeric, Layout, Term, Literal, Slot, Length, Negative, Binary, Argument, IntArgument, ArrayArgument, LinkArgument, Returning, NumericResult, LinkResult, Invoke}
 use Rattle.imp_slots.specs.Fits.{is_kind, is_int, is_array, is_side, fits_term, fits_arguments, fits_returning, fits_invoke}
-use Rattle.concrete_sem.specs.Values.{Number, Int, Array, Variables, Gives, andthen, as_array, number_at, array_at}
+use Rattle.concrete_sem.specs.Values.{Number, Int, Array, Variables, Gives, andthen, number_at, array_at}
 use Rattle.concrete_sem.specs.Evaluation.{value_of, side_at}
 use Rattle.concrete_sem.specs.Passing.{first_number, first_link, first_variables, passed, over, pass, back}
 use Rattle.concrete_sem.specs.Proper.{IsNumber}
@@ -14,7 +14,7 @@ use Rattle.domain_laws.specs.CheckLaws.{andthen-gives}
 use Rattle.num_bounds.specs.Bounds.{Bounds, Within as Lies}
 use Rattle.num_bounds.specs.Meaning.{Covers}
 use Rattle.dbm_core.proofs.HalfLemmas.{entry-coherent, entry-outside}
-use Rattle.dbm_core.proofs.NodeLemmas.{flip-flip, flip-half, flip-same, parity}
+use Rattle.dbm_core.proofs.NodeLemmas.{flip-half, flip-same, parity}
 use Rattle.dbm_core.proofs.ValuationLemmas.{node_value-even, node_value-odd, node-plain, node-negative}
 use Rattle.dbm_core.proofs.WeightLemmas.{AtMost-refl}
 use Rattle.dbm_core.specs.Half.{HalfMatrix, IsMatrix, entry, nodes}
@@ -23,20 +23,18 @@ use Rattle.dbm_core.specs.Nodes.{IsCoherent, flip}
 use Rattle.dbm_core.specs.Tables.{matrix_of}
 use Rattle.dbm_core.specs.Valuations.{IsSatisfiedBy, Meets, node_value}
 use Rattle.dbm_core.specs.Weights.{AtMost}
-use Rattle.dbm_close.specs.CloseOf.{close_of}
 use Rattle.dbm_close.specs.Laws.{AreInSlots}
 use Rattle.dbm_close.specs.declared.closed.Closed.{Closed}
-use Rattle.dbm_close.specs.declared.closed.Closed.TheVariants.{Empty, Matrix}
 use Rattle.octagon_meaning.specs.declared.source.Source.{Source}
 use Rattle.octagon_meaning.specs.declared.source.Source.TheVariants.{FromSlot, InRange}
 use Rattle.octagon_meaning.specs.Covers.{measure, values}
 use Rattle.octagon_meaning.specs.Matrices.{meets_range, without}
 use Rattle.octagon_meaning.specs.Operations.{kinds_of, in_front, source_of, with_source, sources, copied, entered, meet_sources, entered_by, enter, init, returned, leave}
 use Rattle.octagon_meaning.specs.Ranges.{if_range, range_at, range_of}
-use Rattle.octagon_meaning.specs.States.{after, closed}
+use Rattle.octagon_meaning.specs.States.{closed}
 use Rattle.octagon_meaning.proofs.Fitting.{Ready, FitsMatrix, FitsState, Describes, fits-ready, kinds_few, close-fits, close-describes, closed-fits, closed-describes, after-fits, after-describes}
 use Rattle.octagon_meaning.proofs.Matrices.{table-ready, table-satisfied, range-ready, range-satisfied, without-ready, without-satisfied}
-use Rattle.octagon_meaning.proofs.Ranges.{AreProper, proper, gives-same, range_at-covers, range_of-covers, array-at, slot-measure, length-measure}
+use Rattle.octagon_meaning.proofs.Ranges.{AreProper, proper, gives-same, range_at-covers, range_of-covers, slot-measure, length-measure}
 use Rattle.octagon_meaning.proofs.Steps.{others-agree, set-value}
 
 -- ---- all slots 0

@@ -1,6 +1,6 @@
 -- What a matrix with given entries is.
-use Rattle.std.specs.Prelude.{◌≡◌, ℕ, ◌<◌, ◌≤◌, ◌+◌, ◌*◌, ◌-◌, ◌%◌, ◌/◌, ℤ, Option, Some, None, Bool, true, false, cond, if◌then◌else◌, neg_ℤ, ◌+ℤ◌, List, [], ◌∷◌, length, refl, ◌⊎◌}
-use Rattle.std.proofs.Common.{arith, ap, sym, ◌∙◌, inl, inr}
+use Rattle.std.specs.Prelude.{◌≡◌, ℕ, ◌<◌, ◌≤◌, ◌+◌, ◌*◌, ◌-◌, ℤ, Option, Bool, true, false, if◌then◌else◌, neg_ℤ, ◌+ℤ◌, List, [], ◌∷◌, length, refl, ◌⊎◌}
+use Rattle.std.proofs.Common.{arith, ap, ◌∙◌, inl, inr}
 use Rattle.dbm_core.proofs.HalfLemmas.{entry-coherent}
 use Rattle.dbm_core.proofs.LowerLemmas.{either_none, lowered-coherent}
 use Rattle.dbm_core.proofs.NodeLemmas.{flip-even, flip-odd, parity}

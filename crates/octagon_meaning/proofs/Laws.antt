@@ -1,11 +1,11 @@
 -- The octagons keep the laws of a domain.
-use Rattle.std.proofs.Common.{◌≡◌, refl, sym, ap, ◌∙◌, subst, ℕ, ℤ, Bool, true, false, List, [], ◌∷◌, All, Option, Some, None}
-use Rattle.imp_slots.specs.Plain.{Layout, Guard, Compare, CompareLinks, Not, And, Or, Effect, Act, DoBreak, Does, Invoke}
-use Rattle.imp_slots.specs.Fits.{fits_effect, fits_invoke}
+use Rattle.std.proofs.Common.{◌≡◌, refl, sym, ap, ◌∙◌, subst, ℕ, ℤ, Bool, true, false, List, [], ◌∷◌, Option, Some, None}
+use Rattle.imp_slots.specs.Plain.{Layout, Guard, Compare, CompareLinks, Not, And, Or, Effect, Act, DoBreak, Does}
+use Rattle.imp_slots.specs.Fits.{fits_effect}
 use Rattle.concrete_sem.proofs.Keeps.{effects_keep, passing_keeps, returns_keep, start_keeps}
-use Rattle.concrete_sem.specs.Values.{Variables, Heap, Gives, Faults, IsWord}
+use Rattle.concrete_sem.specs.Values.{Variables, Heap, Faults}
 use Rattle.concrete_sem.specs.Effects.{effect_of}
-use Rattle.concrete_sem.specs.Passing.{first_variables, pass, back}
+use Rattle.concrete_sem.specs.Passing.{first_variables, back}
 use Rattle.concrete_sem.specs.Proper.{IsProper}
 use Rattle.domain_laws.specs.declared.verdict.Verdict.TheVariants.{Dead, Safe}
 use Rattle.domain_laws.specs.Checks.{Check, check_of, checked_guard, fault_of}

@@ -1,17 +1,17 @@
 -- Matrices before they are closed: that they can be, and what satisfies them.
-use Rattle.std.specs.Prelude.{◌≡◌, ◌≢◌, ℕ, ◌<◌, ◌≤◌, ◌+◌, ◌-◌, ◌*◌, ◌/◌, ◌%◌, ◌^◌, eqb, not, ◌&&◌, ℤ, pos, negsuc, neg_ℤ, ◌+ℤ◌, ◌-ℤ◌, int_le, ◌≤ℤ◌, Option, Some, None, Bool, true, false, if◌then◌else◌, List, length, refl, ◌⊎◌}
+use Rattle.std.specs.Prelude.{◌≡◌, ℕ, ◌<◌, ◌≤◌, ◌+◌, ◌*◌, ◌/◌, ◌%◌, eqb, not, ◌&&◌, ℤ, pos, neg_ℤ, ◌+ℤ◌, ◌-ℤ◌, ◌≤ℤ◌, Option, Some, None, Bool, true, false, if◌then◌else◌, List, length, refl}
 use Rattle.std.proofs.Common.{arith, ap, sym, ◌∙◌, subst, inl, inr}
 use Rattle.std.proofs.lemmas.Int.{ints}
 use Rattle.std.proofs.lemmas.Bool.Decides.{nat_tests}
-use Rattle.std.proofs.lemmas.Bool.{cases_lt, cases_eq, eq-eqb, ne_eqb}
-use Rattle.dbm_core.proofs.HalfLemmas.{entry-coherent, entry-kept, entry-other, row_start-double, row_start-mono}
+use Rattle.std.proofs.lemmas.Bool.{cases_eq, eq-eqb, ne_eqb}
+use Rattle.dbm_core.proofs.HalfLemmas.{entry-coherent}
 use Rattle.dbm_core.proofs.LimitLemmas.{IsZeroAtMost-entries, lowered-diagonal}
 use Rattle.dbm_core.proofs.LowerLemmas.{lowered-coherent}
-use Rattle.dbm_core.proofs.NodeLemmas.{flip-below, flip-flip, flip-half, parity}
+use Rattle.dbm_core.proofs.NodeLemmas.{flip-below, flip-half, parity}
 use Rattle.dbm_core.proofs.OperationLemmas.{forgotten-coherent}
 use Rattle.dbm_core.proofs.TableLemmas.{tables-have_entries}
 use Rattle.dbm_core.proofs.ValuationLemmas.{Frees-entries, Meets-entries, lowered-meets, node_value-agree, node-negative, node-plain, node_value-even, node_value-flip, node_value-odd}
-use Rattle.dbm_core.specs.Half.{HalfMatrix, HasEntries, IsMatrix, entry, nodes, row_start, row_width}
+use Rattle.dbm_core.specs.Half.{HalfMatrix, HasEntries, entry, nodes}
 use Rattle.dbm_core.specs.Limits.{IsZeroAtMost}
 use Rattle.dbm_core.specs.Nodes.{IsCoherent, flip}
 use Rattle.dbm_core.specs.Operations.{forgotten, lowered}

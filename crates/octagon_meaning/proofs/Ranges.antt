@@ -1,5 +1,5 @@
 -- The ranges and the linear forms of expressions hold their values.
-use Rattle.std.proofs.Common.{◌≡◌, ◌≢◌, refl, sym, ap, ◌∙◌, subst, ℕ, zero, suc, ◌<◌, ◌≤◌, ◌^◌, ◌*◌, ◌+◌, ℤ, pos, negsuc, ◌≤ℤ◌, ◌+ℤ◌, ◌-ℤ◌, ◌*ℤ◌, neg_ℤ, int_div, int_rem, Bool, true, false, not, List, [], ◌∷◌, length, map, take, slice_get, slice_index_or, Option, Some, None, arith, if◌then◌else◌, inl, inr, ◌⊎◌}
+use Rattle.std.proofs.Common.{◌≡◌, ◌≢◌, refl, sym, ap, ◌∙◌, subst, ℕ, zero, suc, ◌<◌, ◌≤◌, ◌^◌, ◌*◌, ◌+◌, ℤ, pos, negsuc, ◌≤ℤ◌, ◌+ℤ◌, ◌-ℤ◌, ◌*ℤ◌, neg_ℤ, int_div, int_rem, Bool, true, false, not, List, [], ◌∷◌, length, map, take, slice_get, slice_index_or, Option, Some, None, arith, if◌then◌else◌, inl, inr}
 use Rattle.std.proofs.lemmas.Int.{ints}
 use Rattle.std.proofs.lemmas.Bool.{and_parts, cases_lt}
 use Rattle.std.proofs.lemmas.Bool.Decides.{Decides-int_eq}
@@ -24,17 +24,16 @@ use Rattle.num_bounds.proofs.Quotients.{quotients-sound}
 use Rattle.num_bounds.proofs.Remainders.{remainders-sound}
 use Rattle.dbm_core.proofs.HalfLemmas.{entry-outside}
 use Rattle.dbm_core.proofs.ValuationLemmas.{node_value-flip}
-use Rattle.dbm_core.specs.Half.{HalfMatrix, IsMatrix, entry, nodes}
+use Rattle.dbm_core.specs.Half.{HalfMatrix, IsMatrix, entry}
 use Rattle.dbm_core.specs.Nodes.{flip}
 use Rattle.dbm_core.specs.Valuations.{IsSatisfiedBy, node_value}
 use Rattle.dbm_close.proofs.LawLemmas.{range-sound}
-use Rattle.dbm_close.specs.Close.{slot_high, slot_low}
 use Rattle.dbm_close.specs.Laws.{AreInSlots}
-use Rattle.dbm_close.specs.Steps.{extreme_high, extreme_low, range_high, range_low}
+use Rattle.dbm_close.specs.Steps.{extreme_high, extreme_low}
 use Rattle.octagon_meaning.specs.declared.form.Form.{Form}
 use Rattle.octagon_meaning.specs.declared.form.Form.TheVariants.{Constant, Node}
 use Rattle.octagon_meaning.specs.Covers.{measure, values}
-use Rattle.octagon_meaning.specs.Forms.{combined_form, form_of, if_form, negated, slot_form, sum_form}
+use Rattle.octagon_meaning.specs.Forms.{combined_form, form_of, if_form, negated, sum_form}
 use Rattle.octagon_meaning.specs.Operations.{kinds_of}
 use Rattle.octagon_meaning.specs.Ranges.{if_range, operation, range_at, range_of}
 use Rattle.octagon_meaning.proofs.Fitting.{FitsMatrix}

@@ -1,6 +1,6 @@
 -- The operations of the octagons: A. Miné, "The Octagon Abstract Domain", 2006. Each closes the states that it is given, and
 -- its result; only widening keeps its left matrix as it is.
-use Rattle.std.specs.Prelude.{ℕ, ◌+◌, ◌*◌, ◌/◌, ◌%◌, eqb, Bool, true, false, ◌&&◌, ◌||◌, ℤ, pos, negsuc, ◌+ℤ◌, ◌-ℤ◌, int_le, int_lt, if◌then◌else◌, List, [], ◌∷◌, map, take, slice_get, slice_index_or, Option, Some, None}
+use Rattle.std.specs.Prelude.{ℕ, ◌+◌, ◌*◌, ◌/◌, ◌%◌, eqb, Bool, ◌||◌, ℤ, pos, negsuc, ◌+ℤ◌, ◌-ℤ◌, int_le, int_lt, if◌then◌else◌, List, [], ◌∷◌, map, take, slice_get, Option, Some, None}
 use Rattle.std.specs.Bool.{beq}
 use Rattle.std.specs.Cmp.Lexicographic.{pointwise}
 use Rattle.dbm_core.specs.Half.{HalfMatrix, entry}
