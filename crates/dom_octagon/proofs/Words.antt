@@ -1,13 +1,15 @@
 -- Casts of numbers of 64 bits, and the ends of ranges.
-use Rattle.std.proofs.Common.{◌≡◌, ◌∙◌, ap, sym, subst, ℕ, ◌<◌, ◌≤◌, ◌*◌, ◌+◌, ◌^◌, ℤ, pos, neg_ℤ, ◌≤ℤ◌, FitsSigned, to_z, of_z, w64, Bool, true, false, length, slice_index_or, Option, Some, None, arith}
+use Rattle.std.proofs.Common.{◌≡◌, ◌∙◌, ap, sym, subst, ℕ, ◌<◌, ◌≤◌, ◌*◌, ◌+◌, ◌^◌, ℤ, pos, neg_ℤ, ◌≤ℤ◌, FitsSigned, to_z, of_z, w64, Bool, true, false, length, slice_index_or, Option, Some, None, arith, inl, inr}
+use Rattle.std.proofs.lemmas.Bool.{cases_lt}
 use Rattle.std.specs.Int.{int_max, int_min, int_div_euclid}
 use Rattle.std.proofs.lemmas.Int.{to_z-of_z, ints, clamps}
 use mir.Syntax.{w128}
-use Rattle.dbm_core.specs.Half.{HalfMatrix, entry, nodes}
+use Rattle.dbm_core.specs.Half.{HalfMatrix, IsMatrix, entry, nodes}
 use Rattle.dbm_close.specs.Close.{slot_high, slot_low}
 use Rattle.dbm_close.specs.Steps.{extreme_high, extreme_low, range_high, range_low}
 use Rattle.num_bounds.specs.Bounds.{Bounds, IsRange, least, greatest}
 use Rattle.octagon_meaning.specs.Ranges.{range_at}
+use Rattle.octagon_meaning.proofs.Ranges.{range_at-outside}
 use Rattle.dom_octagon.specs.Limits.{IsTight}
 
 pub word-same : (z : ℤ) → least ≤ℤ z → z ≤ℤ greatest → to_z w64 (of_z w64 (to_z w128 (of_z w128 z))) ≡ z
@@ -41,3 +43,14 @@ slot-range m k h l = record {
   ordered = h.ranges k l;
   high = high-greatest (slice_index_or m.kinds k false) (entry m (2 * k + 1) (2 * k));
 }
+
+-- so is the range of each slot, and of what is none
+pub ranges-are : (m : HalfMatrix) → IsMatrix m → IsTight m → (k : ℕ) → IsRange (range_at m k)
+unfolding range_at
+ranges-are m h t k = elim (cases_lt k (length m.kinds)) [
+  | inl l ↦ slot-range m k t l
+  | inr l ↦ subst IsRange (sym (range_at-outside m h k l)) full
+]
+  where
+    full : IsRange (record { lo = least; hi = greatest })
+    full = record { low = omega (arith, ints); ordered = omega (arith, ints); high = omega (arith, ints) }

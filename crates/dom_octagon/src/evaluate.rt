@@ -149,6 +149,21 @@ fn literal(n: u64) -> Valued
     }
 }
 
+/// What is known of an expression of this range and this form.
+fn known(m: &Matrix, e: &SlotExpr, range: Range, form: Option<Form>) -> Valued
+    requires tight { IsTight m.now }
+    requires range { range_of m.now e.now ≡ Some range }
+    requires form { form ≡ forms.form_of e.now }
+    requires short { HasShortNodeIf form }
+    ensures range { result.range ≡ range }
+    ensures form { result.form ≡ form }
+    ensures good { IsGoodForm result.form }
+{
+    let _slots = m.kinds();
+    let _low = range.lo();
+    Valued { range, form }
+}
+
 /// What is known of an expression over a closed matrix, or `None` where it has no value.
 #[tactic(auto, unfolding(octagon_meaning::specs::Ranges::range_of, octagon_meaning::specs::Forms::form_of))]
 pub fn evaluate(m: &Matrix, e: &SlotExpr) -> Option<Valued>
@@ -161,18 +176,16 @@ pub fn evaluate(m: &Matrix, e: &SlotExpr) -> Option<Valued>
         SlotExprNode::Literal(n) => Some(literal(n.value())),
         SlotExprNode::Slot(x) => Some(slot(m, *x)),
         SlotExprNode::Length(a) => Some(slot(m, *a)),
-        SlotExprNode::Negative(e) => {
-            let value = evaluate(m, e)?;
+        SlotExprNode::Negative(operand) => {
+            let value = evaluate(m, operand)?;
             let range = value.range.neg()?;
-            let form = negated_if(value.form);
-            Some(Valued { range, form })
+            Some(known(m, e, range, negated_if(value.form)))
         }
         SlotExprNode::Binary(operator, a, b) => {
             let a = evaluate(m, a)?;
             let b = evaluate(m, b)?;
             let range = operate(*operator, a.range, b.range)?;
-            let form = combined_if(*operator, a.form, b.form);
-            Some(Valued { range, form })
+            Some(known(m, e, range, combined_if(*operator, a.form, b.form)))
         }
     }
 }

@@ -10,14 +10,21 @@
 #![tactic(auto)]
 
 mod assign;
+mod calls;
 mod close;
 mod compare;
+mod domain;
 mod evaluate;
 mod guards;
 mod joins;
 mod matrices;
 mod state;
 mod statements;
+mod text;
 mod verdicts;
 
+pub use domain::Octagon;
 pub use state::OctagonState;
+
+#[cfg(test)]
+mod tests;

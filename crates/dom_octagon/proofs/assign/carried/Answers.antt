@@ -14,5 +14,13 @@ pub returns : goal.returns
 unfolding carried
 returns c =
     let k : c.kinds-kinds.result.now ≡ c.args.m.now.kinds = c.kinds-kinds.ensures.value in
-    let q = c.from_fn.ensures.kept in
-    ?
+    let kept : IfOk c.from_fn.result (λ r. (i j : ℕ) → i < 2 * length c.args.m.now.kinds → j < row_width i → entry r i j ≡ shifted (entry c.args.m.now) c.args.x c.args.i c.args.c i j) = rw k at c.from_fn.ensures.kept in
+    let e : IfOk c.from_fn.result (λ r. r ≡ carried c.args.m.now c.args.x c.args.i c.args.c) =
+    table-if_ok c.from_fn.result c.args.m.now.kinds (shifted (entry c.args.m.now) c.args.x c.args.i c.args.c) c.kinds-kinds.ensures.matrix.few
+    (shifted-coherent (entry c.args.m.now) c.args.x c.args.i c.args.c (length c.args.m.now.kinds) (entry-coherent c.args.m.now c.kinds-kinds.ensures.matrix))
+    c.from_fn.ensures.matrix (rw k at c.from_fn.ensures.same_kinds) kept in
+    record {
+      value = e;
+      ready = if_ok-by c.from_fn.result (carried c.args.m.now c.args.x c.args.i c.args.c) IsReady e
+          (carried-is_ready c.args.m.now c.args.x c.args.i c.args.c c.kinds-kinds.ensures.matrix c.requires.limited c.requires.small);
+    }
