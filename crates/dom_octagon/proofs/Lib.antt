@@ -1,5 +1,5 @@
-pub mod Joins
-pub mod Kinds
+pub mod FirstKinds
+pub mod SameKinds
 pub mod Tables
 pub mod Tight
 pub mod Words

@@ -14,7 +14,7 @@ use plain_values::Memory;
 use std::alloc::Global;
 
 /// Whether two matrices have the same kinds of slots.
-#[tactic(auto, using(crate::proofs::Joins::kinds_alike))]
+#[tactic(auto, using(crate::proofs::SameKinds::kinds_alike))]
 fn alike(a: &Matrix, b: &Matrix) -> bool
     ensures exact { result ≡ operations.same_kinds a.now b.now }
     ensures same { result ≡ true → b.now.kinds ≡ a.now.kinds }
