@@ -77,7 +77,76 @@ fn at_most_matrix(m: &mut Matrix, a: Option<Form>, b: Option<Form>, l: Range, r:
     }
 }
 
-#[tactic(auto, using(crate::proofs::Tables::limited_ready))]
+/// The matrix once more, to be written to.
+fn copied(alloc: Global, m: &Matrix) -> Result<Matrix, Memory>
+    requires limited { IsLimited (2 ^ 64) m.now }
+    ensures same { IfOk result (λ n. n ≡ m.now) }
+    ensures ready { IfOk result IsReady }
+{
+    m.copy(alloc)
+}
+
+/// The matrix where a is less than b.
+fn lesser(
+    alloc: Global,
+    m: &Matrix,
+    a: Option<Form>,
+    b: Option<Form>,
+    l: Range,
+    r: Range,
+) -> Result<Matrix, Memory>
+    requires limited { IsLimited (2 ^ 64) m.now }
+    requires left { IsGoodForm a }
+    requires right { IsGoodForm b }
+    ensures value { IfOk result (λ n. n ≡ operations.less_matrix m.now a b l r) }
+    ensures ready { IfOk result IsReady }
+{
+    let mut copy = copied(alloc, m)?;
+    less_matrix(&mut copy, a, b, l, r);
+    Ok(copy)
+}
+
+/// The matrix where a is b at most.
+fn no_greater(
+    alloc: Global,
+    m: &Matrix,
+    a: Option<Form>,
+    b: Option<Form>,
+    l: Range,
+    r: Range,
+) -> Result<Matrix, Memory>
+    requires limited { IsLimited (2 ^ 64) m.now }
+    requires left { IsGoodForm a }
+    requires right { IsGoodForm b }
+    ensures value { IfOk result (λ n. n ≡ operations.at_most_matrix m.now a b l r) }
+    ensures ready { IfOk result IsReady }
+{
+    let mut copy = copied(alloc, m)?;
+    at_most_matrix(&mut copy, a, b, l, r);
+    Ok(copy)
+}
+
+/// The matrix where a is b.
+fn same(
+    alloc: Global,
+    m: &Matrix,
+    a: Option<Form>,
+    b: Option<Form>,
+    l: Range,
+    r: Range,
+) -> Result<Matrix, Memory>
+    requires limited { IsLimited (2 ^ 64) m.now }
+    requires left { IsGoodForm a }
+    requires right { IsGoodForm b }
+    ensures value { IfOk result (λ n. n ≡ operations.at_most_matrix (operations.at_most_matrix m.now a b l r) b a r l) }
+    ensures ready { IfOk result IsReady }
+{
+    let mut copy = copied(alloc, m)?;
+    at_most_matrix(&mut copy, a, b, l, r);
+    at_most_matrix(&mut copy, b, a, r, l);
+    Ok(copy)
+}
+
 fn less(
     alloc: Global,
     m: &Matrix,
@@ -94,12 +163,10 @@ fn less(
     if r.hi() <= l.lo() {
         return Ok(empty());
     }
-    let mut copy = m.copy(alloc)?;
-    less_matrix(&mut copy, a, b, l, r);
-    closed_matrix(alloc, &copy)
+    let met = lesser(alloc, m, a, b, l, r)?;
+    closed_matrix(alloc, &met)
 }
 
-#[tactic(auto, using(crate::proofs::Tables::limited_ready))]
 fn at_most(
     alloc: Global,
     m: &Matrix,
@@ -116,12 +183,10 @@ fn at_most(
     if r.hi() < l.lo() {
         return Ok(empty());
     }
-    let mut copy = m.copy(alloc)?;
-    at_most_matrix(&mut copy, a, b, l, r);
-    closed_matrix(alloc, &copy)
+    let met = no_greater(alloc, m, a, b, l, r)?;
+    closed_matrix(alloc, &met)
 }
 
-#[tactic(auto, using(crate::proofs::Tables::limited_ready))]
 fn equal(
     alloc: Global,
     m: &Matrix,
@@ -138,10 +203,8 @@ fn equal(
     if r.hi() < l.lo() || l.hi() < r.lo() {
         return Ok(empty());
     }
-    let mut copy = m.copy(alloc)?;
-    at_most_matrix(&mut copy, a, b, l, r);
-    at_most_matrix(&mut copy, b, a, r, l);
-    closed_matrix(alloc, &copy)
+    let met = same(alloc, m, a, b, l, r)?;
+    closed_matrix(alloc, &met)
 }
 
 fn not_equal(

@@ -14,7 +14,7 @@ pub returns : goal.returns
 unfolding carried
 returns c =
     let k : c.kinds-kinds.result.now ≡ c.args.m.now.kinds = c.kinds-kinds.ensures.value in
-    let kept : IfOk c.from_fn.result (λ r. (i j : ℕ) → i < 2 * length c.args.m.now.kinds → j < row_width i → entry r i j ≡ shifted (entry c.args.m.now) c.args.x c.args.i c.args.c i j) = rw k at c.from_fn.ensures.kept in
+    let kept : IfOk c.from_fn.result (λ r. (i j : ℕ) → i < 2 * length c.args.m.now.kinds → j < row_width i → entry r i j ≡ shifted (entry c.args.m.now) c.args.x c.args.i c.args.c i j) = rw (to_z-of_z w128 c.args.c c.ranges.c) at (rw k at c.from_fn.ensures.kept) in
     let e : IfOk c.from_fn.result (λ r. r ≡ carried c.args.m.now c.args.x c.args.i c.args.c) =
     table-if_ok c.from_fn.result c.args.m.now.kinds (shifted (entry c.args.m.now) c.args.x c.args.i c.args.c) c.kinds-kinds.ensures.matrix.few
     (shifted-coherent (entry c.args.m.now) c.args.x c.args.i c.args.c (length c.args.m.now.kinds) (entry-coherent c.args.m.now c.kinds-kinds.ensures.matrix))
