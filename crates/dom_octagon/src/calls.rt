@@ -172,7 +172,13 @@ fn entered_bound(m: &Matrix, sources: &[Source], i: usize, j: usize) -> Option<i
     if i == j {
         return Some(0);
     }
-    copied(m, i, j, source_at(sources, i / 2), source_at(sources, j / 2))
+    copied(
+        m,
+        i,
+        j,
+        source_at(sources, i / 2),
+        source_at(sources, j / 2),
+    )
 }
 
 /// The callee's matrix before the slots that have a range meet it.
@@ -234,11 +240,7 @@ fn entered_by(alloc: Global, entering: &Entering, m: &Matrix) -> Result<OctagonS
 
 /// The state in front of a callee's body.
 #[tactic(auto, unfolding(octagon_meaning::specs::Operations::enter))]
-pub fn entered(
-    alloc: Global,
-    entering: &Entering,
-    s: &OctagonState,
-) -> Result<OctagonState, Memory>
+pub fn entered(alloc: Global, entering: &Entering, s: &OctagonState) -> Result<OctagonState, Memory>
     ensures exact { IfOk result (λ t. t ≡ operations.enter entering.now s.now) }
 {
     match closed(alloc, s)?.kept {

@@ -267,7 +267,15 @@ fn compare_terms(
     let Some(right) = evaluate(m, b) else {
         return Ok(empty());
     };
-    related(alloc, relation, m, left.form, right.form, left.range, right.range)
+    related(
+        alloc,
+        relation,
+        m,
+        left.form,
+        right.form,
+        left.range,
+        right.range,
+    )
 }
 
 /// What a comparison of expressions leaves of a state.

@@ -87,12 +87,7 @@ fn below_length(
 
 /// `0 <= e && e < len a`
 #[tactic(auto, unfolding(octagon_meaning::specs::Operations::assume))]
-fn in_bounds(
-    alloc: Global,
-    a: u32,
-    e: &SlotExpr,
-    s: &OctagonState,
-) -> Result<OctagonState, Memory>
+fn in_bounds(alloc: Global, a: u32, e: &SlotExpr, s: &OctagonState) -> Result<OctagonState, Memory>
     ensures exact { IfOk result (λ t. t ≡ operations.assume (checks.checked_guard (checks.Within a e.now)) true s.now) }
 {
     let first = not_below_zero(alloc, e, s)?;

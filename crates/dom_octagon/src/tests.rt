@@ -108,8 +108,7 @@ fn in_loop<L: Ledger>(alloc: Global, blank: Blank) -> Result<Text, Fail>
 #[test]
 fn a_loop_over_an_array(rt: HostRuntime) -> Result<(), Fail> {
     let text = in_loop::<Brand>(rt.alloc(), Blank::new(1))?;
-    let want =
-        "i=[0,999999] n=[1,1000000] #a=[1,1000000] i-n<=-1 i-#a<=-1 n-#a<=0 #a-n<=0";
+    let want = "i=[0,999999] n=[1,1000000] #a=[1,1000000] i-n<=-1 i-#a<=-1 n-#a<=0 #a-n<=0";
     assert_eq!(rt; text.as_slice(), want.as_bytes());
     Ok(())
 }

@@ -121,11 +121,7 @@ fn index_verdict(alloc: Global, a: u32, e: &SlotExpr, s: &OctagonState) -> Resul
 
 /// The verdict on a statement in front of which a closed state is not empty.
 #[tactic(auto, unfolding(octagon_meaning::specs::States::dead))]
-fn action_verdict(
-    alloc: Global,
-    action: &SlotAction,
-    s: &OctagonState,
-) -> Result<Verdict, Memory>
+fn action_verdict(alloc: Global, action: &SlotAction, s: &OctagonState) -> Result<Verdict, Memory>
     requires there { states.dead s.now ≡ false }
     ensures exact { IfOk result (λ v. v ≡ verdict_by operations.assume states.dead (Does (effect_of action.now)) s.now) }
 {

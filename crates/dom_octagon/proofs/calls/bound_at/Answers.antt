@@ -8,7 +8,7 @@ returns-else-i-nodes c =
     let n : length c.kinds.result.now ≡ length c.args.m.now.kinds = ap length c.kinds.ensures.value in
     record {
       exact = elim c.else-i-nodes.branch [
-        else-i-nodes-via-then-i-nodes+else-j-nodes w ↦ sym (entry-outside c.args.m.now c.kinds.ensures.matrix c.args.i c.args.j (inr (omega (arith, n, w.if-j-nodes.false))))
+        | else-i-nodes-via-then-i-nodes+else-j-nodes w ↦ sym (entry-outside c.args.m.now c.kinds.ensures.matrix c.args.i c.args.j (inr (omega (arith, n, w.if-j-nodes.false))))
         | else-i-nodes-via-else-i-nodes w ↦ sym (entry-outside c.args.m.now c.kinds.ensures.matrix c.args.i c.args.j (inl (omega (arith, n, w.if-i-nodes.false))))
       ];
     }

@@ -13,6 +13,6 @@ pub returns-else-i-nodes-clause-value : goal.returns-else-i-nodes-clause-value
 returns-else-i-nodes-clause-value c =
     let n : length c.kinds.result.now ≡ length c.args.m.now.kinds = ap length c.kinds.ensures.value in
     elim c.else-i-nodes.branch [
-      else-i-nodes-via-then-i-nodes+else-j-nodes w ↦ bound-outside c.args.m.now c.args.i c.args.j c.args.c c.kinds.ensures.matrix (inr (omega (arith, n, w.if-j-nodes.false)))
+      | else-i-nodes-via-then-i-nodes+else-j-nodes w ↦ bound-outside c.args.m.now c.args.i c.args.j c.args.c c.kinds.ensures.matrix (inr (omega (arith, n, w.if-j-nodes.false)))
       | else-i-nodes-via-else-i-nodes w ↦ bound-outside c.args.m.now c.args.i c.args.j c.args.c c.kinds.ensures.matrix (inl (omega (arith, n, w.if-i-nodes.false)))
     ]
