@@ -1,0 +1,20 @@
+use Rattle.std.specs.Prelude.{IfOk, ◌≡◌, ◌^◌, Result, Ok, Err}
+use Rattle.std.proofs.Common.{arith}
+use Rattle.dbm_core.proofs.LimitLemmas.{zero-at_most}
+use Rattle.dbm_core.proofs.ValuationLemmas.{entries-if_ok-then}
+use Rattle.dbm_close.proofs.RoundLemmas.{AreWithin-more}
+use Rattle.dbm_core.specs.Half.{HalfMatrix, HasEntries, entry, nodes}
+use Rattle.dbm_core.specs.Limits.{IsLimited}
+use Rattle.dbm_core.specs.Operations.{forgotten}
+use Rattle.octagon_meaning.proofs.Exact.{without-is}
+use Rattle.octagon_meaning.specs.Matrices as matrices
+use Rattle.dom_octagon.proofs.Tables.{limited_ready}
+use Rattle.dom_octagon.specs.Limits.{IsReady}
+use Rattle.dom_octagon.proofs.assign.without.Goals as goal
+
+pub returns-clause-value : goal.returns-clause-value
+returns-clause-value c = entries-if_ok-then (HasEntries c.args.m.now.kinds (forgotten (entry c.args.m.now) c.args.k)) (λ r. r ≡ matrices.without c.args.m.now c.args.k) c.forget.result
+    (λ r. without-is c.args.m.now r c.args.k c.kinds-kinds.ensures.matrix) c.forget.ensures.entries
+
+pub returns-clause-ready : goal.returns-clause-ready
+returns-clause-ready c = entries-if_ok-then (IsLimited (2 ^ 64)) IsReady c.forget.result limited_ready (c.forget.ensures.limited (2 ^ 64) c.requires.limited)

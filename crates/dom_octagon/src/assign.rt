@@ -1,0 +1,161 @@
+//! Assignments.
+ghost use Rattle.std.specs.Prelude.{◌≡◌, ◌<◌, ◌^◌, ◌-ℤ◌, Some, IfOk};
+ghost use Rattle.dbm_core.specs.Half.{entry, nodes};
+ghost use Rattle.dbm_core.specs.Limits.{IsLimited, IsWithin};
+ghost use Rattle.dbm_core.specs.Weights.{add_weight};
+ghost use Rattle.octagon_meaning.specs.Forms.{slot_form as slot_form_of};
+ghost use Rattle.octagon_meaning.specs.Matrices as matrices;
+ghost use Rattle.dom_octagon.specs.Limits.{IsGoodForm, IsReady};
+
+use crate::evaluate::slot_form;
+use crate::matrices::{equation, meet_range};
+use dbm_core::{Matrix, other_sign};
+use num_bounds::Range;
+use octagon_meaning::Form;
+use plain_values::Memory;
+use std::alloc::Global;
+
+/// The bounds on a slot dropped.
+pub fn without(alloc: Global, m: &Matrix, k: usize) -> Result<Matrix, Memory>
+    requires limited { IsLimited (2 ^ 64) m.now }
+    ensures value { IfOk result (λ r. r ≡ matrices.without m.now k) }
+    ensures ready { IfOk result IsReady }
+{
+    let _kinds = m.kinds();
+    m.forget(alloc, k)
+}
+
+/// Which node of the old matrix a node is, where slot x gets the value of its node i and a constant.
+fn turned(x: usize, i: usize, a: usize) -> usize
+    requires node { a < 2 ^ 60 }
+    ensures value { result ≡ matrices.turned x i a }
+{
+    if a / 2 == x && i % 2 != 0 {
+        other_sign(a)
+    } else {
+        a
+    }
+}
+
+/// How far a node is from that.
+fn shift(x: usize, c: i128, a: usize) -> i128
+    requires small { IsWithin (2 ^ 64) (Some c) }
+    ensures value { result ≡ matrices.shift x c a }
+    ensures small { IsWithin (2 ^ 64) (Some result) }
+{
+    if a / 2 != x {
+        0
+    } else if a % 2 == 0 {
+        c
+    } else {
+        -c
+    }
+}
+
+/// How much farther node b is from what it was than node a.
+fn apart(x: usize, c: i128, a: usize, b: usize) -> i128
+    requires small { IsWithin (2 ^ 64) (Some c) }
+    ensures value { result ≡ matrices.shift x c b -ℤ matrices.shift x c a }
+    ensures small { IsWithin (2 ^ 65) (Some result) }
+{
+    shift(x, c, b) - shift(x, c, a)
+}
+
+/// A bound and a number.
+fn plus(bound: Option<i128>, by: i128) -> Option<i128>
+    requires bound { IsWithin (2 ^ 64) bound }
+    requires by { IsWithin (2 ^ 65) (Some by) }
+    ensures sum { result ≡ add_weight bound (Some by) }
+{
+    match bound {
+        Some(bound) => Some(bound + by),
+        None => None,
+    }
+}
+
+/// The bound from a to b once slot x has got the value of its node i and a constant.
+fn shifted(m: &Matrix, x: usize, i: usize, c: i128, a: usize, b: usize) -> Option<i128>
+    requires row { a < nodes m.now }
+    requires column { b < nodes m.now }
+    requires small { IsWithin (2 ^ 64) (Some c) }
+    requires limited { IsLimited (2 ^ 64) m.now }
+    ensures value { result ≡ matrices.shifted (entry m.now) x i c a b }
+{
+    let _kinds = m.kinds();
+    let bound = m.get(turned(x, i, a), turned(x, i, b));
+    plus(bound, apart(x, c, a, b))
+}
+
+/// Every bound on slot x carried over: the slot gets the value of its node i and a constant.
+pub fn carried(alloc: Global, m: &Matrix, x: usize, i: usize, c: i128) -> Result<Matrix, Memory>
+    requires small { IsWithin (2 ^ 64) (Some c) }
+    requires limited { IsLimited (2 ^ 64) m.now }
+    ensures value { IfOk result (λ r. r ≡ matrices.carried m.now x i c) }
+    ensures ready { IfOk result IsReady }
+{
+    let kinds = m.kinds();
+    Matrix::from_fn(
+        alloc,
+        kinds,
+        |a: usize, b: usize| -> Option<i128>
+            requires row { a < nodes m.now }
+            requires column { b < nodes m.now }
+            requires small { IsWithin (2 ^ 64) (Some c) }
+            requires limited { IsLimited (2 ^ 64) m.now }
+            ensures value { result ≡ matrices.shifted (entry m.entry.now) x i c a b }
+        { shifted(m, x, i, c, a, b) },
+    )
+}
+
+/// The slot is equal to a form.
+fn equated(alloc: Global, m: &Matrix, x: usize, form: Form) -> Result<Matrix, Memory>
+    requires slot { x < 2 ^ 32 }
+    requires limited { IsLimited (2 ^ 64) m.now }
+    requires good { IsGoodForm (Some form) }
+    ensures value { IfOk result (λ r. r ≡ matrices.with_equation (matrices.without m.now x) (slot_form_of x) form) }
+    ensures ready { IfOk result IsReady }
+{
+    let mut free = without(alloc, m, x)?;
+    equation(&mut free, slot_form(x), form);
+    Ok(free)
+}
+
+/// The slot lies in a range.
+pub fn ranged(alloc: Global, m: &Matrix, x: usize, range: Range) -> Result<Matrix, Memory>
+    requires slot { x < 2 ^ 32 }
+    requires limited { IsLimited (2 ^ 64) m.now }
+    ensures value { IfOk result (λ r. r ≡ matrices.meets_range (matrices.without m.now x) x range) }
+    ensures ready { IfOk result IsReady }
+{
+    let mut free = without(alloc, m, x)?;
+    meet_range(&mut free, x, range);
+    Ok(free)
+}
+
+/// What an assignment makes of a closed matrix: slot x gets the value of an expression of this form, if
+/// it has one, and of this range.
+pub fn assigned(
+    alloc: Global,
+    m: &Matrix,
+    x: u32,
+    form: Option<Form>,
+    range: Range,
+) -> Result<Matrix, Memory>
+    requires limited { IsLimited (2 ^ 64) m.now }
+    requires good { IsGoodForm form }
+    ensures value { IfOk result (λ r. r ≡ matrices.assigned m.now x form range) }
+    ensures ready { IfOk result IsReady }
+{
+    let x = x as usize;
+    match form {
+        None => ranged(alloc, m, x, range),
+        Some(Form::Constant(c)) => equated(alloc, m, x, Form::Constant(c)),
+        Some(Form::Node(i, c)) => {
+            if i / 2 == x {
+                carried(alloc, m, x, i, c)
+            } else {
+                equated(alloc, m, x, Form::Node(i, c))
+            }
+        }
+    }
+}

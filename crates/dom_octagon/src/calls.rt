@@ -1,0 +1,290 @@
+//! Layouts and calls.
+ghost use Rattle.std.specs.Prelude.{◌≡◌, ◌<◌, ◌≤◌, ◌*◌, ◌^◌, ◌/◌, Some, None, MatchOption, IfOk, length, map, slice_get, take, pos};
+ghost use Rattle.std.specs.Option.{option_map};
+ghost use Rattle.dbm_core.specs.Half.{entry, nodes};
+ghost use Rattle.dbm_core.specs.Limits.{IsLimited, IsWithin};
+ghost use Rattle.dbm_core.specs.Tables.{matrix_of};
+ghost use Rattle.imp_slots.specs.CallViews.{argument_of, taken_of};
+ghost use Rattle.octagon_meaning.specs.Operations as operations;
+ghost use Rattle.dom_octagon.specs.Limits.{IsReady, IsTight, IsTightState};
+ghost use Rattle.dom_octagon.specs.Lists.{behind_these};
+
+use crate::OctagonState;
+use crate::assign::ranged;
+use crate::close::{closed, closed_matrix, empty, within};
+use crate::evaluate::{evaluate, range};
+use crate::matrices::meet_range;
+use dbm_close::Closed;
+use dbm_core::Matrix;
+use imp_slots::{Argument, Entering, Layout, NumericSlot, Returning, SlotExpr, SlotExprNode};
+use num_bounds::Range;
+use octagon_meaning::Source;
+use plain_values::Memory;
+use std::alloc::{AllocError, Global};
+
+fn first_kinds(alloc: Global, numbers: &[NumericSlot]) -> Result<Vec<bool>, AllocError>
+    ensures exact { IfOk result (λ v. v.items ≡ map (λ k. k.is_array) (take 16 numbers.now)) }
+{
+    numbers
+        .iter()
+        .take(16)
+        .map(|number| number.is_array())
+        .collect(alloc)
+}
+
+/// The kinds of the first 16 slots.
+#[tactic(auto, using(crate::proofs::FirstKinds::kinds_taken, octagon_meaning::proofs::Fitting::kinds_few))]
+fn kinds(alloc: Global, numbers: &[NumericSlot]) -> Result<Vec<bool>, Memory>
+    ensures exact { IfOk result (λ v. v.items ≡ operations.kinds_of numbers.now) }
+    ensures few { IfOk result (λ v. length v.items ≤ 16) }
+{
+    Ok(first_kinds(alloc, numbers)?)
+}
+
+/// All slots 0.
+fn zeros(alloc: Global, kinds: &[bool]) -> Result<Matrix, Memory>
+    requires few { length kinds.now ≤ 16 }
+    ensures value { IfOk result (λ m. m ≡ matrix_of kinds.now (λ i j. Some (pos 0))) }
+    ensures ready { IfOk result IsReady }
+{
+    Matrix::from_fn(
+        alloc,
+        kinds,
+        |_i: usize, _j: usize| -> Option<i128>
+            ensures value { result ≡ Some (pos 0) }
+        { Some(0) },
+    )
+}
+
+/// The state in front of main's body.
+#[tactic(auto, unfolding(octagon_meaning::specs::Operations::init))]
+pub fn initial(alloc: Global, main: &Layout) -> Result<OctagonState, Memory>
+    ensures exact { IfOk result (λ s. s ≡ operations.init main.now) }
+{
+    let kinds = kinds(alloc, main.numbers())?;
+    let zeros = zeros(alloc, &kinds)?;
+    closed_matrix(alloc, &zeros)
+}
+
+/// Where an int argument has its value from: a variable's or an array's slot, else its range.
+fn source(m: &Matrix, e: &SlotExpr) -> Option<Source>
+    requires tight { IsTight m.now }
+    ensures exact { result ≡ operations.source_of m.now e.now }
+{
+    match e.node() {
+        SlotExprNode::Slot(x) => Some(Source::FromSlot(*x)),
+        SlotExprNode::Length(a) => Some(Source::FromSlot(*a)),
+        SlotExprNode::Literal(_) => ranged_source(m, e),
+        SlotExprNode::Negative(_) => ranged_source(m, e),
+        SlotExprNode::Binary(_, _, _) => ranged_source(m, e),
+    }
+}
+
+/// Any number of the range of an expression.
+fn ranged_source(m: &Matrix, e: &SlotExpr) -> Option<Source>
+    requires tight { IsTight m.now }
+    ensures exact { result ≡ operations.ranged_source m.now e.now }
+{
+    match evaluate(m, e) {
+        None => None,
+        Some(value) => Some(Source::InRange(value.range)),
+    }
+}
+
+/// The sources of the arguments that take numeric slots, behind these.
+#[tactic(auto, using(crate::specs::Lists::behind_front))]
+fn sources(
+    m: &Matrix,
+    arguments: &[Argument],
+    sources: Vec<Source>,
+) -> Result<Option<Vec<Source>>, Memory>
+    requires tight { IsTight m.now }
+    ensures exact { IfOk result (λ o. option_map (λ r. r.items) o ≡ behind_these sources.items (operations.sources m.now (map argument_of arguments.now))) }
+{
+    match arguments {
+        [] => Ok(Some(sources)),
+        [Argument::Link(_), rest @ ..] => self::sources(m, rest, sources),
+        [Argument::Array(a), rest @ ..] => {
+            let mut sources = sources;
+            sources.push(Source::FromSlot(*a))?;
+            self::sources(m, rest, sources)
+        }
+        [Argument::Int(e), rest @ ..] => {
+            let mut sources = sources;
+            match source(m, e) {
+                None => return Ok(None),
+                Some(source) => sources.push(source)?,
+            }
+            self::sources(m, rest, sources)
+        }
+    }
+}
+
+/// The slot of the caller that is a slot's source, if one is.
+fn source_at(sources: &[Source], k: usize) -> Option<Source>
+    ensures exact { result ≡ slice_get sources.now k }
+{
+    if k < sources.len() {
+        Some(sources[k])
+    } else {
+        None
+    }
+}
+
+/// The bound on two nodes of the caller's matrix, none where they are no nodes.
+pub fn bound_at(m: &Matrix, i: usize, j: usize) -> Option<i128>
+    ensures exact { result ≡ entry m.now i j }
+{
+    let nodes = 2 * m.kinds().len();
+    if i < nodes && j < nodes {
+        m.get(i, j)
+    } else {
+        None
+    }
+}
+
+/// The bound between two nodes of the callee, by the sources of their slots.
+fn copied(
+    m: &Matrix,
+    i: usize,
+    j: usize,
+    first: Option<Source>,
+    second: Option<Source>,
+) -> Option<i128>
+    ensures exact { result ≡ operations.copied m.now i j first second }
+{
+    match (first, second) {
+        (Some(Source::FromSlot(x)), Some(Source::FromSlot(y))) => {
+            bound_at(m, 2 * (x as usize) + i % 2, 2 * (y as usize) + j % 2)
+        }
+        (Some(Source::FromSlot(_)), Some(Source::InRange(_))) => None,
+        (Some(Source::FromSlot(_)), None) => None,
+        (Some(Source::InRange(_)), _) => None,
+        (None, Some(_)) => None,
+        (None, None) => Some(0),
+    }
+}
+
+/// The bound between two nodes of the callee before those that ranges give.
+fn entered_bound(m: &Matrix, sources: &[Source], i: usize, j: usize) -> Option<i128>
+    ensures exact { result ≡ operations.entered m.now sources.now i j }
+{
+    if i == j {
+        return Some(0);
+    }
+    copied(
+        m,
+        i,
+        j,
+        source_at(sources, i / 2),
+        source_at(sources, j / 2),
+    )
+}
+
+/// The callee's matrix before the slots that have a range meet it.
+fn entered_matrix(
+    alloc: Global,
+    m: &Matrix,
+    kinds: &[bool],
+    sources: &[Source],
+) -> Result<Matrix, Memory>
+    requires few { length kinds.now ≤ 16 }
+    requires limited { IsLimited (2 ^ 64) m.now }
+    ensures value { IfOk result (λ r. r ≡ matrix_of kinds.now (operations.entered m.now sources.now)) }
+    ensures ready { IfOk result IsReady }
+{
+    let _slots = m.kinds();
+    Matrix::from_fn(
+        alloc,
+        kinds,
+        |i: usize, j: usize| -> Option<i128>
+            ensures value { result ≡ operations.entered m.entry.now sources.entry.now i j }
+        { entered_bound(m, sources, i, j) },
+    )
+}
+
+/// Makes the slots from k on that have a range meet it.
+fn meet_sources(m: &mut Matrix, k: usize, sources: &[Source])
+    requires slot { k ≤ 17 }
+    ensures value { m.new ≡ operations.meet_sources m.old k sources.now }
+    ensures ready { IsReady m.old → IsReady m.new }
+{
+    if k >= m.kinds().len() {
+        return;
+    }
+    match sources {
+        [] => {}
+        [Source::FromSlot(_), rest @ ..] => meet_sources(m, k + 1, rest),
+        [Source::InRange(range), rest @ ..] => {
+            meet_range(m, k, *range);
+            meet_sources(m, k + 1, rest);
+        }
+    }
+}
+
+/// The state in front of a callee's body, from a closed matrix of the caller.
+fn entered_by(alloc: Global, entering: &Entering, m: &Matrix) -> Result<OctagonState, Memory>
+    requires tight { IsTight m.now }
+    ensures exact { IfOk result (λ t. t ≡ operations.entered_by m.now entering.now.layout.numbers (operations.sources m.now entering.now.arguments)) }
+{
+    match sources(m, entering.arguments(), Vec::new(alloc))? {
+        None => Ok(empty()),
+        Some(sources) => {
+            let kinds = kinds(alloc, entering.layout().numbers())?;
+            let mut callee = entered_matrix(alloc, m, &kinds, &sources)?;
+            meet_sources(&mut callee, 0, &sources);
+            closed_matrix(alloc, &callee)
+        }
+    }
+}
+
+/// The state in front of a callee's body.
+#[tactic(auto, unfolding(octagon_meaning::specs::Operations::enter))]
+pub fn entered(alloc: Global, entering: &Entering, s: &OctagonState) -> Result<OctagonState, Memory>
+    ensures exact { IfOk result (λ t. t ≡ operations.enter entering.now s.now) }
+{
+    match closed(alloc, s)?.kept {
+        Closed::Empty => Ok(empty()),
+        Closed::Matrix(m) => entered_by(alloc, entering, &m),
+    }
+}
+
+/// The caller's state with the result in its place.
+fn taken(
+    alloc: Global,
+    returning: Option<Returning>,
+    m: Matrix,
+    callee: &Matrix,
+) -> Result<OctagonState, Memory>
+    requires tight { IsTight m }
+    requires callee { IsTight callee.now }
+    ensures exact { IfOk result (λ t. t ≡ operations.returned (taken_of returning) m callee.now) }
+{
+    match returning {
+        None => Ok(within(m)),
+        Some(Returning::Link { to: _, from: _ }) => Ok(within(m)),
+        Some(Returning::Numeric { to, from }) => {
+            let set = ranged(alloc, &m, to as usize, range(callee, from as usize))?;
+            closed_matrix(alloc, &set)
+        }
+    }
+}
+
+/// The state behind a call.
+#[tactic(auto, unfolding(octagon_meaning::specs::Operations::leave))]
+pub fn left(
+    alloc: Global,
+    returning: Option<Returning>,
+    s: &OctagonState,
+    done: &OctagonState,
+) -> Result<OctagonState, Memory>
+    ensures exact { IfOk result (λ t. t ≡ operations.leave (taken_of returning) s.now done.now) }
+{
+    match closed(alloc, s)?.kept {
+        Closed::Empty => Ok(empty()),
+        Closed::Matrix(m) => match closed(alloc, done)?.kept {
+            Closed::Empty => Ok(empty()),
+            Closed::Matrix(callee) => taken(alloc, returning, m, &callee),
+        },
+    }
+}

@@ -1,0 +1,310 @@
+//! Comparisons of expressions over a closed matrix.
+ghost use Rattle.std.specs.Prelude.{◌≡◌, ◌^◌, ◌+ℤ◌, ◌-ℤ◌, pos, Some, IfOk};
+ghost use Rattle.domain_laws.specs.Checks.{opposite};
+ghost use Rattle.dbm_core.specs.Limits.{IsLimited, IsWithin};
+ghost use Rattle.octagon_meaning.specs.Operations as operations;
+ghost use Rattle.dom_octagon.specs.Limits.{IsGoodForm, IsReady, IsTight};
+
+use crate::OctagonState;
+use crate::close::{closed, closed_matrix, empty};
+use crate::evaluate::evaluate;
+use crate::joins::joined;
+use crate::matrices::{difference, side_at_least, side_at_most};
+use dbm_close::Closed;
+use dbm_core::Matrix;
+use imp_slots::SlotExpr;
+use imp_syntax::Relation;
+use num_bounds::Range;
+use octagon_meaning::Form;
+use plain_values::Memory;
+use std::alloc::Global;
+
+/// What is less than the greatest number of a range.
+fn below(r: Range) -> i128
+    ensures value { result ≡ r.hi -ℤ pos 1 }
+    ensures small { IsWithin (2 ^ 65) (Some result) }
+{
+    r.hi() as i128 - 1
+}
+
+/// What is greater than the least number of a range.
+fn above(l: Range) -> i128
+    ensures value { result ≡ l.lo +ℤ pos 1 }
+    ensures small { IsWithin (2 ^ 65) (Some result) }
+{
+    l.lo() as i128 + 1
+}
+
+/// The greatest number of a range.
+fn top(r: Range) -> i128
+    ensures value { result ≡ r.hi }
+    ensures small { IsWithin (2 ^ 65) (Some result) }
+{
+    r.hi() as i128
+}
+
+/// The least number of a range.
+fn bottom(l: Range) -> i128
+    ensures value { result ≡ l.lo }
+    ensures small { IsWithin (2 ^ 65) (Some result) }
+{
+    l.lo() as i128
+}
+
+fn less_matrix(m: &mut Matrix, a: Option<Form>, b: Option<Form>, l: Range, r: Range)
+    requires left { IsGoodForm a }
+    requires right { IsGoodForm b }
+    ensures value { m.new ≡ operations.less_matrix m.old a b l r }
+    ensures ready { IsReady m.old → IsReady m.new }
+{
+    match (a, b) {
+        (Some(f), Some(g)) => difference(m, f, g, -1),
+        (Some(f), None) => side_at_most(m, Some(f), below(r)),
+        (None, _) => side_at_least(m, b, above(l)),
+    }
+}
+
+fn at_most_matrix(m: &mut Matrix, a: Option<Form>, b: Option<Form>, l: Range, r: Range)
+    requires left { IsGoodForm a }
+    requires right { IsGoodForm b }
+    ensures value { m.new ≡ operations.at_most_matrix m.old a b l r }
+    ensures ready { IsReady m.old → IsReady m.new }
+{
+    match (a, b) {
+        (Some(f), Some(g)) => difference(m, f, g, 0),
+        (Some(f), None) => side_at_most(m, Some(f), top(r)),
+        (None, _) => side_at_least(m, b, bottom(l)),
+    }
+}
+
+/// The matrix once more, to be written to.
+fn copied(alloc: Global, m: &Matrix) -> Result<Matrix, Memory>
+    requires limited { IsLimited (2 ^ 64) m.now }
+    ensures same { IfOk result (λ n. n ≡ m.now) }
+    ensures ready { IfOk result IsReady }
+{
+    m.copy(alloc)
+}
+
+/// The matrix where a is less than b.
+fn lesser(
+    alloc: Global,
+    m: &Matrix,
+    a: Option<Form>,
+    b: Option<Form>,
+    l: Range,
+    r: Range,
+) -> Result<Matrix, Memory>
+    requires limited { IsLimited (2 ^ 64) m.now }
+    requires left { IsGoodForm a }
+    requires right { IsGoodForm b }
+    ensures value { IfOk result (λ n. n ≡ operations.less_matrix m.now a b l r) }
+    ensures ready { IfOk result IsReady }
+{
+    let mut copy = copied(alloc, m)?;
+    less_matrix(&mut copy, a, b, l, r);
+    Ok(copy)
+}
+
+/// The matrix where a is b at most.
+fn no_greater(
+    alloc: Global,
+    m: &Matrix,
+    a: Option<Form>,
+    b: Option<Form>,
+    l: Range,
+    r: Range,
+) -> Result<Matrix, Memory>
+    requires limited { IsLimited (2 ^ 64) m.now }
+    requires left { IsGoodForm a }
+    requires right { IsGoodForm b }
+    ensures value { IfOk result (λ n. n ≡ operations.at_most_matrix m.now a b l r) }
+    ensures ready { IfOk result IsReady }
+{
+    let mut copy = copied(alloc, m)?;
+    at_most_matrix(&mut copy, a, b, l, r);
+    Ok(copy)
+}
+
+/// The matrix where a is b.
+fn same(
+    alloc: Global,
+    m: &Matrix,
+    a: Option<Form>,
+    b: Option<Form>,
+    l: Range,
+    r: Range,
+) -> Result<Matrix, Memory>
+    requires limited { IsLimited (2 ^ 64) m.now }
+    requires left { IsGoodForm a }
+    requires right { IsGoodForm b }
+    ensures value { IfOk result (λ n. n ≡ operations.at_most_matrix (operations.at_most_matrix m.now a b l r) b a r l) }
+    ensures ready { IfOk result IsReady }
+{
+    let mut copy = copied(alloc, m)?;
+    at_most_matrix(&mut copy, a, b, l, r);
+    at_most_matrix(&mut copy, b, a, r, l);
+    Ok(copy)
+}
+
+fn less(
+    alloc: Global,
+    m: &Matrix,
+    a: Option<Form>,
+    b: Option<Form>,
+    l: Range,
+    r: Range,
+) -> Result<OctagonState, Memory>
+    requires limited { IsLimited (2 ^ 64) m.now }
+    requires left { IsGoodForm a }
+    requires right { IsGoodForm b }
+    ensures exact { IfOk result (λ s. s ≡ operations.less m.now a b l r) }
+{
+    if r.hi() <= l.lo() {
+        return Ok(empty());
+    }
+    let met = lesser(alloc, m, a, b, l, r)?;
+    closed_matrix(alloc, &met)
+}
+
+fn at_most(
+    alloc: Global,
+    m: &Matrix,
+    a: Option<Form>,
+    b: Option<Form>,
+    l: Range,
+    r: Range,
+) -> Result<OctagonState, Memory>
+    requires limited { IsLimited (2 ^ 64) m.now }
+    requires left { IsGoodForm a }
+    requires right { IsGoodForm b }
+    ensures exact { IfOk result (λ s. s ≡ operations.at_most m.now a b l r) }
+{
+    if r.hi() < l.lo() {
+        return Ok(empty());
+    }
+    let met = no_greater(alloc, m, a, b, l, r)?;
+    closed_matrix(alloc, &met)
+}
+
+fn equal(
+    alloc: Global,
+    m: &Matrix,
+    a: Option<Form>,
+    b: Option<Form>,
+    l: Range,
+    r: Range,
+) -> Result<OctagonState, Memory>
+    requires limited { IsLimited (2 ^ 64) m.now }
+    requires left { IsGoodForm a }
+    requires right { IsGoodForm b }
+    ensures exact { IfOk result (λ s. s ≡ operations.equal m.now a b l r) }
+{
+    if r.hi() < l.lo() || l.hi() < r.lo() {
+        return Ok(empty());
+    }
+    let met = same(alloc, m, a, b, l, r)?;
+    closed_matrix(alloc, &met)
+}
+
+fn not_equal(
+    alloc: Global,
+    m: &Matrix,
+    a: Option<Form>,
+    b: Option<Form>,
+    l: Range,
+    r: Range,
+) -> Result<OctagonState, Memory>
+    requires limited { IsLimited (2 ^ 64) m.now }
+    requires left { IsGoodForm a }
+    requires right { IsGoodForm b }
+    ensures exact { IfOk result (λ s. s ≡ operations.join (operations.less m.now a b l r) (operations.less m.now b a r l)) }
+{
+    let below = less(alloc, m, a, b, l, r)?;
+    let above = less(alloc, m, b, a, r, l)?;
+    joined(alloc, &below, &above)
+}
+
+/// What a comparison leaves of a closed matrix, from the linear forms and the ranges of the sides.
+pub fn related(
+    alloc: Global,
+    relation: Relation,
+    m: &Matrix,
+    a: Option<Form>,
+    b: Option<Form>,
+    l: Range,
+    r: Range,
+) -> Result<OctagonState, Memory>
+    requires limited { IsLimited (2 ^ 64) m.now }
+    requires left { IsGoodForm a }
+    requires right { IsGoodForm b }
+    ensures exact { IfOk result (λ s. s ≡ operations.related relation m.now a b l r) }
+{
+    match relation {
+        Relation::Equal => equal(alloc, m, a, b, l, r),
+        Relation::NotEqual => not_equal(alloc, m, a, b, l, r),
+        Relation::Less => less(alloc, m, a, b, l, r),
+        Relation::AtMost => at_most(alloc, m, a, b, l, r),
+        Relation::Greater => less(alloc, m, b, a, r, l),
+        Relation::AtLeast => at_most(alloc, m, b, a, r, l),
+    }
+}
+
+/// What a comparison of expressions leaves of a closed matrix.
+fn compare_terms(
+    alloc: Global,
+    relation: Relation,
+    a: &SlotExpr,
+    b: &SlotExpr,
+    m: &Matrix,
+) -> Result<OctagonState, Memory>
+    requires tight { IsTight m.now }
+    ensures exact { IfOk result (λ s. s ≡ operations.compare_terms relation a.now b.now m.now) }
+{
+    let Some(left) = evaluate(m, a) else {
+        return Ok(empty());
+    };
+    let Some(right) = evaluate(m, b) else {
+        return Ok(empty());
+    };
+    related(
+        alloc,
+        relation,
+        m,
+        left.form,
+        right.form,
+        left.range,
+        right.range,
+    )
+}
+
+/// What a comparison of expressions leaves of a state.
+#[tactic(auto, unfolding(octagon_meaning::specs::Operations::compare))]
+pub fn compared(
+    alloc: Global,
+    relation: Relation,
+    a: &SlotExpr,
+    b: &SlotExpr,
+    s: &OctagonState,
+) -> Result<OctagonState, Memory>
+    ensures exact { IfOk result (λ t. t ≡ operations.compare relation a.now b.now s.now) }
+{
+    match closed(alloc, s)?.kept {
+        Closed::Empty => Ok(empty()),
+        Closed::Matrix(m) => compare_terms(alloc, relation, a, b, &m),
+    }
+}
+
+/// The relation that holds exactly where the other does not.
+pub fn opposite_of(relation: Relation) -> Relation
+    ensures exact { result ≡ opposite relation }
+{
+    match relation {
+        Relation::Equal => Relation::NotEqual,
+        Relation::NotEqual => Relation::Equal,
+        Relation::Less => Relation::AtLeast,
+        Relation::AtMost => Relation::Greater,
+        Relation::Greater => Relation::AtMost,
+        Relation::AtLeast => Relation::Less,
+    }
+}

@@ -1,0 +1,163 @@
+//! Verdicts on checks.
+ghost use Rattle.std.specs.Prelude.{◌≡◌, false, IfOk, if◌then◌else◌};
+ghost use Rattle.imp_syntax.specs.declared.words.Relation.TheVariants as relations;
+ghost use Rattle.imp_slots.specs.Plain.{Literal, Length, Does};
+ghost use Rattle.imp_slots.specs.ActionViews.{effect_of, act_of};
+ghost use Rattle.domain_laws.specs.Checks as checks;
+ghost use Rattle.domain_laws.specs.Guards.{verdict_by};
+ghost use Rattle.analysis_words.specs.declared.verdict.Verdict.TheVariants as verdicts;
+ghost use Rattle.dbm_close.specs.declared.closed.Closed.TheVariants.{Matrix as Bounded};
+ghost use Rattle.octagon_meaning.specs.Operations as operations;
+ghost use Rattle.octagon_meaning.specs.States as states;
+
+use crate::OctagonState;
+use crate::close::{closed, empty, is_empty};
+use crate::compare::related;
+use crate::evaluate::{evaluate, slot};
+use crate::guards::assumed;
+use crate::joins::joined;
+use dbm_close::Closed;
+use domain_laws::Verdict;
+use imp_slots::{SlotAction, SlotExpr, SlotStmt};
+use imp_syntax::Relation;
+use num_bounds::Range;
+use octagon_meaning::Form;
+use plain_values::Memory;
+use std::alloc::Global;
+
+/// `0 > e`
+#[tactic(auto, unfolding(octagon_meaning::specs::Operations::compare, octagon_meaning::specs::Ranges::range_of, octagon_meaning::specs::Forms::form_of))]
+fn below_zero(alloc: Global, e: &SlotExpr, s: &OctagonState) -> Result<OctagonState, Memory>
+    ensures exact { IfOk result (λ t. t ≡ operations.compare relations.Greater (Literal 0) e.now s.now) }
+{
+    match closed(alloc, s)?.kept {
+        Closed::Empty => Ok(empty()),
+        Closed::Matrix(m) => match evaluate(&m, e) {
+            None => Ok(empty()),
+            Some(index) => related(
+                alloc,
+                Relation::Greater,
+                &m,
+                Some(Form::Constant(0)),
+                index.form,
+                Range::from_ends(0, 0),
+                index.range,
+            ),
+        },
+    }
+}
+
+/// `e >= len a`
+#[tactic(auto, unfolding(octagon_meaning::specs::Operations::compare, octagon_meaning::specs::Ranges::range_of, octagon_meaning::specs::Forms::form_of))]
+fn past_length(
+    alloc: Global,
+    a: u32,
+    e: &SlotExpr,
+    s: &OctagonState,
+) -> Result<OctagonState, Memory>
+    ensures exact { IfOk result (λ t. t ≡ operations.compare relations.AtLeast e.now (Length a) s.now) }
+{
+    match closed(alloc, s)?.kept {
+        Closed::Empty => Ok(empty()),
+        Closed::Matrix(m) => match evaluate(&m, e) {
+            None => Ok(empty()),
+            Some(index) => {
+                let length = slot(&m, a);
+                related(
+                    alloc,
+                    Relation::AtLeast,
+                    &m,
+                    index.form,
+                    length.form,
+                    index.range,
+                    length.range,
+                )
+            }
+        },
+    }
+}
+
+/// The state where an index is outside its array.
+#[tactic(auto, unfolding(octagon_meaning::specs::Operations::assume))]
+fn out_of_bounds(
+    alloc: Global,
+    a: u32,
+    e: &SlotExpr,
+    s: &OctagonState,
+) -> Result<OctagonState, Memory>
+    ensures exact { IfOk result (λ t. t ≡ operations.assume (checks.checked_guard (checks.Within a e.now)) false s.now) }
+{
+    let below = below_zero(alloc, e, s)?;
+    let past = past_length(alloc, a, e, s)?;
+    joined(alloc, &below, &past)
+}
+
+/// Safe where nothing fails the check.
+fn safe_if_empty(failing: &OctagonState) -> Verdict
+    ensures exact { result ≡ (if states.dead failing.now then verdicts.Safe else verdicts.May) }
+{
+    if is_empty(failing) {
+        Verdict::Safe
+    } else {
+        Verdict::May
+    }
+}
+
+/// The closed state where a link is null.
+#[tactic(auto, unfolding(octagon_meaning::specs::Operations::assume))]
+fn link_verdict(alloc: Global, q: u32, s: &OctagonState) -> Result<Verdict, Memory>
+    ensures exact { IfOk result (λ v. v ≡ (if states.dead (operations.assume (checks.checked_guard (checks.IsCell q)) false s.now) then verdicts.Safe else verdicts.May)) }
+{
+    let null = closed(alloc, s)?;
+    Ok(safe_if_empty(&null))
+}
+
+fn index_verdict(alloc: Global, a: u32, e: &SlotExpr, s: &OctagonState) -> Result<Verdict, Memory>
+    ensures exact { IfOk result (λ v. v ≡ (if states.dead (operations.assume (checks.checked_guard (checks.Within a e.now)) false s.now) then verdicts.Safe else verdicts.May)) }
+{
+    let failing = out_of_bounds(alloc, a, e, s)?;
+    Ok(safe_if_empty(&failing))
+}
+
+/// The verdict on a statement in front of which a closed state is not empty.
+#[tactic(auto, unfolding(octagon_meaning::specs::States::dead))]
+fn action_verdict(alloc: Global, action: &SlotAction, s: &OctagonState) -> Result<Verdict, Memory>
+    requires there { states.dead s.now ≡ false }
+    ensures exact { IfOk result (λ v. v ≡ verdict_by operations.assume states.dead (Does (effect_of action.now)) s.now) }
+{
+    match action {
+        SlotAction::Assert(c) => {
+            let failing = assumed(alloc, c, false, s)?;
+            Ok(safe_if_empty(&failing))
+        }
+        SlotAction::ReadElement(_, a, e) => index_verdict(alloc, *a, e, s),
+        SlotAction::WriteElement(a, e, _) => index_verdict(alloc, *a, e, s),
+        SlotAction::ReadItem(_, q) => link_verdict(alloc, *q, s),
+        SlotAction::ReadNext(_, q) => link_verdict(alloc, *q, s),
+        SlotAction::WriteNext(p, _) => link_verdict(alloc, *p, s),
+        SlotAction::WriteItem(p, _) => link_verdict(alloc, *p, s),
+        SlotAction::Skip => Ok(Verdict::Safe),
+        SlotAction::SetInt(_, _) => Ok(Verdict::Safe),
+        SlotAction::Input(_) => Ok(Verdict::Safe),
+        SlotAction::MakeArray(_, _) => Ok(Verdict::Safe),
+        SlotAction::CopyArray(_, _) => Ok(Verdict::Safe),
+        SlotAction::SetNull(_) => Ok(Verdict::Safe),
+        SlotAction::MakeCell(_) => Ok(Verdict::Safe),
+        SlotAction::CopyLink(_, _) => Ok(Verdict::Safe),
+    }
+}
+
+/// What a state says of the check of the statement behind it.
+#[tactic(auto, using(octagon_meaning::proofs::Laws::verdict_empty), unfolding(octagon_meaning::specs::Operations::check))]
+pub fn verdict(alloc: Global, stmt: &SlotStmt, s: &OctagonState) -> Result<Verdict, Memory>
+    ensures exact { IfOk result (λ v. v ≡ operations.check (act_of stmt.now) s.now) }
+{
+    let closed = closed(alloc, s)?;
+    if is_empty(&closed) {
+        return Ok(Verdict::Dead);
+    }
+    match stmt {
+        SlotStmt::Break => Ok(Verdict::Safe),
+        SlotStmt::Simple(action) => action_verdict(alloc, action, &closed),
+    }
+}
