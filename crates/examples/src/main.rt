@@ -29,29 +29,38 @@ const SERVED: [&str; 7] = [
 /// The most bytes of a file.
 const MOST: usize = 1_048_576;
 
-/// Runs an example, and tells whether it ends with 0 and writes exactly what it is to write. A file that is not
-/// there is an error.
-fn is_as_expected<L: Ledger>(rt: &HostRuntime, name: &str, blank: Blank) -> Result<bool, Error>
+/// The status of a run that counts nothing.
+fn status<L: Ledger>(
+    rt: &HostRuntime,
+    words: &[String],
+    script: &mut MemSource,
+    out: &mut MemSink,
+    blank: Blank,
+) -> u8
     requires name { blank.name ≡ L.name }
     requires parts { blank.parts ≡ L.parts }
     requires some { 0 < blank.parts }
 {
+    let mut files = DiskFiles::new(rt);
+    let mut steps = Steps::<L>::new(blank);
+    serve(rt.alloc(), words, &mut files, script, out, &mut steps)
+}
+
+/// The status over the real files.
+fn status_of(rt: &HostRuntime, words: &[String], script: &mut MemSource, out: &mut MemSink) -> u8 {
+    status::<Brand>(rt, words, script, out, Blank::new(1))
+}
+
+/// Runs an example, and tells whether it ends with 0 and writes exactly what it is to write. A file that is not
+/// there is an error.
+fn is_as_expected(rt: &HostRuntime, name: &str) -> Result<bool, Error> {
     let alloc = rt.alloc();
     let script = fs::read(rt, &format!(in alloc; "{name}.jsonl")?)?;
     let wanted = fs::read(rt, &format!(in alloc; "{name}.expected")?)?;
     let words = words_for(alloc, name)?;
-    let mut files = DiskFiles::new(rt);
     let mut script = MemSource::new(script, MOST, FaultPlan::none(alloc));
     let mut out = MemSink::new(alloc, MOST, FaultPlan::none(alloc));
-    let mut steps = Steps::<L>::new(blank);
-    let status = serve(
-        alloc,
-        words.as_slice(),
-        &mut files,
-        &mut script,
-        &mut out,
-        &mut steps,
-    );
+    let status = status_of(rt, words.as_slice(), &mut script, &mut out);
     Ok(status == 0 && out.bytes() == wanted.as_slice())
 }
 
@@ -64,14 +73,9 @@ fn words_for(alloc: Global, name: &str) -> Result<Vec<String>, Error> {
     Ok(words)
 }
 
-/// Runs an example, counting nothing.
-fn is_served(rt: &HostRuntime, name: &str) -> Result<bool, Error> {
-    is_as_expected::<Brand>(rt, name, Blank::new(1))
-}
-
 fn main(rt: HostRuntime) -> Result<(), Error> {
     for name in SERVED {
-        let verdict = if is_served(&rt, name)? {
+        let verdict = if is_as_expected(&rt, name)? {
             "as expected"
         } else {
             "differs"

@@ -145,8 +145,12 @@ fn answers_without_a_string(rt: HostRuntime) -> Result<(), Fail> {
             ("after", 5),
             "Refused(NoStatement)",
         ),
-        ((COUNTS, 100, 0, false), ("head", 4), "WrongStatement"),
-        ((COUNTS, 100, 0, false), ("f", 0), "NoProcedure"),
+        (
+            (COUNTS, 100, 0, false),
+            ("head", 4),
+            "Refused(WrongStatement)",
+        ),
+        ((COUNTS, 100, 0, false), ("f", 0), "Refused(NoProcedure)"),
         ((BRANCHES, 1, 0, false), ("after", 2), "over 3"),
         ((BREAKS, 100, 0, true), ("after", 1), "i=[5,5]"),
         ((BREAKS, 100, 0, true), ("before", 4), "i=[5,5]"),
@@ -173,7 +177,7 @@ fn answers_under_a_string(rt: HostRuntime) -> Result<(), Fail> {
     let none = told(alloc, how, ("f", 0), &[4, 5])?;
     assert_eq!(rt; none.as_str(), "Refused(NoChain)");
     let long = told(alloc, how, ("f", 0), &[4, 5, 6])?;
-    assert_eq!(rt; long.as_str(), "LongString");
+    assert_eq!(rt; long.as_str(), "Refused(LongString)");
     Ok(())
 }
 

@@ -1,5 +1,0 @@
-use Rattle.examples.proofs.is_served.Given as goal
-
--- nothing is counted
-abbrev pub ghosts-is_as_expected : goal.ghosts-is_as_expected
-ghosts-is_as_expected a = record { name = a.blank.name; parts = a.blank.parts }

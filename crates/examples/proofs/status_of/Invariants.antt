@@ -1,0 +1,5 @@
+use Rattle.examples.proofs.status_of.Given as goal
+
+-- nothing is counted
+abbrev pub ghosts-status : goal.ghosts-status
+ghosts-status a = record { name = a.blank.name; parts = a.blank.parts }
