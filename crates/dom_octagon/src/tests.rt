@@ -69,9 +69,13 @@ fn sums<L: Ledger>(alloc: Global, blank: Blank) -> Result<Text, Fail>
     shown(alloc, &s)
 }
 
+fn sums_uncounted(alloc: Global) -> Result<Text, Fail> {
+    sums::<Brand>(alloc, Blank::new(1))
+}
+
 #[test]
 fn a_sum_of_an_input(rt: HostRuntime) -> Result<(), Fail> {
-    let text = sums::<Brand>(rt.alloc(), Blank::new(1))?;
+    let text = sums_uncounted(rt.alloc())?;
     let want = "i=[min,max] n=[min,max] #a=[0,0] i-n<=1 n-i<=-1";
     assert_eq!(rt; text.as_slice(), want.as_bytes());
     Ok(())
@@ -104,9 +108,13 @@ fn in_loop<L: Ledger>(alloc: Global, blank: Blank) -> Result<Text, Fail>
     shown(alloc, &inside)
 }
 
+fn in_loop_uncounted(alloc: Global) -> Result<Text, Fail> {
+    in_loop::<Brand>(alloc, Blank::new(1))
+}
+
 #[test]
 fn a_loop_over_an_array(rt: HostRuntime) -> Result<(), Fail> {
-    let text = in_loop::<Brand>(rt.alloc(), Blank::new(1))?;
+    let text = in_loop_uncounted(rt.alloc())?;
     let want = "i=[0,999999] n=[1,1000000] #a=[1,1000000] i-n<=-1 i-#a<=-1 n-#a<=0 #a-n<=0";
     assert_eq!(rt; text.as_slice(), want.as_bytes());
     Ok(())
