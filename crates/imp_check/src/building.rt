@@ -20,11 +20,12 @@ use plain_values::{Items, Memory};
 use std::alloc::Global;
 
 /// No call statements, for each of so many procedures.
+#[tactic(auto, using(crate::proofs::SitesMade::none_more))]
 fn no_sites(alloc: Global, count: usize) -> Result<Vec<Items<StmtId>>, Memory>
     ensures is { IfOk result (λ sites. sites.items ≡ no_sites count) }
 {
-    let mut sites = Vec::with_capacity(alloc, count)?;
-    for _ in 0..count {
+    let mut sites: Vec<Items<StmtId>> = Vec::new(alloc);
+    while sites.len() < count {
         sites.push(Items::new(alloc))?;
     }
     Ok(sites)
@@ -59,6 +60,7 @@ fn add_procedure(
 }
 
 /// Adds the procedures.
+#[tactic(auto, using(crate::proofs::FewLemmas::few_at, crate::proofs::FewLemmas::layouts_step, crate::proofs::EntryLemmas::entries_step, crate::proofs::PartLemmas::body_nesting, crate::proofs::PutLemmas::all_both, crate::proofs::PutLemmas::sites_both))]
 fn add_procedures(alloc: Global, procs: &[Proc], making: &mut Making) -> Result<Items<Head>, Memory>
     requires few { AreFew procs.now }
     requires shallow { deepest procs.now < 2 ^ 32 }

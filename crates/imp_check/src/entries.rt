@@ -6,7 +6,7 @@ ghost use Rattle.imp_check.specs.Entries.{form_in, entry_at, inside, inside_loop
 ghost use Rattle.imp_check.specs.Puts.{put_at, put_all, with_site, with_sites, with_form};
 
 use crate::entry::{Around, BlockEnds, Context, Entry, SlotForm, Which};
-use crate::heads::ends_of;
+use crate::heads::{ends_of, number_at};
 use crate::place::Place;
 use crate::putting::put_entry;
 use crate::resolve::Frame;
@@ -197,6 +197,7 @@ fn add_call(sites: &mut Vec<Items<StmtId>>, form: &SlotForm, site: StmtId) -> Re
 }
 
 /// Adds a call statement of the procedure at a place.
+#[tactic(auto, using(crate::proofs::SitesMade::site_there, crate::proofs::SitesMade::site_gone))]
 fn add_site(sites: &mut Vec<Items<StmtId>>, place: u32, site: StmtId) -> Result<(), Memory>
     ensures added { OnOk result (sites.new.items ≡ with_site site place sites.old.items) }
 {
@@ -209,7 +210,7 @@ fn add_site(sites: &mut Vec<Items<StmtId>>, place: u32, site: StmtId) -> Result<
 
 /// Adds the statements of a block and all inside them, in the order of the text.
 #[cycle(entries)]
-#[tactic(auto, using(imp_syntax::specs::Blocks::member_smaller, imp_syntax::specs::Blocks::block_rest))]
+#[tactic(auto, using(imp_syntax::specs::Blocks::member_smaller, imp_syntax::specs::Blocks::block_rest, crate::proofs::PartLemmas::member_nesting, crate::proofs::PartLemmas::next_is, crate::proofs::PutLemmas::all_both, crate::proofs::PutLemmas::sites_both))]
 pub(crate) fn block_entries(
     alloc: Global,
     frame: &Frame,
@@ -224,7 +225,7 @@ pub(crate) fn block_entries(
     let mut front: Option<StmtId> = None;
     let stmts = block.as_slice();
     for (i, stmt) in stmts.iter().enumerate() {
-        let next = stmts.get(i + 1).map(|stmt| stmt.id());
+        let next = number_at(stmts, i + 1);
         statement_entries(alloc, frame, context, front, next, stmt, making)?;
         front = Some(stmt.id());
     }
@@ -233,6 +234,7 @@ pub(crate) fn block_entries(
 
 /// Adds a statement and all inside it.
 #[cycle(entries)]
+#[tactic(auto, using(crate::proofs::PartLemmas::below_max_left, crate::proofs::PartLemmas::below_max_right, crate::proofs::PutLemmas::all_both, crate::proofs::PutLemmas::sites_both))]
 fn statement_entries(
     alloc: Global,
     frame: &Frame,

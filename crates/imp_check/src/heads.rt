@@ -1,5 +1,6 @@
 //! The procedures of a program without their statements.
-ghost use Rattle.std.specs.Prelude.{◌≡◌, ◌≤◌, length, IfOk};
+ghost use Rattle.std.specs.Prelude.{◌≡◌, ◌≤◌, length, slice_get, option_map, IfOk};
+ghost use Rattle.imp_syntax.specs.Plain.{number_of};
 ghost use Rattle.imp_check.specs.Parts.{ends_of};
 ghost use Rattle.imp_check.specs.Entries.{head_of, place_headed, is_headed};
 ghost use Rattle.imp_check.specs.Slots.{layout_in};
@@ -7,17 +8,28 @@ ghost use Rattle.imp_check.specs.Slots.{layout_in};
 use crate::entry::{BlockEnds, Head};
 use crate::names::same_name;
 use crate::slots::Slots;
-use imp_syntax::{Block, Proc};
+use imp_syntax::{Block, Proc, Stmt, StmtId};
 use plain_values::{Memory, Text};
 
+/// The number of the statement at a place of a block.
+pub(crate) fn number_at(stmts: &[Stmt], at: usize) -> Option<StmtId>
+    ensures is { result ≡ option_map number_of (slice_get stmts.now at) }
+{
+    match stmts.get(at) {
+        Some(stmt) => Some(stmt.id()),
+        None => None,
+    }
+}
+
 /// The first and the last statement of a block.
+#[tactic(auto, using(crate::proofs::PartLemmas::ends_are))]
 pub(crate) fn ends_of(block: &Block) -> BlockEnds
     ensures is { result ≡ ends_of block.now }
 {
     let stmts = block.as_slice();
     BlockEnds {
-        first: stmts.first().map(|stmt| stmt.id()),
-        last: stmts.last().map(|stmt| stmt.id()),
+        first: number_at(stmts, 0),
+        last: number_at(stmts, stmts.len().saturating_sub(1)),
     }
 }
 

@@ -22,9 +22,9 @@ impl Model for Place {
     ghost Value = { Option Entry };
 
     ghost use Rattle.std.specs.Coded.{coded_option};
-    ghost use Rattle.imp_check.specs.contracts.entry.Entry as entry;
+    ghost use Rattle.imp_check.specs.contracts.entry.Entry.{the_row};
 
-    ghost coded = { coded_option entry.the_row.coded };
+    ghost coded = { coded_option the_row.coded };
 
     ghost view = { λ a. option_map box_value a.entry };
 }

@@ -12,6 +12,7 @@ use plain_values::Memory;
 use std::alloc::Global;
 
 /// What stands at a number.
+#[tactic(auto, using(crate::proofs::PutLemmas::entry_there, crate::proofs::PutLemmas::entry_gone))]
 pub(crate) fn entry_in(places: &[Place], number: u32) -> Option<&Entry>
     ensures is { option_copied result ≡ entry_in places.now number }
 {
@@ -22,6 +23,7 @@ pub(crate) fn entry_in(places: &[Place], number: u32) -> Option<&Entry>
 }
 
 /// Makes places below a number, where nothing stands.
+#[tactic(auto, using(crate::proofs::PutLemmas::entry_more))]
 pub(crate) fn make_room(places: &mut Vec<Place>, below: usize) -> Result<(), Memory>
     ensures room { OnOk result (below ≤ length places.new.items) }
     ensures kept { (n : ℕ) → entry_in places.new.items n ≡ entry_in places.old.items n }
@@ -34,6 +36,7 @@ pub(crate) fn make_room(places: &mut Vec<Place>, below: usize) -> Result<(), Mem
 }
 
 /// Puts an entry at its number.
+#[tactic(auto, using(crate::proofs::PutLemmas::put_more, crate::proofs::PutLemmas::put_there, crate::proofs::PutLemmas::put_end))]
 pub(crate) fn put_entry(
     alloc: Global,
     places: &mut Vec<Place>,
@@ -55,6 +58,7 @@ pub(crate) fn put_entry(
 }
 
 /// Exchanges what stands at a number.
+#[tactic(auto, using(crate::proofs::PutLemmas::slot_set, crate::proofs::PutLemmas::slot_get))]
 pub(crate) fn put_one(places: &mut [Place], put: &mut Put)
     requires within { put.old.number < length places.old }
     ensures is { (m : ℕ) → entry_in places.new m ≡ overlay (put.old ∷ []) (entry_in places.old) m }

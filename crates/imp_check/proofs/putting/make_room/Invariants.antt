@@ -1,0 +1,9 @@
+use Rattle.std.proofs.Common.{◌≡◌, ◌≤◌, ℕ, length}
+use Rattle.imp_check.specs.Tables.{entry_in}
+use Rattle.imp_check.proofs.putting.make_room.Given as goal
+
+abbrev pub invariant-loop-places : goal.invariant-loop-places
+invariant-loop-places l = record {
+  kept : (n : ℕ) → entry_in l.places.items n ≡ entry_in l.initial.places.items n;
+  no_less : length l.initial.places.items ≤ length l.places.items;
+}
