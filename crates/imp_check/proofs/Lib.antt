@@ -19,3 +19,5 @@ pub mod PartLemmas
 pub mod PutLemmas
 pub mod SitesMade
 pub mod OverlayLemmas
+pub mod ExchangeLemmas
+pub mod StepLemmas

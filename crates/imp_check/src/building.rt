@@ -80,6 +80,7 @@ fn add_procedures(alloc: Global, procs: &[Proc], making: &mut Making) -> Result<
 }
 
 /// The table of a program without faults.
+#[tactic(auto, using(crate::proofs::FewLemmas::few_checked, crate::proofs::FewLemmas::few_statements, crate::proofs::TableLemmas::made))]
 pub(crate) fn table_of(alloc: Global, procs: &[Proc]) -> Result<Table, Memory>
     requires fine { IsFine procs.now }
     ensures is { IfOk result (λ table. table.program ≡ procs.now) }

@@ -37,6 +37,7 @@ fn next_in(places: &[Place], most: u32, at: Option<StmtId>) -> Option<&Entry>
 }
 
 /// The block whose first statement has this number.
+#[tactic(auto, using(crate::proofs::StepLemmas::step_some, crate::proofs::StepLemmas::step_is, crate::proofs::StepLemmas::step_none, crate::proofs::StepLemmas::block_is_of))]
 fn block_from(
     alloc: Global,
     places: &[Place],

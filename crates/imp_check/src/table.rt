@@ -142,6 +142,7 @@ impl Table {
     }
 
     /// The program as a tree, made anew. It takes time linear in the program, and fails for want of memory alone.
+    #[tactic(auto, using(crate::proofs::FewLemmas::few_statements))]
     pub fn tree(&self, alloc: Global) -> Result<Program, Memory>
         ensures is { IfOk result (λ program. program ≡ self.now.program) }
     {
@@ -153,6 +154,7 @@ impl Table {
     /// The procedures over slots, made anew, in the order of the text. Slots are of the layouts with their kinds, callees
     /// stand earlier and take their arguments, numbers stand once, and each break has a loop around it. It takes time
     /// linear in the program, and fails for want of memory alone.
+    #[tactic(auto, using(crate::proofs::FewLemmas::few_checked))]
     pub fn routines(&self, alloc: Global) -> Result<Items<Routine>, Memory>
         ensures is { IfOk result (λ routines. routines ≡ routines_of self.now.program) }
         ensures fit { IsChecked (routines_of self.now.program) }
