@@ -1,14 +1,20 @@
 use Rattle.std.proofs.Common.{◌≡◌, ℕ, List, Option, length, drop, sym, ap, ◌∙◌, subst, arith}
+use Rattle.imp_syntax.specs.Plain.{Procedure}
 use Rattle.imp_check.specs.Tables.{Tabled, entry_in, AreOf}
 use Rattle.imp_check.specs.Rebuilt.{program_by}
 use Rattle.imp_check.specs.Changes.{overlay}
 use Rattle.imp_check.specs.declared.entry.Entry.{Entry}
+use Rattle.imp_check.specs.declared.entry.Head.{Head}
 use Rattle.imp_check.proofs.TableLemmas.{table_is, table_right, written}
 use Rattle.imp_check.proofs.ExchangeLemmas.{after_right, back_makes}
 use Rattle.imp_check.proofs.table.Table.exchange.Goals as goal
 
 pub invariant_of-self : goal.invariant_of-self
-invariant_of-self g c = ?
+invariant_of-self g c =
+    let at = entry_in c.self.inside.places.items in
+    let old = c.args.self.now.program in
+    let right : AreOf old at c.self.inside.count c.self.inside.heads c.self.inside.sites = subst (λ (t : Tabled). AreOf t.program at c.self.inside.count c.self.inside.heads c.self.inside.sites) c.self.view_is c.self.invariant in
+    ?
 
 pub returns-clause-is : goal.returns-clause-is
 returns-clause-is g c = ?
