@@ -9,8 +9,8 @@ use Rattle.domain_laws.specs.Operations.{Operations}
 use Rattle.batch_meaning.specs.Values.{Over}
 use Rattle.batch_meaning.specs.Batch.{Engine}
 use Rattle.batch_meaning.specs.Answers.{Answers, answer}
-use Rattle.dom_interval.specs.Domain.{intervals}
-use Rattle.dom_interval.specs.Convergence.{most_changes}
+use Rattle.interval_meaning.specs.Domain.{intervals}
+use Rattle.interval_meaning.specs.Convergence.{most_changes}
 
 -- How often a state of a frame can still change under widening with these marks: each widening keeps the state or leaves
 -- fewer changes, and there are at most so many, by the numeric slots and the marks, and one more.

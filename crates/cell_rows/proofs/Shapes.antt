@@ -10,8 +10,8 @@ use Rattle.cell_names.specs.declared.frame.Frame.TheVariants.{InCall, InLoop}
 use Rattle.cell_names.specs.declared.frame.Point.{Point}
 use Rattle.cell_names.specs.declared.frame.Point.TheVariants.{Entry, Then, Else, Body, Post, Iterate, Fix, Exit, Leap}
 use Rattle.cell_names.specs.Paths.{CellName}
-use Rattle.batch_sound.proofs.Procedures.{some_inj}
-use Rattle.batch_sound.proofs.Places.{found_member}
+use Rattle.plain_values.proofs.Cases.{some_inj}
+use Rattle.batch_meaning.proofs.Places.{found_member}
 use Rattle.demand_order.specs.Asking.{inputs_of}
 use Rattle.cell_rows.specs.Names.{name, Mark, At, Place, bare, number, breaks, break_numbers, place_of, level_of, start_of, in_call, in_loop, round_place, statement, follow, when}
 use Rattle.cell_rows.specs.Rows as R

@@ -1,7 +1,7 @@
 -- How the program ends: by a status, with what was read and written.
 use Rattle.std.specs.Prelude.{◌≡◌, ℕ, ◌<◌, ◌++◌, ◌⊎◌, List, [], ◌∷◌, Option, Some}
 use Rattle.imp_syntax.specs.Plain.{Procedure}
-use Rattle.dom_interval.specs.Domain.{intervals}
+use Rattle.interval_meaning.specs.Domain.{intervals}
 use Rattle.batch_meaning.specs.Batch.{Engine}
 use Rattle.script_loop.specs.Replies.{AnsweredRead, WrotePrefix}
 use Rattle.daig_server.specs.declared.status.Status.{Status}

@@ -1,7 +1,7 @@
 -- What the program writes, and the status that it ends with.
 use Rattle.std.specs.Prelude.{◌≡◌, ◌≤◌, ℕ, nat_le, List, [], ◌∷◌, ◌++◌, length, Option, Some, None, Result, Ok, Err, codes, if◌then◌else◌}
 use Rattle.imp_syntax.specs.Plain.{Procedure}
-use Rattle.dom_interval.specs.Domain.{intervals}
+use Rattle.interval_meaning.specs.Domain.{intervals}
 use Rattle.batch_meaning.specs.Batch.{Engine}
 use Rattle.io_edge.specs.Outside.{Lacks}
 use Rattle.script_loop.specs.Lines.{all_lines}

@@ -1,11 +1,11 @@
-//! The top call.
+//! The top call [`serve`], with all that is claimed of it.
 ghost use Rattle.std.specs.Prelude.{◌≡◌, ◌≢◌, ◌≤◌, ◌<◌, ◌^◌, ◌++◌, ◌⊎◌, ℕ, List, [], Option, Some, None, map, length};
 ghost use Rattle.std.specs.String.{string_bytes};
 ghost use Rattle.io_edge.specs.Outside.{Rose};
 ghost use Rattle.imp_syntax.specs.Plain.{Procedure};
 ghost use Rattle.script_loop.specs.Replies.{ReadBytes, WrotePrefix};
-ghost use Rattle.dom_interval.specs.Domain.{intervals};
-ghost use Rattle.dom_interval.specs.Covers.{covers};
+ghost use Rattle.interval_meaning.specs.Domain.{intervals};
+ghost use Rattle.interval_meaning.specs.Covers.{covers};
 ghost use Rattle.daig_server.specs.Sources.{Reading};
 ghost use Rattle.daig_server.specs.Jobs.{Asks, engine_in};
 ghost use Rattle.command_words.specs.Jobs.{job_of};

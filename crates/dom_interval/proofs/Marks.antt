@@ -4,7 +4,7 @@ use Rattle.std.proofs.lemmas.Int.{ints, clamps}
 use Rattle.std.proofs.lemmas.Bool.{and_parts}
 use Rattle.std.specs.Int.{int_max, int_min}
 use Rattle.num_bounds.specs.Bounds.{Bounds}
-use Rattle.dom_interval.specs.Widening.{mark_below, mark_above, better_below, better_above}
+use Rattle.interval_meaning.specs.Widening.{mark_below, mark_above, better_below, better_above}
 
 below-base : (ms : List ℤ) (e : Bounds) (z : ℤ) → int_min e.lo z ≤ℤ mark_below ms e z
 below-base [] e z = omega (arith, ints)

@@ -1,17 +1,2 @@
-pub mod State
 pub mod View
-pub mod Ranges
-pub mod Operations
 pub mod Lists
-pub mod Widening
-pub mod Covers
-pub mod Text
-pub mod Domain
-pub mod SlotLaws
-pub mod RangeLaws
-pub mod CompareLaws
-pub mod StepLaws
-pub mod CallLaws
-pub mod WidenLaws
-pub mod Laws
-pub mod Convergence

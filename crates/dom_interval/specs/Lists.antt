@@ -1,11 +1,9 @@
 -- What code builds of lists of ranges, place by place.
-use Rattle.std.specs.Prelude.{ℕ, ◌≡◌, refl, pos, List, [], ◌∷◌, ◌++◌, slice_index_or, Option, Some, None}
-use Rattle.std.proofs.Common.{ap, append_assoc}
+use Rattle.std.specs.Prelude.{ℕ, pos, List, ◌++◌, slice_index_or, Option, Some, None}
 use Rattle.imp_slots.specs.Plain.{Numeric}
 use Rattle.num_bounds.specs.Bounds.{Bounds}
 use Rattle.num_bounds.specs.Operations.{single}
-use Rattle.dom_interval.specs.Operations.{in_front}
-use Rattle.dom_interval.specs.declared.state.SlotRange.{SlotRange}
+use Rattle.interval_meaning.specs.declared.slot_range.SlotRange.{SlotRange}
 
 -- the slot of a layout at place i, with the range at that place
 abbrev pub filled_slot : Numeric → List Bounds → ℕ → SlotRange
@@ -15,7 +13,3 @@ filled_slot k rs i = record { is_array = k.is_array; range = slice_index_or rs i
 abbrev pub behind_these : List Bounds → Option (List Bounds) → Option (List Bounds)
 behind_these xs None = None
 behind_these xs (Some ys) = Some (xs ++ ys)
-
-pub behind_front : (xs : List Bounds) (r : Bounds) (o : Option (List Bounds)) → behind_these (xs ++ r ∷ []) o ≡ behind_these xs (in_front r o)
-behind_front xs r None = refl
-behind_front xs r (Some ys) = ap Some (append_assoc xs (r ∷ []) ys)

@@ -1,8 +1,8 @@
 //! The intervals as a domain.
 ghost use Rattle.std.specs.Prelude.{refl};
-ghost use Rattle.dom_interval.specs.Domain.{intervals};
-ghost use Rattle.dom_interval.specs.Covers as meaning;
-ghost use Rattle.dom_interval.specs.Laws.{interval_laws, interval_keeps_dead};
+ghost use Rattle.interval_meaning.specs.Domain.{intervals};
+ghost use Rattle.interval_meaning.specs.Covers as meaning;
+ghost use Rattle.interval_meaning.proofs.Laws.{interval_laws, interval_keeps_dead};
 
 use crate::IntervalState;
 use crate::calls::{entered, initial, left};

@@ -1,6 +1,6 @@
 //! The ranges of expressions.
 ghost use Rattle.std.specs.Prelude.{◌≡◌, ◌<◌, ◌^◌, pos, false};
-ghost use Rattle.dom_interval.specs.Ranges.{slot_at, range_at, range_of, operation, extremes};
+ghost use Rattle.interval_meaning.specs.Ranges.{slot_at, range_at, range_of, operation, extremes};
 
 use crate::SlotRange;
 use imp_slots::{SlotExpr, SlotExprNode};
@@ -71,7 +71,7 @@ fn operate(operator: Operator, a: Range, b: Range) -> Option<Range>
 }
 
 /// The range of an expression, or `None` where it has no value.
-#[tactic(auto, unfolding(crate::specs::Ranges::range_of))]
+#[tactic(auto, unfolding(interval_meaning::specs::Ranges::range_of))]
 pub fn evaluate(slots: &[SlotRange], expr: &SlotExpr) -> Option<Range>
     ensures exact { result ≡ range_of slots.now expr.now }
 {

@@ -2,7 +2,7 @@
 ghost use Rattle.std.specs.Prelude.{◌≡◌, IfOk, map};
 ghost use Rattle.std.specs.List.{zip};
 ghost use Rattle.num_bounds.specs.Operations.{hull_of};
-ghost use Rattle.dom_interval.specs.Operations as operations;
+ghost use Rattle.interval_meaning.specs.Operations as operations;
 
 use crate::compare::{compare, empty, opposite_of, within};
 use crate::state::Kept;
@@ -56,7 +56,7 @@ fn hulls(
 }
 
 /// The outer ends of both.
-#[tactic(auto, unfolding(crate::specs::Operations::join))]
+#[tactic(auto, unfolding(interval_meaning::specs::Operations::join))]
 pub fn joined(
     alloc: Global,
     l: &IntervalState,
@@ -81,7 +81,7 @@ fn compared(relation: Relation, a: &SlotExpr, b: &SlotExpr, s: IntervalState) ->
 }
 
 /// The state where the condition has this truth value.
-#[tactic(auto, unfolding(crate::specs::Operations::assume), using(crate::proofs::Links::links_say_nothing))]
+#[tactic(auto, unfolding(interval_meaning::specs::Operations::assume), using(crate::proofs::Links::links_say_nothing))]
 pub fn assumed(
     alloc: Global,
     c: &SlotCond,

@@ -1,17 +1,13 @@
 //! Intervals: for each int the range of its value, and for each array the range of its length.
 //!
 //! A state is `Empty`, which describes nothing, or a range for each numeric slot of the last frame.
-//! `specs/Ranges.antt` gives the range of an expression, `specs/Operations.antt` the operations,
-//! `specs/Widening.antt` widening to marks, `specs/Text.antt` texts, and `specs/Covers.antt` which
-//! configurations a state describes: those of whose last frame each numeric slot lies in its range.
-//! The operations are exactly these definitions, and `specs/Laws.antt` has the laws of a domain.
+//! What the operations are, and that they have the laws of a domain, stands in `interval_meaning`;
+//! the code here computes exactly these operations.
 //!
 //! An operation takes time linear in the slots and in the statement or condition, and one copy of
 //! the state; widening an end that is passed goes through the marks once. A condition with `&&` or
 //! `||` takes a further copy for each join.
 #![tactic(auto)]
-
-ghost use Rattle.dom_interval.specs.Convergence.{WideningEnds};
 
 mod calls;
 mod compare;
@@ -25,13 +21,8 @@ mod verdicts;
 mod widening;
 
 pub use domain::Interval;
-pub use state::{IntervalState, SlotRange};
-
-/// A theorem, and no work: a state of v slots changes at most 2v(m + 1) times under widening with m
-/// marks, whatever it is widened with.
-pub fn widening_ends()
-    ensures ends { WideningEnds }
-{}
+pub use interval_meaning::SlotRange;
+pub use state::IntervalState;
 
 #[cfg(test)]
 mod tests;

@@ -1,43 +1,11 @@
 //! States.
 ghost use Rattle.std.specs.Prelude.{◌≡◌};
-ghost use Rattle.dom_interval.specs.State.{Intervals, intervals_same, intervals_equiv, intervals_per, intervals_fed, intervals_fed-same, slot_same, slot_equiv, slot_per, slot_fed, slot_fed-same};
+ghost use Rattle.interval_meaning.specs.State.{Intervals, intervals_same, intervals_fed};
+ghost use Rattle.interval_meaning.proofs.StateLaws.{intervals_equiv, intervals_per, intervals_fed-same};
 
-use num_bounds::Range;
+use interval_meaning::SlotRange;
 use std::hash::{Hash, Hasher};
 use std::marker::Model;
-
-/// A numeric slot's range, and whether it is an array, of whose length it is the range.
-#[derive(Clone, Copy, Debug)]
-pub struct SlotRange {
-    pub is_array: bool,
-    pub range: Range,
-}
-
-impl PartialEq for SlotRange {
-    ghost eq = { slot_same };
-
-    ghost laws = { slot_per };
-
-    fn eq(&self, other: &SlotRange) -> bool {
-        self.is_array == other.is_array && self.range == other.range
-    }
-}
-
-impl Eq for SlotRange {
-    ghost laws = { slot_equiv };
-}
-
-impl Hash for SlotRange {
-    ghost hash_input = { slot_fed };
-
-    ghost respects_eq = { slot_fed-same };
-
-    fn hash<H: Hasher>(&self, state: &mut H) {
-        self.is_array.hash(state);
-        self.range.lo().hash(state);
-        self.range.hi().hash(state);
-    }
-}
 
 /// A state of the intervals: empty, or a range for each numeric slot.
 #[derive(Debug, Drop)]
@@ -52,7 +20,7 @@ pub(crate) enum Kept {
 }
 
 impl Model for IntervalState {
-    ghost use Rattle.dom_interval.specs.State.{Intervals, intervals_code};
+    ghost use Rattle.interval_meaning.specs.State.{Intervals, intervals_code};
 
     ghost Value = { Intervals };
 

@@ -6,9 +6,9 @@ ghost use Rattle.imp_syntax.specs.declared.words.Relation.TheVariants as relatio
 ghost use Rattle.imp_slots.specs.ActionViews.{effect_of, act_of};
 ghost use Rattle.domain_laws.specs.Checks as checks;
 ghost use Rattle.domain_laws.specs.Guards.{past_check};
-ghost use Rattle.dom_interval.specs.State.{Within};
-ghost use Rattle.dom_interval.specs.Ranges as ranges;
-ghost use Rattle.dom_interval.specs.Operations as operations;
+ghost use Rattle.interval_meaning.specs.State.{Within};
+ghost use Rattle.interval_meaning.specs.Ranges as ranges;
+ghost use Rattle.interval_meaning.specs.Operations as operations;
 
 use crate::compare::{empty, related, side, with_range, within};
 use crate::evaluate::{LONGEST, evaluate, full, range};
@@ -22,7 +22,7 @@ use num_bounds::Range;
 use std::alloc::{AllocError, Global};
 
 /// `0 <= e`
-#[tactic(auto, unfolding(crate::specs::Ranges::range_of))]
+#[tactic(auto, unfolding(interval_meaning::specs::Ranges::range_of))]
 fn not_below_zero(e: &SlotExpr, slots: Vec<SlotRange>) -> IntervalState
     ensures exact { result ≡ operations.compare_ranges relations.AtMost (Literal 0) e.now slots.items }
 {
@@ -40,7 +40,7 @@ fn not_below_zero(e: &SlotExpr, slots: Vec<SlotRange>) -> IntervalState
 }
 
 /// `e < len a`
-#[tactic(auto, unfolding(crate::specs::Ranges::range_of))]
+#[tactic(auto, unfolding(interval_meaning::specs::Ranges::range_of))]
 fn below_length(a: u32, e: &SlotExpr, slots: Vec<SlotRange>) -> IntervalState
     ensures exact { result ≡ operations.compare_ranges relations.Less e.now (Length a) slots.items }
 {
@@ -54,7 +54,7 @@ fn below_length(a: u32, e: &SlotExpr, slots: Vec<SlotRange>) -> IntervalState
 }
 
 /// `0 <= e && e < len a`
-#[tactic(auto, unfolding(crate::specs::Operations::assume))]
+#[tactic(auto, unfolding(interval_meaning::specs::Operations::assume))]
 fn in_bounds(a: u32, e: &SlotExpr, slots: Vec<SlotRange>) -> IntervalState
     ensures exact { result ≡ operations.assume (checks.checked_guard (checks.Within a e.now)) true (Within slots.items) }
 {
@@ -65,7 +65,7 @@ fn in_bounds(a: u32, e: &SlotExpr, slots: Vec<SlotRange>) -> IntervalState
 }
 
 /// The slots where the check of a statement holds.
-#[tactic(auto, unfolding(crate::specs::Operations::assume))]
+#[tactic(auto, unfolding(interval_meaning::specs::Operations::assume))]
 fn checked(
     alloc: Global,
     action: &SlotAction,
@@ -103,7 +103,7 @@ fn set_int(x: u32, e: &SlotExpr, slots: Vec<SlotRange>) -> IntervalState
 }
 
 /// `a = array e`
-#[tactic(auto, unfolding(crate::specs::Operations::does))]
+#[tactic(auto, unfolding(interval_meaning::specs::Operations::does))]
 fn make_array(a: u32, e: &SlotExpr, slots: Vec<SlotRange>) -> IntervalState
     ensures exact { result ≡ operations.does (plain.MakeArray a e.now) slots.items }
 {
@@ -127,7 +127,7 @@ fn needs_value(e: &SlotExpr, slots: Vec<SlotRange>) -> IntervalState
 }
 
 /// What a statement does behind its check.
-#[tactic(auto, unfolding(crate::specs::Operations::does))]
+#[tactic(auto, unfolding(interval_meaning::specs::Operations::does))]
 fn done(action: &SlotAction, slots: Vec<SlotRange>) -> IntervalState
     ensures exact { result ≡ operations.does (effect_of action.now) slots.items }
 {
@@ -154,7 +154,7 @@ fn done(action: &SlotAction, slots: Vec<SlotRange>) -> IntervalState
 }
 
 /// The slots behind a simple statement.
-#[tactic(auto, unfolding(crate::specs::Operations::post))]
+#[tactic(auto, unfolding(interval_meaning::specs::Operations::post))]
 fn performed(
     alloc: Global,
     action: &SlotAction,
@@ -169,7 +169,7 @@ fn performed(
 }
 
 /// The state behind a simple statement or a break.
-#[tactic(auto, unfolding(crate::specs::Operations::post), using(crate::specs::Laws::post_empty))]
+#[tactic(auto, unfolding(interval_meaning::specs::Operations::post), using(interval_meaning::proofs::Laws::post_empty))]
 pub fn behind(
     alloc: Global,
     stmt: &SlotStmt,
@@ -187,7 +187,7 @@ pub fn behind(
 }
 
 /// Whether nothing is described.
-#[tactic(auto, unfolding(crate::specs::Operations::dead))]
+#[tactic(auto, unfolding(interval_meaning::specs::Operations::dead))]
 pub fn is_empty(s: &IntervalState) -> bool
     ensures exact { result ≡ operations.dead s.now }
 {

@@ -1,6 +1,6 @@
 //! The text of a state.
 ghost use Rattle.std.specs.Prelude.{◌≡◌, ◌++◌, IfOk, OnOk};
-ghost use Rattle.dom_interval.specs.Text as texts;
+ghost use Rattle.interval_meaning.specs.Text as texts;
 
 use crate::state::Kept;
 use crate::{IntervalState, SlotRange};
@@ -18,7 +18,7 @@ fn put_space(text: &mut Text, slot: usize) -> Result<(), Memory>
     Ok(())
 }
 
-#[tactic(auto, unfolding(crate::specs::Text::end_text))]
+#[tactic(auto, unfolding(interval_meaning::specs::Text::end_text))]
 fn put_end(text: &mut Text, end: i64) -> Result<(), Memory>
     ensures value { OnOk result (text.new ≡ text.old ++ texts.end_text end) }
 {
@@ -42,7 +42,7 @@ fn put_array_mark(text: &mut Text, is_array: bool) -> Result<(), Memory>
 }
 
 /// `x=[lo,hi]`
-#[tactic(auto, unfolding(crate::specs::Text::slot_text), using(crate::proofs::Written::slot_joined))]
+#[tactic(auto, unfolding(interval_meaning::specs::Text::slot_text), using(crate::proofs::Written::slot_joined))]
 fn put_slot(text: &mut Text, number: &NumericSlot, slot: SlotRange) -> Result<(), Memory>
     ensures value { OnOk result (text.new ≡ text.old ++ texts.slot_text number.now slot) }
 {
@@ -75,7 +75,7 @@ fn slots_text(alloc: Global, numbers: &[NumericSlot], slots: &[SlotRange]) -> Re
 }
 
 /// A state's text: `none` where it is empty.
-#[tactic(auto, unfolding(crate::specs::Text::text))]
+#[tactic(auto, unfolding(interval_meaning::specs::Text::text))]
 pub fn state_text(alloc: Global, layout: &Layout, s: &IntervalState) -> Result<Text, Memory>
     ensures value { IfOk result (λ v. v ≡ texts.text layout.now s.now) }
 {

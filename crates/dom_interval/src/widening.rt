@@ -2,8 +2,8 @@
 ghost use Rattle.std.specs.Prelude.{◌≡◌, ◌<◌, ◌≤ℤ◌, pos, int_le, if◌then◌else◌, slice_index_or, length, IfOk, map};
 ghost use Rattle.std.specs.List.{zip};
 ghost use Rattle.std.specs.Int.{int_max, int_min};
-ghost use Rattle.dom_interval.specs.Widening as widening;
-ghost use Rattle.dom_interval.specs.Widening.{better_below, better_above};
+ghost use Rattle.interval_meaning.specs.Widening as widening;
+ghost use Rattle.interval_meaning.specs.Widening.{better_below, better_above};
 
 use crate::compare::within;
 use crate::evaluate::extremes_of;
@@ -166,7 +166,7 @@ fn widened_slots(
 }
 
 /// The next iterate: an end that the right state does not pass stays, any other goes to a mark.
-#[tactic(auto, unfolding(crate::specs::Widening::widen))]
+#[tactic(auto, unfolding(interval_meaning::specs::Widening::widen))]
 pub fn widened(
     alloc: Global,
     marks: &[i64],

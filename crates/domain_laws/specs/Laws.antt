@@ -1,6 +1,6 @@
 -- The laws of a domain: its operations describe what steps do. What a state describes depends on the heap and the frames'
 -- variables alone, the last frame's first.
-use Rattle.std.specs.Prelude.{◌≡◌, ◌↔◌, List, [], ◌∷◌, Some, Bool, true, ℤ, ◌<ℤ◌, All}
+use Rattle.std.specs.Prelude.{◌≡◌, ◌↔◌, List, [], ◌∷◌, Some, Bool, true, ℤ, All}
 use Rattle.imp_slots.specs.Plain.{Layout, Guard, Effect, Act, DoBreak, Does, Invoke}
 use Rattle.imp_slots.specs.Fits.{fits_guard, fits_effect, fits_invoke}
 pub use Rattle.program_chains.specs.Marks.{IsRising}
@@ -9,7 +9,7 @@ use Rattle.concrete_sem.specs.Evaluation.{truth_of}
 use Rattle.concrete_sem.specs.Effects.{effect_of}
 use Rattle.concrete_sem.specs.Passing.{first_variables, pass, back}
 use Rattle.concrete_sem.specs.Proper.{IsProper}
-use Rattle.domain_laws.specs.declared.verdict.Verdict.TheVariants.{Dead, Safe}
+use Rattle.analysis_words.specs.declared.verdict.Verdict.TheVariants.{Dead, Safe}
 use Rattle.domain_laws.specs.Operations.{Operations}
 use Rattle.domain_laws.specs.Checks.{Check, check_of, fault_of}
 

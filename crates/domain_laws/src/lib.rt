@@ -9,21 +9,20 @@
 //! `specs/Checks.antt` gives the check of a statement and the negation of a condition, and
 //! `specs/Guards.antt` how a domain assumes a condition from what it does with comparisons. A
 //! domain whose comparisons and joins are right assumes conditions rightly, and its verdicts are
-//! right (`specs/GuardLaws.antt`).
+//! right (`proofs/GuardLaws.antt`).
 //!
 //! A trait has no cost of its own: each domain says what its operations cost.
 #![tactic(auto)]
 
 ghost use Rattle.domain_laws.specs.Claims.{PassesFindChecksTrue, FailuresFindChecksFalse, NegationIsExact};
 
+mod checks;
 mod domain;
-mod findings;
-mod verdict;
 
+pub use analysis_words::{Check, Finding, Findings, Verdict};
+pub use checks::{check_of, check_of_action};
 pub use domain::Domain;
-pub use findings::{Check, Finding, Findings};
 pub use step_counter::Steps;
-pub use verdict::Verdict;
 
 /// A theorem, and no work: the check of a statement holds where the statement goes on, and not
 /// where the statement fails with the fault of its check.

@@ -1,11 +1,12 @@
 -- Statements about all graphs.
-use Rattle.std.specs.Prelude.{◌≡◌, ℕ, true, ◌↔◌}
+use Rattle.std.specs.Prelude.{◌≡◌, ℕ, Bool, true, ◌↔◌}
 use Rattle.std.specs.Ordering.{eq_by_cmp}
 use Rattle.std.specs.Cmp.{IsTotalOrder}
 use Rattle.std.specs.declared.cmp.Ordering.TheVariants.{Equal}
 use Rattle.shape_graph.specs.Shape.{Shape, IsGraph}
 use Rattle.shape_graph.specs.Folds.{Folds, IsFolded, IsRenaming}
 use Rattle.shape_graph.specs.Order.{shape_cmp, shape_hash}
+use Rattle.shape_graph.specs.Covers.{IsCoveredBy}
 
 -- each graph has a fold
 abbrev pub EachGraphFolds : Type 0
@@ -34,3 +35,19 @@ EqualityIsExact = (g h : Shape) → (eq_by_cmp shape_cmp g h ≡ true) ↔ (g �
 -- graphs that are equal by `==` feed a hasher the same
 abbrev pub HashRespectsEquality : Type 0
 HashRespectsEquality = (g h : Shape) → eq_by_cmp shape_cmp g h ≡ true → shape_hash g ≡ shape_hash h
+
+-- folding by a function: it gives a fold of each graph, which is the only one, to fold twice is to fold once, and the fold
+-- covers what the graph covers
+pub record IsFolding (fold : Shape → Shape) : Type 0 where
+  pub folds : (g : Shape) → IsGraph g → Folds g (fold g)
+  pub only : (g next : Shape) → IsGraph g → Folds g next → next ≡ fold g
+  pub idempotent : (g : Shape) → IsGraph g → fold (fold g) ≡ fold g
+  pub covers : (g : Shape) → IsGraph g → IsCoveredBy g (fold g)
+
+-- there is such a function
+abbrev pub FoldingIsAFunction : Type 0
+FoldingIsAFunction = (fold : Shape → Shape) × IsFolding fold
+
+-- there is a test of graphs that are folded
+abbrev pub FoldedIsTested : Type 0
+FoldedIsTested = (test : Shape → Bool) × ((g : Shape) → (test g ≡ true) ↔ (IsGraph g × IsFolded g))

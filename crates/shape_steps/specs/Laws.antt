@@ -4,7 +4,7 @@ use Rattle.std.specs.Prelude.{◌≡◌, ℕ, ◌<◌, List, [], ◌∷◌, ◌+
 use Rattle.std.specs.List.{remove}
 use Rattle.shape_graph.specs.Shape.{Shape, IsGraph}
 use Rattle.shape_graph.specs.Covers.{Covers}
-use Rattle.shape_steps.specs.Steps.{set_last, forget_of, new_cell_of, push_frame_of, pop_frame_of, AnyCovers, slot_of, argument_of, read_of, write_of, leave_of}
+use Rattle.shape_steps.specs.Steps.{set_last, forget_of, new_cell_of, push_frame_of, pop_frame_of, last_of, last_frame_of, AnyCovers, slot_of, argument_of, read_of, write_of, leave_of}
 
 -- `p = null`
 abbrev pub NullIsCovered : Type 0
@@ -42,6 +42,11 @@ EnterIsCovered = (g : Shape) (variables : List (List (Option ℕ))) (heap : List
 abbrev pub RemovalIsCovered : Type 0
 RemovalIsCovered = (g : Shape) (variables : List (List (Option ℕ))) (heap : List (Option ℕ)) (frame : ℕ)
     → Covers g variables heap → Covers (pop_frame_of g frame) (remove variables frame) heap
+
+-- all frames removed but the last
+abbrev pub ShedIsCovered : Type 0
+ShedIsCovered = (g : Shape) (variables : List (List (Option ℕ))) (heap : List (Option ℕ))
+    → Covers g variables heap → Covers (last_frame_of g) (last_of variables ∷ []) heap
 
 -- the last frame popped, with the value of its variable q in a variable of the frame below
 abbrev pub LeaveIsCovered : Type 0

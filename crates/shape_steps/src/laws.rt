@@ -1,6 +1,6 @@
 //! Theorems on the steps, each the contract of a function that does nothing.
 
-ghost use Rattle.shape_steps.specs.Laws.{NullIsCovered, CopyIsCovered, NewIsCovered, ReadIsCovered, WriteIsCovered, EnterIsCovered, RemovalIsCovered, LeaveIsCovered, NilIsNull, NodeIsCell, EqualityIsTold};
+ghost use Rattle.shape_steps.specs.Laws.{NullIsCovered, CopyIsCovered, NewIsCovered, ReadIsCovered, WriteIsCovered, EnterIsCovered, RemovalIsCovered, ShedIsCovered, LeaveIsCovered, NilIsNull, NodeIsCell, EqualityIsTold};
 
 /// What each concrete step makes of what a graph covers, the step on graphs makes a graph that covers it.
 pub fn steps_are_covered()
@@ -11,6 +11,7 @@ pub fn steps_are_covered()
     ensures written { WriteIsCovered }
     ensures entered { EnterIsCovered }
     ensures removed { RemovalIsCovered }
+    ensures shed { ShedIsCovered }
     ensures left { LeaveIsCovered }
 {}
 

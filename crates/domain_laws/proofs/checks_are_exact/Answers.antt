@@ -1,4 +1,4 @@
-use Rattle.domain_laws.specs.CheckLaws.{check-passed, check-failed}
+use Rattle.domain_laws.proofs.CheckLaws.{check-passed, check-failed}
 use Rattle.domain_laws.proofs.checks_are_exact.Goals as goal
 
 pub returns : goal.returns

@@ -1,4 +1,4 @@
-use Rattle.domain_laws.specs.GuardLaws.{positive-truth}
+use Rattle.domain_laws.proofs.GuardLaws.{positive-truth}
 use Rattle.domain_laws.proofs.negation_is_exact.Goals as goal
 
 pub returns : goal.returns

@@ -1,7 +1,7 @@
-use Rattle.dom_interval.specs.Covers.{covers}
-use Rattle.dom_interval.specs.Domain.{intervals}
-use Rattle.dom_interval.specs.Convergence.{most_changes}
-use Rattle.dom_interval.specs.Laws.{interval_laws}
+use Rattle.interval_meaning.specs.Covers.{covers}
+use Rattle.interval_meaning.specs.Domain.{intervals}
+use Rattle.interval_meaning.specs.Convergence.{most_changes}
+use Rattle.interval_meaning.proofs.Laws.{interval_laws}
 use Rattle.batch_converges.proofs.Whole.{converges}
 use Rattle.batch_converges.proofs.OfIntervals.{interval_ending, interval_grows}
 use Rattle.batch_converges.proofs.laws.intervals_converge.Goals as goal

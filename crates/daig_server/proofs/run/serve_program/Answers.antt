@@ -1,5 +1,5 @@
 use Rattle.std.proofs.Common.{Err, ap}
-use Rattle.dom_interval.specs.Domain.{intervals}
+use Rattle.interval_meaning.specs.Domain.{intervals}
 use Rattle.script_loop.specs.Lines.{all_lines}
 use Rattle.daig_server.proofs.LineLemmas.{wrote_whole}
 use Rattle.daig_server.proofs.run.serve_program.Goals as goal

@@ -1,7 +1,7 @@
 use Rattle.std.proofs.Common.{◌∙◌, map, string_bytes, sym, ap}
 use Rattle.command_words.specs.Jobs.{job_of}
-use Rattle.dom_interval.specs.Domain.{intervals}
-use Rattle.dom_interval.specs.Covers.{covers}
+use Rattle.interval_meaning.specs.Domain.{intervals}
+use Rattle.interval_meaning.specs.Covers.{covers}
 use Rattle.daig_server.specs.Ends.{code_of}
 use Rattle.daig_server.specs.Jobs.{engine_in}
 use Rattle.daig_server.specs.Output.{held_by}

@@ -1,9 +1,9 @@
 use Rattle.std.proofs.Common.{◌≡◌, ◌∙◌, sym, ap, List, map, ℤ}
 use Rattle.std.specs.List.{zip}
-use Rattle.dom_interval.specs.State.{Intervals, Within}
+use Rattle.interval_meaning.specs.State.{Intervals, Within}
 use Rattle.dom_interval.specs.View.{intervals_of}
-use Rattle.dom_interval.specs.Widening.{widen_slot, widen}
-use Rattle.dom_interval.specs.declared.state.SlotRange.{SlotRange}
+use Rattle.interval_meaning.specs.Widening.{widen_slot, widen}
+use Rattle.interval_meaning.specs.declared.slot_range.SlotRange.{SlotRange}
 use Rattle.dom_interval.proofs.widening.widened.Goals as goal
 
 slots_widened : (ms : List ℤ) (s t u : Intervals) (rs qs ws : List SlotRange) → u ≡ Within ws → ws ≡ map (λ p. widen_slot ms p.0 p.1) (zip rs qs) → Within rs ≡ s → Within qs ≡ t → u ≡ widen ms s t

@@ -1,5 +1,5 @@
 use Rattle.std.proofs.Common.{◌∙◌, int_le, if◌then◌else◌}
-use Rattle.dom_interval.specs.Widening.{mark_below, mark_above}
+use Rattle.interval_meaning.specs.Widening.{mark_below, mark_above}
 use Rattle.dom_interval.proofs.Marks.{ends_ordered}
 use Rattle.dom_interval.proofs.widening.widened_range.Goals as goal
 

@@ -1,4 +1,4 @@
-use Rattle.shape_steps.proofs.Concrete.{Covers-null, Covers-copy, Covers-new, Covers-read_any, Covers-write_any, Covers-enter, Covers-pop, Covers-leave}
+use Rattle.shape_steps.proofs.Concrete.{Covers-null, Covers-copy, Covers-new, Covers-read_any, Covers-write_any, Covers-enter, Covers-pop, Covers-last, Covers-leave}
 use Rattle.shape_steps.proofs.laws.steps_are_covered.Goals as goal
 
 pub returns-clause-null : goal.returns-clause-null
@@ -24,3 +24,6 @@ returns-clause-removed c = Covers-pop
 
 pub returns-clause-left : goal.returns-clause-left
 returns-clause-left c = Covers-leave
+
+pub returns-clause-shed : goal.returns-clause-shed
+returns-clause-shed c = Covers-last

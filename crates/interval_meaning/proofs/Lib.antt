@@ -1,0 +1,9 @@
+pub mod StateLaws
+pub mod SlotLaws
+pub mod RangeLaws
+pub mod CompareLaws
+pub mod StepLaws
+pub mod CallLaws
+pub mod WidenLaws
+pub mod Laws
+pub mod ConvergenceLaws
