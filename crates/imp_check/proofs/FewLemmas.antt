@@ -98,3 +98,13 @@ pub layouts_step : (ps : List Procedure) (i : ℕ) (p : Procedure) → i < lengt
 layouts_step [] i p h e = absurd (omega arith)
 layouts_step (q ∷ ps) zero p h e = rw (← e) refl
 layouts_step (q ∷ ps) (suc i) p h e = let r = layouts_step ps i p (omega arith) e in rw add-one (ap (λ (z : List Layout). layout_in q ∷ z) (rw add-one at r))
+
+-- few statements, in few blocks inside one another
+pub few_statements : (ps : List Procedure) → check_fault ps ≡ None → (program_count ps < 10001) × (deepest ps < 33)
+few_statements ps h =
+    let rest = first (procedures_fault [] ps) (in_procedure (name_of (last_of ps)) (at 0 (ending_fault ps))) in
+    let p = first_none (in_procedure (name_of (last_of ps)) (at 0 (size_fault ps))) rest h in
+    let size = at_none 0 (size_fault ps) (in_none (name_of (last_of ps)) (at 0 (size_fault ps)) p.0) in
+    let others = first (unless (nat_lt (program_count ps) 10001) TooMany) (unless (nat_lt (deepest ps) 33) Nesting) in
+    let q = first_none (unless (nat_lt (program_count ps) 10001) TooMany) (unless (nat_lt (deepest ps) 33) Nesting) (first_none (unless (nat_lt (length ps) 65) Procedures) others size).1 in
+    (unless_lt (program_count ps) 10001 TooMany q.0, unless_lt (deepest ps) 33 Nesting q.1)
