@@ -1,3 +1,4 @@
 pub mod Changes
-pub mod Refusals
 pub mod Edited
+pub mod Made
+pub mod Refusals
