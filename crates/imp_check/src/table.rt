@@ -1,5 +1,5 @@
 //! Programs as tables of their statements.
-ghost use Rattle.std.specs.Prelude.{◌≡◌, ℕ, ◌<◌, ◌≤◌, [], List, length, slice_get, option_map, IfOk, OnOk, OnErr, None};
+ghost use Rattle.std.specs.Prelude.{◌≡◌, ℕ, ◌<◌, ◌≤◌, [], List, length, slice_get, option_map, false, IfOk, OnOk, OnErr, None};
 ghost use Rattle.std.specs.List.{All};
 ghost use Rattle.std.specs.Option.{option_copied};
 ghost use Rattle.imp_syntax.specs.Plain.{Procedure, program_numbers};
@@ -193,7 +193,7 @@ impl Table {
 
     /// The change that makes this program of another table's. It has the numbers below this one at which either program
     /// has a statement. It takes time linear in that number, and fails for want of memory alone.
-    #[tactic(auto, using(crate::proofs::ChangeLemmas::makes))]
+    #[tactic(auto, using(crate::proofs::ChangeLemmas::entries_made))]
     pub fn into_change(self, alloc: Global, from: &Table, below: u32) -> Result<Change, Memory>
         requires old { All (λ (n : ℕ). n < below) (program_numbers from.now.program) }
         requires new { All (λ (n : ℕ). n < below) (program_numbers self.program) }
@@ -211,26 +211,31 @@ impl Table {
 }
 
 /// What comes below a number where a table gets these places.
+#[tactic(auto, using(crate::proofs::ChangeLemmas::in_front, crate::proofs::ChangeLemmas::at_end, crate::proofs::ChangeLemmas::comes_more, crate::proofs::ChangeLemmas::passed_stays))]
 fn changed_places(
     alloc: Global,
     from: &Table,
-    places: Vec<Place>,
+    mut places: Vec<Place>,
     below: u32,
 ) -> Result<Vec<Put>, Memory>
     ensures comes { IfOk result (λ puts. (n : ℕ) → n < below → overlay puts.items (entry_of (entries_of from.now.program)) n ≡ entry_in places.items n) }
-    ensures stays { IfOk result (λ puts. (n : ℕ) → below ≤ n → overlay puts.items (entry_of (entries_of from.now.program)) n ≡ entry_of (entries_of from.now.program) n) }
     ensures within { IfOk result (λ puts. AreWithin below puts.items) }
 {
+    make_room(&mut places, below as usize)?;
     let mut puts = Vec::new(alloc);
-    let mut rest = places.into_iter();
-    for number in 0..below {
-        let entry = match rest.next() {
-            Some(place) => place,
-            None => Place::free(),
-        };
-        if entry.entry().is_some() || from.entry(StmtId::new(number)).is_some() {
+    while let Some(entry) = places.pop() {
+        let number = places.len();
+        if number < below as usize && stands(from, number as u32, &entry) {
+            let number = number as u32;
             puts.push(Put { number, entry })?;
         }
     }
     Ok(puts)
+}
+
+/// Whether something stands at a place, or at its number in a table.
+fn stands(table: &Table, number: u32, place: &Place) -> bool
+    ensures neither { result ≡ false → (place.now ≡ None) × (entry_of (entries_of table.now.program) number ≡ None) }
+{
+    place.entry().is_some() || table.entry(StmtId::new(number)).is_some()
 }

@@ -4,3 +4,4 @@ pub mod Numbered
 pub mod TreeLemmas
 pub mod ProcedureLemmas
 pub mod NextLemmas
+mod Worked

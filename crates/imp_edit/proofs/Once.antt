@@ -1,6 +1,6 @@
 -- Lists in which each number stands once, by how often numbers stand in them.
 use Rattle.std.proofs.lemmas.Bool.Decides.{nat_tests}
-use Rattle.std.proofs.Common.{ℕ, zero, suc, ◌≡◌, ◌≢◌, ◌+◌, ◌*◌, ◌<◌, ◌≤◌, ◌==◌, Bool, true, false, List, [], ◌∷◌, ◌++◌, refl, sym, ap, ◌∙◌, subst, arith}
+use Rattle.std.proofs.Common.{ℕ, zero, suc, ◌≡◌, ◌≢◌, ◌+◌, ◌*◌, ◌<◌, ◌≤◌, ◌==◌, ◌⊎◌, inl, inr, Bool, true, false, List, [], ◌∷◌, length, refl, sym, ap, ◌∙◌, subst, arith}
 use Rattle.std.specs.List.{All}
 use Rattle.imp_slots.specs.Fits.{Absent, Distinct}
 use Rattle.imp_edit.specs.Edited.{counting}
@@ -42,11 +42,22 @@ once_distinct (x ∷ xs) h = (never_absent x xs (omega (arith, h x, own x)), onc
 -- numbers below a bound
 pub below_never : (b : ℕ) (xs : List ℕ) → All (λ (n : ℕ). n < b) xs → (m : ℕ) → b ≤ m → often m xs ≡ 0
 below_never b [] a m h = refl
-below_never b (x ∷ xs) a m h = omega (arith, other x m (λ e. let l : x < b = a.0 in omega arith), below_never b xs a.1 m h)
+below_never b (x ∷ xs) a m h = let l : x < b = a 0 x (omega arith) in omega (arith, other x m (λ e. omega arith), below_never b xs (λ i d k. a (suc i) d (omega arith)) m h)
+
+order : (m n : ℕ) → (m < n) ⊎ (n ≤ m)
+order m n = grind arith
 
 pub never_below : (b : ℕ) (xs : List ℕ) → ((m : ℕ) → b ≤ m → often m xs ≡ 0) → All (λ (n : ℕ). n < b) xs
-never_below b [] h = tt
-never_below b (x ∷ xs) h = (grind (arith, h x, own x), never_below b xs (λ m l. omega (arith, h m l)))
+never_below b [] h = λ i d k. absurd (omega arith)
+never_below b (x ∷ xs) h = go
+  where
+    first : (x < b) ⊎ (b ≤ x) → x < b
+    first (inl l) = l
+    first (inr l) = absurd (omega (arith, h x l, own x))
+
+    go : All (λ (n : ℕ). n < b) (x ∷ xs)
+    go zero d k = first (order x b)
+    go (suc i) d k = never_below b xs (λ m l. omega (arith, h m l)) i d (omega arith)
 
 -- numbers one after the other
 pub counting_low : (first count m : ℕ) → m < first → often m (counting first count) ≡ 0
