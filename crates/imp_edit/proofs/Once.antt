@@ -10,14 +10,11 @@ own : (x : ℕ) → one (x == x) ≡ 1
 own x = let e : (x == x) ≡ true = grind (arith, nat_tests) in ap one e
 
 other : (x m : ℕ) → x ≢ m → one (x == m) ≡ 0
-other x m h = let e : (x == m) ≡ false = grind (arith, nat_tests) in ap one e
-
-either : (x m : ℕ) → one (x == m) ≤ 1
-either x m = go (x == m)
+other x m h = go (x == m) refl
   where
-    go : (b : Bool) → one b ≤ 1
-    go true = omega arith
-    go false = omega arith
+    go : (b : Bool) → (x == m) ≡ b → one b ≡ 0
+    go true e = absurd (h (grind (arith, nat_tests)))
+    go false e = refl
 
 pub absent_never : (m : ℕ) (xs : List ℕ) → Absent m xs → often m xs ≡ 0
 absent_never m [] a = refl

@@ -49,7 +49,7 @@ module _ (n m : ℕ) (made : Statement → Statements) (more : ℕ) (few : (s : 
     statement_often (If k c t e) =
         let a = often_both m (numbers (in_block n made t)) (numbers (in_block n made e)) in
         let b = often_both m (numbers t) (numbers e) in
-        let d = often_both n (numbers t) (numbers e) in
+        let d = ap (λ z. z * more) (often_both n (numbers t) (numbers e)) in
         omega (arith, a, b, d, block_often t, block_often e)
     statement_often (While k c b) = omega (arith, block_often b)
 
@@ -61,13 +61,13 @@ module _ (n m : ℕ) (made : Statement → Statements) (more : ℕ) (few : (s : 
         go true e =
             let a = numbers_append m (made s) ss in
             let b = often_both m (numbers_in s) (numbers ss) in
-            let d = often_both n (numbers_in s) (numbers ss) in
+            let d = ap (λ z. z * more) (often_both n (numbers_in s) (numbers ss)) in
             let t = times (often n (numbers_in s)) more (head n s e) in
             omega (arith, a, b, d, t, few s)
         go false e =
             let a = often_both m (numbers_in (in_statement n made s)) (numbers (in_block n made ss)) in
             let b = often_both m (numbers_in s) (numbers ss) in
-            let d = often_both n (numbers_in s) (numbers ss) in
+            let d = ap (λ z. z * more) (often_both n (numbers_in s) (numbers ss)) in
             omega (arith, a, b, d, statement_often s, block_often ss)
 
   pub program_often : (ps : List Procedure) → often m (program_numbers (in_program n made ps)) ≤ often m (program_numbers ps) + often n (program_numbers ps) * more
@@ -75,7 +75,7 @@ module _ (n m : ℕ) (made : Statement → Statements) (more : ℕ) (few : (s : 
   program_often (p ∷ ps) =
       let a = often_both m (numbers (in_block n made p.body)) (program_numbers (in_program n made ps)) in
       let b = often_both m (numbers p.body) (program_numbers ps) in
-      let d = often_both n (numbers p.body) (program_numbers ps) in
+      let d = ap (λ z. z * more) (often_both n (numbers p.body) (program_numbers ps)) in
       omega (arith, a, b, d, block_often p.body, program_often ps)
 
 -- Lists of procedures one behind the other.
