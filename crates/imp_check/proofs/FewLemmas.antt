@@ -1,5 +1,6 @@
 -- A program without faults has few procedures and variables.
-use Rattle.std.proofs.Common.{ℕ, zero, suc, ◌+◌, ◌<◌, ◌≡◌, Bool, true, false, not, List, [], ◌∷◌, ◌++◌, length, take, drop, get_or, map, append_assoc, append-nil, Option, Some, None, refl, ap, sym, ◌∙◌, subst, arith, nat_lt, add-one, drop-cons}
+use Rattle.std.proofs.Common.{ℕ, zero, suc, ◌+◌, ◌-◌, ◌^◌, ◌<◌, ◌≡◌, min, Bool, true, false, not, List, [], ◌∷◌, ◌++◌, length, take, drop, get_or, map, append_assoc, append-nil, Option, Some, None, refl, ap, sym, ◌∙◌, subst, arith, nat_lt, add-one, drop-cons}
+use Rattle.std.proofs.Math.Nat.{min-eq_left}
 use Rattle.std.proofs.Math.Seq.{take-suc}
 use Rattle.std.proofs.lemmas.Bool.{ltb-true}
 use Rattle.imp_syntax.specs.Plain.{Procedure}
@@ -108,3 +109,6 @@ few_statements ps h =
     let others = first (unless (nat_lt (program_count ps) 10001) TooMany) (unless (nat_lt (deepest ps) 33) Nesting) in
     let q = first_none (unless (nat_lt (program_count ps) 10001) TooMany) (unless (nat_lt (deepest ps) 33) Nesting) (first_none (unless (nat_lt (length ps) 65) Procedures) others size).1 in
     (unless_lt (program_count ps) 10001 TooMany q.0, unless_lt (deepest ps) 33 Nesting q.1)
+
+pub count_is : (ps : List Procedure) (n : ℕ) → n ≡ min (program_count ps) (2 ^ 32 - 1) → program_count ps < 10001 → n ≡ program_count ps
+count_is ps n e h = e ∙ min-eq_left (omega arith)

@@ -1,6 +1,6 @@
 -- Tables by number, and entries put into them.
 use Rattle.std.proofs.lemmas.Bool.Decides.{nat_tests}
-use Rattle.std.proofs.Common.{◌≡◌, ℕ, zero, suc, ◌+◌, ◌<◌, ◌≤◌, ◌==◌, cond, Bool, true, false, List, [], ◌∷◌, ◌++◌, length, map, slice_get, slice_set, slice_index_or, Option, Some, None, refl, sym, ap, ◌∙◌, subst, arith}
+use Rattle.std.proofs.Common.{◌≡◌, ℕ, zero, suc, ◌+◌, ◌<◌, ◌≤◌, ◌==◌, cond, Bool, true, false, List, [], ◌∷◌, ◌++◌, length, map, slice_set, slice_index_or, Option, Some, None, refl, sym, ap, ◌∙◌, subst, arith}
 use Rattle.imp_slots.specs.Fits.{Absent, Distinct}
 use Rattle.imp_check.specs.Faults.{first}
 use Rattle.imp_check.specs.Tables.{entry_in}
@@ -27,16 +27,11 @@ less k m = go (k == m) refl
     go false e = other (suc k) (suc m) (λ q. let r : k ≡ m = omega (arith, q) in absurd (grind (arith, nat_tests)))
 
 
--- what stands at a place that there is, and at one that there is not
-pub entry_there : (xs : List (Option Entry)) (k : ℕ) (o : Option Entry) → slice_get xs k ≡ Some o → entry_in xs k ≡ o
-entry_there [] k o h = cc
-entry_there (x ∷ xs) zero o h = cc
-entry_there (x ∷ xs) (suc k) o h = entry_there xs k o h
-
-pub entry_gone : (xs : List (Option Entry)) (k : ℕ) → slice_get xs k ≡ None → entry_in xs k ≡ None
-entry_gone [] k h = refl
-entry_gone (x ∷ xs) zero h = cc
-entry_gone (x ∷ xs) (suc k) h = entry_gone xs k h
+-- nothing stands past the last place
+pub entry_past : (xs : List (Option Entry)) (k : ℕ) → length xs ≤ k → entry_in xs k ≡ None
+entry_past [] k h = refl
+entry_past (x ∷ xs) zero h = absurd (omega arith)
+entry_past (x ∷ xs) (suc k) h = entry_past xs k (omega arith)
 
 pub slot_get : (xs : List (Option Entry)) (k : ℕ) (d : Option Entry) → k < length xs → slice_index_or xs k d ≡ entry_in xs k
 slot_get [] k d h = absurd (omega arith)

@@ -63,6 +63,16 @@ written zero (x ∷ xs) zs h = absurd (omega arith)
 written (suc n) [] zs h = absurd (omega arith)
 written (suc n) (x ∷ xs) zs h = ap (λ ys. x ∷ ys) (written n xs zs (omega arith))
 
+-- the same entries in another table
+pub same_right : (at after : ℕ → Option Entry) (count : ℕ) (heads : List Head) (sites : List (List ℕ)) → ((n : ℕ) → after n ≡ at n) → AreOf (program_by at count heads) at count heads sites → AreOf (program_by after count heads) after count heads sites
+same_right at after count heads sites h r = table_right (program_by at count heads) after count heads sites (record {
+  fine = r.fine;
+  entries = λ n. h n ∙ r.entries n;
+  counted = r.counted;
+  procedures = r.procedures;
+  calls = r.calls;
+})
+
 -- the table made of a program
 pub made : (ps : List Procedure) (fine : IsFine ps) (places : List (Option Entry)) (count : ℕ) (heads : List Head) (sites : List (List ℕ)) → places ≡ put_all (entries_of ps) [] → count ≡ program_count ps → heads ≡ heads_of ps → sites ≡ with_sites (entries_of ps) (no_sites (length ps)) → AreOf ps (entry_in places) count heads sites
 made ps fine places count heads sites e n h s = record {
@@ -80,3 +90,9 @@ made ps fine places count heads sites e n h s = record {
 -- the procedure of a name, by the procedures without statements
 pub named_by : (ps : List Procedure) (x : List ℕ) (b : Bool) → is_headed (heads_of ps) x ≡ b → cond b (Some (place_headed (heads_of ps) x)) None ≡ named_in ps x
 named_by ps x b e = ap (λ n. cond b (Some n) None) (headed_place ps x) ∙ ap (λ t. cond t (Some (place_named ps x)) None) (sym e ∙ headed ps x)
+
+pub made_is : (ps : List Procedure) (fine : IsFine ps) (places : List (Option Entry)) (count : ℕ) (heads : List Head) (sites : List (List ℕ)) → places ≡ put_all (entries_of ps) [] → count ≡ program_count ps → heads ≡ heads_of ps → sites ≡ with_sites (entries_of ps) (no_sites (length ps)) → program_by (entry_in places) count heads ≡ ps
+made_is ps fine places count heads sites e n h s = table_is ps (entry_in places) count heads sites (made ps fine places count heads sites e n h s)
+
+pub made_right : (ps : List Procedure) (fine : IsFine ps) (places : List (Option Entry)) (count : ℕ) (heads : List Head) (sites : List (List ℕ)) → places ≡ put_all (entries_of ps) [] → count ≡ program_count ps → heads ≡ heads_of ps → sites ≡ with_sites (entries_of ps) (no_sites (length ps)) → AreOf (program_by (entry_in places) count heads) (entry_in places) count heads sites
+made_right ps fine places count heads sites e n h s = table_right ps (entry_in places) count heads sites (made ps fine places count heads sites e n h s)

@@ -60,7 +60,7 @@ fn add_procedure(
 }
 
 /// Adds the procedures.
-#[tactic(auto, using(crate::proofs::FewLemmas::few_at, crate::proofs::FewLemmas::layouts_step, crate::proofs::EntryLemmas::entries_step, crate::proofs::PartLemmas::body_nesting, crate::proofs::PutLemmas::all_both, crate::proofs::PutLemmas::sites_both))]
+#[tactic(auto, using(crate::proofs::FewLemmas::few_at, crate::proofs::FewLemmas::layouts_step, crate::proofs::EntryLemmas::put_step, crate::proofs::EntryLemmas::sites_step, crate::proofs::EntryLemmas::heads_step, crate::proofs::PartLemmas::body_nesting))]
 fn add_procedures(alloc: Global, procs: &[Proc], making: &mut Making) -> Result<Items<Head>, Memory>
     requires few { AreFew procs.now }
     requires shallow { deepest procs.now < 2 ^ 32 }
@@ -80,7 +80,7 @@ fn add_procedures(alloc: Global, procs: &[Proc], making: &mut Making) -> Result<
 }
 
 /// The table of a program without faults.
-#[tactic(auto, using(crate::proofs::FewLemmas::few_checked, crate::proofs::FewLemmas::few_statements, crate::proofs::TableLemmas::made))]
+#[tactic(auto, using(crate::proofs::FewLemmas::few_checked, crate::proofs::FewLemmas::few_statements, crate::proofs::TableLemmas::made_is, crate::proofs::TableLemmas::made_right))]
 pub(crate) fn table_of(alloc: Global, procs: &[Proc]) -> Result<Table, Memory>
     requires fine { IsFine procs.now }
     ensures is { IfOk result (λ table. table.program ≡ procs.now) }

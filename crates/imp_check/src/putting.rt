@@ -12,7 +12,6 @@ use plain_values::Memory;
 use std::alloc::Global;
 
 /// What stands at a number.
-#[tactic(auto, using(crate::proofs::PutLemmas::entry_there, crate::proofs::PutLemmas::entry_gone))]
 pub(crate) fn entry_in(places: &[Place], number: u32) -> Option<&Entry>
     ensures is { option_copied result ≡ entry_in places.now number }
 {
@@ -57,9 +56,21 @@ pub(crate) fn put_entry(
     Ok(())
 }
 
+/// Exchanges what stands at these numbers of a table.
+#[tactic(auto, using(crate::proofs::TableLemmas::written))]
+pub(crate) fn put_all(places: &mut Vec<Place>, puts: &mut [Put])
+    requires within { AreWithin (length places.old.items) puts.old }
+    ensures is { (m : ℕ) → entry_in places.new.items m ≡ overlay puts.old (entry_in places.old.items) m }
+    ensures as_long { length places.new.items ≡ length places.old.items }
+    ensures back { (m : ℕ) → overlay puts.new (entry_in places.new.items) m ≡ entry_in places.old.items m }
+    ensures back_within { AreWithin (length places.old.items) puts.new }
+{
+    put_in(places.as_mut_slice(), puts);
+}
+
 /// Exchanges what stands at a number.
 #[tactic(auto, using(crate::proofs::PutLemmas::slot_set, crate::proofs::PutLemmas::slot_get))]
-pub(crate) fn put_one(places: &mut [Place], put: &mut Put)
+fn put_one(places: &mut [Place], put: &mut Put)
     requires within { put.old.number < length places.old }
     ensures is { (m : ℕ) → entry_in places.new m ≡ overlay (put.old ∷ []) (entry_in places.old) m }
     ensures number { put.new.number ≡ put.old.number }
@@ -70,7 +81,7 @@ pub(crate) fn put_one(places: &mut [Place], put: &mut Put)
 }
 
 /// Exchanges what stands at these numbers.
-pub(crate) fn put_in(places: &mut [Place], puts: &mut [Put])
+fn put_in(places: &mut [Place], puts: &mut [Put])
     requires within { AreWithin (length places.old) puts.old }
     ensures is { (m : ℕ) → entry_in places.new m ≡ overlay puts.old (entry_in places.old) m }
     ensures as_long { length places.new ≡ length places.old }

@@ -10,6 +10,7 @@ ghost use Rattle.imp_check.specs.Slots.{layout_in, routines_of};
 ghost use Rattle.imp_check.specs.Parts.{ends_of};
 ghost use Rattle.imp_check.specs.Entries.{entries_of, entry_of, heads_of, head_of, sites_in};
 ghost use Rattle.imp_check.specs.Fine.{IsFine};
+ghost use Rattle.imp_check.specs.Rebuilt.{program_by};
 ghost use Rattle.imp_check.specs.Tables.{entry_in, AreOf};
 ghost use Rattle.imp_check.specs.Changes.{AreWithin, Makes, overlay};
 
@@ -17,7 +18,7 @@ use crate::change::{Change, Put, exchange_list};
 use crate::entry::{BlockEnds, Entry, Head};
 use crate::heads::{is_named, place_named};
 use crate::place::Place;
-use crate::putting::{entry_in, make_room, put_in};
+use crate::putting::{entry_in, make_room, put_all};
 use crate::rebuilt::procedures_from;
 use crate::routines::routines_of;
 use imp_slots::{Layout, Routine};
@@ -58,9 +59,8 @@ impl Table {
         count: u32,
         sites: Items<Items<StmtId>>,
     ) -> Table
-        ghost program: { List Procedure }
-        requires right { AreOf program (entry_in places.items) count heads sites }
-        ensures is { result.program ≡ program }
+        requires right { AreOf (program_by (entry_in places.items) count heads) (entry_in places.items) count heads sites }
+        ensures is { result.program ≡ program_by (entry_in places.items) count heads }
     {
         Table {
             heads,
@@ -185,7 +185,7 @@ impl Table {
         ensures back { Makes program change.new self.old.program }
         ensures back_within { AreWithin self.old.room change.new.entries.items }
     {
-        put_in(self.places.as_mut_slice(), change.entries.as_mut_slice());
+        put_all(&mut self.places, change.entries.as_mut_slice());
         std::mem::swap(&mut self.count, &mut change.count);
         exchange_list(&mut self.heads, &mut change.heads);
         exchange_list(&mut self.sites, &mut change.sites);
