@@ -4,4 +4,5 @@ pub mod Numbered
 pub mod TreeLemmas
 pub mod ProcedureLemmas
 pub mod NextLemmas
+pub mod RefusalLemmas
 mod Worked

@@ -1,6 +1,5 @@
 //! Why an edit is refused before the new program is made.
-ghost use Rattle.std.specs.Prelude.{◌≡◌};
-ghost use Rattle.std.specs.Option.{option_copied};
+ghost use Rattle.std.specs.Prelude.{◌≡◌, Some};
 ghost use Rattle.imp_edit.specs.Refusals.{called_refusal, drop_refusal, entry_refusal, fits, is_if, is_while, main_refusal, place_refusal, procedure_refusal, site_refusal, statement_refusal};
 
 use crate::error::EditError;
@@ -88,6 +87,7 @@ fn statement_refusal(table: &Table, needed: Needed, stmt: StmtId) -> Option<Edit
     }
 }
 
+#[tactic(auto, using(crate::proofs::RefusalLemmas::found, crate::proofs::RefusalLemmas::missing))]
 fn procedure_refusal(table: &Table, name: &Text) -> Option<EditError>
     ensures is { result ≡ procedure_refusal name.now table.now.program }
 {
@@ -129,6 +129,7 @@ fn called_refusal(sites: &[StmtId]) -> Option<EditError>
     }
 }
 
+#[tactic(auto, using(crate::proofs::RefusalLemmas::found, crate::proofs::RefusalLemmas::missing, crate::proofs::RefusalLemmas::found_at, crate::proofs::RefusalLemmas::found_within))]
 fn drop_refusal(table: &Table, name: &Text) -> Option<EditError>
     ensures is { result ≡ drop_refusal name.now table.now.program }
 {
