@@ -6,3 +6,4 @@ pub mod ProcedureLemmas
 pub mod NextLemmas
 pub mod RefusalLemmas
 mod Worked
+pub mod ApplyLemmas

@@ -40,7 +40,7 @@ pub struct Edited {
 ///
 /// The first refusal by `edit_refusal`: where the edit goes, then whether the numbers suffice, then the first fault of
 /// the new program. [`EditError::Memory`] for want of memory.
-#[tactic(auto, using(crate::proofs::Numbered::numbered_again, crate::proofs::Numbered::below_again))]
+#[tactic(auto, using(crate::proofs::Numbered::numbered_again, crate::proofs::Numbered::below_again, crate::proofs::ApplyLemmas::site_refused, crate::proofs::ApplyLemmas::numbers_refused, crate::proofs::ApplyLemmas::fault_left, crate::proofs::ApplyLemmas::next_is, crate::proofs::ApplyLemmas::no_fault))]
 pub fn apply(alloc: Global, table: &Table, edit: &Edit, next: u32) -> Result<Edited, EditError>
     requires positive { 0 < next }
     requires below { All (λ (n : ℕ). n < next) (program_numbers table.now.program) }
@@ -90,6 +90,7 @@ fn edited(alloc: Global, edit: &Edit, procs: &[Proc]) -> Result<Program, Memory>
 }
 
 /// The table of a program, or its first fault.
+#[tactic(auto, using(crate::proofs::ApplyLemmas::fault_is))]
 fn checked(alloc: Global, program: &Program) -> Result<Table, EditError>
     requires numbered { AreNumbered program.now }
     ensures is { IfOk result (λ table. table.program ≡ program.now) }
