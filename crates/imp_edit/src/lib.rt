@@ -14,12 +14,12 @@
 //! program stand once.
 #![tactic(auto)]
 
-mod apply;
+mod applying;
 mod error;
 mod numbers;
 mod procedures;
 mod refusals;
 mod trees;
 
-pub use apply::{Edited, apply};
+pub use applying::{Edited, apply};
 pub use error::EditError;

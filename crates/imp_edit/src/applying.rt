@@ -48,9 +48,9 @@ pub fn apply(alloc: Global, table: &Table, edit: &Edit, next: u32) -> Result<Edi
     ensures accepted { IfOk result (λ _. edit_refusal edit.now table.now.program next ≡ None) }
     ensures makes { IfOk result (λ e. Makes table.now.program e.change (edited edit.now table.now.program)) }
     ensures fine { IfOk result (λ _. IsFine (edited edit.now table.now.program)) }
-    ensures next { IfOk result (λ e. e.next ≡ next_after edit.now next) }
+    ensures numbers { IfOk result (λ e. e.next ≡ next_after edit.now next) }
     ensures within { IfOk result (λ e. AreWithin e.next e.change.entries.items) }
-    ensures below { IfOk result (λ e. All (λ (n : ℕ). n < e.next) (program_numbers (edited edit.now table.now.program))) }
+    ensures still_below { IfOk result (λ e. All (λ (n : ℕ). n < e.next) (program_numbers (edited edit.now table.now.program))) }
     ensures refused { IfErr result (IsRefusal (edit_refusal edit.now table.now.program next)) }
 {
     if let Some(refusal) = site_refusal(table, edit) {
@@ -61,7 +61,7 @@ pub fn apply(alloc: Global, table: &Table, edit: &Edit, next: u32) -> Result<Edi
     };
     table.procs();
     let program = table.tree(alloc)?;
-    let program = edited(alloc, edit, program.procs())?;
+    let program = program_after(alloc, edit, program.procs())?;
     let made = checked(alloc, &program)?;
     let change = made.into_change(alloc, table, after)?;
     Ok(Edited {
@@ -71,7 +71,7 @@ pub fn apply(alloc: Global, table: &Table, edit: &Edit, next: u32) -> Result<Edi
 }
 
 /// The program after an edit.
-fn edited(alloc: Global, edit: &Edit, procs: &[Proc]) -> Result<Program, Memory>
+fn program_after(alloc: Global, edit: &Edit, procs: &[Proc]) -> Result<Program, Memory>
     ensures is { IfOk result (λ p. p ≡ edited edit.now procs.now) }
 {
     match edit {
