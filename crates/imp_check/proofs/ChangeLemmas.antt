@@ -18,23 +18,85 @@ apart : (k : ℕ) (ps : List Put) → All (λ (p : Put). suc k ≤ p.number) ps 
 apart k [] a = tt
 apart k (p ∷ ps) a = let l : suc k ≤ p.number = a 0 p (omega arith) in ((λ e. omega (arith, e, l)), apart k ps (λ i d h. a (suc i) d (omega arith)))
 
+all_more : (P : Put → Type 0) (ps : List Put) (p : Put) → All P ps → P p → All P (ps ++ p ∷ [])
+all_more P [] p a h zero d l = h
+all_more P [] p a h (suc i) d l = absurd (omega arith)
+all_more P (q ∷ ps) p a h zero d l = a 0 q (omega arith)
+all_more P (q ∷ ps) p a h (suc i) d l = all_more P ps p (λ k e m. a (suc k) e (omega arith)) h i d (omega arith)
+
+absent_more : (n : ℕ) (ps : List Put) (p : Put) → Absent n (put_numbers ps) → (n ≡ p.number → ⊥) → Absent n (put_numbers (ps ++ p ∷ []))
+absent_more n [] p a h = (h, tt)
+absent_more n (q ∷ ps) p a h = (a.0, absent_more n ps p a.1 h)
+
+distinct_more : (ps : List Put) (p : Put) → Distinct (put_numbers ps) → Absent p.number (put_numbers ps) → Distinct (put_numbers (ps ++ p ∷ []))
+distinct_more [] p d a = (tt, tt)
+distinct_more (q ∷ ps) p d a = (absent_more q.number ps p d.0 (λ e. a.0 (sym e)), distinct_more ps p d.1 a.1)
+
 -- the last place
-pub in_front : (xs : List (Option Entry)) (o : Option Entry) (m : ℕ) → m < length xs → entry_in (xs ++ o ∷ []) m ≡ entry_in xs m
+in_front : (xs : List (Option Entry)) (o : Option Entry) (m : ℕ) → m < length xs → entry_in (xs ++ o ∷ []) m ≡ entry_in xs m
 in_front [] o m h = absurd (omega arith)
 in_front (x ∷ xs) o zero h = refl
 in_front (x ∷ xs) o (suc m) h = in_front xs o m (omega arith)
 
-pub at_end : (xs : List (Option Entry)) (o : Option Entry) → entry_in (xs ++ o ∷ []) (length xs) ≡ o
+at_end : (xs : List (Option Entry)) (o : Option Entry) → entry_in (xs ++ o ∷ []) (length xs) ≡ o
 at_end [] o = refl
 at_end (x ∷ xs) o = at_end xs o
 
--- One more number, below those that are there: its entry comes, and the others as before.
-pub comes_more : (ps : List Put) (p : Put) (at : ℕ → Option Entry) (m : ℕ) → All (λ (q : Put). suc p.number ≤ q.number) ps → overlay (ps ++ p ∷ []) at m ≡ cond (p.number == m) p.entry (overlay ps at m)
-comes_more ps p at m a = overlay_more ps p at m (apart p.number ps a)
+longer : (xs : List (Option Entry)) (o : Option Entry) → length (xs ++ o ∷ []) ≡ suc (length xs)
+longer [] o = refl
+longer (x ∷ xs) o = ap suc (longer xs o)
 
--- a number that is passed stays as it is
-pub passed_stays : (ps : List Put) (at : ℕ → Option Entry) (k : ℕ) → All (λ (q : Put). suc k ≤ q.number) ps → overlay ps at k ≡ at k
-passed_stays ps at k a = overlay_other ps at k (apart k ps a)
+-- The last place is taken from a list that begins as another one.
+module _ (xs ys zs : List (Option Entry)) (o : Option Entry) (e : xs ≡ ys ++ o ∷ []) (kept : (m : ℕ) → m < length xs → entry_in xs m ≡ entry_in zs m) where
+  more : length xs ≡ suc (length ys)
+  more = ap (λ ws. length ws) e ∙ longer ys o
+
+  pub still_kept : (m : ℕ) → m < length ys → entry_in ys m ≡ entry_in zs m
+  still_kept m h = sym (in_front ys o m h) ∙ ap (λ ws. entry_in ws m) (sym e) ∙ kept m (omega (arith, more))
+
+  taken : o ≡ entry_in zs (length ys)
+  taken = sym (at_end ys o) ∙ ap (λ ws. entry_in ws (length ys)) (sym e) ∙ kept (length ys) (omega (arith, more))
+
+  -- It is put, below a number ..
+  module _ (at : ℕ → Option Entry) (b : ℕ) (ps : List Put) (high : All (λ (q : Put). length xs ≤ q.number) ps) (comes : (m : ℕ) → length xs ≤ m → m < b → overlay ps at m ≡ entry_in zs m) where
+    higher : All (λ (q : Put). suc (length ys) ≤ q.number) ps
+    higher = λ i d h. omega (arith, more, high i d h)
+
+    free : Absent (length ys) (put_numbers ps)
+    free = apart (length ys) ps higher
+
+    pub comes_put : (p : Put) → p.number ≡ length ys → p.entry ≡ o → (m : ℕ) → length ys ≤ m → m < b → overlay (ps ++ p ∷ []) at m ≡ entry_in zs m
+    comes_put p n w m h l =
+        overlay_more ps p at m (subst (λ k. Absent k (put_numbers ps)) (sym n) free)
+        ∙ ap (λ k. cond (k == m) p.entry (overlay ps at m)) n
+        ∙ go (length ys == m) refl
+      where
+        go : (t : Bool) → (length ys == m) ≡ t → cond t p.entry (overlay ps at m) ≡ entry_in zs m
+        go true q = let r : length ys ≡ m = grind (arith, nat_tests) in w ∙ taken ∙ ap (entry_in zs) r
+        go false q = comes m (let r : length ys ≡ m → ⊥ = λ s. absurd (grind (arith, nat_tests)) in grind (arith, more)) l
+
+    pub high_put : (p : Put) → p.number ≡ length ys → All (λ (q : Put). length ys ≤ q.number) (ps ++ p ∷ [])
+    high_put p n = all_more (λ (q : Put). length ys ≤ q.number) ps p (λ i d h. omega (arith, more, high i d h)) (omega (arith, n))
+
+    pub within_put : (p : Put) → p.number ≡ length ys → length ys < b → AreWithin b ps → AreWithin b (ps ++ p ∷ [])
+    within_put p n l w = record {
+      once = distinct_more ps p w.once (subst (λ k. Absent k (put_numbers ps)) (sym n) free);
+      below = all_more (λ (q : Put). q.number < b) ps p w.below (omega (arith, n));
+    }
+
+    -- .. or left out, where nothing stands there nor comes.
+    pub comes_left : (length ys < b → (o ≡ None) × (at (length ys) ≡ None)) → (m : ℕ) → length ys ≤ m → m < b → overlay ps at m ≡ entry_in zs m
+    comes_left none m h l = go (length ys == m) refl
+      where
+        go : (t : Bool) → (length ys == m) ≡ t → overlay ps at m ≡ entry_in zs m
+        go true q =
+            let r : length ys ≡ m = grind (arith, nat_tests) in
+            let k = none (omega arith) in
+            subst (λ n. overlay ps at n ≡ entry_in zs n) r (overlay_other ps at (length ys) free ∙ k.1 ∙ sym k.0 ∙ taken)
+        go false q = comes m (let r : length ys ≡ m → ⊥ = λ s. absurd (grind (arith, nat_tests)) in grind (arith, more)) l
+
+    pub high_left : All (λ (q : Put). length ys ≤ q.number) ps
+    high_left = λ i d h. omega (arith, more, high i d h)
 
 -- a number of no statement has no entry
 no_entry : (es : List Entry) (n : ℕ) → Absent n (entry_numbers es) → entry_of es n ≡ None

@@ -211,7 +211,7 @@ impl Table {
 }
 
 /// What comes below a number where a table gets these places.
-#[tactic(auto, using(crate::proofs::ChangeLemmas::in_front, crate::proofs::ChangeLemmas::at_end, crate::proofs::ChangeLemmas::comes_more, crate::proofs::ChangeLemmas::passed_stays))]
+#[tactic(auto, using(crate::proofs::ChangeLemmas::still_kept, crate::proofs::ChangeLemmas::comes_put, crate::proofs::ChangeLemmas::high_put, crate::proofs::ChangeLemmas::within_put, crate::proofs::ChangeLemmas::comes_left, crate::proofs::ChangeLemmas::high_left))]
 fn changed_places(
     alloc: Global,
     from: &Table,
