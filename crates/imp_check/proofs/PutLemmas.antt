@@ -26,7 +26,6 @@ less k m = go (k == m) refl
     go true e = let q : k ≡ m = grind (arith, nat_tests) in ap (λ n. suc k == suc n) (sym q) ∙ same (suc k)
     go false e = other (suc k) (suc m) (λ q. let r : k ≡ m = omega (arith, q) in absurd (grind (arith, nat_tests)))
 
-
 -- nothing stands past the last place
 pub entry_past : (xs : List (Option Entry)) (k : ℕ) → length xs ≤ k → entry_in xs k ≡ None
 entry_past [] k h = refl

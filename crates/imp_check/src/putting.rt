@@ -36,11 +36,7 @@ pub(crate) fn make_room(places: &mut Vec<Place>, below: usize) -> Result<(), Mem
 
 /// Puts an entry at its number.
 #[tactic(auto, using(crate::proofs::PutLemmas::put_more, crate::proofs::PutLemmas::put_there, crate::proofs::PutLemmas::put_end))]
-pub(crate) fn put_entry(
-    alloc: Global,
-    places: &mut Vec<Place>,
-    entry: Entry,
-) -> Result<(), Memory>
+pub(crate) fn put_entry(alloc: Global, places: &mut Vec<Place>, entry: Entry) -> Result<(), Memory>
     ensures put { OnOk result (places.new.items ≡ put_at places.old.items entry.number (Some entry)) }
 {
     let number = entry.number.number() as usize;
