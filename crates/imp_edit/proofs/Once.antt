@@ -26,11 +26,11 @@ never_absent m (x ∷ xs) e = ((λ q. let w : one (x == m) ≡ 1 = subst (λ k. 
 
 pub distinct_once : (xs : List ℕ) → Distinct xs → (m : ℕ) → often m xs ≤ 1
 distinct_once [] d m = omega arith
-distinct_once (x ∷ xs) d m = go (x == m) refl
+distinct_once (x ∷ xs) d m = go (distinct_once xs d.1 m) (x == m) refl
   where
-    go : (b : Bool) → (x == m) ≡ b → one b + often m xs ≤ 1
-    go true e = let q : x ≡ m = grind (arith, nat_tests) in omega (arith, absent_never m xs (subst (λ k. Absent k xs) q d.0))
-    go false e = omega (arith, distinct_once xs d.1 m)
+    go : often m xs ≤ 1 → (b : Bool) → (x == m) ≡ b → one b + often m xs ≤ 1
+    go i true e = let q : x ≡ m = grind (arith, nat_tests) in omega (arith, absent_never m xs (subst (λ k. Absent k xs) q d.0))
+    go i false e = omega (arith, i)
 
 pub once_distinct : (xs : List ℕ) → ((m : ℕ) → often m xs ≤ 1) → Distinct xs
 once_distinct [] h = tt
@@ -46,15 +46,15 @@ order m n = grind arith
 
 pub never_below : (b : ℕ) (xs : List ℕ) → ((m : ℕ) → b ≤ m → often m xs ≡ 0) → All (λ (n : ℕ). n < b) xs
 never_below b [] h = λ i d k. absurd (omega arith)
-never_below b (x ∷ xs) h = go
+never_below b (x ∷ xs) h = go (never_below b xs (λ m l. omega (arith, h m l)))
   where
     first : (x < b) ⊎ (b ≤ x) → x < b
     first (inl l) = l
     first (inr l) = absurd (omega (arith, h x l, own x))
 
-    go : All (λ (n : ℕ). n < b) (x ∷ xs)
-    go zero d k = first (order x b)
-    go (suc i) d k = never_below b xs (λ m l. omega (arith, h m l)) i d (omega arith)
+    go : All (λ (n : ℕ). n < b) xs → All (λ (n : ℕ). n < b) (x ∷ xs)
+    go a zero d k = first (order x b)
+    go a (suc i) d k = a i d (omega arith)
 
 -- numbers one after the other
 pub counting_low : (first count m : ℕ) → m < first → often m (counting first count) ≡ 0
@@ -67,11 +67,11 @@ counting_high first (suc n) m h = omega (arith, other first m (λ e. omega arith
 
 pub counting_once : (first count m : ℕ) → often m (counting first count) ≤ 1
 counting_once first zero m = omega arith
-counting_once first (suc n) m = go (first == m) refl
+counting_once first (suc n) m = go (counting_once (suc first) n m) (first == m) refl
   where
-    go : (b : Bool) → (first == m) ≡ b → one b + often m (counting (suc first) n) ≤ 1
-    go true e = let q : first ≡ m = grind (arith, nat_tests) in omega (arith, counting_low (suc first) n m (omega arith))
-    go false e = omega (arith, counting_once (suc first) n m)
+    go : often m (counting (suc first) n) ≤ 1 → (b : Bool) → (first == m) ≡ b → one b + often m (counting (suc first) n) ≤ 1
+    go i true e = let q : first ≡ m = grind (arith, nat_tests) in omega (arith, counting_low (suc first) n m (omega arith))
+    go i false e = omega (arith, i)
 
 pub some_times : (k c : ℕ) → k ≤ 1 → k * c ≤ c
 some_times zero c h = omega arith

@@ -31,11 +31,11 @@ found_at ps x k e = go (is_named ps x) e
 
 within : (ps : List Procedure) (x : List ℕ) → is_named ps x ≡ true → place_named ps x < length ps
 within [] x h = absurd cc
-within (p ∷ ps) x h = go (bytes_eq p.name x) h
+within (p ∷ ps) x h = go (within ps x) (bytes_eq p.name x) h
   where
-    go : (b : Bool) → (b || is_named ps x) ≡ true → cond b 0 (suc (place_named ps x)) < suc (length ps)
-    go true h = omega arith
-    go false h = omega (arith, within ps x h)
+    go : (is_named ps x ≡ true → place_named ps x < length ps) → (b : Bool) → (b || is_named ps x) ≡ true → cond b 0 (suc (place_named ps x)) < suc (length ps)
+    go f true h = omega arith
+    go f false h = omega (arith, f h)
 
 pub found_within : (ps : List Procedure) (x : List ℕ) (k : ℕ) → Some k ≡ named_in ps x → k < length ps
 found_within ps x k e = go (is_named ps x) refl e

@@ -55,20 +55,20 @@ module _ (n m : ℕ) (made : Statement → Statements) (more : ℕ) (few : (s : 
 
     pub block_often : (b : Statements) → often m (numbers (in_block n made b)) ≤ often m (numbers b) + often n (numbers b) * more
     block_often Ends = omega arith
-    block_often (Starts s ss) = go (number_of s == n) refl
+    block_often (Starts s ss) = go (statement_often s) (block_often ss) (number_of s == n) refl
       where
-        go : (t : Bool) → (number_of s == n) ≡ t → often m (numbers (cond t (append (made s) ss) (Starts (in_statement n made s) (in_block n made ss)))) ≤ often m (numbers_in s ++ numbers ss) + often n (numbers_in s ++ numbers ss) * more
-        go true e =
+        go : often m (numbers_in (in_statement n made s)) ≤ often m (numbers_in s) + often n (numbers_in s) * more → often m (numbers (in_block n made ss)) ≤ often m (numbers ss) + often n (numbers ss) * more → (t : Bool) → (number_of s == n) ≡ t → often m (numbers (cond t (append (made s) ss) (Starts (in_statement n made s) (in_block n made ss)))) ≤ often m (numbers_in s ++ numbers ss) + often n (numbers_in s ++ numbers ss) * more
+        go i j true e =
             let a = numbers_append m (made s) ss in
             let b = often_both m (numbers_in s) (numbers ss) in
             let d = ap (λ z. z * more) (often_both n (numbers_in s) (numbers ss)) in
             let t = times (often n (numbers_in s)) more (head n s e) in
             omega (arith, a, b, d, t, few s)
-        go false e =
+        go i j false e =
             let a = often_both m (numbers_in (in_statement n made s)) (numbers (in_block n made ss)) in
             let b = often_both m (numbers_in s) (numbers ss) in
             let d = ap (λ z. z * more) (often_both n (numbers_in s) (numbers ss)) in
-            omega (arith, a, b, d, statement_often s, block_often ss)
+            omega (arith, a, b, d, i, j)
 
   pub program_often : (ps : List Procedure) → often m (program_numbers (in_program n made ps)) ≤ often m (program_numbers ps) + often n (program_numbers ps) * more
   program_often [] = omega arith
@@ -89,14 +89,14 @@ programs_both m (p ∷ ps) qs =
 -- A change at the first procedure of a name that brings at most `more` of m to it.
 pub named_often : (x : List ℕ) (m : ℕ) (made : Procedure → List Procedure) (more : ℕ) → ((p : Procedure) → often m (program_numbers (made p)) ≤ often m (numbers p.body) + more) → (ps : List Procedure) → often m (program_numbers (at_named x made ps)) ≤ often m (program_numbers ps) + more
 named_often x m made more few [] = omega arith
-named_often x m made more few (p ∷ ps) = go (bytes_eq p.name x)
+named_often x m made more few (p ∷ ps) = go (named_often x m made more few ps) (bytes_eq p.name x)
   where
-    go : (t : Bool) → often m (program_numbers (cond t (made p ++ ps) (p ∷ at_named x made ps))) ≤ often m (numbers p.body ++ program_numbers ps) + more
-    go true =
+    go : often m (program_numbers (at_named x made ps)) ≤ often m (program_numbers ps) + more → (t : Bool) → often m (program_numbers (cond t (made p ++ ps) (p ∷ at_named x made ps))) ≤ often m (numbers p.body ++ program_numbers ps) + more
+    go i true =
         let a = programs_both m (made p) ps in
         let b = often_both m (numbers p.body) (program_numbers ps) in
         omega (arith, a, b, few p)
-    go false =
+    go i false =
         let a = often_both m (numbers p.body) (program_numbers (at_named x made ps)) in
         let b = often_both m (numbers p.body) (program_numbers ps) in
-        omega (arith, a, b, named_often x m made more few ps)
+        omega (arith, a, b, i)

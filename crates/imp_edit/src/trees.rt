@@ -42,7 +42,7 @@ fn in_procedure(alloc: Global, stmt: StmtId, edit: &Edit, proc: &Proc) -> Result
 
 /// The block with what the edit makes of the statement of this number.
 #[cycle(changed)]
-#[tactic(auto, using(imp_syntax::specs::Blocks::member_smaller, crate::proofs::TreeLemmas::met, crate::proofs::TreeLemmas::passed, crate::proofs::TreeLemmas::ended, crate::proofs::TreeLemmas::whole))]
+#[tactic(auto, using(imp_syntax::specs::Blocks::member_smaller, crate::proofs::TreeLemmas::met_whole, crate::proofs::TreeLemmas::passed, crate::proofs::TreeLemmas::left_whole))]
 fn in_block(alloc: Global, id: StmtId, edit: &Edit, block: &Block) -> Result<Block, Memory>
     ensures is { IfOk result (λ b. b ≡ in_block id (made edit.now) block.now) }
 {
