@@ -8,7 +8,6 @@ use Rattle.imp_edit.specs.declared.error.EditError.TheVariants.{Numbers}
 use Rattle.imp_edit.specs.Edited.{edited, next_after}
 use Rattle.imp_edit.specs.Refusals.{numbers_refusal}
 
-
 module _ (c d : Condition) (v w : Declaration) where
   abbrev procedure : List ℕ → List Declaration → Statements → Procedure
   procedure x locals body = record { name = x; parameters = []; outcome = None; locals = locals; body = body }

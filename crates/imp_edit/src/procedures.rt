@@ -50,7 +50,10 @@ fn made_of(alloc: Global, edit: &Edit, proc: &Proc, all: &mut Items<Proc>) -> Re
             all.push(proc.with_body(body)?)
         }
         Edit::Declare(_, local) => all.push(proc.with_local(alloc, local.clone()?)?),
-        Edit::AddProc { before: _, proc: new } => {
+        Edit::AddProc {
+            before: _,
+            proc: new,
+        } => {
             all.push(new.clone()?)?;
             all.push(proc.clone()?)
         }

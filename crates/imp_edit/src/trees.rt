@@ -133,7 +133,12 @@ fn followed(more: &Block, stmt: &Stmt, all: &mut Items<Stmt>) -> Result<(), Memo
 }
 
 /// An if with these statements in front of its first block.
-fn then_started(alloc: Global, more: &Block, stmt: &Stmt, all: &mut Items<Stmt>) -> Result<(), Memory>
+fn then_started(
+    alloc: Global,
+    more: &Block,
+    stmt: &Stmt,
+    all: &mut Items<Stmt>,
+) -> Result<(), Memory>
     ensures added { OnOk result (all.new ≡ all.old ++ statements_of (then_started more.now stmt.now)) }
 {
     match stmt.node() {
@@ -146,7 +151,12 @@ fn then_started(alloc: Global, more: &Block, stmt: &Stmt, all: &mut Items<Stmt>)
 }
 
 /// An if with these statements in front of its second block.
-fn else_started(alloc: Global, more: &Block, stmt: &Stmt, all: &mut Items<Stmt>) -> Result<(), Memory>
+fn else_started(
+    alloc: Global,
+    more: &Block,
+    stmt: &Stmt,
+    all: &mut Items<Stmt>,
+) -> Result<(), Memory>
     ensures added { OnOk result (all.new ≡ all.old ++ statements_of (else_started more.now stmt.now)) }
 {
     match stmt.node() {
@@ -159,7 +169,12 @@ fn else_started(alloc: Global, more: &Block, stmt: &Stmt, all: &mut Items<Stmt>)
 }
 
 /// A while with these statements in front of its body.
-fn body_started(alloc: Global, more: &Block, stmt: &Stmt, all: &mut Items<Stmt>) -> Result<(), Memory>
+fn body_started(
+    alloc: Global,
+    more: &Block,
+    stmt: &Stmt,
+    all: &mut Items<Stmt>,
+) -> Result<(), Memory>
     ensures added { OnOk result (all.new ≡ all.old ++ statements_of (body_started more.now stmt.now)) }
 {
     match stmt.node() {
