@@ -1,6 +1,7 @@
 pub mod Sources
 pub mod Names
 pub mod Questions
+pub mod Domains
 pub mod Held
 pub mod Reply
 pub mod Jobs
