@@ -1,9 +1,9 @@
 pub mod Sources
 pub mod Names
 pub mod Questions
-pub mod Domains
 pub mod Held
 pub mod Reply
+pub mod Domains
 pub mod Jobs
 pub mod Output
 pub mod Ends
