@@ -27,6 +27,14 @@ RowsAreByNumber =
     (engine : Engine) (program : List Routine) (x : CellName) (r : Row) → IsChecked program →
     row engine bare (reverse program) x ≡ Some r → flat_row engine (reverse program) x.path x.point ≡ Some r
 
+-- The name has a row by number.
+abbrev pub HasRow : Engine → List Routine → CellName → Type 0
+HasRow engine program x = (r : Row) × (flat_row engine (reverse program) x.path x.point ≡ Some r)
+
+-- Each name of the program has one.
+abbrev pub NamesHaveRows : Type 0
+NamesHaveRows = (engine : Engine) (program : List Routine) (x : CellName) → IsChecked program → HasName engine program x → HasRow engine program x
+
 -- the rows by number, with the values of a domain
 abbrev pub rows_of : {S : Type 0} → Operations S → Engine → List Routine → (CellName → CellName → Bool) → Rows CellName (Cell S)
 rows_of dom engine program same = total_table dom engine (reverse program) same

@@ -1,12 +1,14 @@
 //! The theorems, each the contract of a function that does nothing.
 
-ghost use Rattle.cell_rows.specs.Claims.{AnswersAgree, InputsAreNames, KeptValuesAreRight, RanksFall, RowsAreByNumber, TargetsAreThere, ValuesAreBatch};
+ghost use Rattle.cell_rows.specs.Claims.{AnswersAgree, InputsAreNames, KeptValuesAreRight, NamesHaveRows, RanksFall, RowsAreByNumber, TargetsAreThere, ValuesAreBatch};
 
 use domain_laws::Domain;
 
-/// In a checked program the row of a name along its path is the one by its statement's number.
+/// In a checked program the row of a name along its path is the one by its statement's number, and each
+/// name of the program has one.
 pub fn rows_are_by_number()
     ensures found { RowsAreByNumber }
+    ensures there { NamesHaveRows }
 {}
 
 /// The rows of a checked program: inputs rank lower and are asked for to an end, for every name; the names

@@ -1,14 +1,14 @@
 -- What the parts of a graph say of its cells.
-use Rattle.std.proofs.Common.{◌≡◌, ◌≢◌, ℕ, zero, suc, ◌<◌, List, [], ◌∷◌, length, Option, Some, None, IsSome, is_some, slice_get, get_or, refl, sym, ap, ◌∙◌, subst, arith, ◌⊎◌, inl, inr}
+use Rattle.std.proofs.Common.{◌≡◌, ◌≢◌, ℕ, zero, suc, ◌<◌, List, [], ◌∷◌, length, Option, Some, None, IsSome, is_some, slice_get, get_or, refl, sym, ap, ◌∙◌, subst, arith}
 use Rattle.std.specs.FinMap.{FinMap, get}
 use Rattle.std.specs.Ordering.{nat_cmp}
 use Rattle.daig_graph.specs.declared.graph.Cell.{Cell}
 use Rattle.daig_graph.specs.declared.graph.Use.{Use}
 use Rattle.daig_graph.specs.Held.{Held, held}
 use Rattle.daig_graph.specs.Cells.{Filled, IsUnused, AreCells}
-use Rattle.daig_graph.specs.Agrees.{Agrees, filled, filled_cells}
-use Rattle.daig_graph.proofs.Cases.{same_number, none-some, some-inj}
-use Rattle.daig_graph.proofs.Maps.{cell_map, map-none, map-some, map-len}
+use Rattle.daig_graph.specs.Agrees.{Agrees, filled}
+use Rattle.daig_graph.proofs.Cases.{none-some, some-inj}
+use Rattle.daig_graph.proofs.Maps.{cell_map, map-none, map-some}
 
 pub place-below : {A : Type 0} (xs : List A) (i : ℕ) (x : A) → slice_get xs i ≡ Some x → i < length xs
 place-below [] i x e = cc

@@ -1,5 +1,5 @@
 -- Keys and options told apart.
-use Rattle.std.proofs.Common.{Result, Ok, Err, IsOk, OnOk, ◌≡◌, ◌≢◌, ℕ, Bool, true, false, Option, Some, None, nat_eq, refl, sym, ap, ◌∙◌, arith, ◌⊎◌, inl, inr}
+use Rattle.std.proofs.Common.{Result, Ok, Err, IsOk, OnOk, ◌≡◌, ◌≢◌, ℕ, Bool, true, false, Option, Some, None, nat_eq, refl, ap, arith, ◌⊎◌, inl, inr}
 use Rattle.std.proofs.lemmas.Bool.Decides.{nat_tests}
 
 pub same_number : (a b : ℕ) → (a ≡ b) ⊎ (a ≢ b)

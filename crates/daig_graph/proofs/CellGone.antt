@@ -1,12 +1,12 @@
 -- A cell is taken away.
-use Rattle.std.proofs.Common.{◌≡◌, ◌≢◌, ℕ, ◌<◌, List, length, Option, Some, None, slice_get, get_or, refl, sym, ap, ◌∙◌, arith, ◌⊎◌, inl, inr}
+use Rattle.std.proofs.Common.{◌≡◌, ◌≢◌, ℕ, ◌<◌, List, length, Option, Some, None, slice_get, get_or, refl, sym, ap, ◌∙◌, arith}
 use Rattle.daig_graph.specs.declared.graph.Cell.{Cell}
 use Rattle.daig_graph.specs.declared.graph.Use.{Use}
 use Rattle.daig_graph.specs.Held.{Held, held, Takes}
 use Rattle.daig_graph.specs.Uses.{Unlinks}
 use Rattle.std.specs.FinMap.{get, remove}
-use Rattle.daig_graph.specs.Agrees.{Agrees, filled}
-use Rattle.daig_graph.proofs.Cases.{same_number, none-some, some-inj}
+use Rattle.daig_graph.specs.Agrees.{Agrees}
+use Rattle.daig_graph.proofs.Cases.{none-some, some-inj}
 use Rattle.daig_graph.proofs.Agreeing.{place-below, place-there, get-number, get-absent, get-key}
 use Rattle.daig_graph.proofs.Maps.{cell_map, remove-is}
 

@@ -1,5 +1,5 @@
 -- Linked lists with the same members and first keys.
-use Rattle.std.proofs.Common.{◌≡◌, ℕ, Option, Some, None, refl, sym, ap, ◌∙◌}
+use Rattle.std.proofs.Common.{◌≡◌, ℕ, Option, sym, ◌∙◌}
 use Rattle.daig_graph.specs.declared.pool.Member.{Member}
 use Rattle.daig_graph.specs.Linked.{AreLinked}
 

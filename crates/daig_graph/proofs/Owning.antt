@@ -1,5 +1,5 @@
 -- The items of lists, as the cells of a statement and as the uses of a cell.
-use Rattle.std.proofs.Common.{◌≡◌, ℕ, zero, suc, ◌↔◌, List, [], ◌∷◌, map, Option, Some, None, slice_get, get_or, is_some, refl, sym, ap, ◌∙◌, subst}
+use Rattle.std.proofs.Common.{◌≡◌, ℕ, zero, suc, ◌↔◌, List, [], ◌∷◌, map, Option, Some, None, slice_get, get_or, is_some, sym, ap, ◌∙◌}
 use Rattle.std.specs.FinMap.{FinMap, get}
 use Rattle.std.specs.Ordering.{nat_cmp}
 use Rattle.daig_graph.specs.declared.graph.Cell.{Cell}
@@ -7,7 +7,7 @@ use Rattle.daig_graph.specs.declared.graph.Use.{Use}
 use Rattle.daig_graph.specs.Held.{Held, held, IsIn, IsOnce, AreItems}
 use Rattle.daig_graph.specs.Agrees.{Agrees, filled}
 use Rattle.daig_graph.specs.Cells.{Filled, IsUse, IsOwned}
-use Rattle.daig_graph.proofs.Cases.{none-some, some-inj}
+use Rattle.daig_graph.proofs.Cases.{some-inj}
 use Rattle.daig_graph.proofs.Agreeing.{get-number, get-key, key-get}
 use Rattle.daig_graph.proofs.Maps.{cell_map}
 

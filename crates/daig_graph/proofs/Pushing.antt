@@ -1,5 +1,5 @@
 -- An item is put in front of its list.
-use Rattle.std.proofs.Common.{◌≡◌, ◌≢◌, ℕ, suc, ◌<◌, Bool, true, false, cond, Option, Some, None, nat_eq, refl, sym, ap, ◌∙◌, subst, arith, ◌⊎◌, inl, inr}
+use Rattle.std.proofs.Common.{◌≡◌, ◌≢◌, ℕ, suc, ◌<◌, cond, Option, Some, None, nat_eq, refl, sym, ap, ◌∙◌, arith, ◌⊎◌, inl, inr}
 use Rattle.daig_graph.specs.declared.pool.Member.{Member}
 use Rattle.daig_graph.specs.Linked.{AreLinked, held_at}
 use Rattle.daig_graph.proofs.Cases.{same_number, has_number, nat_eq-true, nat_eq-false, none-some, some-inj}

@@ -1,6 +1,5 @@
 -- Lists as what they hold.
-use Rattle.std.proofs.Common.{◌≡◌, ◌≢◌, ℕ, zero, suc, ◌+◌, ◌<◌, ◌⊎◌, inl, inr, Bool, true, false, List, [], ◌∷◌, map, length, Option, Some, None, get_or, set, option_map, is_some, IsSome, count_by, refl, sym, ap, ◌∙◌, arith}
-use Rattle.slab.specs.Slab.{Slab, get, slab_len}
+use Rattle.std.proofs.Common.{◌≡◌, ◌≢◌, ℕ, zero, suc, List, [], ◌∷◌, map, Option, Some, None, get_or, refl, sym, ap, ◌∙◌}
 use Rattle.daig_graph.specs.declared.pool.Member.{Member}
 use Rattle.daig_graph.specs.Linked.{held_at}
 use Rattle.daig_graph.specs.Held.{Held, held, Puts, Takes}

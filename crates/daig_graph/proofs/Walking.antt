@@ -1,5 +1,5 @@
 -- A walk from the first member of a list meets each of its members once.
-use Rattle.std.proofs.Common.{◌≡◌, ◌≢◌, ℕ, zero, suc, ◌+◌, ◌-◌, ◌<◌, ◌≤◌, List, [], ◌∷◌, Option, Some, None, slice_get, refl, sym, ap, ◌∙◌, subst, arith, ◌⊎◌, inl, inr, Bool, true, false, map, length, eqb}
+use Rattle.std.proofs.Common.{◌≡◌, ◌≢◌, ℕ, zero, suc, ◌+◌, ◌<◌, ◌≤◌, List, [], ◌∷◌, Option, Some, None, slice_get, refl, sym, ap, ◌∙◌, subst, arith, inl, inr, true, false, map, length, eqb}
 use Rattle.daig_graph.specs.declared.pool.Member.{Member}
 use Rattle.daig_graph.specs.Linked.{AreLinked}
 use Rattle.daig_graph.specs.Walks.{IsWalk, walk, at_member}

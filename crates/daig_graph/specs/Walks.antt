@@ -1,5 +1,5 @@
 -- From a member to those behind it.
-use Rattle.std.specs.Prelude.{◌≡◌, ℕ, zero, suc, List, [], ◌∷◌, map, length, Option, Some, None}
+use Rattle.std.specs.Prelude.{◌≡◌, ℕ, zero, suc, List, [], ◌∷◌, length, Option, Some, None}
 use Rattle.slab.specs.Slab.{Slab, get}
 use Rattle.daig_graph.specs.declared.pool.Member.{Member}
 

@@ -17,16 +17,13 @@
 mod filling;
 mod graph;
 mod inputs;
-mod items;
 mod lists;
 mod pool;
 mod reading;
 mod value;
+mod walk;
 
 pub use graph::{Graph, Use};
 pub use inputs::Inputs;
-pub use items::Items;
 pub use value::{SharedChain, Value};
-
-#[cfg(test)]
-mod tests;
+pub use walk::Walk;

@@ -4,8 +4,8 @@ ghost use Rattle.std.specs.HashMap.{get as map_get, Updates as UpdatesMap, spare
 ghost use Rattle.slab.specs.Slab.{get, slab_len, HasRoomFor, ContainsKey, SameValues, Updates};
 ghost use Rattle.daig_graph.specs.Held.{held, Puts, Takes, AreItems};
 
-use crate::items::Items;
 use crate::pool::{Lists, Member};
+use crate::walk::Walk;
 use slab::Slab;
 use std::alloc::{AllocError, Global};
 use std::collections::HashMap;
@@ -52,10 +52,10 @@ impl<T: Copy> Lists<T> {
     }
 
     /// The items of a list, the one that was put in last first.
-    pub(crate) fn items(&self, list: usize) -> Items<'_, T>
+    pub(crate) fn items(&self, list: usize) -> Walk<'_, T>
         ensures items { AreItems self.now list result }
     {
-        Items {
+        Walk {
             members: &self.members,
             next: self.firsts.get(&list).copied(),
         }

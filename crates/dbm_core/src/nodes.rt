@@ -5,7 +5,7 @@ ghost use Rattle.dbm_core.specs.Nodes.{flip};
 
 /// The node of the other sign: of 2k it is 2k + 1, and of 2k + 1 it is 2k.
 pub fn other_sign(i: usize) -> usize
-    requires small { i < 2 ^ 32 }
+    requires small { i < 2 ^ 63 }
     ensures flipped { result ≡ flip i }
 {
     if i % 2 == 0 { i + 1 } else { i - 1 }

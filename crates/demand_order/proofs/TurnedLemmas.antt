@@ -8,7 +8,7 @@ use Rattle.demand_order.specs.Turned.{AreUsers, turned, Leads, here, through, Is
 use Rattle.demand_order.proofs.OrderLemmas.{not_both}
 use Rattle.demand_order.proofs.OrderLawProofs.{order-distinct, order-follows, order-needed, needed-seen}
 
-not_false : (b : Bool) → (b ≡ true → ⊥) → not b ≡ true
+pub not_false : (b : Bool) → (b ≡ true → ⊥) → not b ≡ true
 not_false true h = absurd (h refl)
 not_false false h = refl
 

@@ -4,12 +4,11 @@ ghost use Rattle.std.specs.Prelude.{◌≡◌, ◌<◌};
 use crate::Pair;
 use dom_interval::{Interval, IntervalState};
 use domain_laws::{Domain, Steps, Verdict};
-use plain_values::Number;
 use imp_slots::{
     Layout, NumericSlot, SlotAction, SlotCond, SlotCondNode, SlotExpr, SlotExprNode, SlotStmt,
 };
 use imp_syntax::Relation;
-use plain_values::{Items, Text};
+use plain_values::{Items, Number, Text};
 use std::alloc::Global;
 use std::marker::Brand;
 use std::sync::ledger::{Blank, Ledger};
@@ -30,10 +29,14 @@ fn claim(alloc: Global) -> Result<SlotStmt, Fail> {
     Ok(SlotStmt::Simple(SlotAction::Assert(equal)))
 }
 
-type Both = (IntervalState, IntervalState);
+/// What the parts are made of: states where x is 0, where it is any number, and a dead one.
+struct States {
+    zero: IntervalState,
+    any: IntervalState,
+    dead: IntervalState,
+}
 
-/// x is 0 in the first part, and any number in the second.
-fn zero_and_any<L: Ledger>(alloc: Global, blank: Blank) -> Result<Both, Fail>
+fn counted<L: Ledger>(alloc: Global, blank: Blank) -> Result<States, Fail>
     requires name { blank.name ≡ L.name }
     requires parts { blank.parts ≡ L.parts }
     requires some { 0 < blank.parts }
@@ -43,34 +46,33 @@ fn zero_and_any<L: Ledger>(alloc: Global, blank: Blank) -> Result<Both, Fail>
     let (zero, also_zero) = pair.init(alloc, &layout(alloc)?, &mut steps)?;
     let input = SlotStmt::Simple(SlotAction::Input(0));
     let any = Interval.post(alloc, &input, &also_zero, &mut steps)?;
-    Ok((zero, any))
+    let dead = Interval.post(alloc, &SlotStmt::Break, &any, &mut steps)?;
+    Ok(States { zero, any, dead })
 }
 
-/// Dead in the first part, x is any number in the second.
-fn dead_and_any<L: Ledger>(alloc: Global, blank: Blank, s: &Both) -> Result<Both, Fail>
-    requires name { blank.name ≡ L.name }
-    requires parts { blank.parts ≡ L.parts }
-    requires some { 0 < blank.parts }
-{
-    let mut steps = Steps::<L>::new(blank);
-    let dead = Interval.post(alloc, &SlotStmt::Break, &s.0, &mut steps)?;
-    Ok((dead, Interval.copy(alloc, &s.1)?))
+fn uncounted(alloc: Global) -> Result<States, Fail> {
+    counted::<Brand>(alloc, Blank::new(1))
+}
+
+fn copy(alloc: Global, s: &IntervalState) -> Result<IntervalState, Fail> {
+    Ok(Interval.copy(alloc, s)?)
 }
 
 #[test]
 fn pairs_of_intervals(rt: HostRuntime) -> Result<(), Fail> {
     let alloc = rt.alloc();
     let pair = Pair::new(Interval, Interval);
-    let claim = claim(alloc)?;
     assert_eq!(rt; pair.ticks(), 2);
-    let s = zero_and_any::<Brand>(alloc, Blank::new(1))?;
+    let claim = claim(alloc)?;
+    let States { zero, any, dead } = uncounted(alloc)?;
+    let s = (copy(alloc, &zero)?, copy(alloc, &any)?);
     let text = pair.text(alloc, &layout(alloc)?, &s)?;
     assert_eq!(rt; text.as_slice(), "x=[0,0] & x=[min,max]".as_bytes());
     assert_eq!(rt; pair.check(alloc, &claim, &s)?, Verdict::Safe);
-    let turned = (Interval.copy(alloc, &s.1)?, Interval.copy(alloc, &s.0)?);
-    assert_eq!(rt; pair.check(alloc, &claim, &turned)?, Verdict::Safe);
-    let dead = dead_and_any::<Brand>(alloc, Blank::new(1), &s)?;
-    assert_eq!(rt; pair.check(alloc, &claim, &dead)?, Verdict::Dead);
-    assert!(rt; !pair.dead(&dead));
+    let s = (copy(alloc, &any)?, zero);
+    assert_eq!(rt; pair.check(alloc, &claim, &s)?, Verdict::Safe);
+    let s = (any, dead);
+    assert_eq!(rt; pair.check(alloc, &claim, &s)?, Verdict::Dead);
+    assert!(rt; !pair.dead(&s));
     Ok(())
 }

@@ -17,7 +17,13 @@ use step_counter::Steps;
 
 /// The examples, each a program with a script and what comes out.
 const SERVED: [&str; 7] = [
-    "first", "three", "counting", "calls", "searching", "arrays", "lists",
+    "first",
+    "three",
+    "counting",
+    "calls",
+    "searching",
+    "arrays",
+    "lists",
 ];
 
 /// The most bytes of a file.

@@ -140,7 +140,11 @@ fn answers_without_a_string(rt: HostRuntime) -> Result<(), Fail> {
         ((COUNTS, 2, 0, false), ("after", 3), "i=[10,max] n=[10,10]"),
         ((COUNTS, 100, 0, true), ("after", 3), "i=[10,10] n=[10,10]"),
         ((COUNTS, 100, 20, false), ("main", 0), "i=[10,10] n=[10,10]"),
-        ((COUNTS, 100, 0, false), ("after", 5), "Refused(NoStatement)"),
+        (
+            (COUNTS, 100, 0, false),
+            ("after", 5),
+            "Refused(NoStatement)",
+        ),
         ((COUNTS, 100, 0, false), ("head", 4), "WrongStatement"),
         ((COUNTS, 100, 0, false), ("f", 0), "NoProcedure"),
         ((BRANCHES, 1, 0, false), ("after", 2), "over 3"),

@@ -56,9 +56,12 @@ module _ {V : Type 0} (budget : ℕ) (iterate : ℕ → Option (Value V)) where
     pub stage-over : IsOver iterate last → IsStage budget iterate (suc last) stage.Over
     stage-over over = record {
       stops = (λ e. (last, omega arith, inl over), λ h. refl);
-      converges = (λ e. no e, λ h.
-        let same = only_last h.0 h.1 (inr (inl h.2)) in
-        over_apart last h.2.1 over (ap iterate (sym same) ∙ h.2.4));
+      converges = (
+        λ e. no e,
+        λ h.
+            let same = only_last h.0 h.1 (inr (inl h.2)) in
+            over_apart last h.2.1 over (ap iterate (sym same) ∙ h.2.4),
+      );
       overruns = (λ e. (last, omega arith, inl over), λ h. refl);
     }
 
@@ -82,10 +85,13 @@ module _ {V : Type 0} (budget : ℕ) (iterate : ℕ → Option (Value V)) where
     pub stage-spent : IsSpent budget iterate last → IsStage budget iterate (suc last) stage.Spent
     stage-spent spent = record {
       stops = (λ e. (last, omega arith, inr (inr spent)), λ h. refl);
-      converges = (λ e. no e, λ h.
-        let same = only_last h.0 h.1 (inr (inl h.2)) in
-        let Q : ℕ → Type 0 = IsEqual iterate in
-        absurd (spent.3 (subst Q same h.2)));
+      converges = (
+        λ e. no e,
+        λ h.
+            let same = only_last h.0 h.1 (inr (inl h.2)) in
+            let Q : ℕ → Type 0 = IsEqual iterate in
+            absurd (spent.3 (subst Q same h.2)),
+      );
       overruns = (λ e. (last, omega arith, inr spent), λ h. refl);
     }
 

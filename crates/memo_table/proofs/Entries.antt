@@ -70,7 +70,11 @@ operand-stays dom states later keeps (Some n) s e = keeps n s e
 
 pub results-stay : (S : Type 0) → ResultsStay S
 results-stay S dom operations later_operations states later entries keeps_operations keeps are k n c =
-    let h = are k n c in
-    (h.0, h.1, keeps_operations k.operation h.0 h.2, keeps n h.1 h.3,
+    let h = are k n c in (
+      h.0,
+      h.1,
+      keeps_operations k.operation h.0 h.2,
+      keeps n h.1 h.3,
       result-stays dom h.0 (operand dom states k.left) (operand dom later k.left) (operand dom states k.right) (operand dom later k.right) h.1
-        (operand-stays dom states later keeps k.left) (operand-stays dom states later keeps k.right) h.4)
+          (operand-stays dom states later keeps k.left) (operand-stays dom states later keeps k.right) h.4,
+    )

@@ -1,5 +1,5 @@
 -- The results of operations, by their numbers.
-use Rattle.std.specs.Prelude.{◌≡◌, ℕ, List, Option, Some, None, option_map, slice_get, Contains}
+use Rattle.std.specs.Prelude.{◌≡◌, ℕ, List, Option, Some, None, option_map, slice_get, IfSome, Contains}
 use Rattle.imp_slots.specs.ActionViews.{act_of}
 use Rattle.imp_slots.specs.CallViews.{taken_of}
 use Rattle.domain_laws.specs.Operations.{Operations}
@@ -37,7 +37,18 @@ module _ {S : Type 0} (dom : Operations S) where
     abbrev pub AreResults : List (Key × ℕ) → Type 0
     AreResults entries = (key : Key) (n : ℕ) → Contains entries (key, n) → IsResult key n
 
+-- Whatever the operations and the tables are: where entries are results, so is what is found of a key; they are still
+-- results later; and so where a result is kept for a key.
+abbrev pub FindsResult : Type 0 → List (Key × ℕ) → Key → Option ℕ → Type 0
+FindsResult S entries key found = (dom : Operations S) (operations : List Operation) (states : List S) → AreResults dom operations states entries → IfSome found (IsResult dom operations states key)
+
+abbrev pub LeavesResults : Type 0 → List (Key × ℕ) → List (Key × ℕ) → Type 0
+LeavesResults S old new = (dom : Operations S) (operations : List Operation) (states : List S) → AreResults dom operations states old → AreResults dom operations states new
+
+abbrev pub AddsResult : Type 0 → List (Key × ℕ) → Key → ℕ → List (Key × ℕ) → Type 0
+AddsResult S old key n new = (dom : Operations S) (operations : List Operation) (states : List S) → AreResults dom operations states old → IsResult dom operations states key n → AreResults dom operations states new
+
 -- what is a result stays one, however the tables grow
 abbrev pub ResultsStay : Type 0 → Type 0
 ResultsStay S = (dom : Operations S) (operations later_operations : List Operation) (states later : List S) (entries : List (Key × ℕ))
-  → KeepsNumbers operations later_operations → KeepsNumbers states later → AreResults dom operations states entries → AreResults dom later_operations later entries
+    → KeepsNumbers operations later_operations → KeepsNumbers states later → AreResults dom operations states entries → AreResults dom later_operations later entries

@@ -1,10 +1,8 @@
 //! The memory.
-ghost use Rattle.std.specs.Prelude.{◌≡◌, ℕ, ◌<◌, [], List, IfOk, IfSome, IsSome, IsOk, OnOk, OnErr};
+ghost use Rattle.std.specs.Prelude.{◌≡◌, ◌<◌, [], IfOk, IsSome, IsOk, OnOk, OnErr};
 ghost use Rattle.std.specs.Map.{lookup};
 ghost use Rattle.lru.specs.LruCache.{lru_cache, promoted, put_entries};
-ghost use Rattle.memo_table.specs.declared.operation.Operation.{Operation};
-ghost use Rattle.domain_laws.specs.Operations.{Operations};
-ghost use Rattle.memo_table.specs.Results.{AreResults, IsResult};
+ghost use Rattle.memo_table.specs.Results.{FindsResult, LeavesResults, AddsResult};
 
 use lru::LruCache;
 use plain_values::Memory;
@@ -60,8 +58,8 @@ impl<S> Memo<S> {
     pub fn get(&mut self, key: &Key) -> Option<usize>
         ensures value { result ≡ lookup (⟦<Key as PartialEq>⟧.eq key.now) self.old.entries }
         ensures recent { self.new ≡ lru_cache (promoted (⟦<Key as PartialEq>⟧.eq key.now) self.old.entries) self.old.cap }
-        ensures result { (dom : Operations S) (operations : List Operation) (states : List S) → AreResults dom operations states self.old.entries → IfSome result (IsResult dom operations states key.now) }
-        ensures results { (dom : Operations S) (operations : List Operation) (states : List S) → AreResults dom operations states self.old.entries → AreResults dom operations states self.new.entries }
+        ensures found { FindsResult S self.old.entries key.now result }
+        ensures results { LeavesResults S self.old.entries self.new.entries }
     {
         self.cache.get(key).copied()
     }
@@ -72,7 +70,7 @@ impl<S> Memo<S> {
         ensures kept { OnOk result (self.new ≡ lru_cache (put_entries ⟦<Key as PartialEq>⟧.eq self.old key value) self.old.cap) }
         ensures unchanged { OnErr result (self.new ≡ self.old) }
         ensures known { IsSome (lookup (⟦<Key as PartialEq>⟧.eq key) self.old.entries) → IsOk result }
-        ensures results { (dom : Operations S) (operations : List Operation) (states : List S) → AreResults dom operations states self.old.entries → IsResult dom operations states key value → AreResults dom operations states self.new.entries }
+        ensures results { AddsResult S self.old.entries key value self.new.entries }
     {
         let _replaced = self.cache.put(key, value)?;
         Ok(())

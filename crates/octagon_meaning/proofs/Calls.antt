@@ -1,20 +1,20 @@
 -- Layouts and calls: what a state describes stays described over entering and leaving, and states that fit stay so.
-use Rattle.std.proofs.Common.{◌≡◌, refl, sym, ap, ◌∙◌, subst, ℕ, zero, suc, ◌<◌, ◌≤◌, ◌+◌, ◌*◌, ◌/◌, ◌%◌, nat_lt, ℤ, pos, neg_ℤ, ◌-ℤ◌, ◌≤ℤ◌, Bool, true, false, ◌&&◌, ◌||◌, List, [], ◌∷◌, map, drop, length, slice_get, slice_index_or, Option, Some, None, arith, if◌then◌else◌, ◌⊎◌, inl, inr, eqb, cond}
+use Rattle.std.proofs.Common.{◌≡◌, refl, sym, ap, ◌∙◌, subst, ℕ, zero, suc, ◌<◌, ◌≤◌, ◌+◌, ◌*◌, ◌/◌, ◌%◌, nat_lt, ℤ, pos, neg_ℤ, ◌-ℤ◌, Bool, true, false, ◌&&◌, ◌||◌, List, [], ◌∷◌, map, drop, length, slice_get, slice_index_or, Option, Some, None, arith, if◌then◌else◌, ◌⊎◌, inl, inr, eqb, cond}
 use Rattle.std.proofs.lemmas.Int.{ints}
 use Rattle.std.proofs.lemmas.Bool.{and_parts, cases_eq, cases_lt, eq-eqb, ne_eqb}
 use Rattle.std.proofs.lemmas.Bool.Decides.{nat_tests}
 use Rattle.std.specs.List.{AllZip}
 use Rattle.imp_slots.specs.Plain.{Numeric, Layout, Term, Literal, Slot, Length, Negative, Binary, Argument, IntArgument, ArrayArgument, LinkArgument, Returning, NumericResult, LinkResult, Invoke}
 use Rattle.imp_slots.specs.Fits.{is_kind, is_int, is_array, is_side, fits_term, fits_arguments, fits_returning, fits_invoke}
-use Rattle.concrete_sem.specs.Values.{Number, Int, Array, Variables, Gives, andthen, as_array, number_at, array_at}
+use Rattle.concrete_sem.specs.Values.{Number, Int, Array, Variables, Gives, andthen, number_at, array_at}
 use Rattle.concrete_sem.specs.Evaluation.{value_of, side_at}
 use Rattle.concrete_sem.specs.Passing.{first_number, first_link, first_variables, passed, over, pass, back}
 use Rattle.concrete_sem.specs.Proper.{IsNumber}
-use Rattle.domain_laws.specs.CheckLaws.{andthen-gives}
+use Rattle.domain_laws.proofs.CheckLaws.{andthen-gives}
 use Rattle.num_bounds.specs.Bounds.{Bounds, Within as Lies}
 use Rattle.num_bounds.specs.Meaning.{Covers}
 use Rattle.dbm_core.proofs.HalfLemmas.{entry-coherent, entry-outside}
-use Rattle.dbm_core.proofs.NodeLemmas.{flip-flip, flip-half, flip-same, parity}
+use Rattle.dbm_core.proofs.NodeLemmas.{flip-half, flip-same, parity}
 use Rattle.dbm_core.proofs.ValuationLemmas.{node_value-even, node_value-odd, node-plain, node-negative}
 use Rattle.dbm_core.proofs.WeightLemmas.{AtMost-refl}
 use Rattle.dbm_core.specs.Half.{HalfMatrix, IsMatrix, entry, nodes}
@@ -23,30 +23,30 @@ use Rattle.dbm_core.specs.Nodes.{IsCoherent, flip}
 use Rattle.dbm_core.specs.Tables.{matrix_of}
 use Rattle.dbm_core.specs.Valuations.{IsSatisfiedBy, Meets, node_value}
 use Rattle.dbm_core.specs.Weights.{AtMost}
-use Rattle.dbm_close.specs.CloseOf.{close_of}
 use Rattle.dbm_close.specs.Laws.{AreInSlots}
 use Rattle.dbm_close.specs.declared.closed.Closed.{Closed}
-use Rattle.dbm_close.specs.declared.closed.Closed.TheVariants.{Empty, Matrix}
+use Rattle.octagon_meaning.specs.declared.source.Source.{Source}
+use Rattle.octagon_meaning.specs.declared.source.Source.TheVariants.{FromSlot, InRange}
 use Rattle.octagon_meaning.specs.Covers.{measure, values}
 use Rattle.octagon_meaning.specs.Matrices.{meets_range, without}
-use Rattle.octagon_meaning.specs.Operations.{kinds_of, Source, FromSlot, InRange, in_front, source_of, with_source, sources, copied, entered, meet_sources, entered_by, enter, init, returned, leave}
+use Rattle.octagon_meaning.specs.Operations.{kinds_of, in_front, source_of, with_source, sources, copied, entered, meet_sources, entered_by, enter, init, returned, leave}
 use Rattle.octagon_meaning.specs.Ranges.{if_range, range_at, range_of}
-use Rattle.octagon_meaning.specs.States.{after, closed}
-use Rattle.octagon_meaning.proofs.Fitting.{Ready, FitsMatrix, FitsState, Describes, fits-ready, kinds-few, close-fits, close-describes, closed-fits, closed-describes, after-fits, after-describes}
+use Rattle.octagon_meaning.specs.States.{closed}
+use Rattle.octagon_meaning.proofs.Fitting.{Ready, FitsMatrix, FitsState, Describes, fits-ready, kinds_few, close-fits, close-describes, closed-fits, closed-describes, after-fits, after-describes}
 use Rattle.octagon_meaning.proofs.Matrices.{table-ready, table-satisfied, range-ready, range-satisfied, without-ready, without-satisfied}
-use Rattle.octagon_meaning.proofs.Ranges.{AreProper, proper, gives-same, range_at-covers, range_of-covers, array-at, slot-measure, length-measure}
+use Rattle.octagon_meaning.proofs.Ranges.{AreProper, proper, gives-same, range_at-covers, range_of-covers, slot-measure, length-measure}
 use Rattle.octagon_meaning.proofs.Steps.{others-agree, set-value}
 
 -- ---- all slots 0
 
-zeros-coherent : (n : ℕ) → IsCoherent (λ i j. Some (pos 0)) n
+pub zeros-coherent : (n : ℕ) → IsCoherent (λ i j. Some (pos 0)) n
 zeros-coherent n i j hi hj = refl
 
-zeros-diagonal : (n : ℕ) → IsZeroAtMost n (λ i j. Some (pos 0))
+pub zeros-diagonal : (n : ℕ) → IsZeroAtMost n (λ i j. Some (pos 0))
 zeros-diagonal n i l = AtMost-refl (Some (pos 0))
 
 init-ready : (l : Layout) → Ready (kinds_of l.numbers) (matrix_of (kinds_of l.numbers) (λ i j. Some (pos 0)))
-init-ready l = table-ready (kinds_of l.numbers) (λ i j. Some (pos 0)) (kinds-few l.numbers) (zeros-coherent (2 * length (kinds_of l.numbers))) (zeros-diagonal (2 * length (kinds_of l.numbers)))
+init-ready l = table-ready (kinds_of l.numbers) (λ i j. Some (pos 0)) (kinds_few l.numbers) (zeros-coherent (2 * length (kinds_of l.numbers))) (zeros-diagonal (2 * length (kinds_of l.numbers)))
 
 pub init-fits : (l : Layout) → FitsState (kinds_of l.numbers) (init l)
 unfolding init
@@ -77,7 +77,7 @@ no_difference a b e f = omega (arith, ints)
 pub init-describes : (l : Layout) → AreInSlots (kinds_of l.numbers) (values (first_variables l)) → Describes (values (first_variables l)) (init l)
 unfolding init first_variables
 init-describes l slots = close-describes (kinds_of l.numbers) (matrix_of (kinds_of l.numbers) (λ i j. Some (pos 0))) (values (first_variables l)) (init-ready l) slots
-    (table-satisfied (kinds_of l.numbers) (λ i j. Some (pos 0)) (values (first_variables l)) (kinds-few l.numbers) (zeros-coherent (2 * length (kinds_of l.numbers)))
+    (table-satisfied (kinds_of l.numbers) (λ i j. Some (pos 0)) (values (first_variables l)) (kinds_few l.numbers) (zeros-coherent (2 * length (kinds_of l.numbers)))
     (λ i j hi hj. no_difference (node_value (values (first_variables l)) i) (node_value (values (first_variables l)) j)
     (node-zero (values (first_variables l)) i (firsts-zero l.numbers (i / 2))) (node-zero (values (first_variables l)) j (firsts-zero l.numbers (j / 2)))))
 
@@ -204,7 +204,7 @@ copied-flip m h i j None (Some (FromSlot b)) = refl
 copied-flip m h i j None (Some (InRange r)) = refl
 copied-flip m h i j None None = refl
 
-entered-coherent : (m : HalfMatrix) → IsMatrix m → (ss : List Source) (n : ℕ) → IsCoherent (entered m ss) n
+pub entered-coherent : (m : HalfMatrix) → IsMatrix m → (ss : List Source) (n : ℕ) → IsCoherent (entered m ss) n
 entered-coherent m h ss n i j hi hj =
     ap (λ b. cond b (Some (pos 0)) (copied m i j (slice_get ss (i / 2)) (slice_get ss (j / 2)))) (flip-same i j)
     ∙ ap (λ v. cond (eqb (flip j) (flip i)) (Some (pos 0)) v)
@@ -212,7 +212,7 @@ entered-coherent m h ss n i j hi hj =
     ∙ ap (λ k. copied m (flip j) (flip i) (slice_get ss k) (slice_get ss (i / 2))) (sym (flip-half j))
     ∙ ap (λ k. copied m (flip j) (flip i) (slice_get ss (flip j / 2)) (slice_get ss k)) (sym (flip-half i)))
 
-entered-diagonal : (m : HalfMatrix) (ss : List Source) (n : ℕ) → IsZeroAtMost n (entered m ss)
+pub entered-diagonal : (m : HalfMatrix) (ss : List Source) (n : ℕ) → IsZeroAtMost n (entered m ss)
 entered-diagonal m ss n i l = rw (eq-eqb i i refl) (AtMost-refl (Some (pos 0)))
 
 meet-ready : (kinds : List Bool) (m : HalfMatrix) (k : ℕ) (ss : List Source) → Ready kinds m → Ready kinds (meet_sources m k ss)
@@ -266,7 +266,7 @@ entered-meets m x y ss n h s f i j hi hj = elim (cases_eq i j) [
 
 entered-ready : (ks : List Numeric) (m : HalfMatrix) (ss : List Source) → IsMatrix m → Ready (kinds_of ks) (meet_sources (matrix_of (kinds_of ks) (entered m ss)) 0 ss)
 entered-ready ks m ss h = meet-ready (kinds_of ks) (matrix_of (kinds_of ks) (entered m ss)) 0 ss
-    (table-ready (kinds_of ks) (entered m ss) (kinds-few ks) (entered-coherent m h ss (2 * length (kinds_of ks))) (entered-diagonal m ss (2 * length (kinds_of ks))))
+    (table-ready (kinds_of ks) (entered m ss) (kinds_few ks) (entered-coherent m h ss (2 * length (kinds_of ks))) (entered-diagonal m ss (2 * length (kinds_of ks))))
 
 entered_by-fits : (ks : List Numeric) (m : HalfMatrix) (o : Option (List Source)) → IsMatrix m → FitsState (kinds_of ks) (entered_by m ks o)
 entered_by-fits ks m None h = tt
@@ -284,8 +284,8 @@ entered_by-describes ks m x u (Some ss) ns h s a e f =
     let first : (j : ℕ) → HasSource x (slice_get ss j) (values u (0 + j)) = λ j. (let z : j ≡ 0 + j = omega arith in subst (λ n. HasSource x (slice_get ss j) (values u n)) z (from j)) in
     let c : IsCoherent (entered m ss) (2 * length (kinds_of ks)) = entered-coherent m h ss (2 * length (kinds_of ks)) in
     close-describes (kinds_of ks) (meet_sources (matrix_of (kinds_of ks) (entered m ss)) 0 ss) (values u) (entered-ready ks m ss h) a
-    (meet-satisfied (kinds_of ks) (matrix_of (kinds_of ks) (entered m ss)) x (values u) 0 ss (table-ready (kinds_of ks) (entered m ss) (kinds-few ks) c (entered-diagonal m ss (2 * length (kinds_of ks))))
-    (table-satisfied (kinds_of ks) (entered m ss) (values u) (kinds-few ks) c (entered-meets m x (values u) ss (2 * length (kinds_of ks)) h s from)) first)
+    (meet-satisfied (kinds_of ks) (matrix_of (kinds_of ks) (entered m ss)) x (values u) 0 ss (table-ready (kinds_of ks) (entered m ss) (kinds_few ks) c (entered-diagonal m ss (2 * length (kinds_of ks))))
+    (table-satisfied (kinds_of ks) (entered m ss) (values u) (kinds_few ks) c (entered-meets m x (values u) ss (2 * length (kinds_of ks)) h s from)) first)
 
 pub enter-describes : (l : Layout) (i : Invoke) (s : Closed) (v u : Variables) → fits_invoke l i ≡ true → AllZip IsNumber l.numbers v.numbers → AreInSlots (kinds_of i.entering.layout.numbers) (values u) → FitsState (kinds_of l.numbers) s → pass i.entering v ≡ Gives u → Describes (values v) s → Describes (values u) (enter i.entering s)
 unfolding enter fits_invoke pass

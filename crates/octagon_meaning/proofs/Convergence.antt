@@ -1,17 +1,16 @@
 -- How often a state can change under widening: widening never closes its left matrix, so its bounds never fall.
-use Rattle.std.proofs.Common.{◌≡◌, refl, sym, ap, ◌∙◌, subst, ℕ, ◌+◌, ◌*◌, ◌<◌, ◌≤◌, ℤ, true, List, ◌∷◌, length, map, take, arith, ◌⊎◌, inl, inr}
+use Rattle.std.proofs.Common.{◌≡◌, refl, ap, ℕ, ◌+◌, ◌*◌, ◌<◌, ◌≤◌, ℤ, List, length, map, arith, ◌⊎◌, inl, inr}
 use Rattle.std.proofs.Math.Nat.{mul-le-mul_left, mul-le-mul_right}
 use Rattle.std.proofs.lemmas.List.{length-take, length-map}
 use Rattle.imp_slots.specs.Plain.{Numeric, Layout}
 use Rattle.dbm_core.proofs.RisesLemmas.{rises-few, rises-widened}
-use Rattle.dbm_core.specs.Half.{HalfMatrix, nodes}
+use Rattle.dbm_core.specs.Half.{HalfMatrix}
 use Rattle.dbm_core.specs.Operations.{widened}
 use Rattle.dbm_core.specs.Rises.{rises}
 use Rattle.dbm_core.specs.Tables.{matrix_of}
 use Rattle.dbm_close.specs.declared.closed.Closed.{Closed}
 use Rattle.dbm_close.specs.declared.closed.Closed.TheVariants.{Empty, Matrix}
 use Rattle.octagon_meaning.specs.Convergence.{WideningEnds, changes_left, most_changes}
-use Rattle.octagon_meaning.specs.Covers.{fits}
 use Rattle.octagon_meaning.specs.Operations.{kinds_of, widen, widen_closed}
 use Rattle.octagon_meaning.specs.States.{closed}
 use Rattle.octagon_meaning.proofs.Fitting.{FitsMatrix, FitsState, closed-fits}

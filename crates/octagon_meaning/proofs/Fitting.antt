@@ -1,6 +1,6 @@
 -- States that fit kinds, matrices that can be closed, and what closing makes of these.
-use Rattle.std.specs.Prelude.{◌≡◌, ℕ, ◌<◌, ◌≤◌, ◌+◌, ◌*◌, ◌^◌, nat_eq, ℤ, pos, negsuc, neg_ℤ, int_lt, ◌≤ℤ◌, ◌<ℤ◌, Option, Some, None, Bool, true, false, not, ◌&&◌, List, [], ◌∷◌, length, map, take, refl, cond, ◌⊎◌}
-use Rattle.std.proofs.Common.{arith, ap, sym, ◌∙◌, suc, zero, subst, inl, inr}
+use Rattle.std.specs.Prelude.{◌≡◌, ℕ, ◌<◌, ◌≤◌, ◌+◌, ◌*◌, ◌^◌, nat_eq, ℤ, pos, neg_ℤ, int_lt, ◌≤ℤ◌, ◌<ℤ◌, Option, Some, None, Bool, true, false, not, List, length, map, refl, cond}
+use Rattle.std.proofs.Common.{arith, ap, sym, ◌∙◌, suc, zero, subst}
 use Rattle.std.proofs.lemmas.Int.{ints}
 use Rattle.std.proofs.lemmas.Bool.{and_parts, and_from}
 use Rattle.std.proofs.lemmas.Bool.Decides.{Decides-int_eq, nat_tests}
@@ -10,13 +10,13 @@ use Rattle.std.specs.Cmp.Lexicographic.{pointwise}
 use Rattle.std.specs.Option.{option_eq}
 use Rattle.std.specs.Ordering.{int_eq}
 use Rattle.dbm_core.proofs.LimitLemmas.{zero-at_most}
-use Rattle.dbm_core.specs.Half.{HalfMatrix, HasEntries, IsMatrix, entry, nodes}
-use Rattle.dbm_core.specs.Limits.{HasZeroDiagonal, IsLimited, IsZeroAtMost}
+use Rattle.dbm_core.specs.Half.{HalfMatrix, IsMatrix, entry, nodes}
+use Rattle.dbm_core.specs.Limits.{HasZeroDiagonal, IsZeroAtMost}
 use Rattle.dbm_core.specs.Same.{bools_Decide}
 use Rattle.dbm_core.specs.Valuations.{IsSatisfiedBy}
 use Rattle.dbm_core.specs.Weights.{AtMost}
 use Rattle.dbm_close.proofs.CloseOfLemmas.{close_of-is, close_of-keeps, some_below-false}
-use Rattle.dbm_close.specs.Close.{IsCloseOf, HasNoEmptyRange, closed_entry, strong}
+use Rattle.dbm_close.specs.Close.{IsCloseOf, strong}
 use Rattle.dbm_close.specs.CloseOf.{KeepsAll, close_of, some_below}
 use Rattle.dbm_close.specs.Laws.{AreInSlots, IsMetBy}
 use Rattle.dbm_close.specs.Steps.{cut}
@@ -134,8 +134,8 @@ eq-true a b h = grind (arith, nat_tests)
 true-eq : (a b : ℕ) → a ≡ b → nat_eq a b ≡ true
 true-eq a b h = grind (arith, nat_tests)
 
-pub kinds-few : (ks : List Numeric) → length (kinds_of ks) ≤ 16
-kinds-few ks = omega (arith, length-take 16 (map (λ (k : Numeric). k.is_array) ks))
+pub kinds_few : (ks : List Numeric) → length (kinds_of ks) ≤ 16
+kinds_few ks = omega (arith, length-take 16 (map (λ (k : Numeric). k.is_array) ks))
 
 pub fits_matrix-true : (l : Layout) (m : HalfMatrix) → fits_matrix l m ≡ true → FitsMatrix (kinds_of l.numbers) m
 fits_matrix-true l m h =
@@ -146,7 +146,7 @@ fits_matrix-true l m h =
     let z : HasZeroDiagonal (nodes m) (entry m) = λ i hi. zero-true (entry m i i) (not-false _ (some_below-false (nodes m) (λ i. not (option_eq int_eq (entry m i i) (Some (pos 0)))) (not-true _ r.0) i hi)) in
     record {
       matrix = record {
-        few = subst (λ ks. length ks ≤ 16) (sym k) (kinds-few l.numbers);
+        few = subst (λ ks. length ks ≤ 16) (sym k) (kinds_few l.numbers);
         fits = eq-true (length m.kept) (2 * (length m.kinds * (length m.kinds + 1))) q.0;
         diagonal = λ a la. (z (2 * a) (omega arith) ∙ sym (z (2 * a + 1) (omega arith)));
       };

@@ -11,12 +11,12 @@ use Rattle.imp_slots.specs.Fits.{fits_term, fits_guard}
 use Rattle.concrete_sem.specs.Values.{Variables, Gives}
 use Rattle.concrete_sem.specs.Evaluation.{value_of, truth_of, relates}
 use Rattle.concrete_sem.specs.Proper.{IsNumber}
-use Rattle.domain_laws.specs.GuardLaws.{Compares, Tells, assumed-fits, assumed-covers}
+use Rattle.domain_laws.specs.Guards.{Compares, Tells}
+use Rattle.domain_laws.proofs.GuardLaws.{assumed-fits, assumed-covers}
 use Rattle.domain_laws.specs.Laws.{IsRising}
 use Rattle.num_bounds.specs.Bounds.{Bounds, Within as Lies}
 use Rattle.num_bounds.specs.Meaning.{Covers}
-use Rattle.dbm_core.proofs.HalfLemmas.{entry-coherent}
-use Rattle.dbm_core.proofs.LimitLemmas.{IsLimited-of, joined-above_left, joined-above_right, joined-diagonal, widened-above_left, widened-above_right, widened-diagonal, zero-at_most}
+use Rattle.dbm_core.proofs.LimitLemmas.{joined-above_left, joined-above_right, joined-diagonal, widened-above_left, widened-above_right, widened-diagonal, zero-at_most}
 use Rattle.dbm_core.proofs.OperationLemmas.{joined-coherent, widened-coherent}
 use Rattle.dbm_core.proofs.TableLemmas.{tables-have_entries}
 use Rattle.dbm_core.proofs.ValuationLemmas.{Covers-entries, Covers-other}
@@ -36,10 +36,9 @@ use Rattle.dbm_close.specs.declared.closed.Closed.TheVariants.{Empty, Matrix}
 use Rattle.octagon_meaning.specs.declared.form.Form.{Form}
 use Rattle.octagon_meaning.specs.Covers.{in_limits, values}
 use Rattle.octagon_meaning.specs.Forms.{form_of}
-use Rattle.octagon_meaning.specs.Matrices.{with_difference}
-use Rattle.octagon_meaning.specs.Operations.{needs, kinds_of, same_kinds, join, join_closed, join_matrices, widen, widen_closed, widen_matrices, less, less_matrix, at_most, at_most_matrix, equal, related, compare, compare_terms, compare_links, assume}
+use Rattle.octagon_meaning.specs.Operations.{needs, kinds_of, same_kinds, join, join_closed, widen, widen_closed, less, less_matrix, at_most, at_most_matrix, equal, related, compare, compare_terms, compare_links, assume}
 use Rattle.octagon_meaning.specs.Ranges.{range_of}
-use Rattle.octagon_meaning.specs.States.{after, closed}
+use Rattle.octagon_meaning.specs.States.{closed}
 use Rattle.octagon_meaning.proofs.Fitting.{Ready, FitsMatrix, FitsState, Describes, fits-ready, close-fits, close-describes, closed-fits, closed-describes, after-fits, after-describes}
 use Rattle.octagon_meaning.proofs.Matrices.{HasValue, form_value, table-ready, difference-ready, difference-satisfied, most-ready, most-satisfied, least-ready, least-satisfied}
 use Rattle.octagon_meaning.proofs.Ranges.{AreProper, proper, range_at-covers, range_of-covers, form_of-value}

@@ -1,17 +1,18 @@
 -- The octagons keep the laws of a domain.
-use Rattle.std.proofs.Common.{◌≡◌, refl, sym, ap, ◌∙◌, subst, ℕ, ℤ, Bool, true, false, List, [], ◌∷◌, All, Option, Some, None}
-use Rattle.imp_slots.specs.Plain.{Layout, Guard, Compare, CompareLinks, Not, And, Or, Effect, Act, DoBreak, Does, Invoke}
-use Rattle.imp_slots.specs.Fits.{fits_effect, fits_invoke}
+use Rattle.std.proofs.Common.{◌≡◌, refl, sym, ap, ◌∙◌, subst, ℕ, ℤ, Bool, true, false, List, [], ◌∷◌, Option, Some, None}
+use Rattle.imp_slots.specs.Plain.{Layout, Guard, Compare, CompareLinks, Not, And, Or, Effect, Act, DoBreak, Does}
+use Rattle.imp_slots.specs.Fits.{fits_effect}
 use Rattle.concrete_sem.proofs.Keeps.{effects_keep, passing_keeps, returns_keep, start_keeps}
-use Rattle.concrete_sem.specs.Values.{Variables, Heap, Gives, Faults, IsWord}
+use Rattle.concrete_sem.specs.Values.{Variables, Heap, Faults}
 use Rattle.concrete_sem.specs.Effects.{effect_of}
-use Rattle.concrete_sem.specs.Passing.{first_variables, pass, back}
+use Rattle.concrete_sem.specs.Passing.{first_variables, back}
 use Rattle.concrete_sem.specs.Proper.{IsProper}
 use Rattle.analysis_words.specs.declared.verdict.Verdict.TheVariants.{Dead, Safe}
 use Rattle.domain_laws.specs.Checks.{Check, check_of, checked_guard, fault_of}
-use Rattle.domain_laws.specs.Guards.{assumed, past_check, verdict_on}
-use Rattle.domain_laws.specs.GuardLaws.{verdict_by-dead, verdict_by-safe}
-use Rattle.domain_laws.specs.CheckLaws.{ChecksTo, FailsCheck, FitsCheck, check-failed, check-fits}
+use Rattle.domain_laws.specs.Guards.{assumed, past_check, verdict_by, verdict_on}
+use Rattle.domain_laws.proofs.GuardLaws.{verdict_by-dead, verdict_by-safe}
+use Rattle.domain_laws.specs.Claims.{ChecksTo, FailsCheck}
+use Rattle.domain_laws.proofs.CheckLaws.{FitsCheck, check-failed, check-fits}
 use Rattle.domain_laws.specs.Laws.{Fitting, Laws, KeepsDead}
 use Rattle.dbm_close.specs.declared.closed.Closed.{Closed}
 use Rattle.dbm_close.specs.declared.closed.Closed.TheVariants.{Empty, Matrix}
@@ -170,6 +171,19 @@ check_empty (Does e) = by (check_of e)
     by : (o : Option Check) → verdict_on assume dead o Empty ≡ Dead
     by None = refl
     by (Some c) = refl
+
+-- of an empty state every check is dead
+pub verdict_empty : (a : Act) (s : Closed) → dead (closed s) ≡ true → check a s ≡ Dead
+unfolding check
+verdict_empty a s h = by a
+  where
+    on : (o : Option Check) → verdict_on assume dead o (closed s) ≡ Dead
+    on None = rw h refl
+    on (Some c) = rw h refl
+
+    by : (a : Act) → verdict_by assume dead a (closed s) ≡ Dead
+    by DoBreak = on None
+    by (Does e) = on (check_of e)
 
 pub octagon_keeps_dead : KeepsDead octagons
 octagon_keeps_dead e l ls s f g h = let w = dead-empty s h in ap (post (Does e)) w ∙ post_empty e ∙ sym w

@@ -1,5 +1,6 @@
 pub mod Calls
 pub mod Convergence
+pub mod Exact
 pub mod Fitting
 pub mod Guards
 pub mod Laws

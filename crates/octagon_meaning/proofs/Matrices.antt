@@ -1,17 +1,17 @@
 -- Matrices before they are closed: that they can be, and what satisfies them.
-use Rattle.std.specs.Prelude.{◌≡◌, ◌≢◌, ℕ, ◌<◌, ◌≤◌, ◌+◌, ◌-◌, ◌*◌, ◌/◌, ◌%◌, ◌^◌, eqb, not, ◌&&◌, ℤ, pos, negsuc, neg_ℤ, ◌+ℤ◌, ◌-ℤ◌, int_le, ◌≤ℤ◌, Option, Some, None, Bool, true, false, if◌then◌else◌, List, length, refl, ◌⊎◌}
+use Rattle.std.specs.Prelude.{◌≡◌, ℕ, ◌<◌, ◌≤◌, ◌+◌, ◌*◌, ◌/◌, ◌%◌, eqb, not, ◌&&◌, ℤ, pos, neg_ℤ, ◌+ℤ◌, ◌-ℤ◌, ◌≤ℤ◌, Option, Some, None, Bool, true, false, if◌then◌else◌, List, length, refl}
 use Rattle.std.proofs.Common.{arith, ap, sym, ◌∙◌, subst, inl, inr}
 use Rattle.std.proofs.lemmas.Int.{ints}
 use Rattle.std.proofs.lemmas.Bool.Decides.{nat_tests}
-use Rattle.std.proofs.lemmas.Bool.{cases_lt, cases_eq, eq-eqb, ne_eqb}
-use Rattle.dbm_core.proofs.HalfLemmas.{entry-coherent, entry-kept, entry-other, row_start-double, row_start-mono}
+use Rattle.std.proofs.lemmas.Bool.{cases_eq, eq-eqb, ne_eqb}
+use Rattle.dbm_core.proofs.HalfLemmas.{entry-coherent}
 use Rattle.dbm_core.proofs.LimitLemmas.{IsZeroAtMost-entries, lowered-diagonal}
 use Rattle.dbm_core.proofs.LowerLemmas.{lowered-coherent}
-use Rattle.dbm_core.proofs.NodeLemmas.{flip-below, flip-flip, flip-half, parity}
+use Rattle.dbm_core.proofs.NodeLemmas.{flip-below, flip-half, parity}
 use Rattle.dbm_core.proofs.OperationLemmas.{forgotten-coherent}
 use Rattle.dbm_core.proofs.TableLemmas.{tables-have_entries}
 use Rattle.dbm_core.proofs.ValuationLemmas.{Frees-entries, Meets-entries, lowered-meets, node_value-agree, node-negative, node-plain, node_value-even, node_value-flip, node_value-odd}
-use Rattle.dbm_core.specs.Half.{HalfMatrix, HasEntries, IsMatrix, entry, nodes, row_start, row_width}
+use Rattle.dbm_core.specs.Half.{HalfMatrix, HasEntries, entry, nodes}
 use Rattle.dbm_core.specs.Limits.{IsZeroAtMost}
 use Rattle.dbm_core.specs.Nodes.{IsCoherent, flip}
 use Rattle.dbm_core.specs.Operations.{forgotten, lowered}
@@ -184,7 +184,7 @@ shift-flip k c a =
     by true false = negated_twice c
     by false e = refl
 
-turned-below : (k i a n : ℕ) → a < 2 * n → turned k i a < 2 * n
+pub turned-below : (k i a n : ℕ) → a < 2 * n → turned k i a < 2 * n
 turned-below k i a n l = by (eqb (a / 2) k && not (eqb (i % 2) 0))
   where
     by : (b : Bool) → (if b then flip a else a) < 2 * n
@@ -194,7 +194,7 @@ turned-below k i a n l = by (eqb (a / 2) k && not (eqb (i % 2) 0))
 shift_turned : (p q : ℤ) → q -ℤ p ≡ neg_ℤ p -ℤ neg_ℤ q
 shift_turned p q = omega (arith, ints)
 
-shifted-coherent : (d : ℕ → ℕ → Option ℤ) (k i : ℕ) (c : ℤ) (n : ℕ) → IsCoherent d (2 * n) → IsCoherent (shifted d k i c) (2 * n)
+pub shifted-coherent : (d : ℕ → ℕ → Option ℤ) (k i : ℕ) (c : ℤ) (n : ℕ) → IsCoherent d (2 * n) → IsCoherent (shifted d k i c) (2 * n)
 shifted-coherent d k i c n h a b ha hb =
     ap (λ v. add_weight v (Some (shift k c b -ℤ shift k c a))) (h (turned k i a) (turned k i b) (turned-below k i a n ha) (turned-below k i b n hb))
     ∙ ap (λ s. add_weight (d (flip (turned k i b)) (flip (turned k i a))) (Some s)) (shift_turned (shift k c a) (shift k c b))
@@ -207,11 +207,13 @@ still-zero : (v : Option ℤ) (s : ℤ) → AtMost v (Some (pos 0)) → AtMost (
 still-zero None s h = absurd h
 still-zero (Some y) s h = omega (arith, ints)
 
+pub shifted-diagonal : (d : ℕ → ℕ → Option ℤ) (k i : ℕ) (c : ℤ) (n : ℕ) → IsZeroAtMost (2 * n) d → IsZeroAtMost (2 * n) (shifted d k i c)
+shifted-diagonal d k i c n h a l = still-zero (d (turned k i a) (turned k i a)) (shift k c a) (h (turned k i a) (turned-below k i a n l))
+
 pub carried-ready : (kinds : List Bool) (m : HalfMatrix) (k i : ℕ) (c : ℤ) → Ready kinds m → Ready kinds (carried m k i c)
 unfolding carried
 carried-ready kinds m k i c h = retyped kinds m (matrix_of m.kinds (shifted (entry m) k i c)) h
-    (table-ready m.kinds (shifted (entry m) k i c) h.matrix.few (shifted-coherent (entry m) k i c (length m.kinds) (coherent kinds m h))
-    (λ a l. still-zero (entry m (turned k i a) (turned k i a)) (shift k c a) (h.diagonal (turned k i a) (turned-below k i a (length m.kinds) l))))
+    (table-ready m.kinds (shifted (entry m) k i c) h.matrix.few (shifted-coherent (entry m) k i c (length m.kinds) (coherent kinds m h)) (shifted-diagonal (entry m) k i c (length m.kinds) h.diagonal))
 
 -- where y has the value of node i, plus c, at slot k, and x's values elsewhere
 module _ (k i : ℕ) (c : ℤ) (x y : ℕ → ℤ) (own : i / 2 ≡ k) (agree : AgreeButAt k x y) (moved : y k ≡ node_value x i +ℤ c) where

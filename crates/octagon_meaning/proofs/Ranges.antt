@@ -1,5 +1,5 @@
 -- The ranges and the linear forms of expressions hold their values.
-use Rattle.std.proofs.Common.{◌≡◌, ◌≢◌, refl, sym, ap, ◌∙◌, subst, ℕ, zero, suc, ◌<◌, ◌≤◌, ◌^◌, ◌*◌, ◌+◌, ℤ, pos, negsuc, ◌≤ℤ◌, ◌+ℤ◌, ◌-ℤ◌, ◌*ℤ◌, neg_ℤ, int_div, int_rem, Bool, true, false, not, List, [], ◌∷◌, length, map, take, slice_get, slice_index_or, Option, Some, None, arith, if◌then◌else◌, inl, inr, ◌⊎◌}
+use Rattle.std.proofs.Common.{◌≡◌, ◌≢◌, refl, sym, ap, ◌∙◌, subst, ℕ, zero, suc, ◌<◌, ◌≤◌, ◌^◌, ◌*◌, ◌+◌, ℤ, pos, negsuc, ◌≤ℤ◌, ◌+ℤ◌, ◌-ℤ◌, ◌*ℤ◌, neg_ℤ, int_div, int_rem, Bool, true, false, not, List, [], ◌∷◌, length, map, take, slice_get, slice_index_or, Option, Some, None, arith, if◌then◌else◌, inl, inr}
 use Rattle.std.proofs.lemmas.Int.{ints}
 use Rattle.std.proofs.lemmas.Bool.{and_parts, cases_lt}
 use Rattle.std.proofs.lemmas.Bool.Decides.{Decides-int_eq}
@@ -14,7 +14,7 @@ use Rattle.analysis_words.specs.declared.fault.FaultKind.TheVariants.{Overflow, 
 use Rattle.concrete_sem.specs.Values.{Number, Int, Array, Variables, Gives, Faults, andthen, as_int, as_array, number_at, is_word, IsWord}
 use Rattle.concrete_sem.specs.Evaluation.{value_of, word as word_of, quotient, combine}
 use Rattle.concrete_sem.specs.Proper.{IsNumber}
-use Rattle.domain_laws.specs.CheckLaws.{andthen-gives}
+use Rattle.domain_laws.proofs.CheckLaws.{andthen-gives}
 use Rattle.num_bounds.specs.Bounds.{Bounds, Within as Lies, least, greatest}
 use Rattle.num_bounds.specs.Operations.{word, word_if, sums, differences, negations, products, quotients, remainders}
 use Rattle.num_bounds.specs.Meaning.{Covers}
@@ -24,17 +24,16 @@ use Rattle.num_bounds.proofs.Quotients.{quotients-sound}
 use Rattle.num_bounds.proofs.Remainders.{remainders-sound}
 use Rattle.dbm_core.proofs.HalfLemmas.{entry-outside}
 use Rattle.dbm_core.proofs.ValuationLemmas.{node_value-flip}
-use Rattle.dbm_core.specs.Half.{HalfMatrix, entry, nodes}
+use Rattle.dbm_core.specs.Half.{HalfMatrix, IsMatrix, entry}
 use Rattle.dbm_core.specs.Nodes.{flip}
 use Rattle.dbm_core.specs.Valuations.{IsSatisfiedBy, node_value}
 use Rattle.dbm_close.proofs.LawLemmas.{range-sound}
-use Rattle.dbm_close.specs.Close.{slot_high, slot_low}
 use Rattle.dbm_close.specs.Laws.{AreInSlots}
-use Rattle.dbm_close.specs.Steps.{extreme_high, extreme_low, range_high, range_low}
+use Rattle.dbm_close.specs.Steps.{extreme_high, extreme_low}
 use Rattle.octagon_meaning.specs.declared.form.Form.{Form}
 use Rattle.octagon_meaning.specs.declared.form.Form.TheVariants.{Constant, Node}
 use Rattle.octagon_meaning.specs.Covers.{measure, values}
-use Rattle.octagon_meaning.specs.Forms.{combined_form, form_of, if_form, negated, slot_form, sum_form}
+use Rattle.octagon_meaning.specs.Forms.{combined_form, form_of, if_form, negated, sum_form}
 use Rattle.octagon_meaning.specs.Operations.{kinds_of}
 use Rattle.octagon_meaning.specs.Ranges.{if_range, operation, range_at, range_of}
 use Rattle.octagon_meaning.proofs.Fitting.{FitsMatrix}
@@ -108,13 +107,19 @@ no_kind [] k l = refl
 no_kind (b ∷ bs) zero l = absurd (omega arith)
 no_kind (b ∷ bs) (suc k) l = no_kind bs k (omega arith)
 
+-- what is no slot has the full range
+pub range_at-outside : (m : HalfMatrix) → IsMatrix m → (k : ℕ) → length m.kinds ≤ k → range_at m k ≡ record { lo = least; hi = greatest }
+unfolding range_at
+range_at-outside m h k l =
+    let e : entry m (2 * k) (2 * k + 1) ≡ None = entry-outside m h (2 * k) (2 * k + 1) (inl (omega arith)) in
+    let f : entry m (2 * k + 1) (2 * k) ≡ None = entry-outside m h (2 * k + 1) (2 * k) (inl (omega arith)) in
+    rw (e, f, no_kind m.kinds k l) refl
+
 pub range_at-covers : (kinds : List Bool) (m : HalfMatrix) (x : ℕ → ℤ) → FitsMatrix kinds m → AreProper kinds x → IsSatisfiedBy m x → (k : ℕ) → Lies (x k) (range_at m k)
 unfolding range_at
 range_at-covers kinds m x h a s k = elim (cases_lt k (length m.kinds)) [
   | inl l ↦ range-sound (entry m) m.kinds x (subst (λ ks. AreInSlots ks x) (sym h.same_kinds) a.slots) s k l
-  | inr l ↦ let e : entry m (2 * k) (2 * k + 1) ≡ None = entry-outside m h.matrix (2 * k) (2 * k + 1) (inl (omega arith)) in
-      let f : entry m (2 * k + 1) (2 * k) ≡ None = entry-outside m h.matrix (2 * k + 1) (2 * k) (inl (omega arith)) in
-      rw (e, f, no_kind m.kinds k l) (let w = a.words k in (omega (arith, ints, w.0), omega (arith, ints, w.1)))
+  | inr l ↦ subst (Lies (x k)) (sym (range_at-outside m h.matrix k l)) (a.words k)
 ]
 
 -- ---- the ranges of expressions

@@ -1,5 +1,5 @@
 -- Constants of linear forms are small.
-use Rattle.std.proofs.Common.{◌≡◌, refl, sym, ap, ◌∙◌, subst, ℕ, ◌+◌, ◌*◌, ◌/◌, ◌%◌, ◌^◌, ℤ, pos, neg_ℤ, ◌+ℤ◌, ◌-ℤ◌, ◌≤ℤ◌, int_le, Bool, true, false, Option, Some, None, arith, if◌then◌else◌, inl, inr, eqb}
+use Rattle.std.proofs.Common.{◌≡◌, ap, ◌∙◌, subst, ℕ, ◌+◌, ◌*◌, ◌/◌, ◌%◌, ◌^◌, ℤ, pos, neg_ℤ, ◌+ℤ◌, ◌-ℤ◌, ◌≤ℤ◌, int_le, Bool, true, false, Option, Some, None, arith, if◌then◌else◌, eqb}
 use Rattle.std.proofs.lemmas.Int.{ints, clamps}
 use Rattle.std.proofs.lemmas.Bool.{eq-eqb, ne_eqb}
 use Rattle.std.specs.Int.{int_max, int_min}
@@ -8,13 +8,13 @@ use Rattle.imp_syntax.specs.declared.words.Operator.TheVariants.{Add, Subtract, 
 use Rattle.imp_slots.specs.Plain.{Term, Literal, Slot, Length, Negative, Binary}
 use Rattle.num_bounds.specs.Bounds.{Bounds, IsRange, least, greatest}
 use Rattle.num_bounds.specs.Operations.{word, between, sums, differences, negations}
-use Rattle.dbm_core.proofs.NodeLemmas.{flip-flip, flip-half, parity, flip-even, flip-odd}
+use Rattle.dbm_core.proofs.NodeLemmas.{flip-flip, flip-even}
 use Rattle.dbm_core.specs.Half.{HalfMatrix}
 use Rattle.dbm_core.specs.Limits.{IsWithin}
 use Rattle.dbm_core.specs.Nodes.{flip}
 use Rattle.octagon_meaning.specs.declared.form.Form.{Form}
 use Rattle.octagon_meaning.specs.declared.form.Form.TheVariants.{Constant, Node}
-use Rattle.octagon_meaning.specs.Claims.{FormsAreSmall, IsSmallForm, constant_of}
+use Rattle.octagon_meaning.specs.Claims.{FormsAreSmall, IsSmallForm}
 use Rattle.octagon_meaning.specs.Forms.{combined_form, form_of, if_form, negated, slot_form, sum_form}
 use Rattle.octagon_meaning.specs.Ranges.{if_range, operation, range_at, range_of}
 

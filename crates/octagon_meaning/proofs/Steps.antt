@@ -7,32 +7,30 @@ use Rattle.std.proofs.lemmas.Bool.Decides.{nat_tests}
 use Rattle.std.specs.List.{AllZip}
 use Rattle.imp_slots.specs.Plain.{Numeric, Layout, Effect, Skip, Assert, SetInt, Input, ReadElement, ReadItem, MakeArray, CopyArray, WriteElement, SetNull, MakeCell, CopyLink, ReadNext, WriteNext, WriteItem, Act, DoBreak, Does}
 use Rattle.imp_slots.specs.Fits.{fits_term, fits_effect, is_int, is_array, is_link, is_kind}
-use Rattle.analysis_words.specs.declared.fault.FaultKind.TheVariants.{Length as TooLong, Index, Null, Assert as Failed}
-use Rattle.concrete_sem.specs.Values.{Number, Int, Array, Variables, Heap, Gives, Faults, andthen, as_array, number_at, array_at, link_at, with_number, with_link}
+use Rattle.analysis_words.specs.declared.fault.FaultKind.TheVariants.{Length as TooLong, Index, Assert as Failed}
+use Rattle.concrete_sem.specs.Values.{Number, Int, Array, Variables, Heap, Gives, Faults, andthen, as_array, array_at, link_at, with_number, with_link}
 use Rattle.concrete_sem.specs.Evaluation.{value_of, truth_of}
 use Rattle.concrete_sem.specs.Effects.{effect_of, new_array, element, with_element, cell_of, take_input, with_cell}
 use Rattle.concrete_sem.specs.Proper.{IsNumber}
 use Rattle.domain_laws.specs.Checks.{Check, check_of, checked_guard}
 use Rattle.domain_laws.specs.Guards.{past_check}
 use Rattle.domain_laws.specs.Laws.{fits_act}
-use Rattle.domain_laws.specs.CheckLaws.{andthen-gives, ChecksTo, FitsCheck, check-passed, check-fits}
-use Rattle.num_bounds.specs.Bounds.{Bounds, Within as Lies}
+use Rattle.domain_laws.specs.Claims.{ChecksTo}
+use Rattle.domain_laws.proofs.CheckLaws.{andthen-gives, FitsCheck, check-passed, check-fits}
+use Rattle.num_bounds.specs.Bounds.{Within as Lies}
 use Rattle.num_bounds.specs.Operations.{cut_of}
 use Rattle.num_bounds.proofs.Ends.{cut-covers}
-use Rattle.dbm_core.specs.Half.{HalfMatrix, entry, nodes}
-use Rattle.dbm_core.specs.Valuations.{AgreeButAt, IsSatisfiedBy, node_value}
-use Rattle.dbm_core.specs.Weights.{AtMost}
-use Rattle.dbm_core.proofs.ValuationLemmas.{node_value-agree}
+use Rattle.dbm_core.specs.Half.{HalfMatrix}
+use Rattle.dbm_core.specs.Valuations.{AgreeButAt, IsSatisfiedBy}
 use Rattle.dbm_close.specs.CloseOf.{close_of}
 use Rattle.dbm_close.specs.Laws.{AreInSlots}
 use Rattle.dbm_close.specs.declared.closed.Closed.{Closed}
-use Rattle.dbm_close.specs.declared.closed.Closed.TheVariants.{Empty, Matrix}
 use Rattle.octagon_meaning.specs.Covers.{measure, values}
 use Rattle.octagon_meaning.specs.Forms.{form_of, slot_form}
 use Rattle.octagon_meaning.specs.Matrices.{assigned, meets_range, without}
-use Rattle.octagon_meaning.specs.Operations.{needs, kinds_of, assume, does, post}
+use Rattle.octagon_meaning.specs.Operations.{kinds_of, assume, does, post}
 use Rattle.octagon_meaning.specs.Ranges.{longest, range_at, range_of}
-use Rattle.octagon_meaning.specs.States.{after, closed}
+use Rattle.octagon_meaning.specs.States.{closed}
 use Rattle.octagon_meaning.proofs.Fitting.{Ready, FitsMatrix, FitsState, Describes, fits-ready, close-fits, close-describes, closed-fits, closed-describes, after-fits, after-describes}
 use Rattle.octagon_meaning.proofs.Guards.{assume-fits, assume-describes, needs-fits, needs-describes}
 use Rattle.octagon_meaning.proofs.Matrices.{assigned-ready, assigned-satisfied, range-ready, range-satisfied, without-ready, without-satisfied, slot-value}

@@ -1,5 +1,5 @@
 -- What is claimed of the octagons.
-use Rattle.std.specs.Prelude.{◌≡◌, ℕ, ◌+◌, ◌*◌, ◌/◌, ◌%◌, ◌<◌, ◌^◌, eqb, if◌then◌else◌, ℤ, pos, neg_ℤ, ◌≤ℤ◌, ◌+ℤ◌, Option, Some, None}
+use Rattle.std.specs.Prelude.{◌≡◌, ℕ, ◌^◌, ℤ, Option, Some, None}
 use Rattle.dbm_core.specs.Half.{HalfMatrix}
 use Rattle.dbm_core.specs.Limits.{IsWithin}
 use Rattle.imp_slots.specs.Plain.{Term}

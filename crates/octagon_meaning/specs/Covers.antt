@@ -1,12 +1,12 @@
 -- Which configurations a state describes, and which states fit the layouts of frames.
-use Rattle.std.specs.Prelude.{ℕ, ◌+◌, ◌*◌, ◌-◌, ◌^◌, nat_eq, Bool, true, false, not, ◌&&◌, ℤ, pos, neg_ℤ, int_lt, List, [], ◌∷◌, length, Option, Some, None}
+use Rattle.std.specs.Prelude.{ℕ, ◌+◌, ◌*◌, ◌^◌, nat_eq, Bool, true, false, not, ◌&&◌, ℤ, pos, neg_ℤ, int_lt, List, [], ◌∷◌, length, Option, Some, None}
 use Rattle.std.specs.Bool.{beq}
 use Rattle.std.specs.Cmp.Lexicographic.{pointwise}
 use Rattle.std.specs.Option.{option_eq}
 use Rattle.std.specs.Ordering.{int_eq}
 use Rattle.dbm_core.specs.Half.{HalfMatrix, entry, nodes}
 use Rattle.dbm_core.specs.Valuations.{IsSatisfiedBy}
-use Rattle.dbm_close.specs.CloseOf.{is_less, some_below}
+use Rattle.dbm_close.specs.CloseOf.{some_below}
 use Rattle.dbm_close.specs.declared.closed.Closed.{Closed}
 use Rattle.dbm_close.specs.declared.closed.Closed.TheVariants.{Empty, Matrix}
 use Rattle.imp_slots.specs.Plain.{Layout}

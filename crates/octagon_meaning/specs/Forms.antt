@@ -1,6 +1,6 @@
 -- Linear forms of expressions: a constant, or the value of a node and a constant. Node 2k stands for the slot k and node
 -- 2k + 1 for its negative, as in a matrix.
-use Rattle.std.specs.Prelude.{ℕ, ◌*◌, ℤ, pos, ◌+ℤ◌, neg_ℤ, Option, Some, None}
+use Rattle.std.specs.Prelude.{ℕ, ◌*◌, pos, ◌+ℤ◌, neg_ℤ, Option, Some, None}
 use Rattle.dbm_core.specs.Nodes.{flip}
 use Rattle.imp_syntax.specs.declared.words.Operator.{Operator}
 use Rattle.imp_syntax.specs.declared.words.Operator.TheVariants.{Add, Subtract, Multiply, Divide, Remainder}

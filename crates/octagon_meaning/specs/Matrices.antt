@@ -1,5 +1,5 @@
 -- What the operations make of a matrix before it is closed.
-use Rattle.std.specs.Prelude.{ℕ, ◌+◌, ◌-◌, ◌*◌, ◌/◌, ◌%◌, ◌^◌, eqb, not, ◌&&◌, Bool, false, ℤ, pos, negsuc, ◌+ℤ◌, ◌-ℤ◌, neg_ℤ, int_le, if◌then◌else◌, List, slice_index_or, Option, Some, None}
+use Rattle.std.specs.Prelude.{ℕ, ◌+◌, ◌-◌, ◌*◌, ◌/◌, ◌%◌, ◌^◌, eqb, not, ◌&&◌, Bool, false, ℤ, pos, ◌+ℤ◌, ◌-ℤ◌, neg_ℤ, int_le, if◌then◌else◌, List, slice_index_or, Option, Some, None}
 use Rattle.dbm_core.specs.Half.{HalfMatrix, entry}
 use Rattle.dbm_core.specs.Nodes.{flip}
 use Rattle.dbm_core.specs.Operations.{forgotten, lowered}

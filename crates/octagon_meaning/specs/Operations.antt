@@ -1,6 +1,6 @@
 -- The operations of the octagons: A. Miné, "The Octagon Abstract Domain", 2006. Each closes the states that it is given, and
 -- its result; only widening keeps its left matrix as it is.
-use Rattle.std.specs.Prelude.{ℕ, ◌+◌, ◌*◌, ◌/◌, ◌%◌, eqb, Bool, true, false, ◌&&◌, ◌||◌, ℤ, pos, negsuc, ◌+ℤ◌, ◌-ℤ◌, int_le, int_lt, if◌then◌else◌, List, [], ◌∷◌, map, take, slice_get, slice_index_or, Option, Some, None}
+use Rattle.std.specs.Prelude.{ℕ, ◌+◌, ◌*◌, ◌/◌, ◌%◌, eqb, Bool, ◌||◌, ℤ, pos, negsuc, ◌+ℤ◌, ◌-ℤ◌, int_le, int_lt, if◌then◌else◌, List, [], ◌∷◌, map, take, slice_get, Option, Some, None}
 use Rattle.std.specs.Bool.{beq}
 use Rattle.std.specs.Cmp.Lexicographic.{pointwise}
 use Rattle.dbm_core.specs.Half.{HalfMatrix, entry}
@@ -18,6 +18,8 @@ use Rattle.domain_laws.specs.Checks.{check_of}
 use Rattle.domain_laws.specs.Guards.{assumed, past_check, verdict_by}
 use Rattle.analysis_words.specs.declared.verdict.Verdict.{Verdict}
 use Rattle.octagon_meaning.specs.declared.form.Form.{Form}
+use Rattle.octagon_meaning.specs.declared.source.Source.{Source}
+use Rattle.octagon_meaning.specs.declared.source.Source.TheVariants.{FromSlot, InRange}
 use Rattle.octagon_meaning.specs.Forms.{form_of, slot_form}
 use Rattle.octagon_meaning.specs.Matrices.{assigned, meets_range, side_at_least, side_at_most, with_difference, without}
 use Rattle.octagon_meaning.specs.Ranges.{if_range, longest, range_at, range_of}
@@ -107,23 +109,39 @@ assume = assumed compare compare_links join
 
 -- ---- simple statements
 
+-- x = e
+abbrev pub does_set : ℕ → Term → HalfMatrix → Closed
+does_set x e m = needs (range_of m e) (λ r. close_of (assigned m x (form_of e) r))
+
+-- a = array e: the length is that of e, and meets e's range within the extremes of lengths
+abbrev pub does_make : ℕ → Term → HalfMatrix → Closed
+does_make a e m = needs (range_of m e) (λ r. needs (cut_of r (pos 0) longest) (λ c. close_of (meets_range (assigned m a (form_of e) r) a c)))
+
+-- a = b, of arrays
+abbrev pub does_copy : ℕ → ℕ → HalfMatrix → Closed
+does_copy a b m = close_of (assigned m a (Some (slot_form b)) (range_at m b))
+
+-- no more than that e has a range
+abbrev pub does_need : Term → HalfMatrix → Closed
+does_need e m = needs (range_of m e) (λ r. Matrix m)
+
 -- what a simple statement does behind its check, of a closed matrix
 unfoldable pub does : Effect → HalfMatrix → Closed
 does Skip m = Matrix m
 does (Assert g) m = Matrix m
-does (SetInt x e) m = needs (range_of m e) (λ r. close_of (assigned m x (form_of e) r))
+does (SetInt x e) m = does_set x e m
 does (Input x) m = close_of (without m x)
 does (ReadElement x a e) m = close_of (without m x)
 does (ReadItem x q) m = close_of (without m x)
-does (MakeArray a e) m = needs (range_of m e) (λ r. needs (cut_of r (pos 0) longest) (λ c. close_of (meets_range (assigned m a (form_of e) r) a c)))
-does (CopyArray a b) m = close_of (assigned m a (Some (slot_form b)) (range_at m b))
-does (WriteElement a e f) m = needs (range_of m f) (λ r. Matrix m)
+does (MakeArray a e) m = does_make a e m
+does (CopyArray a b) m = does_copy a b m
+does (WriteElement a e f) m = does_need f m
 does (SetNull p) m = Matrix m
 does (MakeCell p) m = Matrix m
 does (CopyLink p q) m = Matrix m
 does (ReadNext p q) m = Matrix m
 does (WriteNext p q) m = Matrix m
-does (WriteItem p e) m = needs (range_of m e) (λ r. Matrix m)
+does (WriteItem p e) m = does_need e m
 
 unfoldable pub post : Act → Closed → Closed
 post DoBreak s = Empty
@@ -131,22 +149,21 @@ post (Does e) s = after (closed (past_check assume (check_of e) s)) (does e)
 
 -- ---- layouts and calls
 
--- where a slot of a frame that is entered has its value from: 0, a slot of the caller, or a range
-pub data Source : Type 0 where
-  FromSlot : ℕ → Source
-  InRange : Bounds → Source
-
 abbrev pub in_front : Source → Option (List Source) → Option (List Source)
 in_front r None = None
 in_front r (Some rs) = Some (r ∷ rs)
 
+-- any number of the range of an expression
+abbrev pub ranged_source : HalfMatrix → Term → Option Source
+ranged_source m e = if_range (range_of m e) (λ r. Some (InRange r))
+
 -- the source of an int argument: the slot of a variable or of `len a`, else its range
 abbrev pub source_of : HalfMatrix → Term → Option Source
-source_of m (Literal n) = if_range (range_of m (Literal n)) (λ r. Some (InRange r))
+source_of m (Literal n) = ranged_source m (Literal n)
 source_of m (Slot x) = Some (FromSlot x)
 source_of m (Length a) = Some (FromSlot a)
-source_of m (Negative e) = if_range (range_of m (Negative e)) (λ r. Some (InRange r))
-source_of m (Binary o a b) = if_range (range_of m (Binary o a b)) (λ r. Some (InRange r))
+source_of m (Negative e) = ranged_source m (Negative e)
+source_of m (Binary o a b) = ranged_source m (Binary o a b)
 
 abbrev pub with_source : Option Source → Option (List Source) → Option (List Source)
 with_source None o = None

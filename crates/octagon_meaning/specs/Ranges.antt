@@ -1,5 +1,5 @@
 -- The ranges of slots and of expressions.
-use Rattle.std.specs.Prelude.{ℕ, Bool, true, false, ℤ, pos, Option, Some, None}
+use Rattle.std.specs.Prelude.{ℕ, ℤ, pos, Option, Some, None}
 use Rattle.dbm_core.specs.Half.{HalfMatrix, entry}
 use Rattle.dbm_close.specs.Close.{slot_high, slot_low}
 use Rattle.imp_syntax.specs.declared.words.Operator.{Operator}

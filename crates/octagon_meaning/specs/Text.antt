@@ -41,25 +41,22 @@ is_sharper None h = false
 is_sharper (Some c) None = true
 is_sharper (Some c) (Some h) = int_lt c h
 
--- whether the bound on two nodes is less than half the sum of their own
-abbrev pub is_sharp : HalfMatrix → (i j : ℕ) → Bool
-is_sharp m i j = is_sharper (entry m i j) (half (add_weight (entry m i (flip i)) (entry m (flip j) j)))
+-- the bound on two nodes, where it is less than half the sum of their own
+abbrev pub sharp : HalfMatrix → (i j : ℕ) → Option ℤ
+sharp m i j = if is_sharper (entry m i j) (half (add_weight (entry m i (flip i)) (entry m (flip j) j))) then entry m i j else None
 
-abbrev pub bound_text : (before : List ℕ) → Option ℤ → List ℕ
-bound_text before None = []
-bound_text before (Some c) = before ++ codes "<=" ++ signed_decimal c
-
--- what the bound on `v_j - v_i` says of two slots, where it is sharp
-unfoldable pub sharp_text : HalfMatrix → (i j : ℕ) → (sign : List ℕ) → Numeric → (between : List ℕ) → Numeric → List ℕ
-sharp_text m i j sign p between q = if is_sharp m i j then bound_text (sign ++ name_text p ++ between ++ name_text q) (entry m i j) else []
+-- what a bound says of two slots
+unfoldable pub bound_text : (sign : List ℕ) → Numeric → (between : List ℕ) → Numeric → Option ℤ → List ℕ
+bound_text sign p between q None = []
+bound_text sign p between q (Some c) = sign ++ name_text p ++ between ++ name_text q ++ codes "<=" ++ signed_decimal c
 
 -- x-y<=c, y-x<=c, x+y<=c, -x-y<=c of slots a and b
 unfoldable pub pair_text : HalfMatrix → ℕ → Numeric → ℕ → Numeric → List ℕ
 pair_text m a p b q =
-    sharp_text m (2 * b) (2 * a) (codes " ") p (codes "-") q
-    ++ sharp_text m (2 * a) (2 * b) (codes " ") q (codes "-") p
-    ++ sharp_text m (2 * b + 1) (2 * a) (codes " ") p (codes "+") q
-    ++ sharp_text m (2 * b) (2 * a + 1) (codes " -") p (codes "-") q
+    bound_text (codes " ") p (codes "-") q (sharp m (2 * b) (2 * a))
+    ++ bound_text (codes " ") q (codes "-") p (sharp m (2 * a) (2 * b))
+    ++ bound_text (codes " ") p (codes "+") q (sharp m (2 * b + 1) (2 * a))
+    ++ bound_text (codes " -") p (codes "-") q (sharp m (2 * b) (2 * a + 1))
 
 -- the pairs of slot a with those from slot b on, and those of the slots from n on
 abbrev pub pairs_with : HalfMatrix → ℕ → Numeric → ℕ → List Numeric → List ℕ

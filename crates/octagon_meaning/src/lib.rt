@@ -19,8 +19,10 @@ ghost use Rattle.octagon_meaning.specs.Covers.{covers};
 ghost use Rattle.octagon_meaning.specs.Domain.{octagons};
 
 mod form;
+mod source;
 
 pub use form::Form;
+pub use source::Source;
 
 /// A theorem, and no work: octagons keep the laws of a domain.
 pub fn octagons_are_a_domain()

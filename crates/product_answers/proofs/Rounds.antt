@@ -57,6 +57,16 @@ module _ (engine : Engine) (at_once : engine.widening.delay ≡ 0) (ms : List �
     second_done zero k s x t e d = tt
     second_done (suc left) k s x t e d = subst (λ w. IsPair (first (suc left) (suc k) x) w (whole (suc left) (suc k) x t)) (still b g db left (suc k) t e) d
 
+    -- what the iterates from s on come to, where x is the next one, by whether the two are equal
+    abbrev chosen_first : (is_done : Bool) (left k : ℕ) (s x : S) → Value S
+    chosen_first is_done left k s x = (if is_done then record { value = State s; index = k } else iterates a f left (suc k) x).value
+
+    abbrev chosen_second : (is_done : Bool) (left k : ℕ) (t y : T) → Value T
+    chosen_second is_done left k t y = (if is_done then record { value = State t; index = k } else iterates b g left (suc k) y).value
+
+    abbrev chosen_whole : (is_done : Bool) (left k : ℕ) (s x : S) (t y : T) → Value (S × T)
+    chosen_whole is_done left k s x t y = (if is_done then record { value = State (s, t); index = k } else iterates (product a b) h left (suc k) (x, y)).value
+
     -- one round, from what the next ones come to
     settled : (left k : ℕ) (s : S) (t : T) (v : Value S) (w : Value T) (u : Value (S × T)) → widened a f s ≡ v → widened b g t ≡ w → IsPair v w u → ((x : S) (y : T) → IsPair (first left (suc k) x) (second left (suc k) y) (whole left (suc k) x y)) →
         IsPair (settle a engine k s v (iterates a f left (suc k))).value (settle b engine k t w (iterates b g left (suc k))).value (settle (product a b) engine k (s, t) u (iterates (product a b) h left (suc k))).value
@@ -67,7 +77,7 @@ module _ (engine : Engine) (at_once : engine.widening.delay ≡ 0) (ms : List �
         (by (a.same x s) (b.same y t) refl refl)
       where
         by : (c d : Bool) → a.same x s ≡ c → b.same y t ≡ d →
-            IsPair (if c then record { value = State s; index = k } else iterates a f left (suc k) x).value (if d then record { value = State t; index = k } else iterates b g left (suc k) y).value (if c && d then record { value = State (s, t); index = k } else iterates (product a b) h left (suc k) (x, y)).value
+            IsPair (chosen_first c left k s x) (chosen_second d left k t y) (chosen_whole (c && d) left k s x t y)
         by true true i j = refl
         by true false i j =
             let same : x ≡ s = (da x s).0 i in

@@ -15,7 +15,7 @@ AnswersPairs {S} {T} a b =
     answer a engine program l string ≡ Answers (State s) → answer b engine program l string ≡ Answers (State t) →
     answer (product a b) engine program l string ≡ Answers (State (s, t))
 
--- A pair changes where either part does. Each part changes at most once more than so often, by the numeric slots and the
--- marks, and so does the pair.
+-- A pair changes as often as its parts together. That a state changes at most once more than so often is said of each
+-- part, so it is said of the pair with one for the second part's.
 abbrev pub changes_of_both : (first second : ℕ → ℕ → ℕ) → (slots marks : ℕ) → ℕ
 changes_of_both first second slots marks = first slots marks + second slots marks + 1

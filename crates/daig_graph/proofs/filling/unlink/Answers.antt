@@ -1,5 +1,4 @@
-use Rattle.std.proofs.Common.{◌≡◌, ◌≤◌, ◌+◌, ℕ, Some, slice_get, get_or, arith}
-use Rattle.daig_graph.specs.Uses.{Unlinks}
+use Rattle.std.proofs.Common.{arith}
 use Rattle.daig_graph.proofs.UseLemmas.{at_index, still_there, unlinks-more}
 use Rattle.daig_graph.proofs.filling.unlink.Goals as goal
 

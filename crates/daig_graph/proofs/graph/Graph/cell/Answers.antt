@@ -1,9 +1,8 @@
-use Rattle.std.proofs.Common.{◌≡◌, Bor, Option, Some, None, IfSome, option_map, option_copied, sym, ap, ◌∙◌, subst, refl}
+use Rattle.std.proofs.Common.{◌≡◌, Bor, Option, Some, None, IfSome, option_map, option_copied, sym, ap, ◌∙◌, subst}
 use Rattle.std.specs.FinMap.{get}
-use Rattle.daig_graph.specs.declared.graph.Cell.{Cell}
 use Rattle.daig_graph.specs.Agrees.{filled}
 use Rattle.daig_graph.specs.Cells.{AreCells}
-use Rattle.daig_graph.proofs.Cases.{none-some, some-inj}
+use Rattle.daig_graph.proofs.Cases.{some-inj}
 use Rattle.daig_graph.proofs.Agreeing.{get-key, get-absent, closed-cells}
 use Rattle.daig_graph.proofs.graph.Graph.cell.Goals as goal
 

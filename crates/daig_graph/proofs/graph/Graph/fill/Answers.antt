@@ -1,9 +1,8 @@
-use Rattle.std.proofs.Common.{◌≡◌, ◌≢◌, ℕ, ◌<◌, ◌≤◌, List, length, Option, None, Some, IsSome, IsOk, OnOk, slice_get, nat_eq, refl, sym, ap, ◌∙◌, subst, arith}
+use Rattle.std.proofs.Common.{◌≡◌, ℕ, List, length, None, Some, IsSome, slice_get, nat_eq, sym, ap, ◌∙◌, subst, arith}
 use Rattle.std.specs.HashMap.{get as map_get, Updates as UpdatesMap}
 use Rattle.std.specs.Ordering.{nat_cmp}
 use Rattle.std.specs.FinMap.{FinMap, insert, get as cell_at}
 use Rattle.slab.specs.Slab.{get}
-use Rattle.daig_graph.specs.declared.graph.Cell.{Cell}
 use Rattle.daig_graph.specs.Uses.{Links}
 use Rattle.daig_graph.specs.Cells.{Filled}
 use Rattle.daig_graph.proofs.Cases.{from_ok, nat_eq-false}

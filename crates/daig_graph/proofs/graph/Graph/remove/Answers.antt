@@ -1,15 +1,13 @@
-use Rattle.std.proofs.Common.{◌≡◌, ◌≢◌, ℕ, ◌<◌, List, length, Option, None, Some, IsSome, slice_get, nat_eq, refl, sym, ap, ◌∙◌, subst, arith}
-use Rattle.std.specs.HashMap.{get as map_get, Updates as UpdatesMap}
+use Rattle.std.proofs.Common.{◌≡◌, ℕ, List, length, Some, IsSome, slice_get, nat_eq, sym, ap, ◌∙◌, subst}
+use Rattle.std.specs.HashMap.{get as map_get}
 use Rattle.std.specs.Ordering.{nat_cmp}
 use Rattle.std.specs.FinMap.{FinMap, remove, get as cell_at}
 use Rattle.slab.specs.Slab.{get}
-use Rattle.daig_graph.specs.declared.graph.Cell.{Cell}
 use Rattle.daig_graph.specs.Uses.{Unlinks}
 use Rattle.daig_graph.specs.Cells.{Filled, IsUnused}
-use Rattle.daig_graph.proofs.Cases.{from_ok, nat_eq-false, some-inj, none-some}
-use Rattle.daig_graph.proofs.Agreeing.{keys-none, key-get, uses-there, uses-once, unused-cells}
+use Rattle.daig_graph.proofs.Cases.{nat_eq-false, some-inj, none-some}
+use Rattle.daig_graph.proofs.Agreeing.{key-get, uses-there, uses-once, unused-cells}
 use Rattle.daig_graph.proofs.CellGone.{Empties, agrees-remove, map-remove}
-use Rattle.daig_graph.proofs.Maps.{cell_map}
 use Rattle.daig_graph.proofs.graph.Graph.remove.Goals as goal
 
 pub returns-in_default-clause-removes : goal.returns-in_default-clause-removes

@@ -1,4 +1,4 @@
-use Rattle.std.proofs.Common.{◌≡◌, ℕ, List, map, length, Option, Some, None, nat_eq, refl, sym, ap, ◌∙◌, subst, rules}
+use Rattle.std.proofs.Common.{◌≡◌, ℕ, map, length, Option, nat_eq, sym, ap, subst, rules}
 use Rattle.std.specs.HashMap.{get as map_get}
 use Rattle.slab.specs.Slab.{get}
 use Rattle.daig_graph.specs.Walks.{IsWalk, walk}

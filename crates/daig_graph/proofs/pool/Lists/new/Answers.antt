@@ -1,4 +1,4 @@
-use Rattle.std.proofs.Common.{◌≡◌, ℕ, None, nat_eq, get_or, refl, sym, ◌∙◌, ap}
+use Rattle.std.proofs.Common.{◌≡◌, ℕ, None, nat_eq, get_or, sym, ◌∙◌, ap}
 use Rattle.std.specs.HashMap.{get as map_get}
 use Rattle.std.specs.Map.{lookup}
 use Rattle.slab.specs.Slab.{get}

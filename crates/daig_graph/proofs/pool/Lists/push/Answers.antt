@@ -1,8 +1,7 @@
-use Rattle.std.proofs.Common.{◌≡◌, ◌≢◌, ℕ, ◌+◌, ◌≤◌, IsOk, OnOk, Option, None, Some, nat_eq, get_or, option_map, refl, sym, ◌∙◌, ap, subst, arith, rules}
+use Rattle.std.proofs.Common.{◌≡◌, None, Some, nat_eq, refl, sym, ◌∙◌, ap, arith, rules}
 use Rattle.std.specs.HashMap.{get as map_get, Updates as UpdatesMap}
 use Rattle.slab.specs.Slab.{get}
-use Rattle.daig_graph.specs.Held.{Held, held, Puts}
-use Rattle.daig_graph.proofs.Cases.{none-some, nat_eq-false, nat_eq-true, from_ok}
+use Rattle.daig_graph.proofs.Cases.{none-some, nat_eq-false, from_ok}
 use Rattle.daig_graph.proofs.Views.{Puts-views}
 use Rattle.daig_graph.proofs.Pushing.{Pushed, linked-push, held_same}
 use Rattle.daig_graph.proofs.pool.Lists.push.Goals as goal

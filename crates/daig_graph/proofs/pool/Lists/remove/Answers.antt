@@ -1,7 +1,6 @@
-use Rattle.std.proofs.Common.{◌≡◌, ◌≢◌, ℕ, Option, None, Some, nat_eq, refl, sym, ◌∙◌, ap, subst, arith}
+use Rattle.std.proofs.Common.{nat_eq, refl, sym, ◌∙◌, ap}
 use Rattle.std.specs.HashMap.{get as map_get}
 use Rattle.slab.specs.Slab.{get}
-use Rattle.daig_graph.specs.Held.{Held, held, Takes}
 use Rattle.daig_graph.proofs.Views.{Takes-views}
 use Rattle.daig_graph.proofs.Removing.{Removed, linked-remove, held_same, sides_apart, before_apart, next_apart}
 use Rattle.daig_graph.proofs.pool.Lists.remove.Goals as goal

@@ -1,7 +1,5 @@
-use Rattle.std.proofs.Common.{◌≡◌, ℕ, ◌≤◌, ◌-◌, min, nat_eq, refl, sym, ◌∙◌, ap, subst, arith, get_or, Option, None}
-use Rattle.std.specs.HashMap.{HashMap, get as map_get, spare}
-use Rattle.slab.specs.Slab.{Slab, get, slab_len}
-use Rattle.daig_graph.specs.Linked.{AreLinked}
+use Rattle.std.proofs.Common.{refl, ap, arith}
+use Rattle.slab.specs.Slab.{get}
 use Rattle.daig_graph.proofs.Linking.{linked-along}
 use Rattle.daig_graph.proofs.pool.Lists.reserve.Goals as goal
 

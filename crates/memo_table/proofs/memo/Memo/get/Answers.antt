@@ -14,8 +14,8 @@ found-is g c = search rules
 recent-is : (g : _) (c : goal.After-self-2-1 g) → c.get.follows.lender-at-none ≡ lru_cache (promoted (key_impl.ghosts.eq c.args.key.now) c.args.self.now.entries) c.args.self.now.cap
 recent-is g c = search rules
 
-pub returns-clause-result : goal.returns-clause-result
-returns-clause-result g c dom operations states are = result-found dom operations states key_impl.ghosts.eq key_tells c.args.self.now.entries are c.args.key.now c.copied.result (found-is g c)
+pub returns-clause-found : goal.returns-clause-found
+returns-clause-found g c dom operations states are = result-found dom operations states key_impl.ghosts.eq key_tells c.args.self.now.entries are c.args.key.now c.copied.result (found-is g c)
 
 pub returns-clause-results : goal.returns-clause-results
 returns-clause-results g c dom operations states are =

@@ -1,0 +1,12 @@
+pub mod StateLaws
+pub mod Members
+pub mod Rising
+pub mod Frames
+pub mod Fitting
+pub mod Covering
+pub mod Links
+pub mod StepFits
+pub mod StepLaws
+pub mod CallLaws
+pub mod Laws
+pub mod ConvergenceLaws

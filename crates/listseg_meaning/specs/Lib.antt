@@ -1,0 +1,7 @@
+pub mod State
+pub mod Sets
+pub mod Operations
+pub mod Covers
+pub mod Text
+pub mod Domain
+pub mod Convergence
