@@ -152,8 +152,8 @@ fn returned_graphs(
 {
     let mut all = Vec::new(alloc);
     for graph in graphs {
-        let next = returned_graph(alloc, returning, graph)?;
-        put_folded(alloc, &mut all, &next)?;
+        let below = returned_graph(alloc, returning, graph)?;
+        put_folded(alloc, &mut all, &below)?;
     }
     Ok(capped(all))
 }

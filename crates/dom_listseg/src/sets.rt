@@ -15,7 +15,7 @@ use std::cmp::Ordering;
 const MOST: usize = 64;
 
 /// Puts a graph in its place, unless it is there.
-fn put(graphs: &mut Vec<Graph>, graph: Graph) -> Result<(), Memory>
+pub fn put(graphs: &mut Vec<Graph>, graph: Graph) -> Result<(), Memory>
     ensures put { IfOk result (λ _. graphs.new.items ≡ sets.put graph graphs.old.items) }
 {
     let mut place = 0;
