@@ -3,3 +3,4 @@ pub mod Assumed
 pub mod Findings
 pub mod Left
 pub mod Written
+pub mod Started

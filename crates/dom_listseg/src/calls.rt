@@ -17,6 +17,7 @@ use shape_steps::{forget, last_frame, pop_frame, push_frame};
 use std::alloc::Global;
 
 // Nil for each name.
+#[tactic(auto, using(crate::proofs::Started::nils_are))]
 fn nils(alloc: Global, names: &[Text]) -> Result<Vec<Option<usize>>, Memory>
     ensures nils { IfOk result (λ v. v.items ≡ map first_link names.now) }
 {

@@ -54,7 +54,7 @@ entered-length : (e : Entering) (frames : List (List (Option ℕ))) → length (
 entered-length e frames =
     length-map (entered e) (argument_of frames) ∙ over-length (link_arguments e.arguments) (map first_link e.layout.links) ∙ length-map e.layout.links first_link
 
-argument-node : (g : Shape) (sides : List (Option ℕ)) (k : ℕ) → IsGraph g → In (Some k) (map (argument_of g.frames) sides) → k < nodes g
+pub argument-node : (g : Shape) (sides : List (Option ℕ)) (k : ℕ) → IsGraph g → In (Some k) (map (argument_of g.frames) sides) → k < nodes g
 argument-node g [] k ok i = absurd i
 argument-node g (None ∷ sides) k ok (inl e) = cc
 argument-node g (Some q ∷ sides) k ok (inl e) = slot-node g q k ok (sym e)
