@@ -7,10 +7,11 @@
 
 ghost use Rattle.std.specs.Prelude.{◌≡◌, IfOk, IsSome, Some};
 ghost use Rattle.imp_slots.specs.ActionViews.{act_of};
-ghost use Rattle.alarm_report.specs.Reporting.{kind_in, verdict_for};
+ghost use Rattle.domain_laws.specs.Checks.{kind_in};
+ghost use Rattle.alarm_report.specs.Reporting.{verdict_for};
 
-use domain_laws::{Check, Domain, Finding, Verdict};
-use imp_slots::{SlotAction, SlotStmt};
+use domain_laws::{Check, Domain, Finding, Verdict, check_of};
+use imp_slots::SlotStmt;
 use imp_syntax::StmtId;
 use plain_values::Memory;
 use std::alloc::Global;
@@ -23,32 +24,6 @@ pub enum Found<'a, S> {
     Over,
     /// The states of the chains, joined.
     State(&'a S),
-}
-
-/// What the check of a statement asks, if it has one.
-pub fn check_of(stmt: &SlotStmt) -> Option<Check>
-    ensures is { result ≡ kind_in (act_of stmt.now) }
-{
-    match stmt {
-        SlotStmt::Break => None,
-        SlotStmt::Simple(action) => match action {
-            SlotAction::Assert(_) => Some(Check::Assert),
-            SlotAction::ReadElement(_, _, _) => Some(Check::Bounds),
-            SlotAction::WriteElement(_, _, _) => Some(Check::Bounds),
-            SlotAction::ReadItem(_, _) => Some(Check::Null),
-            SlotAction::ReadNext(_, _) => Some(Check::Null),
-            SlotAction::WriteNext(_, _) => Some(Check::Null),
-            SlotAction::WriteItem(_, _) => Some(Check::Null),
-            SlotAction::Skip => None,
-            SlotAction::SetInt(_, _) => None,
-            SlotAction::Input(_) => None,
-            SlotAction::MakeArray(_, _) => None,
-            SlotAction::CopyArray(_, _) => None,
-            SlotAction::SetNull(_) => None,
-            SlotAction::MakeCell(_) => None,
-            SlotAction::CopyLink(_, _) => None,
-        },
-    }
 }
 
 /// What the check asks of a statement that has one.

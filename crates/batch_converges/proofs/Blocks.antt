@@ -12,8 +12,9 @@ use Rattle.batch_meaning.specs.Values.{Value, Over, lift, lift2}
 use Rattle.batch_meaning.specs.Batch.{Engine, Passed, head_of, batch, procedure, calls_of}
 use Rattle.batch_meaning.specs.Places.{Spot, spot, spots, head_value}
 use Rattle.batch_sound.proofs.Values.{Fit, fit_post, fit_assume, fit_join, fit_enter, fit_leave, fix_is_head, fit_joined}
-use Rattle.batch_sound.proofs.Procedures.{by_test, some_inj, look, look_get, FitBack}
-use Rattle.batch_sound.proofs.Places.{Each, each_more, each_both, none_there}
+use Rattle.plain_values.proofs.Cases.{by_test, some_inj}
+use Rattle.batch_meaning.proofs.Procedures.{look, look_get, FitBack}
+use Rattle.plain_values.proofs.Members.{Each, each_more, each_both, none_there}
 use Rattle.batch_sound.proofs.Fitting.{callee, call_fit, block_fit, procedure_fit}
 use Rattle.batch_converges.specs.Converges.{Ending}
 use Rattle.batch_converges.proofs.Known.{Known, EachKnown, known_lift, known_lift2, known_both, known_joined}

@@ -3,3 +3,4 @@ pub mod Rounds
 pub mod Blocks
 pub mod OfIntervals
 pub mod Whole
+pub mod OfOctagons

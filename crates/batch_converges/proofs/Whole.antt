@@ -16,11 +16,12 @@ use Rattle.domain_laws.specs.Laws.{Laws}
 use Rattle.batch_meaning.specs.Values.{Value, State, lift}
 use Rattle.batch_meaning.specs.Batch.{Engine, calls_of}
 use Rattle.batch_meaning.specs.Places.{Spot, spots, find, from, main_layout, if_some, head_value, value_in, entered, entry, value_at}
-use Rattle.batch_meaning.specs.declared.refusal.Refusal.TheVariants.{LongString}
+use Rattle.analysis_words.specs.declared.refusal.Refusal.TheVariants.{LongString}
 use Rattle.batch_meaning.specs.Answers.{Answer, Refuses, Answers, Found, In, Misses, procedure_of, all_values, summed, sum_of, answer_in, answer}
 use Rattle.batch_sound.proofs.Values.{Fit, fit_enter}
-use Rattle.batch_sound.proofs.Procedures.{some_inj, look, look_get, look_from, FitBack, fit_back, fit_back_from, by_test}
-use Rattle.batch_sound.proofs.Places.{found_member}
+use Rattle.plain_values.proofs.Cases.{some_inj, by_test}
+use Rattle.batch_meaning.proofs.Procedures.{look, look_get, look_from, FitBack, fit_back, fit_back_from}
+use Rattle.batch_meaning.proofs.Places.{found_member}
 use Rattle.batch_sound.proofs.Fitting.{callee, SpotFit, spots_fit, procedure_fit}
 use Rattle.batch_sound.proofs.Answered.{then_inv}
 use Rattle.batch_converges.specs.Converges.{Ending, Grows, most_slots, most_marks, IsEnough, Converge}

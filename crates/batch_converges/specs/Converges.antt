@@ -11,6 +11,8 @@ use Rattle.batch_meaning.specs.Batch.{Engine}
 use Rattle.batch_meaning.specs.Answers.{Answers, answer}
 use Rattle.interval_meaning.specs.Domain.{intervals}
 use Rattle.interval_meaning.specs.Convergence.{most_changes}
+use Rattle.octagon_meaning.specs.Domain.{octagons}
+use Rattle.octagon_meaning.specs.Convergence.{most_changes as most_rises}
 
 -- How often a state of a frame can still change under widening with these marks: each widening keeps the state or leaves
 -- fewer changes, and there are at most so many, by the numeric slots and the marks, and one more.
@@ -43,3 +45,6 @@ Converge {S} dom most =
 
 abbrev pub IntervalsConverge : Type 0
 IntervalsConverge = Converge intervals most_changes
+
+abbrev pub OctagonsConverge : Type 0
+OctagonsConverge = Converge octagons most_rises

@@ -1,6 +1,6 @@
 //! The theorems, each the contract of a function that does nothing.
 ghost use Rattle.std.specs.Prelude.{ℕ};
-ghost use Rattle.batch_converges.specs.Converges.{Converge, Ending, Grows, IntervalsConverge};
+ghost use Rattle.batch_converges.specs.Converges.{Converge, Ending, Grows, IntervalsConverge, OctagonsConverge};
 
 use domain_laws::Domain;
 use program_chains::marks_rise;
@@ -17,6 +17,14 @@ pub fn answers_converge<D: Domain>()
 /// greatest number of numeric slots of a procedure, m the greatest number of marks, D the delay.
 pub fn intervals_converge()
     ensures end { IntervalsConverge }
+{
+    marks_rise();
+}
+
+/// By octagons no answer of a checked program is an Over where the budget is 4v²(m + 1) + D + 2 or more: v
+/// the greatest number of numeric slots of a procedure, m the greatest number of marks, D the delay.
+pub fn octagons_converge()
+    ensures end { OctagonsConverge }
 {
     marks_rise();
 }

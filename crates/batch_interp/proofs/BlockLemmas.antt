@@ -16,7 +16,8 @@ use Rattle.batch_interp.specs.declared.frames.Frame.{Frame}
 use Rattle.batch_interp.specs.declared.value.Answer.{Answer}
 use Rattle.batch_interp.specs.declared.value.Answer.TheVariants.{State, Over}
 use Rattle.batch_interp.proofs.Procedures.{call_there}
-use Rattle.batch_interp.proofs.Lists.{drop_item, drop_none, append_none}
+use Rattle.plain_values.proofs.Lists.{drop_item}
+use Rattle.std.proofs.lemmas.List.{drop_all, append-nil}
 
 states_append : {S : Type 0} (xs : List S) (s : S) → states (xs ++ s ∷ []) ≡ states xs ++ plain.State s ∷ []
 states_append [] s = refl
@@ -27,7 +28,7 @@ module _ {S : Type 0} (dom : Operations S) (engine : Engine) where
   joined_step xs i all x t h e k = ap (λ u. joined dom engine (plain.State u) (states (drop (i + 1) xs))) k ∙ sym (ap (λ ys. joined dom engine (plain.State all) (states ys)) (drop_item xs i x h e))
 
   pub joined_end : (xs : List S) (i : ℕ) (all : S) → length xs ≤ i → joined dom engine (plain.State all) (states (drop i xs)) ≡ plain.State all
-  joined_end xs i all h = ap (λ ys. joined dom engine (plain.State all) (states ys)) (drop_none xs i h)
+  joined_end xs i all h = ap (λ ys. joined dom engine (plain.State all) (states ys)) (drop_all i xs h)
 
   joined_over : (n : ℕ) (y : List ℕ) (xs : List (Value S)) → joined dom engine (plain.Over n y) xs ≡ plain.Over n y
   joined_over n y [] = refl
@@ -76,7 +77,7 @@ module _ {S : Type 0} (dom : Operations S) (engine : Engine) (marks : List ℤ) 
   batch_before (node.If n g t e) r a =
       let x = B t (lift (dom.assume g true) a) in
       let y = B e (lift (dom.assume g false) a) in
-      ap (λ ls. after ls (B r (lift2 dom.join x.value y.value))) (sym (append_none (x.leaving ++ y.leaving)))
+      ap (λ ls. after ls (B r (lift2 dom.join x.value y.value))) (sym (append-nil (x.leaving ++ y.leaving)))
   batch_before (node.While n g b) r a = refl
   batch_before (node.Call n i q) r a = refl
   batch_before (node.Break n) r a = refl
@@ -104,12 +105,12 @@ module _ {S : Type 0} (dom : Operations S) (engine : Engine) (marks : List ℤ) 
 
   pub block_end : (ss : List SlotNode) (i : ℕ) (now : S) (before : List S) → length ss ≤ i → after (states before) (B (code_of (drop i ss)) (plain.State now)) ≡ record { value = plain.State now; leaving = states before }
   block_end ss i now before h =
-      ap (λ xs. after (states before) (B (code_of xs) (plain.State now))) (drop_none ss i h)
-      ∙ ap (λ ls. record { value = plain.State now; leaving = ls }) (append_none (states before))
+      ap (λ xs. after (states before) (B (code_of xs) (plain.State now))) (drop_all i ss h)
+      ∙ ap (λ ls. record { value = plain.State now; leaving = ls }) (append-nil (states before))
 
   -- a statement that nothing leaves
   pub ends_alone : (p : Passed S) (before : List S) (a : Answer S) → p.leaving ≡ [] → value_of a ≡ p.value → Ends before before p a
-  ends_alone p before (State t) l v = (let w : p.value ≡ plain.State t = sym v in λ i. record { value = w i; leaving = states before ++ l i }) ∙ ap (λ ls. record { value = plain.State t; leaving = ls }) (append_none (states before))
+  ends_alone p before (State t) l v = (let w : p.value ≡ plain.State t = sym v in λ i. record { value = w i; leaving = states before ++ l i }) ∙ ap (λ ls. record { value = plain.State t; leaving = ls }) (append-nil (states before))
   ends_alone p before (Over n chain) l v = sym v
 
   pub ends_break : (n : ℕ) (s t : S) (before behind : List S) → t ≡ dom.post DoBreak s → behind ≡ before ++ s ∷ [] → Ends before behind (B (Break n Stop) (plain.State s)) (State t)
@@ -141,7 +142,7 @@ module _ {S : Type 0} (dom : Operations S) (engine : Engine) (marks : List ℤ) 
       let y : q.value ≡ plain.State r = ap (λ (p : Passed S). p.value) u in
       let v : lift2 dom.join p.value q.value ≡ plain.State j = (λ i. lift2 dom.join (x i) (y i)) ∙ ap plain.State (sym d) in
       let ls : states before ++ ((p.leaving ++ q.leaving) ++ []) ≡ states behind =
-      ap (λ xs. states before ++ xs) (append_none (p.leaving ++ q.leaving)) ∙ sym (append_assoc (states before) p.leaving q.leaving) ∙ ap (λ xs. xs ++ q.leaving) (ap (λ (p : Passed S). p.leaving) h) ∙ ap (λ (p : Passed S). p.leaving) u in
+      ap (λ xs. states before ++ xs) (append-nil (p.leaving ++ q.leaving)) ∙ sym (append_assoc (states before) p.leaving q.leaving) ∙ ap (λ xs. xs ++ q.leaving) (ap (λ (p : Passed S). p.leaving) h) ∙ ap (λ (p : Passed S). p.leaving) u in
       ap (after (states before)) start ∙ (λ i. record { value = v i; leaving = ls i })
 
   -- a round of a loop

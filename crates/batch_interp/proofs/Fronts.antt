@@ -1,25 +1,25 @@
 -- What is known in front of the statements of a procedure that have a check.
 use Rattle.std.proofs.Common.{ℕ, zero, suc, ◌≡◌, ◌+◌, ◌<◌, ◌≤◌, true, false, List, [], ◌∷◌, ◌++◌, length, drop, map, reverse, get_or, slice_get, option_map, Option, Some, None, MatchOption, Result, Ok, Err, IfOk, refl, sym, ap, subst, ◌∙◌, arith, append_assoc, add-one}
 use Rattle.std.specs.Prelude.{Contains}
-use Rattle.std.proofs.lemmas.List.{reverse-append, reverse-reverse}
+use Rattle.std.proofs.lemmas.List.{reverse-append, reverse-reverse, append-nil}
 use Rattle.imp_syntax.specs.declared.edit.Location.TheVariants.{Before}
 use Rattle.imp_slots.specs.Plain.{Guard, Effect, Does, DoBreak, Invoke, Code, Stop, Simple, If, While, Call, Break, Routine, code_numbers}
 use Rattle.imp_slots.specs.Fits.{Distinct, IsChecked}
 use Rattle.program_chains.specs.Chains.{ending_in, chains, selected, holder}
 use Rattle.program_chains.specs.Claims.{PlacesAreFound}
 use Rattle.domain_laws.specs.Operations.{Operations}
-use Rattle.domain_laws.specs.Checks.{Check, check_of}
-use Rattle.domain_laws.specs.declared.findings.Check.{Check as Kind}
-use Rattle.domain_laws.specs.declared.findings.Finding.{Finding}
+use Rattle.domain_laws.specs.Checks.{Check, check_of, kind_of, kind_if}
+use Rattle.analysis_words.specs.declared.findings.Check.{Check as Kind}
+use Rattle.analysis_words.specs.declared.findings.Finding.{Finding}
 use Rattle.alarm_report.specs.declared.Found.{Found}
 use Rattle.alarm_report.specs.declared.Found.TheVariants.{Absent, Over as OverBudget, State as At}
-use Rattle.alarm_report.specs.Reporting.{kind_of_check, verdict_for}
-use Rattle.batch_meaning.specs.declared.refusal.Refusal.TheVariants.{NoStatement}
+use Rattle.alarm_report.specs.Reporting.{verdict_for}
+use Rattle.analysis_words.specs.declared.refusal.Refusal.TheVariants.{NoStatement}
 use Rattle.batch_meaning.specs.Values.{Value, lift, lift2}
 use Rattle.batch_meaning.specs.Batch.{Engine, head_of, behind}
 use Rattle.batch_meaning.specs.Places.{Spot, spot, if_some, entry, value_in, value_at}
 use Rattle.batch_meaning.specs.Answers.{found_or, all_values, sum_of, answer_in, answer}
-use Rattle.batch_meaning.specs.Report.{Checked, checked_one, checked_in, checked_statements, kind_of, verdict_on, finding}
+use Rattle.batch_meaning.specs.Report.{Checked, checked_one, checked_in, checked_statements, verdict_on, finding}
 use Rattle.batch_interp.specs.Answered.{value_of}
 use Rattle.batch_interp.specs.Frames.{Plan, earlier, marks_at, calls_in, passed}
 use Rattle.batch_interp.specs.Seeking.{places}
@@ -29,8 +29,11 @@ use Rattle.batch_interp.specs.Totalling.{first_of, behind_first, all_added, answ
 use Rattle.batch_interp.specs.declared.claim.Claim.{Claim}
 use Rattle.batch_interp.specs.declared.value.Answer.{Answer}
 use Rattle.batch_interp.specs.declared.walks.Entered.{Entered}
-use Rattle.batch_interp.proofs.Lists.{append_none, drop_item}
-use Rattle.batch_interp.proofs.Members.{Member, here, there, in_left, in_right, found, has_member, All2, all2_both, all2_as, AllOf, all_both, all_as}
+use Rattle.plain_values.proofs.Lists.{drop_item}
+use Rattle.plain_values.proofs.Members.{Member, here, there, in_left, in_right}
+use Rattle.batch_meaning.proofs.Places.{found}
+use Rattle.batch_sound.proofs.Chains.{has_member}
+use Rattle.batch_interp.proofs.Members.{All2, all2_both, all2_as, AllOf, all_both, all_as}
 use Rattle.batch_interp.proofs.Once.{once_at}
 use Rattle.batch_interp.proofs.Seekings.{numbers_of_places}
 use Rattle.batch_interp.proofs.Walkings.{before_there}
@@ -214,11 +217,11 @@ verdict_same dom engine e Absent v h = ap (λ o. verdict_on dom engine e (answer
 verdict_same dom engine e OverBudget v h = ap (λ o. verdict_on dom engine e (answered o)) (sym h.2)
 verdict_same dom engine e (At s) v h = ap (λ o. verdict_on dom engine e (answered o)) (sym h)
 
-kind_same : (o : Option Check) (k : Kind) → kind_of_check o ≡ Some k → k ≡ kind_for o
+kind_same : (o : Option Check) (k : Kind) → kind_if o ≡ Some k → k ≡ kind_for o
 kind_same None k h = absurd cc
 kind_same (Some c) k h = cc
 
-pub report_made : {S : Type 0} (dom : Operations S) (engine : Engine) (n : ℕ) (e : Effect) (g : Found S) (v : Option (Value S)) (f : Finding) → f.id ≡ n → kind_of_check (check_of e) ≡ Some f.check → f.verdict ≡ verdict_for dom (Does e) g → IsFoundOf g v → f ≡ found_from dom engine (n, e) v
+pub report_made : {S : Type 0} (dom : Operations S) (engine : Engine) (n : ℕ) (e : Effect) (g : Found S) (v : Option (Value S)) (f : Finding) → f.id ≡ n → kind_if (check_of e) ≡ Some f.check → f.verdict ≡ verdict_for dom (Does e) g → IsFoundOf g v → f ≡ found_from dom engine (n, e) v
 report_made dom engine n e g v f i k w h =
     let kind : f.check ≡ kind_for (check_of e) = kind_same (check_of e) f.check k in
     let verdict : f.verdict ≡ verdict_on dom engine e (answered v) = w ∙ verdict_same dom engine e g v h in
@@ -251,7 +254,7 @@ add_one dom all all' before before' left left' o next x l p v a =
     ∙ ap (λ zs. all_added dom (map value_of (reverse before)) (map value_of zs)) (sym (reversed left left' next l)))
 
 pub add_none : {S : Type 0} (dom : Operations S) (all before left : List (Answer S)) → left ≡ [] → map value_of all ++ all_added dom (map value_of (reverse before)) (map value_of (reverse left)) ≡ map value_of all
-add_none dom all before left e = ap (λ zs. map value_of all ++ all_added dom (map value_of (reverse before)) (map value_of (reverse zs))) e ∙ append_none (map value_of all)
+add_none dom all before left e = ap (λ zs. map value_of all ++ all_added dom (map value_of (reverse before)) (map value_of (reverse zs))) e ∙ append-nil (map value_of all)
 
 first_drop : {S : Type 0} (xs : List (Answer S)) (i : ℕ) → first_of (map value_of (drop i xs)) ≡ option_map value_of (slice_get xs i)
 first_drop [] zero = refl

@@ -1,14 +1,14 @@
 -- What is known under several chains, one at a time.
 use Rattle.std.proofs.Common.{ℕ, ◌≡◌, ◌+◌, ◌<◌, ◌≤◌, List, [], ◌∷◌, length, drop, reverse, map, get_or, Option, Some, None, refl, sym, ap, ◌∙◌}
-use Rattle.std.proofs.lemmas.List.{reverse-reverse}
+use Rattle.std.proofs.lemmas.List.{reverse-reverse, drop_all}
 use Rattle.domain_laws.specs.Operations.{Operations}
-use Rattle.batch_meaning.specs.declared.refusal.Refusal.TheVariants.{NoStatement}
+use Rattle.analysis_words.specs.declared.refusal.Refusal.TheVariants.{NoStatement}
 use Rattle.batch_meaning.specs.Values.{Value, lift}
 use Rattle.batch_meaning.specs.Batch.{Engine, joined}
 use Rattle.batch_meaning.specs.Places.{if_some}
 use Rattle.batch_meaning.specs.Answers.{Answer, Refuses, Answers, all_values, summed, sum_of}
 use Rattle.batch_interp.specs.Summing.{added}
-use Rattle.batch_interp.proofs.Lists.{drop_item, drop_none}
+use Rattle.plain_values.proofs.Lists.{drop_item}
 
 pub all_back : (zs : List (List ℕ)) → map reverse (map reverse zs) ≡ zs
 all_back [] = refl
@@ -49,4 +49,4 @@ module _ {S : Type 0} (dom : Operations S) (engine : Engine) where
     sum_gone zs i z y u h e s g = ap (gathered u) (next_of zs i z h e ∙ ap (λ o. if_some o (λ v. if_some (rest zs (i + 1)) (λ vs. Some (v ∷ vs)))) (sym (g ∙ ap (λ x. f (reverse x)) s)))
 
     pub sum_end : (zs : List (List ℕ)) (i : ℕ) (u : Option (Value S)) → length zs ≤ i → gathered u (all_values dom engine f (map reverse (drop i zs))) ≡ gathered u (Some [])
-    sum_end zs i u h = ap (λ xs. gathered u (all_values dom engine f (map reverse xs))) (drop_none zs i h)
+    sum_end zs i u h = ap (λ xs. gathered u (all_values dom engine f (map reverse xs))) (drop_all i zs h)

@@ -14,8 +14,12 @@ use Rattle.batch_interp.specs.Frames.{Plan, earlier, marks_at, calls_in, passed}
 use Rattle.batch_interp.specs.Seeking.{places}
 use Rattle.batch_interp.specs.Walking.{called_from}
 use Rattle.batch_interp.specs.Totalling.{LeadsTo, AllLead}
-use Rattle.batch_interp.proofs.Lists.{by_test, get_below, get_take}
-use Rattle.batch_interp.proofs.Members.{Member, here, there, in_left, in_right, either, only, found}
+use Rattle.plain_values.proofs.Cases.{by_test}
+use Rattle.std.proofs.lemmas.Option.{slice_get_within}
+use Rattle.plain_values.proofs.Lists.{get_take}
+use Rattle.plain_values.proofs.Members.{Member, here, there, in_left, in_right, either}
+use Rattle.batch_meaning.proofs.Places.{found}
+use Rattle.batch_interp.proofs.Members.{only}
 use Rattle.batch_interp.proofs.Once.{once_at, called_before}
 use Rattle.batch_interp.proofs.Procedures.{from_earlier}
 use Rattle.batch_interp.proofs.Seekings.{numbers_of_places}
@@ -188,7 +192,7 @@ module _ {S : Type 0} (dom : Operations S) (plan : Plan) where
             let before : t.longer.before ≡ z = cc in
             let place : 0 + t.place ≡ t.place = omega arith in
             let comes : Member z (chains plan.program t.place) = subst (λ k. Member z (chains plan.program k)) place (subst (λ y. Member y (chains plan.program (0 + t.place))) before t.longer.comes) in
-            step t.place p n z t.routine t.at (subst (λ k. Member k (calls_to p t.routine.code)) site t.longer.called) (f t.place (get_below plan.program t.place t.routine t.at) comes)
+            step t.place p n z t.routine t.at (subst (λ k. Member k (calls_to p t.routine.code)) site t.longer.called) (f t.place (slice_get_within plan.program t.place t.routine t.at) comes)
 
     all_lead : (p : ℕ) (zs : List (List ℕ)) → ((z : List ℕ) → Member z zs → LeadsTo dom plan p z) → AllLead dom plan p zs
     all_lead p [] f = tt

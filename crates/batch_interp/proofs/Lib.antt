@@ -10,3 +10,4 @@ pub mod Members
 pub mod Once
 pub mod Leading
 pub mod Fronts
+pub mod Marking

@@ -1,39 +1,30 @@
 -- What a checked program guarantees of a procedure at a place.
 use Rattle.std.proofs.Common.{ℕ, zero, suc, ◌≡◌, ◌<◌, ◌≤◌, List, [], ◌∷◌, ◌++◌, length, take, slice_get, Option, Some, None, refl, sym, subst, arith, append_assoc}
 use Rattle.std.specs.Prelude.{if◌then◌else◌}
+use Rattle.imp_slots.proofs.Distinct.{left_once, right_once}
 use Rattle.imp_slots.specs.Plain.{Layout, Invoke, Code, Stop, Simple, If, While, Call, Break, Routine, code_numbers}
 use Rattle.imp_slots.specs.Fits.{FitsCall, FitsCode, FitInTurn, Absent, Distinct, routine_numbers, IsChecked}
 use Rattle.program_chains.specs.Chains.{calls_to}
-use Rattle.batch_interp.proofs.Lists.{by_test, get_below, append_none}
-use Rattle.batch_interp.proofs.Members.{Member}
-
-absent_left : (n : ℕ) (xs ys : List ℕ) → Absent n (xs ++ ys) → Absent n xs
-absent_left n [] ys a = tt
-absent_left n (x ∷ xs) ys a = (a.0, absent_left n xs ys a.1)
-
-distinct_left : (xs ys : List ℕ) → Distinct (xs ++ ys) → Distinct xs
-distinct_left [] ys d = tt
-distinct_left (x ∷ xs) ys d = (absent_left x xs ys d.0, distinct_left xs ys d.1)
-
-distinct_right : (xs ys : List ℕ) → Distinct (xs ++ ys) → Distinct ys
-distinct_right [] ys d = d
-distinct_right (x ∷ xs) ys d = distinct_right xs ys d.1
+use Rattle.plain_values.proofs.Cases.{by_test}
+use Rattle.std.proofs.lemmas.Option.{slice_get_within}
+use Rattle.std.proofs.lemmas.List.{append-nil}
+use Rattle.plain_values.proofs.Members.{Member}
 
 pub once_at : (rs : List Routine) (k : ℕ) (r : Routine) → Distinct (routine_numbers rs) → slice_get rs k ≡ Some r → Distinct (code_numbers r.code)
 once_at [] k r d e = absurd cc
-once_at (x ∷ rs) zero r d e = let s : x ≡ r = cc in subst (λ (r : Routine). Distinct (code_numbers r.code)) s (distinct_left (code_numbers x.code) (routine_numbers rs) d)
-once_at (x ∷ rs) (suc k) r d e = once_at rs k r (distinct_right (code_numbers x.code) (routine_numbers rs) d) e
+once_at (x ∷ rs) zero r d e = let s : x ≡ r = cc in subst (λ (r : Routine). Distinct (code_numbers r.code)) s (left_once (code_numbers x.code) (routine_numbers rs) d)
+once_at (x ∷ rs) (suc k) r d e = once_at rs k r (right_once (code_numbers x.code) (routine_numbers rs) d) e
 
 fit_at : (before rs : List Routine) (k : ℕ) (r : Routine) → FitInTurn before rs → slice_get rs k ≡ Some r → FitsCode (before ++ take k rs) r.layout r.code
 fit_at before [] k r f e = absurd cc
 fit_at before (x ∷ rs) zero r f e =
     let s : x ≡ r = cc in
-    subst (λ bs. FitsCode bs r.layout r.code) (sym (append_none before)) (subst (λ (r : Routine). FitsCode before r.layout r.code) s f.0.code)
+    subst (λ bs. FitsCode bs r.layout r.code) (sym (append-nil before)) (subst (λ (r : Routine). FitsCode before r.layout r.code) s f.0.code)
 fit_at before (x ∷ rs) (suc k) r f e = subst (λ bs. FitsCode bs r.layout r.code) (append_assoc before (x ∷ []) (take k rs)) (fit_at (before ++ x ∷ []) rs k r f.1 e)
 
 callee_before : (before : List Routine) (l : Layout) (i : Invoke) (q : ℕ) (o : Option Routine) → o ≡ slice_get before q → FitsCall l i o → q < length before
 callee_before before l i q None e f = absurd f
-callee_before before l i q (Some r) e f = get_below before q r (sym e)
+callee_before before l i q (Some r) e f = slice_get_within before q r (sym e)
 
 no_calls : (before : List Routine) (l : Layout) (p : ℕ) (c : Code) → length before ≤ p → FitsCode before l c → calls_to p c ≡ []
 no_calls before l p Stop h f = refl

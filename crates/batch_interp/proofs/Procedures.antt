@@ -1,7 +1,7 @@
 -- Procedures by their places.
 use Rattle.std.specs.Prelude.{◌≡◌, ◌≢◌, ℕ, ◌≤◌, List, [], ◌∷◌, ◌++◌, length, reverse, take, slice_get, Some, None, if◌then◌else◌}
 use Rattle.std.proofs.Common.{refl, sym, ap, ◌∙◌, arith}
-use Rattle.std.proofs.lemmas.List.{reverse-append, reverse-reverse, length-reverse}
+use Rattle.std.proofs.lemmas.List.{reverse-append, reverse-reverse, length-reverse, take-append-le}
 use Rattle.imp_slots.specs.Plain.{Routine}
 use Rattle.program_chains.specs.Marks.{marks}
 use Rattle.domain_laws.specs.Operations.{Operations}
@@ -9,7 +9,10 @@ use Rattle.batch_meaning.specs.Values.{Value}
 use Rattle.batch_meaning.specs.Batch.{Engine, batch, procedure, calls_of}
 use Rattle.batch_meaning.specs.Places.{from}
 use Rattle.batch_interp.specs.Frames.{Plan, earlier, marks_at, marks_of, calls_in, passed}
-use Rattle.batch_interp.proofs.Lists.{by_test, some_inj, get_last, get_other, get_below, get_take, take_take, take_front, take_whole}
+use Rattle.plain_values.proofs.Cases.{by_test, some_inj}
+use Rattle.plain_values.proofs.Lists.{get_last, get_other, get_take, take_take}
+use Rattle.std.proofs.lemmas.Option.{slice_get_within}
+use Rattle.std.proofs.Math.Seq.{take-length}
 
 last_turned : (b : Routine) (ps : List Routine) → reverse (b ∷ ps) ≡ reverse ps ++ (b ∷ [])
 last_turned b ps = reverse-append (b ∷ []) ps
@@ -21,7 +24,7 @@ get_behind : (b : Routine) (ps : List Routine) (q : ℕ) → q ≢ length ps →
 get_behind b ps q n = ap (λ xs. slice_get xs q) (last_turned b ps) ∙ get_other (reverse ps) b q (λ e. n (e ∙ length-reverse ps))
 
 take_behind : (b : Routine) (ps : List Routine) (q : ℕ) → q ≤ length ps → take q (reverse (b ∷ ps)) ≡ take q (reverse ps)
-take_behind b ps q h = ap (take q) (last_turned b ps) ∙ take_front (reverse ps) (b ∷ []) q (omega (arith, length-reverse ps))
+take_behind b ps q h = ap (take q) (last_turned b ps) ∙ take-append-le q (reverse ps) (b ∷ []) (omega (arith, length-reverse ps))
 
 -- the procedures from the q-th down, among those that stand last first
 from_there : (ps : List Routine) (q : ℕ) (r : Routine) → slice_get (reverse ps) q ≡ Some r → from ps q ≡ r ∷ reverse (take q (reverse ps))
@@ -30,11 +33,11 @@ from_there (b ∷ ps) q r e =
     by_test q (length ps) (λ c. (if c then b ∷ ps else from ps q) ≡ r ∷ reverse (take q (reverse (b ∷ ps))))
     (λ k.
     let same : b ≡ r = some_inj b r (sym (get_turned b ps) ∙ sym (ap (slice_get (reverse (b ∷ ps))) k) ∙ e) in
-    let all : take q (reverse (b ∷ ps)) ≡ reverse ps = take_behind b ps q (omega arith) ∙ ap (λ i. take i (reverse ps)) (k ∙ sym (length-reverse ps)) ∙ take_whole (reverse ps) in
+    let all : take q (reverse (b ∷ ps)) ≡ reverse ps = take_behind b ps q (omega arith) ∙ ap (λ i. take i (reverse ps)) (k ∙ sym (length-reverse ps)) ∙ take-length (reverse ps) in
     ap (λ x. x ∷ ps) same ∙ ap (λ xs. r ∷ xs) (sym (reverse-reverse ps) ∙ sym (ap reverse all)))
     (λ k.
     let there : slice_get (reverse ps) q ≡ Some r = sym (get_behind b ps q k) ∙ e in
-    from_there ps q r there ∙ ap (λ xs. r ∷ reverse xs) (sym (take_behind b ps q (omega (arith, get_below (reverse ps) q r there, length-reverse ps)))))
+    from_there ps q r there ∙ ap (λ xs. r ∷ reverse xs) (sym (take_behind b ps q (omega (arith, slice_get_within (reverse ps) q r there, length-reverse ps)))))
 
 from_nowhere : (ps : List Routine) (q : ℕ) → slice_get (reverse ps) q ≡ None → from ps q ≡ []
 from_nowhere [] q e = refl

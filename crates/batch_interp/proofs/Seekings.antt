@@ -1,6 +1,7 @@
 -- Statements found by their numbers, one at a time.
 use Rattle.std.proofs.Common.{ℕ, ◌≡◌, ◌≢◌, ◌+◌, ◌<◌, ◌≤◌, ◌||◌, true, false, List, [], ◌∷◌, ◌++◌, length, drop, get_or, Option, Some, None, refl, sym, ap, ◌∙◌, append_assoc}
 use Rattle.std.specs.Prelude.{if◌then◌else◌}
+use Rattle.plain_values.proofs.Members.{keys, keys_both}
 use Rattle.imp_slots.specs.Plain.{Guard, Does, DoBreak, Code, Stop, Simple, If, While, Call, Break, code_numbers}
 use Rattle.imp_slots.specs.BlockViews.{before_code, code_of, number_of}
 use Rattle.imp_slots.specs.declared.blocks.SlotNode.{SlotNode}
@@ -12,7 +13,9 @@ use Rattle.batch_meaning.specs.Batch.{head_of, behind}
 use Rattle.batch_meaning.specs.Places.{Spot, find}
 use Rattle.batch_interp.specs.Frames.{Plan, marks_at, calls_in, passed}
 use Rattle.batch_interp.specs.Seeking.{holds_inside, places, spot_at, inner_of}
-use Rattle.batch_interp.proofs.Lists.{by_test, drop_item, drop_none}
+use Rattle.plain_values.proofs.Cases.{by_test}
+use Rattle.plain_values.proofs.Lists.{drop_item}
+use Rattle.std.proofs.lemmas.List.{drop_all}
 
 -- the first of a number among more
 abbrev or_else : {A : Type 0} → Option A → Option A → Option A
@@ -23,30 +26,21 @@ find_both : {A : Type 0} (n : ℕ) (xs ys : List (ℕ × A)) → find n (xs ++ y
 find_both n [] ys = refl
 find_both n (x ∷ xs) ys = by_test n x.0 (λ c. (if c then Some x.1 else find n (xs ++ ys)) ≡ or_else (if c then Some x.1 else find n xs) (find n ys)) (λ e. refl) (λ e. find_both n xs ys)
 
--- the numbers of statements
-abbrev pub numbers_in : {A : Type 0} → List (ℕ × A) → List ℕ
-numbers_in [] = []
-numbers_in (x ∷ xs) = x.0 ∷ numbers_in xs
-
-numbers_both : {A : Type 0} (xs ys : List (ℕ × A)) → numbers_in (xs ++ ys) ≡ numbers_in xs ++ numbers_in ys
-numbers_both [] ys = refl
-numbers_both (x ∷ xs) ys = ap (λ ns. x.0 ∷ ns) (numbers_both xs ys)
-
-none_found : {A : Type 0} (n : ℕ) (xs : List (ℕ × A)) → has n (numbers_in xs) ≡ false → find n xs ≡ None
+none_found : {A : Type 0} (n : ℕ) (xs : List (ℕ × A)) → has n (keys xs) ≡ false → find n xs ≡ None
 none_found n [] h = refl
 none_found n (x ∷ xs) h =
-    (by_test n x.0 (λ c. (if c then true else has n (numbers_in xs)) ≡ false → (if c then Some x.1 else find n xs) ≡ None) (λ e k. absurd cc) (λ e k. none_found n xs k)) h
+    (by_test n x.0 (λ c. (if c then true else has n (keys xs)) ≡ false → (if c then Some x.1 else find n xs) ≡ None) (λ e k. absurd cc) (λ e k. none_found n xs k)) h
 
-some_found : {A : Type 0} (n : ℕ) (xs : List (ℕ × A)) → has n (numbers_in xs) ≡ true → (a : A) × (find n xs ≡ Some a)
+some_found : {A : Type 0} (n : ℕ) (xs : List (ℕ × A)) → has n (keys xs) ≡ true → (a : A) × (find n xs ≡ Some a)
 some_found n [] h = absurd cc
 some_found n (x ∷ xs) h =
-    (by_test n x.0 (λ c. (if c then true else has n (numbers_in xs)) ≡ true → (a : _) × ((if c then Some x.1 else find n xs) ≡ Some a)) (λ e k. (x.1, refl)) (λ e k. some_found n xs k)) h
+    (by_test n x.0 (λ c. (if c then true else has n (keys xs)) ≡ true → (a : _) × ((if c then Some x.1 else find n xs) ≡ Some a)) (λ e k. (x.1, refl)) (λ e k. some_found n xs k)) h
 
 -- found in the first part, or not there
-pub first_part : {A : Type 0} (n : ℕ) (xs ys : List (ℕ × A)) → has n (numbers_in xs) ≡ true → find n (xs ++ ys) ≡ find n xs
+pub first_part : {A : Type 0} (n : ℕ) (xs ys : List (ℕ × A)) → has n (keys xs) ≡ true → find n (xs ++ ys) ≡ find n xs
 first_part n xs ys h = let s = some_found n xs h in find_both n xs ys ∙ ap (λ o. or_else o (find n ys)) s.1 ∙ sym s.1
 
-pub second_part : {A : Type 0} (n : ℕ) (xs ys : List (ℕ × A)) → has n (numbers_in xs) ≡ false → find n (xs ++ ys) ≡ find n ys
+pub second_part : {A : Type 0} (n : ℕ) (xs ys : List (ℕ × A)) → has n (keys xs) ≡ false → find n (xs ++ ys) ≡ find n ys
 second_part n xs ys h = find_both n xs ys ∙ ap (λ o. or_else o (find n ys)) (none_found n xs h)
 
 module _ {S : Type 0} (dom : Operations S) (plan : Plan) (place : ℕ) (z : List ℕ) where
@@ -54,20 +48,20 @@ module _ {S : Type 0} (dom : Operations S) (plan : Plan) (place : ℕ) (z : List
   P = places dom plan place z
 
   -- a block's statements have its numbers
-  pub numbers_of_places : (c : Code) (v : Value S) → numbers_in (places dom plan place z c v) ≡ code_numbers c
+  pub numbers_of_places : (c : Code) (v : Value S) → keys (places dom plan place z c v) ≡ code_numbers c
   numbers_of_places Stop v = refl
   numbers_of_places (Simple n e r) v = ap (λ ns. n ∷ ns) (numbers_of_places r (lift (dom.post (Does e)) v))
   numbers_of_places (If n g t e r) v =
       let x = lift2 dom.join (passed dom plan place z t (lift (dom.assume g true) v)).value (passed dom plan place z e (lift (dom.assume g false) v)).value in
       ap (λ ns. n ∷ ns)
-      (numbers_both (P t (lift (dom.assume g true) v)) (P e (lift (dom.assume g false) v) ++ P r x)
-      ∙ ap (λ ns. numbers_in (P t (lift (dom.assume g true) v)) ++ ns) (numbers_both (P e (lift (dom.assume g false) v)) (P r x))
+      (keys_both (P t (lift (dom.assume g true) v)) (P e (lift (dom.assume g false) v) ++ P r x)
+      ∙ ap (λ ns. keys (P t (lift (dom.assume g true) v)) ++ ns) (keys_both (P e (lift (dom.assume g false) v)) (P r x))
       ∙ (λ i. numbers_of_places t (lift (dom.assume g true) v) i ++ (numbers_of_places e (lift (dom.assume g false) v) i ++ numbers_of_places r x i)))
   numbers_of_places (While n g b r) v =
       let h = (head_of dom plan.engine (marks_at plan place) z n g (passed dom plan place z b) v).value in
       let x = behind dom plan.engine g (passed dom plan place z b) h in
       ap (λ ns. n ∷ ns)
-      (numbers_both (P b (lift (dom.assume g true) h)) (P r x)
+      (keys_both (P b (lift (dom.assume g true) h)) (P r x)
       ∙ (λ i. numbers_of_places b (lift (dom.assume g true) h) i ++ numbers_of_places r x i))
   numbers_of_places (Call n k q r) v = ap (λ ns. n ∷ ns) (numbers_of_places r (lift2 (dom.leave k.returning) v (calls_in dom plan place z n q (lift (dom.enter k.entering) v))))
   numbers_of_places (Break n r) v = ap (λ ns. n ∷ ns) (numbers_of_places r (lift (dom.post DoBreak) v))
@@ -85,11 +79,11 @@ module _ {S : Type 0} (dom : Operations S) (plan : Plan) (place : ℕ) (z : List
   has_or n [] ys = refl
   has_or n (x ∷ xs) ys = by_test n x (λ c. (if c then true else has n (xs ++ ys)) ≡ ((if c then true else has n xs) || has n ys)) (λ e. refl) (λ e. has_or n xs ys)
 
-  inner_numbers : (n : ℕ) (s : SlotNode) (v : Value S) → has n (numbers_in (inner_of dom plan place z s v)) ≡ holds_inside n s
+  inner_numbers : (n : ℕ) (s : SlotNode) (v : Value S) → has n (keys (inner_of dom plan place z s v)) ≡ holds_inside n s
   inner_numbers n (node.Simple m a) v = refl
   inner_numbers n (node.If m c t e) v =
-      ap (has n) (numbers_both (P t (lift (dom.assume c true) v)) (P e (lift (dom.assume c false) v)))
-      ∙ has_or n (numbers_in (P t (lift (dom.assume c true) v))) (numbers_in (P e (lift (dom.assume c false) v)))
+      ap (has n) (keys_both (P t (lift (dom.assume c true) v)) (P e (lift (dom.assume c false) v)))
+      ∙ has_or n (keys (P t (lift (dom.assume c true) v))) (keys (P e (lift (dom.assume c false) v)))
       ∙ (λ i. has n (numbers_of_places t (lift (dom.assume c true) v) i) || has n (numbers_of_places e (lift (dom.assume c false) v) i))
   inner_numbers n (node.While m c b) v = ap (has n) (numbers_of_places b (lift (dom.assume c true) (head_of dom plan.engine (marks_at plan place) z m c (passed dom plan place z b) v).value))
   inner_numbers n (node.Call m k q) v = refl
@@ -122,7 +116,7 @@ module _ {S : Type 0} (dom : Operations S) (plan : Plan) (place : ℕ) (z : List
       ∙ sym (not_here n ss i s v h e k ∙ second_part n (inner_of dom plan place z s v) (P (code_of (drop (i + 1) ss)) (passed dom plan place z (before_code s Stop) v).value) (inner_numbers n s v ∙ m))
 
   pub seek_end : (n : ℕ) (ss : List SlotNode) (i : ℕ) (v : Value S) → length ss ≤ i → find n (places dom plan place z (code_of (drop i ss)) v) ≡ None
-  seek_end n ss i v h = ap (λ xs. find n (P (code_of xs) v)) (drop_none ss i h)
+  seek_end n ss i v h = ap (λ xs. find n (P (code_of xs) v)) (drop_all i ss h)
 
   pub then_part : (n m : ℕ) (c : Guard) (t e : Code) (v w : Value S) → has n (code_numbers t) ≡ true → w ≡ lift (dom.assume c true) v → find n (inner_of dom plan place z (node.If m c t e) v) ≡ find n (places dom plan place z t w)
   then_part n m c t e v w h k =

@@ -18,7 +18,9 @@ use Rattle.batch_interp.specs.Walking.{entered_of, IsGone, IsEntered, called_fro
 use Rattle.batch_interp.specs.declared.frames.Frame.{Frame}
 use Rattle.batch_interp.specs.declared.spots.Seen.{Seen}
 use Rattle.batch_interp.specs.declared.walks.Entered.{Entered}
-use Rattle.batch_interp.proofs.Lists.{get_below, get_take, take_whole, take_item}
+use Rattle.std.proofs.lemmas.Option.{slice_get_within}
+use Rattle.plain_values.proofs.Lists.{get_take, take_item}
+use Rattle.std.proofs.Math.Seq.{take-length}
 use Rattle.batch_interp.proofs.Procedures.{from_earlier, from_gone}
 
 -- the procedures down from a place
@@ -31,7 +33,7 @@ standing program k r e = ap reverse (one_more program k r e) ∙ reverse-append 
     one_more (x ∷ xs) (suc k) r e = ap (λ ys. x ∷ ys) (one_more xs k r e)
 
 pub whole : (program : List Routine) (k : ℕ) → length program ≡ suc k → earlier program (suc k) ≡ reverse program
-whole program k e = ap (λ n. reverse (take n program)) (sym e) ∙ ap reverse (take_whole program)
+whole program k e = ap (λ n. reverse (take n program)) (sym e) ∙ ap reverse (take-length program)
 
 pub get_there : (xs : List Routine) (k : ℕ) (r : Routine) → k < length xs → r ≡ get_or xs k r → slice_get xs k ≡ Some r
 get_there [] k r h e = absurd (omega arith)
@@ -80,7 +82,7 @@ module _ {S : Type 0} (dom : Operations S) (plan : Plan) where
       let list : from (earlier plan.program k) q ≡ earlier plan.program (suc e.frame.place) =
       from_earlier plan.program k q r (sym g) ∙ sym (standing plan.program q r here) ∙ ap (λ n. earlier plan.program (suc n)) (sym p) in
       let w : lift (dom.enter i.entering) v ≡ value_of e.before = sym b in
-      ((λ j. Some (list j, w j)), omega (arith, get_below plan.program q r here, p), ap (λ (f : Frame). f.sites) f)
+      ((λ j. Some (list j, w j)), omega (arith, slice_get_within plan.program q r here, p), ap (λ (f : Frame). f.sites) f)
 
   pub callee_gone : (k q : ℕ) (i : Invoke) (v : Value S) → None ≡ slice_get (take k plan.program) q → IsGone (called_from dom plan.program k v (Some (i, q)))
   callee_gone k q i v g = from_gone plan.program k q (sym g)

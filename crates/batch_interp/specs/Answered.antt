@@ -2,23 +2,16 @@
 use Rattle.std.specs.Prelude.{◌≡◌, ℕ, List, reverse, Result, Ok, Err}
 use Rattle.imp_syntax.specs.declared.edit.Location.{Location}
 use Rattle.imp_slots.specs.Plain.{Routine}
-use Rattle.program_chains.specs.declared.widening.Widening.{Widening}
 use Rattle.concrete_sem.specs.Values.{Variables, Heap}
 use Rattle.concrete_sem.specs.Steps.{Config}
 use Rattle.concrete_sem.specs.Reach.{top, Reach}
 use Rattle.concrete_sem.specs.WellFormed.{variables_of}
-use Rattle.batch_meaning.specs.declared.refusal.Refusal.TheVariants as why
 use Rattle.batch_meaning.specs.Values as plain
-use Rattle.batch_meaning.specs.Batch.{Engine}
 use Rattle.batch_meaning.specs.Answers as meaning
 use Rattle.batch_interp.specs.declared.error.QueryError.{QueryError}
-use Rattle.batch_interp.specs.declared.error.QueryError.TheVariants.{LongString, NoProcedure, NoStatement, WrongStatement, NoChain, Memory}
+use Rattle.batch_interp.specs.declared.error.QueryError.TheVariants.{Refused, Memory}
 use Rattle.batch_interp.specs.declared.value.Answer.{Answer}
 use Rattle.batch_interp.specs.declared.value.Answer.TheVariants.{State, Over}
-
--- how many rounds a loop may take, and how its iterates are made
-abbrev pub engine_of : (budget : ℕ) → Widening → Engine
-engine_of budget widening = record { budget = budget; widening = widening }
 
 -- an answer as a value, whose chains have the last call first
 abbrev pub value_of : {S : Type 0} → Answer S → plain.Value S
@@ -27,11 +20,7 @@ value_of (Over n chain) = plain.Over n (reverse chain)
 
 -- the question is refused for this cause, or memory is wanting
 abbrev pub IsRefused : {S : Type 0} → meaning.Answer S → QueryError → Type 0
-IsRefused a LongString = a ≡ meaning.Refuses why.LongString
-IsRefused a NoProcedure = a ≡ meaning.Refuses why.NoProcedure
-IsRefused a NoStatement = a ≡ meaning.Refuses why.NoStatement
-IsRefused a WrongStatement = a ≡ meaning.Refuses why.WrongStatement
-IsRefused a NoChain = a ≡ meaning.Refuses why.NoChain
+IsRefused a (Refused why) = a ≡ meaning.Refuses why
 IsRefused a Memory = Unit {0}
 
 -- An answer is given, or the question is refused.
@@ -42,11 +31,7 @@ IsAnswer a (Err e) = IsRefused a e
 -- the procedure of a location, or why it has none, and so no answer
 abbrev pub IsPlace : meaning.Found → Result ℕ QueryError → Type 0
 IsPlace f (Ok p) = f ≡ meaning.In p
-IsPlace f (Err LongString) = f ≡ meaning.Misses why.LongString
-IsPlace f (Err NoProcedure) = f ≡ meaning.Misses why.NoProcedure
-IsPlace f (Err NoStatement) = f ≡ meaning.Misses why.NoStatement
-IsPlace f (Err WrongStatement) = f ≡ meaning.Misses why.WrongStatement
-IsPlace f (Err NoChain) = f ≡ meaning.Misses why.NoChain
+IsPlace f (Err (Refused why)) = f ≡ meaning.Misses why
 IsPlace f (Err Memory) = ⊥
 
 -- A state that is answered describes the last frame of each configuration that a run reaches there.

@@ -3,18 +3,18 @@ use Rattle.std.specs.Prelude.{◌≡◌, ℕ, suc, List, [], ◌∷◌, reverse,
 use Rattle.imp_syntax.specs.declared.edit.Location.TheVariants.{Before}
 use Rattle.imp_slots.specs.Plain.{Effect, Code, Routine}
 use Rattle.domain_laws.specs.Operations.{Operations}
-use Rattle.domain_laws.specs.Checks.{Check, check_of}
-use Rattle.domain_laws.specs.declared.findings.Check.{Check as Kind}
-use Rattle.domain_laws.specs.declared.findings.Check.TheVariants.{Assert}
-use Rattle.domain_laws.specs.declared.findings.Finding.{Finding}
-use Rattle.batch_meaning.specs.declared.refusal.Refusal.TheVariants.{NoChain}
+use Rattle.domain_laws.specs.Checks.{Check, check_of, kind_of}
+use Rattle.analysis_words.specs.declared.findings.Check.{Check as Kind}
+use Rattle.analysis_words.specs.declared.findings.Check.TheVariants.{Assert}
+use Rattle.analysis_words.specs.declared.findings.Finding.{Finding}
+use Rattle.analysis_words.specs.declared.refusal.Refusal.TheVariants.{NoChain}
 use Rattle.alarm_report.specs.declared.Found.{Found}
 use Rattle.alarm_report.specs.declared.Found.TheVariants.{Absent, Over as OverBudget, State as At}
 use Rattle.batch_meaning.specs.Values.{Value, State, Over}
 use Rattle.batch_meaning.specs.Batch.{Engine}
 use Rattle.batch_meaning.specs.Places.{entry, value_at}
 use Rattle.batch_meaning.specs.Answers.{Answer, Refuses, Answers, all_values, sum_of}
-use Rattle.batch_meaning.specs.Report.{kind_of, verdict_on}
+use Rattle.batch_meaning.specs.Report.{verdict_on}
 use Rattle.batch_interp.specs.Frames.{Plan, earlier}
 use Rattle.batch_interp.specs.Summing.{added}
 

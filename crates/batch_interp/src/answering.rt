@@ -2,7 +2,8 @@
 ghost use Rattle.std.specs.Prelude.{◌≡◌, IfOk, IfErr};
 ghost use Rattle.imp_check.specs.Slots.{routines_of};
 ghost use Rattle.batch_meaning.specs.Answers.{answer, answer_in, procedure_of, In, Answers};
-ghost use Rattle.batch_interp.specs.Answered.{engine_of, value_of, IsPlace, IsAnswer, IsRefused, Describes};
+ghost use Rattle.call_contexts.specs.Settings.{engine_of};
+ghost use Rattle.batch_interp.specs.Answered.{value_of, IsPlace, IsAnswer, IsRefused, Describes};
 
 use crate::frames::Plan;
 use crate::sums::sum_of;
@@ -23,11 +24,7 @@ fn procedure_of(prog: &Checked, at: &Location) -> Result<ProcId, QueryError>
 {
     match place_of(prog, at) {
         Ok(place) => Ok(place),
-        Err(Refusal::LongString) => Err(QueryError::LongString),
-        Err(Refusal::NoProcedure) => Err(QueryError::NoProcedure),
-        Err(Refusal::NoStatement) => Err(QueryError::NoStatement),
-        Err(Refusal::WrongStatement) => Err(QueryError::WrongStatement),
-        Err(Refusal::NoChain) => Err(QueryError::NoChain),
+        Err(why) => Err(QueryError::Refused(why)),
     }
 }
 
@@ -44,10 +41,11 @@ fn procedure_of(prog: &Checked, at: &Location) -> Result<ProcId, QueryError>
 ///
 /// # Errors
 ///
-/// In this order: [`QueryError::LongString`] where the string has more than two calls,
-/// [`QueryError::NoProcedure`] and [`QueryError::NoStatement`] where the program has no such location,
-/// [`QueryError::WrongStatement`] where the head of a statement is asked for that is no loop,
-/// [`QueryError::NoChain`] where no chain ends in the string; [`QueryError::Memory`] for want of memory.
+/// [`QueryError::Refused`], for the first of these causes: [`Refusal::LongString`] where the string has
+/// more than two calls, [`Refusal::NoProcedure`] and [`Refusal::NoStatement`] where the program has no
+/// such location, [`Refusal::WrongStatement`] where the head of a statement is asked for that is no
+/// loop, [`Refusal::NoChain`] where no chain ends in the string. [`QueryError::Memory`] for want of
+/// memory.
 pub fn answer<D: Domain, L: Ledger>(
     alloc: Global,
     dom: &D,
@@ -102,7 +100,7 @@ fn answer_exactly<D: Domain, L: Ledger>(
     ensures is { IsAnswer (answer (D.operations dom.now) (engine_of budget widening) (routines_of prog.now) at.now string.now) result }
 {
     if string.len() > 2 {
-        return Err(QueryError::LongString);
+        return Err(QueryError::Refused(Refusal::LongString));
     }
     match procedure_of(prog, at) {
         Err(error) => Err(error),

@@ -13,32 +13,20 @@ use crate::Answer;
 use crate::claim::Claim;
 use crate::frames::{Frame, Plan};
 use crate::spots::{assumed, behind_node, copy_of, head_answer};
-use domain_laws::{Domain, Steps};
+use domain_laws::{Domain, Steps, check_of_action};
 use imp_slots::{SlotAction, SlotBlock, SlotNode};
 use plain_values::{Items, Memory};
 use std::alloc::Global;
 use std::sync::ledger::Ledger;
 
 /// Whether a statement has a check.
+#[tactic(auto, using(crate::proofs::Claimed::asks, crate::proofs::Claimed::asks_nothing))]
 pub(crate) fn is_checked(action: &SlotAction) -> bool
     ensures is { result ≡ is_checked (check_of (effect_of action.now)) }
 {
-    match action {
-        SlotAction::Assert(_) => true,
-        SlotAction::ReadElement(_, _, _) => true,
-        SlotAction::WriteElement(_, _, _) => true,
-        SlotAction::ReadItem(_, _) => true,
-        SlotAction::ReadNext(_, _) => true,
-        SlotAction::WriteNext(_, _) => true,
-        SlotAction::WriteItem(_, _) => true,
-        SlotAction::Skip => false,
-        SlotAction::SetInt(_, _) => false,
-        SlotAction::Input(_) => false,
-        SlotAction::MakeArray(_, _) => false,
-        SlotAction::CopyArray(_, _) => false,
-        SlotAction::SetNull(_) => false,
-        SlotAction::MakeCell(_) => false,
-        SlotAction::CopyLink(_, _) => false,
+    match check_of_action(action) {
+        Some(_) => true,
+        None => false,
     }
 }
 

@@ -6,24 +6,12 @@ use batch_meaning::Refusal;
 use plain_values::Memory;
 use thiserror::Error;
 
-/// Why a location has no answer under a call string, in the order in which causes are looked for.
+/// Why a location has no answer under a call string.
 #[derive(Clone, Copy, Debug, PartialEq, Eq, Hash, Error)]
 pub enum QueryError {
-    /// The call string has more than two calls.
-    #[error("the call string is too long")]
-    LongString,
-    /// The program has no procedure of this name.
-    #[error("no such procedure")]
-    NoProcedure,
-    /// The program has no statement of this number.
-    #[error("no such statement")]
-    NoStatement,
-    /// The statement is no loop, and its head is asked for.
-    #[error("the statement is no loop")]
-    WrongStatement,
-    /// No chain to the procedure ends in the call string.
-    #[error("no chain ends in the call string")]
-    NoChain,
+    /// The program has no such location, or no such chain.
+    #[error("the query is refused")]
+    Refused(Refusal),
     /// Want of memory.
     #[error("out of memory")]
     Memory,

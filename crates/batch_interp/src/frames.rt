@@ -1,11 +1,10 @@
 //! Where a block stands: its procedure, and the calls that led to it.
 ghost use Rattle.std.specs.Prelude.{◌≡◌, ◌-◌, ◌∷◌, [], ◌<◌, ◌≤◌, length, map, reverse, take, slice_get, IfOk};
 ghost use Rattle.std.specs.Option.{option_copied};
-ghost use Rattle.program_chains.specs.Marks.{marks};
-ghost use Rattle.batch_interp.specs.Answered.{engine_of};
+ghost use Rattle.call_contexts.specs.Settings.{engine_of};
 ghost use Rattle.batch_interp.specs.Frames.{marks_at};
 
-use call_contexts::marks;
+use call_contexts::Setting;
 use imp_slots::Routine;
 use imp_syntax::{Chain, StmtId};
 use plain_values::{Items, Memory};
@@ -13,13 +12,11 @@ use program_chains::Widening;
 use std::alloc::Global;
 use std::marker::Model;
 
-/// A program, the marks of its procedures, and how its loops are interpreted.
+/// A program, and how its loops are interpreted.
 #[derive(Drop)]
 pub(crate) struct Plan<'a> {
     routines: &'a [Routine],
-    marks: Items<Items<i64>>,
-    budget: u32,
-    widening: Widening,
+    setting: Setting,
 }
 
 impl<'a> Model for Plan<'a> {
@@ -33,24 +30,9 @@ impl<'a> Model for Plan<'a> {
 
     ghost coded = { plan_code };
 
-    ghost view = { λ a. record { program = a.routines.now; engine = record { budget = a.budget; widening = a.widening } } };
+    ghost view = { λ a. record { program = a.routines.now; engine = a.setting.engine } };
 
-    ghost invariant = { λ a. a.marks ≡ map (rising.marks a.widening) a.routines.now };
-}
-
-/// The marks of each procedure.
-fn all_marks(
-    alloc: Global,
-    widening: Widening,
-    routines: &[Routine],
-) -> Result<Items<Items<i64>>, Memory>
-    ensures is { IfOk result (λ all. all ≡ map (marks widening) routines.now) }
-{
-    let mut all = Items::new(alloc);
-    for routine in routines {
-        all.push(marks(alloc, widening, routine)?)?;
-    }
-    Ok(all)
+    ghost invariant = { λ a. a.setting.marks ≡ map (rising.marks a.setting.engine.widening) a.routines.now };
 }
 
 /// The procedure of a block, and the call statements from main to it, the last one first.
@@ -71,27 +53,22 @@ impl<'a> Plan<'a> {
     ) -> Result<Plan<'a>, Memory>
         ensures is { IfOk result (λ plan. plan ≡ record { program = routines.now; engine = engine_of budget widening }) }
     {
-        let marks = all_marks(alloc, widening, routines)?;
-        Ok(Plan {
-            routines,
-            marks,
-            budget,
-            widening,
-        })
+        let setting = Setting::new(alloc, routines, budget, widening)?;
+        Ok(Plan { routines, setting })
     }
 
     /// How often the iterates of a loop are made at most.
     pub(crate) fn budget(&self) -> u32
         ensures is { result ≡ self.now.engine.budget }
     {
-        self.budget
+        self.setting.budget()
     }
 
     /// For how many rounds the iterates of a loop are joined.
     pub(crate) fn delay(&self) -> u32
         ensures is { result ≡ self.now.engine.widening.delay }
     {
-        self.widening.delay
+        self.setting.widening().delay
     }
 
     /// The procedures.
@@ -102,13 +79,11 @@ impl<'a> Plan<'a> {
     }
 
     /// The marks of a procedure.
+    #[tactic(auto, using(crate::proofs::Marking::marks_there))]
     pub(crate) fn marks(&self, place: usize) -> &[i64]
         ensures is { result.now ≡ marks_at self.now place }
     {
-        match self.marks.get(place) {
-            Some(marks) => marks.as_slice(),
-            None => &[],
-        }
+        self.setting.marks(place)
     }
 }
 

@@ -29,6 +29,3 @@ pub use answering::answer;
 pub use error::QueryError;
 pub use reporting::batch_report;
 pub use value::Answer;
-
-#[cfg(test)]
-mod tests;

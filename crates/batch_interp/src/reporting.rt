@@ -2,10 +2,10 @@
 ghost use Rattle.std.specs.Prelude.{◌≡◌, ◌++◌, ◌<◌, ◌^◌, length, map, Contains, OnOk, IfOk};
 ghost use Rattle.imp_slots.specs.Fits.{IsChecked};
 ghost use Rattle.imp_check.specs.Slots.{routines_of};
-ghost use Rattle.domain_laws.specs.declared.findings.Finding.{Finding};
+ghost use Rattle.analysis_words.specs.declared.findings.Finding.{Finding};
 ghost use Rattle.batch_meaning.specs.Report.{report, finding, checked_in};
 ghost use Rattle.batch_sound.specs.Theorem.{IsFindingSound};
-ghost use Rattle.batch_interp.specs.Answered.{engine_of};
+ghost use Rattle.call_contexts.specs.Settings.{engine_of};
 ghost use Rattle.batch_interp.specs.Totalling.{HasBody};
 
 use crate::befores::add_claims;

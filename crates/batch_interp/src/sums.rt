@@ -9,6 +9,7 @@ ghost use Rattle.batch_interp.specs.Summing.{added};
 use crate::frames::Plan;
 use crate::values::value_at;
 use crate::{Answer, QueryError};
+use batch_meaning::Refusal;
 use call_contexts::joined;
 use domain_laws::{Domain, Steps};
 use imp_syntax::{Chain, Location};
@@ -98,12 +99,12 @@ pub(crate) fn sum_of<D: Domain, L: Ledger>(
     let mut all = None;
     for chain in chains {
         match value_at(alloc, dom, plan, at, chain.sites(), steps)? {
-            None => return Err(QueryError::NoStatement),
+            None => return Err(QueryError::Refused(Refusal::NoStatement)),
             Some(value) => all = Some(added(alloc, dom, all, value, steps)?),
         }
     }
     match all {
-        None => Err(QueryError::NoChain),
+        None => Err(QueryError::Refused(Refusal::NoChain)),
         Some(answer) => Ok(answer),
     }
 }

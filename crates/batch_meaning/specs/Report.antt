@@ -2,17 +2,15 @@
 use Rattle.std.specs.Prelude.{ℕ, List, [], ◌∷◌, ◌++◌, map, Option, Some, None}
 use Rattle.imp_syntax.specs.declared.edit.Location.TheVariants.{Before}
 use Rattle.imp_slots.specs.Plain.{Effect, Does, Code, Stop, Simple, If, While, Call, Break, Routine}
-use Rattle.domain_laws.specs.declared.verdict.Verdict.{Verdict}
-use Rattle.domain_laws.specs.declared.verdict.Verdict.TheVariants.{Dead, May}
+use Rattle.analysis_words.specs.declared.verdict.Verdict.{Verdict}
+use Rattle.analysis_words.specs.declared.verdict.Verdict.TheVariants.{Dead, May}
 use Rattle.domain_laws.specs.Operations.{Operations}
-use Rattle.domain_laws.specs.Checks.{Check, Within, IsCell, Claims, check_of}
-use Rattle.domain_laws.specs.declared.findings.Check.{Check as Kind}
-use Rattle.domain_laws.specs.declared.findings.Check.TheVariants.{Bounds, Null, Assert}
-use Rattle.domain_laws.specs.declared.findings.Finding.{Finding}
+use Rattle.domain_laws.specs.Checks.{Check, check_of, kind_of}
+use Rattle.analysis_words.specs.declared.findings.Finding.{Finding}
 use Rattle.batch_meaning.specs.Values.{State, Over}
 use Rattle.batch_meaning.specs.Batch.{Engine}
 use Rattle.batch_meaning.specs.Answers.{Answer, Refuses, Answers, answer}
-use Rattle.batch_meaning.specs.declared.refusal.Refusal.TheVariants.{LongString, NoProcedure, NoStatement, WrongStatement, NoChain}
+use Rattle.analysis_words.specs.declared.refusal.Refusal.TheVariants.{LongString, NoProcedure, NoStatement, WrongStatement, NoChain}
 
 -- A statement that has a check.
 pub record Checked : Type 0 where
@@ -36,12 +34,6 @@ checked_in (Break n r) = checked_in r
 abbrev pub checked_statements : List Routine → List Checked
 checked_statements [] = []
 checked_statements (r ∷ rs) = checked_in r.code ++ checked_statements rs
-
--- what a check asks
-abbrev pub kind_of : Check → Kind
-kind_of (Within a e) = Bounds
-kind_of (IsCell p) = Null
-kind_of (Claims g) = Assert
 
 module _ {S : Type 0} (dom : Operations S) (engine : Engine) where
   -- dead where no chain comes to the procedure, may where the value is Over, else what the state says

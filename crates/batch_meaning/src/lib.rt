@@ -13,6 +13,4 @@
 //! them.
 #![tactic(auto)]
 
-mod refusal;
-
-pub use refusal::Refusal;
+pub use analysis_words::Refusal;

@@ -16,15 +16,17 @@ use Rattle.program_chains.specs.Marks.{marks}
 use Rattle.program_chains.specs.Claims.{PlacesAreFound}
 use Rattle.domain_laws.specs.Operations.{Operations}
 use Rattle.domain_laws.specs.Laws.{Laws}
-use Rattle.batch_meaning.specs.declared.refusal.Refusal.{Refusal}
-use Rattle.batch_meaning.specs.declared.refusal.Refusal.TheVariants.{LongString, NoProcedure, NoStatement, NoChain}
+use Rattle.analysis_words.specs.declared.refusal.Refusal.{Refusal}
+use Rattle.analysis_words.specs.declared.refusal.Refusal.TheVariants.{LongString, NoProcedure, NoStatement, NoChain}
 use Rattle.batch_meaning.specs.Values.{Value, State, lift}
 use Rattle.batch_meaning.specs.Batch.{Engine, calls_of}
 use Rattle.batch_meaning.specs.Places.{Spot, spots, find, from, main_layout, if_some, head_value, value_in, entered, entry, value_at}
 use Rattle.batch_meaning.specs.Answers.{Refuses, Answers, Found, In as Belongs, Misses, found_or, found_loop, procedure_of, all_values, summed, sum_of, answer_in, answer}
 use Rattle.batch_sound.proofs.Values.{Says, Fit, fit_enter, fit_shed, says_shed, EachFit, Below, EachBelow, fit_joined, joined_first, joined_each}
-use Rattle.batch_sound.proofs.Procedures.{some_inj, look, look_get, look_from, fit_back}
-use Rattle.batch_sound.proofs.Places.{Member, here, there, Each, each_more, none_there, found_member}
+use Rattle.plain_values.proofs.Cases.{some_inj}
+use Rattle.batch_meaning.proofs.Procedures.{look, look_get, look_from, fit_back}
+use Rattle.plain_values.proofs.Members.{Member, here, there, Each, each_more, none_there}
+use Rattle.batch_meaning.proofs.Places.{found_member}
 use Rattle.batch_sound.proofs.Chains.{in_selected}
 use Rattle.batch_sound.proofs.Fitting.{callee, SpotFit, spots_fit, block_fit, procedure_fit}
 use Rattle.batch_sound.proofs.Steps.{Kept, Place, Seen, fits_do, seen_behind, Stack, bottom, above, Good, good}

@@ -1,11 +1,12 @@
 -- Chains that runs take are among those of the program.
 use Rattle.std.specs.Prelude.{◌≡◌, ℕ, zero, suc, ◌+◌, List, [], ◌∷◌, ◌++◌, map, slice_get, Some, Bool, true, false, if◌then◌else◌}
 use Rattle.std.proofs.Common.{refl, sym, subst, arith}
+use Rattle.imp_slots.proofs.Distinct.{left_once, right_once}
 use Rattle.imp_slots.specs.Plain.{Routine, code_numbers}
 use Rattle.imp_slots.specs.Fits.{Absent, Distinct, routine_numbers}
 use Rattle.program_chains.specs.Chains.{calls_to, extended, through, ends_in, ending_in, has}
-use Rattle.batch_sound.proofs.Procedures.{by_test}
-use Rattle.batch_sound.proofs.Places.{Member, here, there, in_left, in_right}
+use Rattle.plain_values.proofs.Cases.{by_test}
+use Rattle.plain_values.proofs.Members.{Member, here, there, in_left, in_right}
 
 in_map : {A B : Type 0} (f : A → B) (x : A) (xs : List A) → Member x xs → Member (f x) (map f xs)
 in_map f x [] m = elim m [ ]
@@ -41,19 +42,6 @@ pub has_member : (n : ℕ) (ns : List ℕ) → Member n ns → has n ns ≡ true
 has_member n [] m = elim m [ ]
 has_member n (k ∷ ns) here = by_test n n (λ c. (if c then true else has n ns) ≡ true) (λ e. refl) (λ e. absurd (e refl))
 has_member n (k ∷ ns) (there m) = by_test n k (λ c. (if c then true else has n ns) ≡ true) (λ e. refl) (λ e. has_member n ns m)
-
--- Numbers that stand once in a program stand once in each procedure.
-left_once : (ks ms : List ℕ) → Distinct (ks ++ ms) → Distinct ks
-left_once [] ms d = tt
-left_once (k ∷ ks) ms d = (left_absent k ks ms d.0, left_once ks ms d.1)
-  where
-    left_absent : (n : ℕ) (ks ms : List ℕ) → Absent n (ks ++ ms) → Absent n ks
-    left_absent n [] ms a = tt
-    left_absent n (k ∷ ks) ms a = (a.0, left_absent n ks ms a.1)
-
-right_once : (ks ms : List ℕ) → Distinct (ks ++ ms) → Distinct ms
-right_once [] ms d = d
-right_once (k ∷ ks) ms d = right_once ks ms d.1
 
 pub once_in : (rs : List Routine) (p : ℕ) (r : Routine) → Distinct (routine_numbers rs) → slice_get rs p ≡ Some r → Distinct (code_numbers r.code)
 once_in [] p r d e = absurd cc

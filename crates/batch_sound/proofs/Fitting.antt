@@ -12,8 +12,9 @@ use Rattle.batch_meaning.specs.Values.{Value, lift, lift2}
 use Rattle.batch_meaning.specs.Batch.{Engine, Passed, head_of, batch, procedure, calls_of}
 use Rattle.batch_meaning.specs.Places.{Spot, spot, spots, head_value}
 use Rattle.batch_sound.proofs.Values.{Fit, fit_post, fit_assume, fit_join, fit_enter, fit_leave, fix_is_head, EachFit, fit_both, fit_joined}
-use Rattle.batch_sound.proofs.Procedures.{by_test, some_inj, look, look_get, FitBack}
-use Rattle.batch_sound.proofs.Places.{Each, each_more, each_both, none_there}
+use Rattle.plain_values.proofs.Cases.{by_test, some_inj}
+use Rattle.batch_meaning.proofs.Procedures.{look, look_get, FitBack}
+use Rattle.plain_values.proofs.Members.{Each, each_more, each_both, none_there}
 
 -- The callee of a call that fits.
 pub record Callee (before : List Routine) (l : Layout) (i : Invoke) (q : ℕ) : Type 0 where

@@ -21,12 +21,14 @@ use Rattle.domain_laws.specs.Laws.{Laws}
 use Rattle.batch_meaning.specs.Values.{Value, State, Over, lift}
 use Rattle.batch_meaning.specs.Batch.{Engine, batch, calls_of}
 use Rattle.batch_meaning.specs.Places.{Spot, spots, find, from, main_layout, if_some, head_value, value_in, entered, entry}
-use Rattle.batch_meaning.specs.declared.refusal.Refusal.{Refusal}
-use Rattle.batch_meaning.specs.declared.refusal.Refusal.TheVariants.{NoProcedure, NoStatement}
+use Rattle.analysis_words.specs.declared.refusal.Refusal.{Refusal}
+use Rattle.analysis_words.specs.declared.refusal.Refusal.TheVariants.{NoProcedure, NoStatement}
 use Rattle.batch_meaning.specs.Answers.{In as Belongs, found_or, found_loop, procedure_of}
 use Rattle.batch_sound.proofs.Values.{Says, Fit, Below, each_over}
-use Rattle.batch_sound.proofs.Procedures.{by_test, some_inj, look, look_get, look_from, from_self, from_place, length_from, FitBack, fit_back}
-use Rattle.batch_sound.proofs.Places.{Member, here, found, key_member, keys_numbers, are_calls}
+use Rattle.plain_values.proofs.Cases.{by_test, some_inj}
+use Rattle.batch_meaning.proofs.Procedures.{look, look_get, look_from, from_self, from_place, length_from, FitBack, fit_back}
+use Rattle.plain_values.proofs.Members.{Member, here, key_member}
+use Rattle.batch_meaning.proofs.Places.{found, keys_numbers, are_calls}
 use Rattle.batch_sound.proofs.Chains.{in_extended, in_through, has_member, once_in}
 use Rattle.batch_sound.proofs.Steps.{Kept, Place, Seen, Fits, fits_ret, fits_done, fits_do, fits_test, ahead_push, place_of, Stack, bottom, above, Good, good, run_good, self}
 

@@ -1,10 +1,11 @@
 -- What reports say of runs.
 use Rattle.std.specs.Prelude.{◌≡◌, ℕ, zero, suc, ℤ, List, [], ◌∷◌, reverse, slice_get, Option, Some, None, MatchOption, All, option_map}
 use Rattle.std.proofs.Common.{refl, sym, ap, ◌∙◌, subst}
+use Rattle.concrete_sem.proofs.Programs.{from_match}
 use Rattle.imp_syntax.specs.declared.edit.Location.TheVariants.{Before, End}
 use Rattle.imp_slots.specs.Plain.{Effect, Does, Code, Stop, Simple, If, While, Call, Break, Routine}
 use Rattle.imp_slots.specs.Fits.{IsChecked}
-use Rattle.concrete_sem.specs.declared.fault.FaultKind.{FaultKind}
+use Rattle.analysis_words.specs.declared.fault.FaultKind.{FaultKind}
 use Rattle.concrete_sem.specs.Values.{Variables, Heap, Attempt, Gives, Faults, LacksInput, IsWord}
 use Rattle.concrete_sem.specs.Evaluation.{truth_of}
 use Rattle.concrete_sem.specs.Effects.{effect_of}
@@ -14,19 +15,19 @@ use Rattle.concrete_sem.specs.Reach.{first_number, location_of, standing, after_
 use Rattle.concrete_sem.specs.WellFormed.{IsWork, IsWellFormed, DoTheirWork}
 use Rattle.concrete_sem.specs.Claims.{StepsKeepForm, StartIsWellFormed}
 use Rattle.program_chains.specs.Claims.{PlacesAreFound}
-use Rattle.domain_laws.specs.declared.verdict.Verdict.TheVariants.{Dead, Safe}
-use Rattle.domain_laws.specs.declared.findings.Finding.{Finding}
-use Rattle.domain_laws.specs.Checks.{Check, Within, IsCell, Claims, fault_of}
+use Rattle.analysis_words.specs.declared.verdict.Verdict.TheVariants.{Dead, Safe}
+use Rattle.analysis_words.specs.declared.findings.Finding.{Finding}
+use Rattle.domain_laws.specs.Checks.{Check, Within, IsCell, Claims, fault_of, kind_of}
 use Rattle.domain_laws.specs.Operations.{Operations}
 use Rattle.domain_laws.specs.Laws.{Laws}
-use Rattle.batch_meaning.specs.declared.refusal.Refusal.TheVariants.{LongString, NoProcedure, NoStatement, WrongStatement, NoChain}
+use Rattle.analysis_words.specs.declared.refusal.Refusal.TheVariants.{LongString, NoProcedure, NoStatement, WrongStatement, NoChain}
 use Rattle.batch_meaning.specs.Values.{State, Over}
 use Rattle.batch_meaning.specs.Batch.{Engine}
 use Rattle.batch_meaning.specs.Answers.{Answer, Refuses, Answers, answer}
-use Rattle.batch_meaning.specs.Report.{Checked, checked_statements, kind_of, verdict_on, finding}
+use Rattle.batch_meaning.specs.Report.{Checked, checked_statements, verdict_on, finding}
 use Rattle.batch_sound.specs.Theorem.{failing, AreReportsSound}
-use Rattle.batch_sound.proofs.Procedures.{some_inj}
-use Rattle.batch_sound.proofs.Places.{Member}
+use Rattle.plain_values.proofs.Cases.{some_inj}
+use Rattle.plain_values.proofs.Members.{Member}
 use Rattle.batch_sound.proofs.Steps.{Kept, Good, stepped}
 use Rattle.batch_sound.proofs.Reached.{same_in_turn, reached_good}
 use Rattle.batch_sound.proofs.Answered.{good_described, good_chain}
@@ -78,10 +79,6 @@ fault_at program p below h v (Do (Call m i q d) w) n k e =
     let t = faulted m n k (pass i.entering v) (λ u. step_if_some (slice_get program q) (λ c. Next (enters q (In p v (Done m (Some i) (push d w)) ∷ below) h u c))) (λ u. some_not (slice_get program q) (λ c. enters q (In p v (Done m (Some i) (push d w)) ∷ below) h u c) n k) e in
     at_do (ap Some t.0) (λ a r i. absurd cc)
 fault_at program p below h v (Do (Break m d) w) n k e = absurd (some_not (leave_loop w) (λ u. goes_on p below h v u) n k e)
-
-from_match : (o : Option Routine) (P : Routine → Type 0) → MatchOption o ⊥ P → (r : Routine) × (o ≡ Some r) × P r
-from_match None P m = absurd m
-from_match (Some r) P m = (r, refl, m)
 
 module _ {S : Type 0} (dom : Operations S) (engine : Engine) (covers : S → Heap → List Variables → Type 0) (laws : Laws dom covers) (keeps : Kept) (places : PlacesAreFound) (form : StepsKeepForm) (starts : StartIsWellFormed) (program : List Routine) (checked : IsChecked program) where
   run_formed : (k : ℕ) (c d : Config) → IsWellFormed program c → after_steps program k c ≡ Some d → IsWellFormed program d

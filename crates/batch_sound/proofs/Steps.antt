@@ -19,8 +19,9 @@ use Rattle.batch_meaning.specs.Values.{Value, State, Over, lift, lift2}
 use Rattle.batch_meaning.specs.Batch.{Engine, Passed, head_of, batch, procedure, calls_of}
 use Rattle.batch_meaning.specs.Places.{Spot, spots, from, main_layout, head_value}
 use Rattle.batch_sound.proofs.Values.{Says, Fit, fit_post, fit_assume, fit_join, fit_enter, fit_leave, says_post, says_assume, says_enter, says_leave, Below, below_self, below_left, below_right, fix_is_head, EachBelow, each_left, each_right, each_over, fit_joined, joined_first, joined_each}
-use Rattle.batch_sound.proofs.Procedures.{some_inj, look, look_get, look_from, from_look, look_below, length_from, from_behind, from_from, from_place, from_self, FitBack, fit_back_from, procedure_from}
-use Rattle.batch_sound.proofs.Places.{Member, here, there, in_left, in_right}
+use Rattle.plain_values.proofs.Cases.{some_inj}
+use Rattle.batch_meaning.proofs.Procedures.{look, look_get, look_from, from_look, look_below, length_from, from_behind, from_from, from_place, from_self, FitBack, fit_back_from, procedure_from}
+use Rattle.plain_values.proofs.Members.{Member, here, there, in_left, in_right}
 use Rattle.batch_sound.proofs.Fitting.{callee, FitPassed, block_fit, procedure_fit}
 
 -- What steps keep, and that marks rise.

@@ -9,8 +9,9 @@ use Rattle.program_chains.specs.Chains.{holder}
 use Rattle.program_chains.specs.Claims.{PlacesAreFound}
 use Rattle.domain_laws.specs.Checks.{Check, check_of}
 use Rattle.batch_meaning.specs.Report.{Checked, checked_one, checked_in, checked_statements}
-use Rattle.batch_sound.proofs.Procedures.{some_inj}
-use Rattle.batch_sound.proofs.Places.{Member, here, there, in_left, in_right, keys, keys_both, key_member, found}
+use Rattle.plain_values.proofs.Cases.{some_inj}
+use Rattle.plain_values.proofs.Members.{Member, here, there, in_left, in_right, keys, keys_both, key_member, either}
+use Rattle.batch_meaning.proofs.Places.{found}
 use Rattle.batch_sound.proofs.Chains.{has_member, once_in}
 
 -- the statements of a block, by their numbers, each with what is behind it
@@ -58,15 +59,6 @@ record IsCheckedIn (body : Code) (c : Checked) : Type 0 where
 
 checked_more : (body other : Code) (c : Checked) → ((x : ℕ × Code) → Member x (statements body) → Member x (statements other)) → IsCheckedIn body c → IsCheckedIn other c
 checked_more body other c f k = record { rest = k.rest; stands = f _ k.stands; check = k.check }
-
-either : {A : Type 0} (x : A) (xs ys : List A) → Member x (xs ++ ys) → Member x xs ⊎ Member x ys
-either x [] ys m = inr m
-either x (y ∷ xs) ys here = inl here
-either x (y ∷ xs) ys (there m) = by (either x xs ys m)
-  where
-    by : Member x xs ⊎ Member x ys → Member x (y ∷ xs) ⊎ Member x ys
-    by (inl k) = inl (there k)
-    by (inr k) = inr k
 
 one_is : (n : ℕ) (e : Effect) (r : Code) (o : Option Check) → check_of e ≡ o → (c : Checked) → Member c (checked_one n e o) → IsCheckedIn (Simple n e r) c
 one_is n e r None k c m = elim m [ ]

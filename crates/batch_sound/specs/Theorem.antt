@@ -4,16 +4,16 @@ use Rattle.imp_syntax.specs.declared.edit.Location.{Location}
 use Rattle.imp_syntax.specs.declared.edit.Location.TheVariants.{Before}
 use Rattle.imp_slots.specs.Plain.{Routine}
 use Rattle.imp_slots.specs.Fits.{IsChecked}
-use Rattle.concrete_sem.specs.declared.fault.FaultKind.{FaultKind}
-use Rattle.concrete_sem.specs.declared.fault.FaultKind.TheVariants.{Index, Null as NullFault, Assert as Failed}
+use Rattle.analysis_words.specs.declared.fault.FaultKind.{FaultKind}
+use Rattle.analysis_words.specs.declared.fault.FaultKind.TheVariants.{Index, Null as NullFault, Assert as Failed}
 use Rattle.concrete_sem.specs.Values.{Variables, Heap, IsWord}
 use Rattle.concrete_sem.specs.Steps.{Config, Faulted, step, start}
 use Rattle.concrete_sem.specs.Reach.{top, after_steps, Reach}
 use Rattle.concrete_sem.specs.WellFormed.{variables_of}
-use Rattle.domain_laws.specs.declared.verdict.Verdict.TheVariants.{Dead, Safe}
-use Rattle.domain_laws.specs.declared.findings.Check.{Check}
-use Rattle.domain_laws.specs.declared.findings.Check.TheVariants.{Bounds, Null, Assert}
-use Rattle.domain_laws.specs.declared.findings.Finding.{Finding}
+use Rattle.analysis_words.specs.declared.verdict.Verdict.TheVariants.{Dead, Safe}
+use Rattle.analysis_words.specs.declared.findings.Check.{Check}
+use Rattle.analysis_words.specs.declared.findings.Check.TheVariants.{Bounds, Null, Assert}
+use Rattle.analysis_words.specs.declared.findings.Finding.{Finding}
 use Rattle.domain_laws.specs.Operations.{Operations}
 use Rattle.batch_meaning.specs.Values.{State}
 use Rattle.batch_meaning.specs.Batch.{Engine}

@@ -1,3 +1,4 @@
 pub mod Places
 pub mod Joined
 pub mod Tables
+pub mod Settings

@@ -3,7 +3,7 @@ use Rattle.std.specs.Prelude.{ℕ, List, [], Result, Ok, Err}
 use Rattle.imp_syntax.specs.declared.edit.Location.{Location}
 use Rattle.imp_slots.specs.Plain.{Routine}
 use Rattle.program_chains.specs.Chains.{selected}
-use Rattle.batch_meaning.specs.declared.refusal.Refusal.{Refusal}
+use Rattle.analysis_words.specs.declared.refusal.Refusal.{Refusal}
 use Rattle.batch_meaning.specs.Answers.{Found, In, Misses, procedure_of}
 
 abbrev pub found_of : Result ℕ Refusal → Found

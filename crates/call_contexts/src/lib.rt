@@ -3,7 +3,8 @@
 //! [`place_of`] finds the procedure of a location, or says why there is none. [`chains`] gives the
 //! chains to a procedure that a call string selects, [`targets`] those of a location, in the order in
 //! which their states are joined. [`joined`] sheds one chain's state and joins it behind those before.
-//! [`marks`] gives the numbers at which widening stops in a procedure.
+//! [`marks`] gives the numbers at which widening stops in a procedure, and a [`Setting`] has those of
+//! all procedures, with how often and how the iterates of a loop are made.
 //!
 //! A program has at most 4,096 chains, each of at most 8 calls. Finding them takes time linear in the
 //! chains to the procedures from the last one down.
@@ -15,6 +16,7 @@ mod literals;
 mod marking;
 mod numbers;
 mod places;
+mod setting;
 mod table;
 
 pub use filtered::{chains, targets};
@@ -22,3 +24,4 @@ pub use joining::joined;
 pub use marking::marks;
 pub use numbers::{holds, is_loop_in};
 pub use places::{few_routines, place_of};
+pub use setting::Setting;

@@ -6,11 +6,10 @@ ghost use Rattle.imp_slots.specs.BlockViews.{before_code};
 ghost use Rattle.imp_slots.specs.CallViews.{argument_of};
 ghost use Rattle.program_chains.specs.Marks.{term_literals, guard_literals, effect_literals, argument_literals, literals};
 
-use imp_lex::Number;
 use imp_slots::{
     Argument, SlotAction, SlotBlock, SlotCond, SlotCondNode, SlotExpr, SlotExprNode, SlotNode,
 };
-use plain_values::{Items, Memory};
+use plain_values::{Items, Memory, Number};
 
 fn add_term(expr: &SlotExpr, found: &mut Items<Number>) -> Result<(), Memory>
     ensures added { OnOk result (found.new ≡ found.old ++ term_literals expr.now) }

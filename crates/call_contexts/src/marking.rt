@@ -3,9 +3,8 @@ ghost use Rattle.std.specs.Prelude.{◌≡◌, ◌≤◌, ◌++◌, ◌∷◌, l
 ghost use Rattle.program_chains.specs.Marks.{marks, marks_of, with_mark};
 
 use crate::literals::add_block;
-use imp_lex::Number;
 use imp_slots::Routine;
-use plain_values::{Items, Memory};
+use plain_values::{Items, Memory, Number};
 use program_chains::Widening;
 use std::alloc::Global;
 

@@ -3,6 +3,7 @@ use Rattle.std.proofs.Common.{◌≡◌, ℕ, zero, suc, ◌≤◌, ◌<◌, Lis
 use Rattle.std.specs.Option.{option_map}
 use Rattle.std.proofs.lemmas.List.{length-map, map-append}
 use Rattle.std.proofs.lemmas.Option.{slice_get_within, slice_get-map}
+use Rattle.plain_values.proofs.Cases.{some_inj}
 use Rattle.state_table.specs.Numbers as table
 use Rattle.cell_names.specs.declared.frame.Frame.{Frame}
 use Rattle.cell_names.specs.declared.path.Step.{Step}
@@ -12,14 +13,11 @@ use Rattle.cell_names.specs.Known.{Known, known_of, KeepsNumbers, IsOnce, Adds, 
 use Rattle.cell_names.proofs.PathLemmas.{within, path_by, path-of-step, path-of-root, paths_of-length, path_at-kept, paths_from-append, append-keeps, append-last}
 use Rattle.cell_names.proofs.OnceLemmas.{step-of-path, paths-once, names-same}
 
-some_same : {A : Type 0} (x y : A) → Some x ≡ Some y → x ≡ y
-some_same x y h = cc
-
 abbrev pub step_of : ℕ → Frame → Step
 step_of before frame = record { before = before; frame = frame }
 
 pub same_some : {A : Type 0} (r : Option A) (x y : A) → r ≡ Some x → r ≡ Some y → x ≡ y
-same_some r x y p q = some_same x y (sym p ∙ q)
+same_some r x y p q = some_inj x y (sym p ∙ q)
 
 pub not_some : {A P : Type 0} (r : Option A) (x : A) → r ≡ None → r ≡ Some x → P
 not_some r x p q = absurd (cc)
@@ -30,7 +28,7 @@ if_some P Q f (Some x) h = f x h
 
 -- what stands in a list with one thing more at its end
 snoc-at : {A : Type 0} (xs : List A) (x : A) (k : ℕ) (y : A) → slice_get (xs ++ x ∷ []) k ≡ Some y → (slice_get xs k ≡ Some y) ⊎ ((k ≡ length xs) × (x ≡ y))
-snoc-at [] x zero y at = inr (refl, some_same x y at)
+snoc-at [] x zero y at = inr (refl, some_inj x y at)
 snoc-at [] x (suc k) y at = cc
 snoc-at (z ∷ xs) x zero y at = inl at
 snoc-at (z ∷ xs) x (suc k) y at = ⊎_elim (λ a. inl a) (λ a. inr (ap suc a.0, a.1)) (snoc-at xs x k y at)
@@ -72,7 +70,7 @@ module _ (steps : List Step) (names : List Name) (kept : IsKept steps names) whe
 
   name-at : (o : Option Name) (c : CellName) → option_map (name_in ps) o ≡ Some c → (y : Name) × (o ≡ Some y) × (name_in ps y ≡ c)
   name-at None c e = cc
-  name-at (Some y) c e = (y, refl, some_same (name_in ps y) c e)
+  name-at (Some y) c e = (y, refl, some_inj (name_in ps y) c e)
 
   name-of : (n : ℕ) (c : CellName) → slice_get (map (name_in ps) names) n ≡ Some c → (y : Name) × (slice_get names n ≡ Some y) × (name_in ps y ≡ c)
   name-of n c at = name-at (slice_get names n) c (sym (slice_get-map (name_in ps) names n) ∙ at)

@@ -1,13 +1,11 @@
 -- The paths that steps make.
 use Rattle.std.proofs.Common.{◌≡◌, ℕ, zero, suc, ◌+◌, ◌≤◌, ◌<◌, List, [], ◌∷◌, ◌++◌, length, Option, Some, None, slice_get, refl, sym, ap, ◌∙◌, subst, arith, length-append, append_assoc}
 use Rattle.std.proofs.lemmas.Option.{slice_get_within}
+use Rattle.plain_values.proofs.Cases.{some_inj}
 use Rattle.cell_names.specs.declared.frame.Frame.{Frame}
 use Rattle.cell_names.specs.declared.path.Step.{Step}
 use Rattle.cell_names.specs.Paths.{or_root, path_at, paths_from, paths_of}
 use Rattle.cell_names.specs.Known.{KeepsNumbers, StepsWithin}
-
-some_same : {A : Type 0} (x y : A) → Some x ≡ Some y → x ≡ y
-some_same x y h = cc
 
 -- places stay where something is put at the end
 pub append-keeps : {A : Type 0} (xs ys : List A) → KeepsNumbers xs (xs ++ ys)
@@ -52,7 +50,7 @@ path_at-kept old new keeps n h =
 step-path : (paths : List (List Frame)) (steps : List Step) (k : ℕ) (s : Step) → slice_get steps k ≡ Some s → s.before < length paths + k → slice_get (paths_from paths steps) (length paths + k) ≡ Some (path_by (paths_from paths steps) s)
 step-path paths [] k s at h = cc
 step-path paths (x ∷ xs) zero s at h =
-    let is : x ≡ s = some_same x s at in
+    let is : x ≡ s = some_inj x s at in
     let more : List (List Frame) = paths ++ path_by paths x ∷ [] in
     let e : length paths ≡ length paths + 0 = omega arith in
     let last : slice_get (paths_from more xs) (length paths) ≡ Some (path_by paths x) = paths_from-keeps more xs (length paths) (path_by paths x) (append-last paths (path_by paths x)) in

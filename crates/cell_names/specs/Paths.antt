@@ -1,6 +1,7 @@
 -- Paths, their last frame first, and the numbered steps that make them.
 use Rattle.std.specs.Prelude.{ℕ, ◌≤◌, List, [], ◌∷◌, ◌++◌, Option, Some, None, slice_get}
 use Rattle.cell_names.specs.declared.frame.Frame.{Frame}
+use Rattle.cell_names.specs.declared.frame.Frame.TheVariants.{InCall, InLoop}
 use Rattle.cell_names.specs.declared.frame.Point.{Point}
 use Rattle.cell_names.specs.declared.path.Name.{Name}
 use Rattle.cell_names.specs.declared.path.Step.{Step}
@@ -30,3 +31,9 @@ paths_of steps = paths_from ([] ∷ []) steps
 -- a name whose path has a number
 abbrev pub name_in : List (List Frame) → Name → CellName
 name_in paths name = record { path = path_at paths name.path; point = name.point }
+
+-- the call sites of a path, the last first
+abbrev pub sites_of : List Frame → List ℕ
+sites_of [] = []
+sites_of (InCall n ∷ w) = n ∷ sites_of w
+sites_of (InLoop n k ∷ w) = sites_of w

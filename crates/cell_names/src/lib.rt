@@ -7,7 +7,7 @@
 //!
 //! Contracts see the paths and the names as lists, a path as the list of its frames, the last one first.
 //! Finding or adding a path or a name hashes three numbers and takes constant time on average; finding
-//! takes no memory.
+//! takes no memory. A path tells its call sites, and a name the statement that it belongs to.
 #![tactic(auto)]
 
 ghost use Rattle.plain_values.specs.Claims.{IsDecided};
@@ -61,6 +61,8 @@ mod tests {
             path: round,
             point: Point::Body,
         };
+        assert_eq!(rt; (names.owner(&entry), names.owner(&body)), (4, 2));
+        assert_eq!(rt; names.sites(alloc, round)?.as_slice(), [call].as_slice());
         assert_eq!(rt; names.add(entry)?, 0);
         assert_eq!(rt; names.add(body)?, 1);
         assert_eq!(rt; names.add(entry)?, 0);

@@ -1,11 +1,14 @@
 //! Names and their numbers.
 ghost use Rattle.std.specs.Prelude.{◌≡◌, ℕ, ◌<◌, ◌↔◌, [], ◌∷◌, length, Some, slice_get, IfOk, IfSome, IfNone, OnErr, IsTrue};
-ghost use Rattle.cell_names.specs.Paths.{path_at, name_in};
+ghost use Rattle.cell_names.specs.Paths.{path_at, name_in, sites_of};
 ghost use Rattle.cell_names.specs.Known.{Adds, IsOnce};
+ghost use Rattle.cell_names.specs.declared.frame.Point.TheVariants.{Entry, Body};
+ghost use Rattle.cell_names.specs.Owners.{owner};
 
-use crate::frame::Frame;
+use crate::frame::{Frame, Point};
 use crate::path::{Name, PathId, Step};
-use plain_values::Memory;
+use imp_syntax::StmtId;
+use plain_values::{Items, Memory};
 use state_table::Table;
 use std::alloc::Global;
 use std::marker::Model;
@@ -121,6 +124,69 @@ impl Names {
         }
         let step = steps.get(path.number() - 1);
         Some((step.before, step.frame))
+    }
+
+    /// The call sites of a path, the last one first. It takes as many steps as the path has frames.
+    pub fn sites(&self, alloc: Global, path: PathId) -> Result<Items<StmtId>, Memory>
+        requires there { path < length self.now.paths }
+        ensures sites { IfOk result (λ sites. sites ≡ sites_of (path_at self.now.paths path)) }
+    {
+        let mut sites = Items::new(alloc);
+        let mut rest = path;
+        while let Some((before, frame)) = self.last_frame(rest) {
+            if let Frame::InCall(site) = frame {
+                sites.push(site)?;
+            }
+            rest = before;
+        }
+        Ok(sites)
+    }
+
+    // the call whose frame ends a path, or 0
+    fn site_of(&self, path: PathId) -> u32
+        requires there { path < length self.now.paths }
+        ensures is { result ≡ owner (path_at self.now.paths path) Entry }
+    {
+        match self.last_frame(path) {
+            Some((_, frame)) => match frame {
+                Frame::InCall(call) => call.number(),
+                Frame::InLoop(_, _) => 0,
+            },
+            None => 0,
+        }
+    }
+
+    // the loop whose frame ends a path, or 0
+    fn head_of(&self, path: PathId) -> u32
+        requires there { path < length self.now.paths }
+        ensures is { result ≡ owner (path_at self.now.paths path) Body }
+    {
+        match self.last_frame(path) {
+            Some((_, frame)) => match frame {
+                Frame::InLoop(head, _) => head.number(),
+                Frame::InCall(_) => 0,
+            },
+            None => 0,
+        }
+    }
+
+    /// The number of the statement that a name belongs to: with the path it alone tells the name's row.
+    /// The start of `main` belongs to 0, which is no statement's number.
+    pub fn owner(&self, name: &Name) -> u32
+        requires there { name.now.path < length self.now.paths }
+        ensures is { result ≡ owner (path_at self.now.paths name.now.path) name.now.point }
+    {
+        match name.point {
+            Point::Entry => self.site_of(name.path),
+            Point::Body => self.head_of(name.path),
+            Point::Then(stmt)
+            | Point::Else(stmt)
+            | Point::Post(stmt)
+            | Point::Iterate(stmt, _)
+            | Point::Fix(stmt)
+            | Point::Exit(stmt)
+            | Point::Leap(stmt, _) => stmt.number(),
+        }
     }
 
     /// A path has one number, and a name has one number.

@@ -9,7 +9,7 @@ use Rattle.domain_laws.specs.Operations.{Operations}
 use Rattle.batch_meaning.specs.Batch.{Engine}
 use Rattle.batch_meaning.specs.Places.{if_some, value_at, main_layout}
 use Rattle.batch_meaning.specs.Answers.{In, all_values, sum_of, summed, answer_in}
-use Rattle.batch_sound.proofs.Procedures.{some_inj}
+use Rattle.plain_values.proofs.Cases.{some_inj}
 use Rattle.cell_names.specs.Paths.{CellName}
 use Rattle.demand_order.specs.Asking.{gather, value_of}
 use Rattle.cell_rows.specs.Names.{Mark, mark_of, IsSame}

@@ -4,20 +4,18 @@ use Rattle.imp_slots.specs.Plain.{Guard, DoBreak, Does, Code, Stop, Simple, If, 
 use Rattle.domain_laws.specs.Operations.{Operations}
 use Rattle.batch_meaning.specs.Values.{Value, State, Over, lift, lift2}
 use Rattle.batch_meaning.specs.Batch.{Engine, Passed, Fixed, head_of, behind, batch, calls_of}
-use Rattle.batch_meaning.specs.Places.{Spot, spots, main_layout}
+use Rattle.batch_meaning.specs.Places.{Spot, spots, main_layout, spot}
 use Rattle.cell_names.specs.declared.frame.Frame.{Frame}
 use Rattle.cell_names.specs.declared.frame.Frame.TheVariants.{InLoop}
 use Rattle.cell_names.specs.declared.frame.Point.{Point}
 use Rattle.cell_names.specs.declared.frame.Point.TheVariants.{Then, Else, Body, Post, Fix}
 use Rattle.cell_names.specs.Paths.{CellName}
-use Rattle.batch_sound.proofs.Procedures.{some_inj}
-use Rattle.batch_sound.proofs.Places.{Member, here, there, in_left, in_right, Each, each_more, each_both, none_there, each_as, keys}
+use Rattle.plain_values.proofs.Cases.{some_inj}
+use Rattle.plain_values.proofs.Members.{Member, here, there, in_left, in_right, Each, each_more, each_both, none_there, each_as, keys, keys_both}
 use Rattle.cell_rows.specs.Names.{Scope, name, Mark, At, Algebra, Place, behind_it, inside, level, level_of, AllFine}
 use Rattle.cell_rows.specs.Cells.{Cell, block, values, one_round, fix_value, after_value, value_of_name, value_of_mark}
 use Rattle.cell_rows.specs.Targets.{Text, text, deeper, texts, Step, Take, takes, callee_of, is_loop, unless_over, value_in_path, demanded_in}
 use Rattle.cell_rows.proofs.Unique.{All}
-use Rattle.cell_rows.proofs.Levels.{keys_of_both}
-use Rattle.batch_meaning.specs.Places.{spot}
 use Rattle.cell_rows.proofs.Linked.{batch_over, behind_over}
 use Rattle.cell_rows.proofs.Lookup.{fine}
 use Rattle.cell_rows.proofs.BatchTie.{fix_index}
@@ -31,8 +29,8 @@ keys_deeper n (x ∷ xs) = ap (λ k. x.0 ∷ k) (keys_deeper n xs)
 pub keys_texts : (c : Code) (p : Point) → keys (texts c p) ≡ code_numbers c
 keys_texts Stop p = refl
 keys_texts (Simple n effect r) p = ap (λ k. n ∷ k) (keys_texts r _)
-keys_texts (If n guard t e r) p = rw (keys_of_both, keys_of_both, keys_texts t, keys_texts e, keys_texts r) refl
-keys_texts (While n guard b r) p = rw (keys_of_both, keys_deeper, keys_texts b, keys_texts r) refl
+keys_texts (If n guard t e r) p = rw (keys_both, keys_both, keys_texts t, keys_texts e, keys_texts r) refl
+keys_texts (While n guard b r) p = rw (keys_both, keys_deeper, keys_texts b, keys_texts r) refl
 keys_texts (Call n call q r) p = ap (λ k. n ∷ k) (keys_texts r _)
 keys_texts (Break n r) p = ap (λ k. n ∷ k) (keys_texts r _)
 

@@ -1,6 +1,7 @@
 -- Rows, ranks and which names there are do not depend on what is computed.
 use Rattle.std.proofs.Common.{◌≡◌, ℕ, zero, suc, List, [], ◌∷◌, ◌++◌, map, Option, Some, None, Bool, true, false, if◌then◌else◌, refl, sym, ap, ◌∙◌, nat_lt, ◌==◌}
 use Rattle.std.specs.Option.{option_map}
+use Rattle.std.proofs.lemmas.List.{map-append}
 use Rattle.imp_slots.specs.Plain.{Guard, Invoke, Code, Stop, Simple, If, While, Call, Break, Routine}
 use Rattle.batch_meaning.specs.Batch.{Engine}
 use Rattle.batch_meaning.specs.Places.{find, if_some, from, main_layout}
@@ -19,12 +20,8 @@ bare_mark m = mark m.point m.rank tt
 abbrev bare_at : {V : Type 0} → ℕ × At V → ℕ × At (Unit {0})
 bare_at x = (x.0, record { before = bare_mark x.1.before; code = x.1.code })
 
-map_append : {A B : Type 0} (f : A → B) (xs ys : List A) → map f (xs ++ ys) ≡ map f xs ++ map f ys
-map_append f [] ys = refl
-map_append f (x ∷ xs) ys = ap (λ k. f x ∷ k) (map_append f xs ys)
-
 map_three : {A B : Type 0} (f : A → B) (xs ys zs : List A) (us vs ws : List B) → us ≡ map f xs → vs ≡ map f ys → ws ≡ map f zs → us ++ (vs ++ ws) ≡ map f (xs ++ (ys ++ zs))
-map_three f xs ys zs us vs ws a b c = rw (a, b, c, map_append f xs (ys ++ zs), map_append f ys zs) refl
+map_three f xs ys zs us vs ws a b c = rw (a, b, c, map-append f xs (ys ++ zs), map-append f ys zs) refl
 
 module _ (engine : Engine) {V : Type 0} (A : Algebra V) where
   abbrev P : Type 0

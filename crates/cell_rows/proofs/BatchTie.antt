@@ -1,21 +1,18 @@
 -- The marks' values are those of the batch interpreter.
 use Rattle.std.proofs.Common.{ℤ, ◌≡◌, ◌≢◌, ℕ, zero, suc, ◌+◌, ◌<◌, List, [], ◌∷◌, ◌++◌, length, map, Option, Some, None, Bool, true, false, if◌then◌else◌, refl, sym, ap, ◌∙◌, arith, slice_get, append_assoc}
+use Rattle.std.proofs.lemmas.List.{map-append}
 use Rattle.imp_slots.specs.Plain.{Layout, Guard, Code, Stop, Simple, If, While, Call, Break, Routine}
 use Rattle.imp_slots.specs.Fits.{Absent, Distinct}
 use Rattle.domain_laws.specs.Operations.{Operations}
 use Rattle.batch_meaning.specs.Values.{Value, State, Over, lift, lift2}
 use Rattle.batch_meaning.specs.Batch.{Engine, next_of, settle, iterate, fix, joined}
 use Rattle.batch_meaning.specs.Places.{from}
-use Rattle.batch_sound.proofs.Procedures.{by_test}
-use Rattle.batch_sound.proofs.Places.{Member, here, there, in_left, in_right, Each, each_more, each_both, none_there, each_as}
+use Rattle.plain_values.proofs.Cases.{by_test}
+use Rattle.plain_values.proofs.Members.{Member, here, there, in_left, in_right, Each, each_more, each_both, none_there, each_as}
 use Rattle.cell_rows.specs.Blocks.{iterate_at}
 use Rattle.cell_rows.specs.Names.{Scope, spans, Mark, At, Algebra, breaks, break_numbers, place_of, item, next_place, span, behind_it, inside, entry, level, last, leaves}
 use Rattle.cell_rows.specs.Rows.{leave_points}
 use Rattle.cell_rows.specs.Cells.{Cell, cell, with_one, joined_to, block, values}
-
-map_append : {A B : Type 0} (f : A → B) (xs ys : List A) → map f (xs ++ ys) ≡ map f xs ++ map f ys
-map_append f [] ys = refl
-map_append f (x ∷ xs) ys = ap (λ k. f x ∷ k) (map_append f xs ys)
 
 pub breaks_points : (c : Code) (p : _) → length (leave_points c p) ≡ breaks c
 breaks_points Stop p = refl
@@ -198,7 +195,7 @@ module _ {S : Type 0} (dom : Operations S) (engine : Engine) where
     pub leaves_value : (c : Code) (x : M) → map value_of (leaves engine (values dom engine layout) scope z c x) ≡ (block dom engine scope z c x.value.value).leaving
     leaves_value Stop x = refl
     leaves_value (Simple n effect r) x = leaves_value r _
-    leaves_value (If n guard t e r) x = rw (map_append, map_append, leaves_value t, leaves_value e, leaves_value r, append_assoc) refl
+    leaves_value (If n guard t e r) x = rw (map-append, map-append, leaves_value t, leaves_value e, leaves_value r, append_assoc) refl
     leaves_value (While n guard b r) x = leaves_value r _
     leaves_value (Call n call q r) x = leaves_value r _
     leaves_value (Break n r) x = ap (λ k. x.value.value ∷ k) (leaves_value r _)

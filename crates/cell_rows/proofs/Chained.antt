@@ -12,8 +12,9 @@ use Rattle.cell_names.specs.declared.frame.Frame.TheVariants.{InCall}
 use Rattle.cell_names.specs.declared.frame.Point.{Point}
 use Rattle.cell_names.specs.declared.frame.Point.TheVariants.{Entry, Then, Else, Body, Post, Fix}
 use Rattle.cell_names.specs.Paths.{CellName}
-use Rattle.batch_sound.proofs.Procedures.{by_test, some_inj}
-use Rattle.batch_sound.proofs.Places.{Member, here, there, Each, each_more, each_both, none_there, keys, keys_numbers, found, found_member}
+use Rattle.plain_values.proofs.Cases.{by_test, some_inj}
+use Rattle.plain_values.proofs.Members.{Member, here, there, Each, each_more, each_both, none_there, keys}
+use Rattle.batch_meaning.proofs.Places.{keys_numbers, found, found_member}
 use Rattle.cell_rows.specs.Names.{Scope, scope_of, name, Mark, mark, Algebra, Place, number, behind_it, last, AllFine, start_of, in_call, post_mark}
 use Rattle.cell_rows.specs.Rows.{last_point}
 use Rattle.cell_rows.specs.Cells.{Cell, plain, values, value_of_name, value_of_mark}
@@ -25,7 +26,7 @@ use Rattle.imp_syntax.specs.declared.edit.Location.TheVariants.{Before, After, H
 use Rattle.std.specs.Str.{bytes_eq}
 use Rattle.cell_rows.proofs.Linked.{batch_over}
 use Rattle.cell_rows.proofs.BatchTie.{last_value}
-use Rattle.cell_rows.proofs.FlatOnce.{left_once, right_once}
+use Rattle.imp_slots.proofs.Distinct.{left_once, right_once}
 use Rattle.cell_rows.proofs.Tied.{at, to, Led, led_to, front_found, first_end, fix_found}
 use Rattle.cell_rows.proofs.Arriving.{keys_texts, spot_of, AllOver, Fits, shown, over_spots, Reaches, Stops, seen, Has}
 

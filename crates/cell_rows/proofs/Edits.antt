@@ -7,7 +7,7 @@ use Rattle.cell_names.specs.Paths.{CellName}
 use Rattle.demand_order.specs.Order.{member}
 use Rattle.demand_order.specs.Asking.{SameRow, Rows, AreRows, value_of, inputs_of}
 use Rattle.demand_order.proofs.AskingProofs.{value-is, system-acyclic}
-use Rattle.demand_order.proofs.OrderLemmas.{or_left, or_right}
+use Rattle.std.proofs.lemmas.Bool.{or_left, or_right}
 use Rattle.demand_order.proofs.Stable.{stable}
 use Rattle.cell_rows.specs.Names.{IsSame, AllFine}
 use Rattle.cell_rows.specs.Cells.{Cell, table, row_of_name, value_of_name, by_row, operation_row, asks_row, most_row, nothing}

@@ -1,15 +1,15 @@
 -- In a checked program each statement number stands in the table once.
 use Rattle.std.proofs.lemmas.List.{reverse-append, length-reverse}
 use Rattle.std.proofs.Common.{◌<◌, zero, suc, reverse, slice_get, Option, None, arith, append_assoc, append-nil, ◌≡◌, ℕ, List, [], ◌∷◌, ◌++◌, length, map, Some, refl, sym, ap, ◌∙◌, subst, ◌⊎◌, inl, inr}
+use Rattle.imp_slots.proofs.Distinct.{not_in, left_once, right_once}
 use Rattle.imp_slots.specs.Plain.{Layout, Code, Stop, Simple, If, While, Call, Break, Routine, code_numbers}
 use Rattle.imp_slots.specs.Fits.{Absent, Distinct, FitsCall, FitsCode, IsChecked, routine_numbers}
 use Rattle.cell_names.specs.declared.frame.Point.TheVariants.{Entry}
-use Rattle.batch_sound.proofs.Procedures.{FitBack, fit_back}
-use Rattle.batch_sound.proofs.Places.{Member, here, there, in_left, in_right, keys}
+use Rattle.batch_meaning.proofs.Procedures.{FitBack, fit_back}
+use Rattle.plain_values.proofs.Members.{Member, here, there, in_left, in_right, keys, either, keys_both}
 use Rattle.cell_rows.specs.Names.{CallsBelow, AllFine}
 use Rattle.cell_rows.specs.Targets.{Text, texts}
 use Rattle.cell_rows.specs.Flat.{flat_of, flat}
-use Rattle.cell_rows.proofs.Levels.{keys_of_both}
 use Rattle.cell_rows.proofs.Arriving.{keys_texts}
 use Rattle.cell_rows.proofs.Checked.{distinct_part, own_part, once_nested}
 
@@ -21,7 +21,7 @@ keys_flat_of c e (x ∷ xs) = ap (λ k. x.0 ∷ k) (keys_flat_of c e xs)
 pub keys_flat : (ps : List Routine) → keys (flat ps) ≡ routine_numbers ps
 keys_flat [] = refl
 keys_flat (c ∷ earlier) =
-    keys_of_both (map (flat_of c earlier) (texts c.code Entry)) (flat earlier)
+    keys_both (map (flat_of c earlier) (texts c.code Entry)) (flat earlier)
     ∙ ap (λ k. k ++ keys (flat earlier)) (keys_flat_of c earlier (texts c.code Entry) ∙ keys_texts c.code Entry)
     ∙ ap (λ k. code_numbers c.code ++ k) (keys_flat earlier)
 
@@ -36,11 +36,6 @@ absent_both n (x ∷ xs) ys a b = (a.0, absent_both n xs ys a.1 b)
 distinct_both : (xs ys : List ℕ) → Distinct xs → Distinct ys → ((k : ℕ) → Member k xs → Absent k ys) → Distinct (xs ++ ys)
 distinct_both [] ys d e h = e
 distinct_both (x ∷ xs) ys d e h = (absent_both x xs ys d.0 (h x here), distinct_both xs ys d.1 e (λ k m. h k (there m)))
-
-pub either : (n : ℕ) (xs ys : List ℕ) → Member n (xs ++ ys) → Member n xs ⊎ Member n ys
-either n [] ys m = inr m
-either n (x ∷ xs) ys here = inl here
-either n (x ∷ xs) ys (there m) = elim (either n xs ys m) [ inl a ↦ inl (there a) | inr b ↦ inr b ]
 
 numbers_both : (xs ys : List Routine) → routine_numbers (xs ++ ys) ≡ routine_numbers xs ++ routine_numbers ys
 numbers_both [] ys = refl
@@ -57,23 +52,10 @@ in_reversed n (c ∷ ps) m =
       | inr b ↦ in_left (routine_numbers ps) b
     ]
 
-not_in : (n : ℕ) (xs : List ℕ) → Absent n xs → Member n xs → ⊥
-not_in n [] a m = elim m [ ]
-not_in n (x ∷ xs) a here = a.0 refl
-not_in n (x ∷ xs) a (there m) = not_in n xs a.1 m
-
 apart : (k : ℕ) (xs ys : List ℕ) → Distinct (xs ++ ys) → Member k xs → Member k ys → ⊥
 apart k [] ys d m i = elim m [ ]
 apart k (x ∷ xs) ys d here i = not_in x (xs ++ ys) d.0 (in_right xs i)
 apart k (x ∷ xs) ys d (there m) i = apart k xs ys d.1 m i
-
-pub left_once : (xs ys : List ℕ) → Distinct (xs ++ ys) → Distinct xs
-left_once [] ys d = tt
-left_once (x ∷ xs) ys d = (absent_of x xs (λ m. not_in x (xs ++ ys) d.0 (in_left ys m)), left_once xs ys d.1)
-
-pub right_once : (xs ys : List ℕ) → Distinct (xs ++ ys) → Distinct ys
-right_once [] ys d = d
-right_once (x ∷ xs) ys d = right_once xs ys d.1
 
 pub once_reversed : (ps : List Routine) → Distinct (routine_numbers ps) → Distinct (routine_numbers (reverse ps))
 once_reversed [] d = d

@@ -8,15 +8,17 @@ use Rattle.cell_names.specs.declared.frame.Frame.{Frame}
 use Rattle.cell_names.specs.declared.frame.Frame.TheVariants.{InCall, InLoop}
 use Rattle.cell_names.specs.declared.frame.Point.{Point}
 use Rattle.cell_names.specs.declared.frame.Point.TheVariants.{Entry, Then, Else, Body, Post, Iterate, Fix, Exit, Leap}
-use Rattle.batch_sound.proofs.Procedures.{by_test, some_inj}
-use Rattle.batch_sound.proofs.Places.{Member, here, there, in_left, in_right, Each, each_more, each_both, none_there, each_as, keys, found}
-use Rattle.cell_rows.specs.Names.{Scope, scope_of, name, Mark, mark, At, Place, bare, number, behind_it, inside, entry, level, start_of, in_call, in_loop, iterate_point, round_place, statement, follow, when}
+use Rattle.plain_values.proofs.Cases.{by_test, some_inj}
+use Rattle.plain_values.proofs.Members.{Member, here, there, in_left, in_right, keys}
+use Rattle.batch_meaning.proofs.Places.{found}
+use Rattle.cell_rows.specs.Names.{Scope, scope_of, name, Mark, mark, Place, bare, number, entry, start_of, in_call, in_loop, iterate_point, round_place, statement, follow, when}
 use Rattle.cell_rows.specs.Rows as R
 use Rattle.cell_rows.specs.Rows.{Row, Init, One, Two, sites_of, row_at, branch_row, post_row, next_row, fix_row, exit_row, leap_row, enter_row, turn_row, loop_row, last_point}
 use Rattle.cell_rows.specs.Targets.{Text, text, deeper, texts}
 use Rattle.cell_rows.specs.Flat.{Flat, flat_of, flat, stand_in, by_text, flat_row}
 use Rattle.cell_rows.proofs.Lookup.{Stands, unstated, then_some}
-use Rattle.cell_rows.proofs.Shapes.{path_sites}
+use Rattle.cell_rows.proofs.Shown.{Shows, shows}
+use Rattle.cell_rows.proofs.Sites.{path_sites}
 
 module _ (engine : Engine) (program : List Routine) (once : Distinct (keys (flat program))) where
   abbrev N : ℕ
@@ -27,64 +29,6 @@ module _ (engine : Engine) (program : List Routine) (once : Distinct (keys (flat
 
   abbrev U : Type 0
   U = Mark (Unit {0})
-
-  abbrev Inner : List (ℕ × Text) → Code → Type 0
-  Inner xs Stop = Unit {0}
-  Inner xs (Simple n effect r) = Unit {0}
-  Inner xs (If n guard t e r) = Unit {0}
-  Inner xs (While n guard b r) = (q : ℕ × Text) → Member q (texts b Body) → Member (deeper n q) xs
-  Inner xs (Call n call q r) = Unit {0}
-  Inner xs (Break n r) = Unit {0}
-
-  -- A statement of a block is among its texts, and its body's are.
-  record Shows (xs : List (ℕ × Text)) (x : ℕ × At (Unit {0})) : Type 0 where
-    itself : Member (number x.1.code, text [] x.1.before.point x.1.code) xs
-    inner : Inner xs x.1.code
-
-  inner_more : (xs ys : List (ℕ × Text)) → ((q : ℕ × Text) → Member q xs → Member q ys) → (d : Code) → Inner xs d → Inner ys d
-  inner_more xs ys f Stop i = tt
-  inner_more xs ys f (Simple n effect r) i = tt
-  inner_more xs ys f (If n guard t e r) i = tt
-  inner_more xs ys f (While n guard b r) i = λ q m. f _ (i q m)
-  inner_more xs ys f (Call n call q r) i = tt
-  inner_more xs ys f (Break n r) i = tt
-
-  abbrev ShowsIn : List (ℕ × Text) → ℕ × At (Unit {0}) → Type 0
-  ShowsIn xs x = Shows xs x
-
-  more : (xs ys : List (ℕ × Text)) → ((q : ℕ × Text) → Member q xs → Member q ys) → (zs : List (ℕ × At (Unit {0}))) → Each (ShowsIn xs) zs → Each (ShowsIn ys) zs
-  more xs ys f zs e = each_as (ShowsIn xs) (ShowsIn ys) zs (λ x s. record { itself = f _ s.itself; inner = inner_more xs ys f x.1.code s.inner }) e
-
-  in_deeper : (n : ℕ) (x : ℕ × Text) (xs : List (ℕ × Text)) → Member x xs → Member (deeper n x) (map (deeper n) xs)
-  in_deeper n x [] m = elim m [ ]
-  in_deeper n x (y ∷ xs) here = here
-  in_deeper n x (y ∷ xs) (there m) = there (in_deeper n x xs m)
-
-  module _ (e : Scope) (z : List ℕ) where
-    abbrev L : Code → U → List (ℕ × At (Unit {0}))
-    L = level engine bare e z
-
-    abbrev E : U → Code → ℕ × At (Unit {0})
-    E = entry engine bare e z
-
-    shows : (c : Code) (x : U) → Each (ShowsIn (texts c x.point)) (L c x)
-    shows Stop x = none_there (ShowsIn [])
-    shows (Simple n effect r) x = each_more (ShowsIn (texts (Simple n effect r) x.point)) (E x (Simple n effect r)) _ (record { itself = here; inner = tt }) (more (texts r (Post n)) (texts (Simple n effect r) x.point) (λ q. there) _ (shows r (behind_it engine bare e z (Simple n effect r) x)))
-    shows (If n guard t f r) x =
-        let c = If n guard t f r in
-        let xs = texts c x.point in
-        let u = behind_it engine bare e z (If n guard t f r) x in
-        let ut = inside engine bare e z true n guard x in
-        let uf = inside engine bare e z false n guard x in
-        each_more (ShowsIn xs) (E x (If n guard t f r)) _ (record { itself = here; inner = tt })
-        (each_both (ShowsIn xs) _ _ (more (texts t (Then n)) xs (λ q m. there (in_left _ m)) _ (shows t ut))
-        (each_both (ShowsIn xs) _ _ (more (texts f (Else n)) xs (λ q m. there (in_right (texts t (Then n)) (in_left _ m))) _ (shows f uf))
-        (more (texts r (Post n)) xs (λ q m. there (in_right (texts t (Then n)) (in_right (texts f (Else n)) m))) _ (shows r u))))
-    shows (While n guard b r) x =
-        each_more (ShowsIn (texts (While n guard b r) x.point)) (E x (While n guard b r)) _ (record { itself = here; inner = λ q m. there (in_left (texts r (Post n)) (in_deeper n q (texts b Body) m)) })
-        (more (texts r (Post n)) (texts (While n guard b r) x.point) (λ q m. there (in_right (map (deeper n) (texts b Body)) m)) _ (shows r (behind_it engine bare e z (While n guard b r) x)))
-    shows (Call n call q r) x = each_more (ShowsIn (texts (Call n call q r) x.point)) (E x (Call n call q r)) _ (record { itself = here; inner = tt }) (more (texts r (Post n)) (texts (Call n call q r) x.point) (λ q. there) _ (shows r (behind_it engine bare e z (Call n call q r) x)))
-    shows (Break n r) x = each_more (ShowsIn (texts (Break n r) x.point)) (E x (Break n r)) _ (record { itself = here; inner = tt }) (more (texts r (Post n)) (texts (Break n r) x.point) (λ q. there) _ (shows r (behind_it engine bare e z (Break n r) x)))
 
   -- The statements of the block that a path leads to are in the table.
   record Entered (scope : Scope) (k : ℕ) (p : Point) (c : Code) : Type 0 where
@@ -134,7 +78,7 @@ module _ (engine : Engine) (program : List Routine) (once : Distinct (keys (flat
   covers_call b n y (Break m r) c v e = absurd cc
 
   shown_at : (b : Q) (y : U) (d : Code) → Stands engine bare b y d → Shows (texts b.code b.first.point) (entry engine bare b.scope b.sites y d)
-  shown_at b y d s = (shows b.scope b.sites b.code b.first).at _ s.there
+  shown_at b y d s = (shows engine b.scope b.sites b.code b.first).at _ s.there
 
   covers_loop : (b : Q) (n k : ℕ) (y : U) (d : Code) (c : Q) → Covers b → Stands engine bare b y d → in_loop engine bare b n k y d ≡ Some c → Covers c
   covers_loop b n k y Stop c v s e = absurd cc

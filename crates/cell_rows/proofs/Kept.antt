@@ -1,5 +1,5 @@
 -- Over an edit: cells that are kept hold the new program's values.
-use Rattle.std.proofs.Common.{reverse, ◌≡◌, Bool, true, List, length, Some, sym, ap, ◌∙◌}
+use Rattle.std.proofs.Common.{reverse, ◌≡◌, Bool, true, List, Some, sym, ap, ◌∙◌}
 use Rattle.imp_slots.specs.Plain.{Routine}
 use Rattle.imp_slots.specs.Fits.{IsChecked}
 use Rattle.domain_laws.specs.Operations.{Operations}
@@ -14,8 +14,8 @@ use Rattle.cell_rows.specs.TotalTable.{total_table, total_row}
 use Rattle.cell_rows.proofs.FlatOnce.{flat_once, all_fine}
 use Rattle.cell_rows.proofs.TableProofs.{HasName}
 use Rattle.cell_rows.proofs.Edits.{SameIn, kept}
-use Rattle.cell_rows.proofs.Shapes.{same_in}
-use Rattle.cell_rows.proofs.TotalRows.{is_total, total_values, total_inputs, same_rows}
+use Rattle.cell_rows.proofs.FlatShapes.{same_operation}
+use Rattle.cell_rows.proofs.TotalRows.{is_total, total_values}
 
 module _ {S : Type 0} (dom : Operations S) (engine : Engine) (old new : List Routine) (co : IsChecked old) (cn : IsChecked new) (same : CellName → CellName → Bool) (is : IsSame same) where
   abbrev TO : Rows CellName (Cell S)
@@ -42,19 +42,13 @@ module _ {S : Type 0} (dom : Operations S) (engine : Engine) (old new : List Rou
     pub inputs : inputs_of TO x ≡ inputs_of TN x
 
   same_there : (x : CellName) → Untouched x → SameIn TO TN x
-  same_there x u =
-      let eo = same_rows dom engine (reverse old) (all_fine old co) (flat_once old co) same is x u.in_old in
-      let en = same_rows dom engine (reverse new) (all_fine new cn) (flat_once new cn) same is x u.in_new in
-      let io = total_inputs dom engine (reverse old) (all_fine old co) (flat_once old co) same is x u.in_old in
-      let in_ = total_inputs dom engine (reverse new) (all_fine new cn) (flat_once new cn) same is x u.in_new in
-      let q = same_in dom engine (reverse old) (reverse new) same x u.old_row u.new_row (eo ∙ u.old_is) (en ∙ u.new_is) u.operation (sym io ∙ u.inputs ∙ in_) in
-      record {
-        inputs = u.inputs;
-        operation = λ vs k.
-            ap (λ o. by_row dom engine o (nothing dom engine) (λ r. operation_row dom engine r vs)) (sym eo)
-            ∙ q.operation vs (k ∙ ap (λ xs. length xs) in_)
-            ∙ ap (λ o. by_row dom engine o (nothing dom engine) (λ r. operation_row dom engine r vs)) en;
-      }
+  same_there x u = record {
+    inputs = u.inputs;
+    operation = λ vs k.
+        ap (λ o. by_row dom engine o (nothing dom engine) (λ r. operation_row dom engine r vs)) u.old_is
+        ∙ same_operation dom engine (reverse old) (reverse new) x.path x.point u.old_row u.new_row u.old_is u.new_is u.operation vs
+        ∙ sym (ap (λ o. by_row dom engine o (nothing dom engine) (λ r. operation_row dom engine r vs)) u.new_is);
+  }
 
   -- Where all that a name depends on is untouched, it has the same value in both programs.
   pub kept_value : (P : CellName → Type 0) → ((x : CellName) → P x → Untouched x) → ((x y : CellName) → P x → member same (inputs_of TO x) y ≡ true → P y) → (x : CellName) → P x → value_of_name dom engine (reverse old) x ≡ value_of_name dom engine (reverse new) x

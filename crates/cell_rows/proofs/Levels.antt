@@ -3,13 +3,9 @@ use Rattle.std.proofs.Common.{◌≡◌, ℕ, ◌+◌, ◌≤◌, List, [], ◌�
 use Rattle.imp_slots.specs.Plain.{Guard, Code, Stop, Simple, If, While, Call, Break}
 use Rattle.batch_meaning.specs.Batch.{Engine}
 use Rattle.cell_names.specs.declared.frame.Point.{Point}
-use Rattle.batch_sound.proofs.Places.{Member, here, there, in_left, in_right, Each, each_more, each_both, none_there, each_as, keys}
+use Rattle.plain_values.proofs.Members.{Member, here, there, in_left, in_right, Each, each_more, each_both, none_there, each_as, keys, keys_both}
 use Rattle.cell_rows.specs.Names.{Scope, Mark, At, Algebra, number, span, cost, body_span, behind_it, inside, entry, level, last, leaves, own}
 use Rattle.cell_rows.specs.Rows.{last_point, leave_points}
-
-pub keys_of_both : {A : Type 0} (xs ys : List (ℕ × A)) → keys (xs ++ ys) ≡ keys xs ++ keys ys
-keys_of_both [] ys = refl
-keys_of_both (x ∷ xs) ys = ap (λ k. x.0 ∷ k) (keys_of_both xs ys)
 
 module _ (engine : Engine) {V : Type 0} (alg : Algebra V) (scope : Scope) (z : List ℕ) where
   abbrev L : Code → Mark V → List (ℕ × At V)
@@ -106,7 +102,7 @@ module _ (engine : Engine) {V : Type 0} (alg : Algebra V) (scope : Scope) (z : L
   pub keys_own : (c : Code) (x : Mark V) → keys (L c x) ≡ own c
   keys_own Stop x = refl
   keys_own (Simple n effect r) x = ap (λ k. n ∷ k) (keys_own r _)
-  keys_own (If n guard t e r) x = rw (keys_of_both, keys_of_both, keys_own t, keys_own e, keys_own r) refl
+  keys_own (If n guard t e r) x = rw (keys_both, keys_both, keys_own t, keys_own e, keys_own r) refl
   keys_own (While n guard b r) x = ap (λ k. n ∷ k) (keys_own r _)
   keys_own (Call n call q r) x = ap (λ k. n ∷ k) (keys_own r _)
   keys_own (Break n r) x = ap (λ k. n ∷ k) (keys_own r _)

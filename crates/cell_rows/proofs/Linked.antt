@@ -7,7 +7,7 @@ use Rattle.batch_meaning.specs.Values.{Value, Over, lift, lift2}
 use Rattle.batch_meaning.specs.Batch.{Engine, Passed, joined, head_of, behind, batch}
 
 module _ {S : Type 0} (dom : Operations S) (engine : Engine) where
-  joined_over : (n : ℕ) (y : List ℕ) (xs : List (Value S)) → joined dom engine (Over n y) xs ≡ Over n y
+  pub joined_over : (n : ℕ) (y : List ℕ) (xs : List (Value S)) → joined dom engine (Over n y) xs ≡ Over n y
   joined_over n y [] = refl
   joined_over n y (x ∷ xs) = joined_over n y xs
 

@@ -8,8 +8,9 @@ use Rattle.cell_names.specs.declared.frame.Frame.{Frame}
 use Rattle.cell_names.specs.declared.frame.Frame.TheVariants.{InCall, InLoop}
 use Rattle.cell_names.specs.declared.frame.Point.{Point}
 use Rattle.cell_names.specs.declared.frame.Point.TheVariants.{Entry, Body}
-use Rattle.batch_sound.proofs.Procedures.{by_test, some_inj}
-use Rattle.batch_sound.proofs.Places.{Member, Each, each_more, each_both, none_there, found, found_member}
+use Rattle.plain_values.proofs.Cases.{by_test, some_inj}
+use Rattle.plain_values.proofs.Members.{Member, Each, each_more, each_both, none_there}
+use Rattle.batch_meaning.proofs.Places.{found, found_member}
 use Rattle.cell_rows.specs.Names.{Scope, CallsBelow, Mark, At, Algebra, Place, number, behind_it, inside, entry, level, level_of, Nested, IsFine, AllFine, start_of, in_call, in_loop, round_place, statement, follow, branch_mark, post_mark, mark_at, is_entry}
 use Rattle.cell_rows.proofs.Levels.{Known, first, post, branch, keyed, keys_own}
 

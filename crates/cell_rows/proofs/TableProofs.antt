@@ -10,7 +10,7 @@ use Rattle.cell_names.specs.declared.frame.Frame.{Frame}
 use Rattle.cell_names.specs.declared.frame.Frame.TheVariants.{InLoop}
 use Rattle.cell_names.specs.declared.frame.Point.{Point}
 use Rattle.cell_names.specs.Paths.{CellName}
-use Rattle.batch_sound.proofs.Procedures.{some_inj}
+use Rattle.plain_values.proofs.Cases.{some_inj}
 use Rattle.demand_order.specs.Asking.{Rows, AreRows, gather, value_of, inputs_of}
 use Rattle.demand_order.proofs.AskingProofs.{gather-none, gather-some}
 use Rattle.cell_rows.specs.Blocks.{iterate_at}

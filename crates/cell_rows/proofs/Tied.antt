@@ -14,8 +14,9 @@ use Rattle.cell_names.specs.declared.frame.Frame.TheVariants.{InCall, InLoop}
 use Rattle.cell_names.specs.declared.frame.Point.{Point}
 use Rattle.cell_names.specs.declared.frame.Point.TheVariants.{Entry, Then, Else, Body, Post, Iterate, Fix, Exit, Leap}
 use Rattle.cell_names.specs.Paths.{CellName}
-use Rattle.batch_sound.proofs.Procedures.{procedure_from}
-use Rattle.batch_sound.proofs.Places.{Member, found_member}
+use Rattle.batch_meaning.proofs.Procedures.{procedure_from}
+use Rattle.plain_values.proofs.Members.{Member}
+use Rattle.batch_meaning.proofs.Places.{found_member}
 use Rattle.cell_rows.specs.Blocks.{iterate_at}
 use Rattle.cell_rows.specs.Names.{Scope, scope_of, name, Mark, mark, At, Algebra, Place, number, breaks, break_numbers, place_of, item, span, body_span, behind_it, inside, level_of, last, leaves, AllFine, start_of, in_call, in_loop, iterate_point, iterate_mark, round_place, statement, follow, when, branch_mark, post_mark, next_mark, fix_of, fix_mark, exit_of, exit_mark, leap_of, leap_mark, mark_at, mark_of, is_entry}
 use Rattle.cell_rows.specs.Rows as R

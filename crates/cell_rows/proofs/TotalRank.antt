@@ -9,8 +9,9 @@ use Rattle.cell_names.specs.declared.frame.Frame.{Frame}
 use Rattle.cell_names.specs.declared.frame.Frame.TheVariants.{InLoop}
 use Rattle.cell_names.specs.declared.frame.Point.{Point}
 use Rattle.cell_names.specs.declared.frame.Point.TheVariants.{Entry, Body, Post, Iterate, Fix, Exit, Leap}
-use Rattle.batch_sound.proofs.Procedures.{by_test}
-use Rattle.batch_sound.proofs.Places.{Member, here, there, in_left, in_right, Each, each_more, each_both, none_there, keys, found}
+use Rattle.plain_values.proofs.Cases.{by_test}
+use Rattle.plain_values.proofs.Members.{Member, here, there, in_left, in_right, Each, each_more, each_both, none_there, keys}
+use Rattle.batch_meaning.proofs.Places.{found}
 use Rattle.cell_rows.specs.Names.{Scope, scope_of, Mark, mark, At, Place, bare, number, breaks, break_numbers, place_of, span, cost, body_span, behind_it, inside, entry, last, leaves, branch_mark, post_mark, next_mark, fix_mark, exit_mark, leap_mark, iterate_point, when}
 use Rattle.cell_rows.specs.Rows.{last_point, leave_points}
 use Rattle.cell_rows.specs.Total.{Spread, spread_of, entries, spread, stand, by_number, or_zero, offset, turn_of, base}

@@ -2,6 +2,7 @@
 use Rattle.std.proofs.Common.{◌≡◌, ℕ, zero, suc, ◌+◌, ◌<◌, ◌≤◌, List, [], ◌∷◌, ◌++◌, length, map, Option, Some, None, Bool, true, false, if◌then◌else◌, ◌==◌, refl, sym, ap, ◌∙◌, subst, arith, nat_lt}
 use Rattle.std.specs.Option.{option_map}
 use Rattle.std.proofs.lemmas.Bool.Decides.{nat_tests}
+use Rattle.std.proofs.lemmas.List.{map-append}
 use Rattle.imp_slots.specs.Plain.{Guard, Code, Stop, Simple, If, While, Call, Break, Routine}
 use Rattle.imp_slots.specs.Fits.{Distinct}
 use Rattle.domain_laws.specs.Operations.{Operations}
@@ -13,8 +14,9 @@ use Rattle.cell_names.specs.declared.frame.Frame.TheVariants.{InCall, InLoop}
 use Rattle.cell_names.specs.declared.frame.Point.{Point}
 use Rattle.cell_names.specs.declared.frame.Point.TheVariants.{Entry, Then, Else, Body, Post, Iterate, Fix, Exit, Leap}
 use Rattle.cell_names.specs.Paths.{CellName}
-use Rattle.batch_sound.proofs.Procedures.{some_inj}
-use Rattle.batch_sound.proofs.Places.{here, there, Each, each_more, each_both, none_there, keys, found_member}
+use Rattle.plain_values.proofs.Cases.{some_inj}
+use Rattle.plain_values.proofs.Members.{here, there, Each, each_more, each_both, none_there, keys}
+use Rattle.batch_meaning.proofs.Places.{found_member}
 use Rattle.demand_order.specs.Asking.{SameRow, Rows, AreRows, value_of, inputs_of}
 use Rattle.demand_order.proofs.Stable.{stable}
 use Rattle.cell_rows.specs.Names.{Scope, scope_of, IsSame, name, Mark, mark, At, Place, bare, AllFine, Nested, number, break_numbers, inside, behind_it, entry, iterate_point}
@@ -30,10 +32,6 @@ use Rattle.cell_rows.proofs.TableProofs.{HasName, is_table, values_agree, wants_
 use Rattle.cell_rows.proofs.Package.{inputs_have}
 use Rattle.cell_rows.proofs.TotalRank.{U, Good, fair, Whole}
 use Rattle.cell_rows.proofs.TotalFalls.{Lower, LowerIn, G, low_branch, low_post, low_next, low_fix, low_exit, low_leap, low_turn, low_enter}
-
-map_append : {A B : Type 0} (f : A → B) (xs ys : List A) → map f (xs ++ ys) ≡ map f xs ++ map f ys
-map_append f [] ys = refl
-map_append f (x ∷ xs) ys = ap (λ k. f x ∷ k) (map_append f xs ys)
 
 find_map : {A B : Type 0} (f : A → B) (n : ℕ) (xs : List (ℕ × A)) → find n (map (λ (x : ℕ × A). (x.0, f x.1)) xs) ≡ option_map f (find n xs)
 find_map f n [] = refl
@@ -70,7 +68,7 @@ module _ (engine : Engine) where
   deeper_strip c e n (x ∷ xs) = ap (λ k. SF c e x ∷ k) (deeper_strip c e n xs)
 
   two : {A B C : Type 0} (f : A → C) (g : B → C) (xs ys : List A) (us vs : List B) → map f xs ≡ map g us → map f ys ≡ map g vs → map f (xs ++ ys) ≡ map g (us ++ vs)
-  two f g xs ys us vs a b = rw (map_append f xs ys, map_append g us vs, a, b) refl
+  two f g xs ys us vs a b = rw (map-append f xs ys, map-append g us vs, a, b) refl
 
   entries_texts : (rt : Routine) (e : List Routine) (c : Code) (x : Mark (Unit {0})) → map (SE (Sc rt e)) (entries engine (Sc rt e) c x) ≡ map (SF rt e) (texts c x.point)
   entries_texts rt e Stop x = refl

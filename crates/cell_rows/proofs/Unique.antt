@@ -18,7 +18,8 @@ gather-reason v asks P f (suc n) vs =
     (λ k. rw (gather-none v asks (suc n) vs k) tt)
     (λ y k. rw (gather-some v asks n vs y k) (f vs y k, gather-reason v asks P f n _))
 
-gather-agree : {T V : Type 0} (v w : T → V) (asks : List V → Option T) (n : ℕ) (vs : List V) → All (λ y. w y ≡ v y) (gather v asks n vs) → (gather w asks n vs ≡ gather v asks n vs) × (map w (gather w asks n vs) ≡ map v (gather v asks n vs))
+-- functions that agree on what is asked for ask for the same
+pub gather-agree : {T V : Type 0} (v w : T → V) (asks : List V → Option T) (n : ℕ) (vs : List V) → All (λ y. w y ≡ v y) (gather v asks n vs) → (gather w asks n vs ≡ gather v asks n vs) × (map w (gather w asks n vs) ≡ map v (gather v asks n vs))
 gather-agree v w asks zero vs h = (unfold gather in refl, unfold gather in refl)
 gather-agree v w asks (suc n) vs h =
     by_option (asks vs)

@@ -7,14 +7,16 @@ use Rattle.imp_syntax.specs.declared.edit.Location.TheVariants.{Before, After, H
 use Rattle.imp_slots.specs.Plain.{Invoke, Code, Stop, Simple, If, While, Call, Break, Routine, code_numbers}
 use Rattle.imp_slots.specs.Fits.{Distinct, IsChecked}
 use Rattle.program_chains.specs.Chains.{calls_to, extended, through, chains_within, chains, ends_in, ending_in, selected, has, holder_from, holder, named_from, named, has_while, is_while}
-use Rattle.batch_meaning.specs.declared.refusal.Refusal.{Refusal}
-use Rattle.batch_meaning.specs.declared.refusal.Refusal.TheVariants.{NoProcedure, NoStatement}
+use Rattle.analysis_words.specs.declared.refusal.Refusal.{Refusal}
+use Rattle.analysis_words.specs.declared.refusal.Refusal.TheVariants.{NoProcedure, NoStatement}
 use Rattle.batch_meaning.specs.Answers.{Found, In, Misses, found_or, found_loop, procedure_of}
 use Rattle.batch_meaning.specs.Places.{find, if_some, from}
 use Rattle.cell_names.specs.declared.frame.Point.{Point}
 use Rattle.cell_names.specs.declared.frame.Point.TheVariants.{Entry, Then, Else, Body, Post, Fix}
-use Rattle.batch_sound.proofs.Procedures.{by_test, some_inj, look_get, from_look, from_behind, from_from, from_self}
-use Rattle.batch_sound.proofs.Places.{Member, here, there, in_left, in_right, keys, found, found_member}
+use Rattle.plain_values.proofs.Cases.{by_test, some_inj}
+use Rattle.batch_meaning.proofs.Procedures.{look_get, from_look, from_behind, from_from, from_self}
+use Rattle.plain_values.proofs.Members.{Member, here, there, in_left, in_right, keys, either}
+use Rattle.batch_meaning.proofs.Places.{found, found_member}
 use Rattle.cell_rows.specs.Names.{CallsBelow, AllFine}
 use Rattle.cell_rows.specs.Rows.{last_point}
 use Rattle.cell_rows.specs.Flat.{Flat, flat_of, flat}
@@ -23,11 +25,6 @@ use Rattle.cell_rows.proofs.Lookup.{fine_from}
 use Rattle.cell_rows.proofs.Arriving.{keys_texts}
 use Rattle.cell_rows.proofs.FlatOnce.{all_fine, flat_once, once_reversed}
 use Rattle.cell_rows.proofs.Chained.{AllOnce, all_once, once_from}
-
-either : {A : Type 0} (x : A) (xs ys : List A) → Member x (xs ++ ys) → Member x xs ⊎ Member x ys
-either x [] ys m = inr m
-either x (y ∷ xs) ys here = inl here
-either x (y ∷ xs) ys (there m) = elim (either x xs ys m) [ inl a ↦ inl (there a) | inr b ↦ inr b ]
 
 in_deeper : (n : ℕ) (x : ℕ × Text) (xs : List (ℕ × Text)) → Member x xs → Member (deeper n x) (map (deeper n) xs)
 in_deeper n x [] m = elim m [ ]

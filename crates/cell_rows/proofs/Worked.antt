@@ -6,9 +6,9 @@ use Rattle.imp_syntax.specs.declared.words.Relation.TheVariants.{Less, Equal}
 use Rattle.imp_syntax.specs.declared.edit.Location.{Location}
 use Rattle.imp_syntax.specs.declared.edit.Location.TheVariants.{Before, After, Head, End}
 use Rattle.imp_slots.specs.Plain.{Layout, Term, Literal, Slot, Binary, Guard, Compare, Skip, SetInt, Act, DoBreak, Does, Invoke, Code, Stop, Simple, If, While, Call, Break, Routine}
-use Rattle.domain_laws.specs.declared.verdict.Verdict.TheVariants.{May}
+use Rattle.analysis_words.specs.declared.verdict.Verdict.TheVariants.{May}
 use Rattle.domain_laws.specs.Operations.{Operations}
-use Rattle.batch_meaning.specs.declared.refusal.Refusal.TheVariants.{LongString, NoProcedure, NoStatement, WrongStatement, NoChain}
+use Rattle.analysis_words.specs.declared.refusal.Refusal.TheVariants.{LongString, NoProcedure, NoStatement, WrongStatement, NoChain}
 use Rattle.batch_meaning.specs.Values.{State, Over}
 use Rattle.batch_meaning.specs.Batch.{Engine}
 use Rattle.batch_meaning.specs.Answers.{In, Found, Misses, Answers, Refuses, answer, procedure_of}

@@ -1,16 +1,11 @@
 -- What is claimed of rows, of the values that are found by them, and of answers that are read from these.
-use Rattle.std.specs.Prelude.{◌≡◌, ℕ, nat_lt, List, [], length, map, reverse, Some, Bool, true, false}
+use Rattle.std.specs.Prelude.{◌≡◌, ℕ, List, [], map, reverse, Some, Bool, true}
 use Rattle.imp_syntax.specs.declared.edit.Location.{Location}
 use Rattle.imp_slots.specs.Plain.{Routine}
 use Rattle.imp_slots.specs.Fits.{IsChecked}
-use Rattle.concrete_sem.specs.Values.{Variables, Heap}
-use Rattle.concrete_sem.specs.Steps.{Config}
-use Rattle.concrete_sem.specs.Reach.{top, Reach}
-use Rattle.concrete_sem.specs.WellFormed.{variables_of}
 use Rattle.domain_laws.specs.Operations.{Operations}
-use Rattle.batch_meaning.specs.Values.{State}
 use Rattle.batch_meaning.specs.Batch.{Engine}
-use Rattle.batch_meaning.specs.Answers.{In, Answers, procedure_of, answer_in, summed}
+use Rattle.batch_meaning.specs.Answers.{In, procedure_of, answer_in, summed}
 use Rattle.demand_order.specs.Order.{member}
 use Rattle.demand_order.specs.Asking.{Rows, AreRows, gather, value_of, inputs_of}
 use Rattle.cell_names.specs.Paths.{CellName}
@@ -31,6 +26,14 @@ abbrev pub RowsAreByNumber : Type 0
 RowsAreByNumber =
     (engine : Engine) (program : List Routine) (x : CellName) (r : Row) → IsChecked program →
     row engine bare (reverse program) x ≡ Some r → flat_row engine (reverse program) x.path x.point ≡ Some r
+
+-- The name has a row by number.
+abbrev pub HasRow : Engine → List Routine → CellName → Type 0
+HasRow engine program x = (r : Row) × (flat_row engine (reverse program) x.path x.point ≡ Some r)
+
+-- Each name of the program has one.
+abbrev pub NamesHaveRows : Type 0
+NamesHaveRows = (engine : Engine) (program : List Routine) (x : CellName) → IsChecked program → HasName engine program x → HasRow engine program x
 
 -- the rows by number, with the values of a domain
 abbrev pub rows_of : {S : Type 0} → Operations S → Engine → List Routine → (CellName → CellName → Bool) → Rows CellName (Cell S)
@@ -86,11 +89,3 @@ AnswersAgree {S} dom =
     (engine : Engine) (program : List Routine) (same : CellName → CellName → Bool) (l : Location) (string : List ℕ) (p : ℕ) (ts : List Target) →
     IsSame same → IsChecked program → targets program p l string ≡ Some ts →
     answer_in dom engine program l string (In p) ≡ summed dom engine (read_all ts (map (value_of (rows_of dom engine program same)) (demands_of (rows_of dom engine program same) ts)))
-
--- So it covers each run.
-abbrev pub CellsAreSound : {S : Type 0} → Operations S → (S → Heap → List Variables → Type 0) → Type 0
-CellsAreSound {S} dom covers =
-    (engine : Engine) (program : List Routine) (same : CellName → CellName → Bool) (l : Location) (string : List ℕ) (p : ℕ) (ts : List Target) (s : S) (c : Config) →
-    IsSame same → IsChecked program → nat_lt 2 (length string) ≡ false → procedure_of program l ≡ In p → targets program p l string ≡ Some ts →
-    summed dom engine (read_all ts (map (value_of (rows_of dom engine program same)) (demands_of (rows_of dom engine program same) ts))) ≡ Answers (State s) →
-    Reach program l string c → covers s (top c).heap (variables_of (top c).frames)

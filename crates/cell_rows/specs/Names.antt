@@ -15,6 +15,12 @@ use Rattle.cell_names.specs.Paths.{CellName}
 abbrev pub name : List Frame → Point → CellName
 name w p = record { path = w; point = p }
 
+-- the first point of the block that a path leads to
+abbrev pub start_point : List Frame → Point
+start_point [] = Entry
+start_point (InCall n ∷ w) = Entry
+start_point (InLoop n k ∷ w) = Body
+
 -- What a block's procedure is to it: the marks of its widening, and the procedures in front of it, the last first.
 pub record Scope : Type 0 where
   pub marks : List ℤ

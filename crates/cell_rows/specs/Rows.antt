@@ -8,6 +8,7 @@ use Rattle.cell_names.specs.declared.frame.Frame.TheVariants.{InCall, InLoop}
 use Rattle.cell_names.specs.declared.frame.Point.{Point}
 use Rattle.cell_names.specs.declared.frame.Point.TheVariants.{Entry, Then, Else, Body, Post, Iterate, Fix, Exit, Leap}
 use Rattle.cell_names.specs.Paths.{CellName}
+pub use Rattle.cell_names.specs.Paths.{sites_of}
 use Rattle.cell_rows.specs.Names.{name, Mark, Algebra, Place, breaks, break_numbers, place_of, item, statement, follow, in_call, iterate_point, when}
 
 pub data Unary : Type 0 where
@@ -132,12 +133,6 @@ module _ (engine : Engine) {V : Type 0} (alg : Algebra V) where
 
     abbrev pub row : CellName → Option Row
     row x = row_at x.path x.point
-
--- The call sites of a path, the last first.
-abbrev pub sites_of : List Frame → List ℕ
-sites_of [] = []
-sites_of (InCall n ∷ w) = n ∷ sites_of w
-sites_of (InLoop n k ∷ w) = sites_of w
 
 -- An operation is its kind together with what it uses.
 pub data Op : Type 0 where

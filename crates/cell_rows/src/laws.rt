@@ -1,13 +1,14 @@
 //! The theorems, each the contract of a function that does nothing.
 
-ghost use Rattle.cell_rows.specs.Claims.{AnswersAgree, CellsAreSound, InputsAreNames, KeptValuesAreRight, RanksFall, RowsAreByNumber, TargetsAreThere, ValuesAreBatch};
+ghost use Rattle.cell_rows.specs.Claims.{AnswersAgree, InputsAreNames, KeptValuesAreRight, NamesHaveRows, RanksFall, RowsAreByNumber, TargetsAreThere, ValuesAreBatch};
 
-use batch_sound::answers_are_sound;
 use domain_laws::Domain;
 
-/// In a checked program the row of a name along its path is the one by its statement's number.
+/// In a checked program the row of a name along its path is the one by its statement's number, and each
+/// name of the program has one.
 pub fn rows_are_by_number()
     ensures found { RowsAreByNumber }
+    ensures there { NamesHaveRows }
 {}
 
 /// The rows of a checked program: inputs rank lower and are asked for to an end, for every name; the names
@@ -21,11 +22,8 @@ pub fn rows_give_values<D: Domain>()
 {}
 
 /// A location of a checked program has a target for each selected chain; the answer there is the one that is
-/// read from the cells that the targets ask for, and describes each configuration that a run reaches there.
+/// read from the cells that the targets ask for.
 pub fn answers_are_read<D: Domain>()
     ensures there { TargetsAreThere }
     ensures agree { (d : D) → AnswersAgree (D.operations d) }
-    ensures sound { (d : D) → CellsAreSound (D.operations d) (D.covers d) }
-{
-    answers_are_sound::<D>();
-}
+{}

@@ -1,4 +1,5 @@
-//! Jobs.
+//! What words can ask for: the values of [`read_words`](crate::read_words), which its clause `job`
+//! speaks of.
 ghost use Rattle.std.specs.Prelude.{◌≡◌, IfOk};
 
 use plain_values::Memory;

@@ -1,4 +1,5 @@
-//! The command line.
+//! The command whose words `clap` takes apart: the one of `specs/Line.antt`, over which `job_of` is
+//! defined.
 ghost use Rattle.std.specs.Prelude.{◌≡◌, IfOk, codes, false};
 ghost use Rattle.clap.specs.Walk.{rule_of};
 ghost use Rattle.clap.specs.Simple.{app_of, shape_of, with_rule, with_subcommand};

@@ -1,4 +1,4 @@
-//! Reading words.
+//! From what `clap` finds in words to the job: the clauses of [`read_words`].
 ghost use Rattle.std.specs.Prelude.{◌≡◌, IfOk, IfErr, Some, None, [], false, codes, map, option_and_then};
 ghost use Rattle.std.specs.String.{string_bytes};
 ghost use Rattle.std.specs.Option.{option_copied};

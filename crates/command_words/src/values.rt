@@ -1,4 +1,5 @@
-//! The values of options.
+//! The values of options from their texts: which numbers, domains and widenings
+//! [`read_words`](crate::read_words) takes.
 ghost use Rattle.std.specs.Prelude.{◌≡◌, codes};
 ghost use Rattle.command_words.specs.Values.{number_in, domain_of, thresholds_of};
 

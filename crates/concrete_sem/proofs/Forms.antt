@@ -2,6 +2,7 @@
 use Rattle.std.specs.Prelude.{◌≡◌, ◌≢◌, ℕ, suc, ◌-◌, ◌<◌, List, [], ◌∷◌, length, slice_get, Option, Some, None, Bool, true, false, ◌||◌, ◌⊎◌, ◌≤◌, get_or}
 use Rattle.std.proofs.Common.{refl, sym, ap, ◌∙◌, subst, inl, inr, arith}
 use Rattle.std.proofs.lemmas.Option.{slice_get_within, slice_get_cases}
+use Rattle.std.proofs.lemmas.Bool.{or_left, or_right}
 use Rattle.imp_slots.specs.Plain.{Layout, Guard, Invoke, Code, Stop, Simple, If, While, Call, Break, Routine}
 use Rattle.imp_slots.specs.Fits.{breaks, fits_invoke, FitsCode, IsChecked}
 use Rattle.concrete_sem.specs.Values.{Variables, Heap, Attempt, Gives, Faults, LacksInput}
@@ -32,14 +33,6 @@ push_test (If n g t e r) w = refl
 push_test (While n g b r) w = refl
 push_test (Call n i q r) w = refl
 push_test (Break n r) w = refl
-
-or_left : (a b : Bool) → a ≡ true → (a || b) ≡ true
-or_left true b e = refl
-or_left false b e = absurd cc
-
-or_right : (a b : Bool) → b ≡ true → (a || b) ≡ true
-or_right true b e = refl
-or_right false b e = e
 
 chosen_stands : {n : ℕ} {g : Guard} (body t e r : Code) (b : Bool) → StandsIn body (If n g t e r) → StandsIn body (chosen b t e)
 chosen_stands body t e r true s = then_block s

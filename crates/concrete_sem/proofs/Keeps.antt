@@ -6,20 +6,19 @@ use Rattle.std.proofs.lemmas.Bool.Decides.{nat_tests}
 use Rattle.std.proofs.lemmas.List.Elements.{All-set, All-append, All-replicate, All-nil, All-cons}
 use Rattle.std.proofs.lemmas.List.{length-set, length-append, length-replicate}
 use Rattle.std.proofs.lemmas.Option.{slice_get_within, get_or_from_slice_get}
+use Rattle.plain_values.proofs.Cases.{some_inj, or_either}
 use Rattle.imp_slots.specs.Plain.{Numeric, Layout, Effect, Skip, Assert, SetInt, Input, ReadElement, ReadItem, MakeArray, CopyArray, WriteElement, SetNull, MakeCell, CopyLink, ReadNext, WriteNext, WriteItem, Argument, IntArgument, ArrayArgument, LinkArgument, Returning, NumericResult, LinkResult}
 use Rattle.imp_slots.specs.Fits.{is_kind, is_int, is_array, is_link, is_side, fits_term, fits_effect, fits_arguments, fits_returning, fits_invoke}
-use Rattle.concrete_sem.specs.declared.fault.FaultKind.{FaultKind}
-use Rattle.concrete_sem.specs.declared.fault.FaultKind.TheVariants.{Length, Index, Null, Assert as Failed}
+use Rattle.analysis_words.specs.declared.fault.FaultKind.{FaultKind}
+use Rattle.analysis_words.specs.declared.fault.FaultKind.TheVariants.{Length, Index, Null, Assert as Failed}
 use Rattle.concrete_sem.specs.Values.{Number, Int, Array, Variables, Cell, Heap, Gives, Faults, andthen, given_or, IsWord, number_at, array_at, link_at, with_number, with_link}
 use Rattle.concrete_sem.specs.Evaluation.{value_of, truth_of, side_at}
 use Rattle.concrete_sem.specs.Effects.{new_array, element, with_element, cell_of, with_cell, take_input, effect_of}
 use Rattle.concrete_sem.specs.Passing.{first_number, first_link, first_variables, passed, over, pass, back}
 use Rattle.concrete_sem.specs.Proper.{IsLink, IsCell, IsNumber, AreVariables, AreFrames, IsProper}
 use Rattle.concrete_sem.specs.Keeping.{EffectsKeep, PassingKeeps, ReturnsKeep, LastAloneKeeps, StartKeeps}
-use Rattle.concrete_sem.proofs.Numbers.{given, gives_inj, both, is_word_zero, slot_of, array_is_words, numbers_kept, at_slot, value_word}
-
-some_inj : {A : Type 0} (a b : A) → Some a ≡ Some b → a ≡ b
-some_inj a b e = cc
+use Rattle.std.proofs.lemmas.Bool.{and_parts}
+use Rattle.concrete_sem.proofs.Numbers.{given, gives_inj, is_word_zero, slot_of, array_is_words, numbers_kept, at_slot, value_word}
 
 -- Slots set to values of their kinds.
 int_kept : (n : ℕ) (l : Layout) (v : Variables) (x : ℕ) (z : ℤ) → AreVariables n l v → is_int l x ≡ true → IsWord z → AreVariables n l (with_number v x (Int z))
@@ -159,35 +158,35 @@ module _ (l : Layout) (ls : List Layout) (vs : List Variables) where
       let t = given (truth_of v c) (λ b. if b then Gives (h, v) else Faults Failed) x g in assert_kept t.value h v x t.gives p
   effect_kept (SetInt y e) h v x f g p =
       let t = given (value_of v e) (λ z. Gives (h, with_number v y (Int z))) x g in
-      let k = both (is_int l y) (fits_term l e) f in
+      let k = and_parts (is_int l y) (fits_term l e) f in
       fine _ x t.gives (on_top h v _ vs l ls p (int_kept (length h.cells) l v y t.value p.frames.0 k.0 (value_word (length h.cells) l v p.frames.0 e k.1 t.value t.was)))
   effect_kept (Input y) h v x f g p = input_kept h.cells h.inputs v y x f g p
   effect_kept (ReadElement y a e) h v x f g p =
       let t = given (value_of v e) (λ i. andthen (element (array_at v a) i) (λ z. Gives (h, with_number v y (Int z)))) x g in
       let u = given (element (array_at v a) t.value) (λ z. Gives (h, with_number v y (Int z))) x t.gives in
-      let k = both (is_int l y) (is_array l a && fits_term l e) f in
-      let j = both (is_array l a) (fits_term l e) k.1 in
+      let k = and_parts (is_int l y) (is_array l a && fits_term l e) f in
+      let j = and_parts (is_array l a) (fits_term l e) k.1 in
       fine _ x u.gives (on_top h v _ vs l ls p (int_kept (length h.cells) l v y u.value p.frames.0 k.0 (element_is (array_at v a) t.value u.value (array_is (length h.cells) l v a p.frames.0 j.0).words u.was)))
   effect_kept (ReadItem y q) h v x f g p =
       let t = given (cell_of h.cells (link_at v q)) (λ c. Gives (h, with_number v y (Int c.1.item))) x g in
-      let k = both (is_int l y) (is_link l q) f in
+      let k = and_parts (is_int l y) (is_link l q) f in
       fine _ x t.gives (on_top h v _ vs l ls p (int_kept (length h.cells) l v y t.value.1.item p.frames.0 k.0 (cell_is (length h.cells) h.cells (link_at v q) t.value p.cells t.was).0))
   effect_kept (MakeArray a e) h v x f g p =
       let t = given (value_of v e) (λ n. andthen (new_array n) (λ zs. Gives (h, with_number v a (Array zs)))) x g in
       let u = given (new_array t.value) (λ zs. Gives (h, with_number v a (Array zs))) x t.gives in
-      let k = both (is_array l a) (fits_term l e) f in
+      let k = and_parts (is_array l a) (fits_term l e) f in
       let i = new_is t.value u.value u.was in
       fine _ x u.gives (on_top h v _ vs l ls p (array_kept (length h.cells) l v a u.value p.frames.0 k.0 i.short i.words))
   effect_kept (CopyArray a b) h v x f g p =
-      let k = both (is_array l a) (is_array l b) f in
+      let k = and_parts (is_array l a) (is_array l b) f in
       let i = array_is (length h.cells) l v b p.frames.0 k.1 in
       fine _ x g (on_top h v _ vs l ls p (array_kept (length h.cells) l v a (array_at v b) p.frames.0 k.0 i.short i.words))
   effect_kept (WriteElement a e y) h v x f g p =
       let t = given (value_of v e) (λ i. andthen (value_of v y) (λ z. andthen (with_element (array_at v a) i z) (λ zs. Gives (h, with_number v a (Array zs))))) x g in
       let u = given (value_of v y) (λ z. andthen (with_element (array_at v a) t.value z) (λ zs. Gives (h, with_number v a (Array zs)))) x t.gives in
       let w = given (with_element (array_at v a) t.value u.value) (λ zs. Gives (h, with_number v a (Array zs))) x u.gives in
-      let k = both (is_array l a) (fits_term l e && fits_term l y) f in
-      let j = both (fits_term l e) (fits_term l y) k.1 in
+      let k = and_parts (is_array l a) (fits_term l e && fits_term l y) f in
+      let j = and_parts (fits_term l e) (fits_term l y) k.1 in
       let i = set_is (array_at v a) w.value t.value u.value (array_is (length h.cells) l v a p.frames.0 k.0) (value_word (length h.cells) l v p.frames.0 y j.1 u.value u.was) w.was in
       fine _ x w.gives (on_top h v _ vs l ls p (array_kept (length h.cells) l v a w.value p.frames.0 k.0 i.short i.words))
   effect_kept (SetNull q) h v x f g p = fine _ x g (on_top h v _ vs l ls p (link_kept (length h.cells) l v q None p.frames.0 tt))
@@ -208,7 +207,7 @@ module _ (l : Layout) (ls : List Layout) (vs : List Variables) where
   effect_kept (WriteItem q e) h v x f g p =
       let t = given (value_of v e) (λ z. andthen (cell_of h.cells (link_at v q)) (λ c. Gives (with_cell h c.0 (record { item = z; next = c.1.next }), v))) x g in
       let u = given (cell_of h.cells (link_at v q)) (λ c. Gives (with_cell h c.0 (record { item = t.value; next = c.1.next }), v)) x t.gives in
-      let k = both (is_link l q) (fits_term l e) f in
+      let k = and_parts (is_link l q) (fits_term l e) f in
       let i = cell_is (length h.cells) h.cells (link_at v q) u.value p.cells u.was in
       fine (with_cell h u.value.0 (record { item = t.value; next = u.value.1.next }), v) x u.gives (cell_set h u.value.0 _ (v ∷ vs) (l ∷ ls) p (value_word (length h.cells) l v p.frames.0 e k.1 t.value t.was, i.1))
 
@@ -256,21 +255,21 @@ passed_fit c l v [] ns ls p a f e = subst (FitPassed c ns) (gives_inj _ _ e) (re
 passed_fit c l v (IntArgument e ∷ more) ns ls p a f g =
     let t = given (value_of v e) (λ z. andthen (passed v more) (λ p. Gives (record p { numbers = Int z ∷ p.numbers }))) p g in
     let u = given (passed v more) (λ p. Gives (record p { numbers = Int t.value ∷ p.numbers })) p t.gives in
-    let k = both (is_kind false (slice_get ns 0)) (fits_term l e && fits_arguments l more (drop 1 ns) ls) f in
-    let j = both (fits_term l e) (fits_arguments l more (drop 1 ns) ls) k.1 in
+    let k = and_parts (is_kind false (slice_get ns 0)) (fits_term l e && fits_arguments l more (drop 1 ns) ls) f in
+    let j = and_parts (fits_term l e) (fits_arguments l more (drop 1 ns) ls) k.1 in
     subst (FitPassed c ns) (gives_inj _ _ u.gives)
     (more_numbers false c ns u.value (Int t.value) k.0 (λ n i. (i, value_word c l v a e j.0 t.value t.was)) (passed_fit c l v more (drop 1 ns) ls u.value a j.1 u.was))
 passed_fit c l v (ArrayArgument x ∷ more) ns ls p a f g =
     let u = given (passed v more) (λ p. Gives (record p { numbers = Array (array_at v x) ∷ p.numbers })) p g in
-    let k = both (is_kind true (slice_get ns 0)) (is_array l x && fits_arguments l more (drop 1 ns) ls) f in
-    let j = both (is_array l x) (fits_arguments l more (drop 1 ns) ls) k.1 in
+    let k = and_parts (is_kind true (slice_get ns 0)) (is_array l x && fits_arguments l more (drop 1 ns) ls) f in
+    let j = and_parts (is_array l x) (fits_arguments l more (drop 1 ns) ls) k.1 in
     let r = array_is c l v x a j.0 in
     subst (FitPassed c ns) (gives_inj _ _ u.gives)
     (more_numbers true c ns u.value (Array (array_at v x)) k.0 (λ n i. (i, r.short, r.words)) (passed_fit c l v more (drop 1 ns) ls u.value a j.1 u.was))
 passed_fit c l v (LinkArgument q ∷ more) ns ls p a f g =
     let u = given (passed v more) (λ p. Gives (record p { links = side_at v q ∷ p.links })) p g in
-    let k = both (nat_lt 0 (length ls)) (is_side l q && fits_arguments l more ns (drop 1 ls)) f in
-    let j = both (is_side l q) (fits_arguments l more ns (drop 1 ls)) k.1 in
+    let k = and_parts (nat_lt 0 (length ls)) (is_side l q && fits_arguments l more ns (drop 1 ls)) f in
+    let j = and_parts (is_side l q) (fits_arguments l more ns (drop 1 ls)) k.1 in
     let r = passed_fit c l v more ns (drop 1 ls) u.value a j.1 u.was in
     subst (FitPassed c ns) (gives_inj _ _ u.gives)
     (record { numbers = r.numbers; links = All-cons (IsLink c) (side_at v q) u.value.links (side_is c l v q a) r.links })
@@ -306,7 +305,7 @@ passing_keeps i l ls h v u vs f g p =
     let ns = i.entering.layout.numbers in
     let ks = i.entering.layout.links in
     let t = given (passed v i.entering.arguments) (λ p. Gives (record { numbers = over p.numbers (map first_number i.entering.layout.numbers); links = over p.links (map first_link i.entering.layout.links) })) u g in
-    let k = both (fits_arguments l i.entering.arguments ns ks) (fits_returning i.entering.layout l i.returning) f in
+    let k = and_parts (fits_arguments l i.entering.arguments ns ks) (fits_returning i.entering.layout l i.returning) f in
     let r = passed_fit c l v i.entering.arguments ns ks t.value p.frames.0 k.0 t.was in
     let a : AreVariables c i.entering.layout (record { numbers = over t.value.numbers (map first_number ns); links = over t.value.links (map first_link ks) }) =
     record {
@@ -315,11 +314,6 @@ passing_keeps i l ls h v u vs f g p =
       links = over_all (IsLink c) t.value.links (map first_link ks) r.links (first_links c ks);
     } in
     record { cells = p.cells; inputs = p.inputs; frames = (subst (AreVariables c i.entering.layout) (gives_inj _ _ t.gives) a, p.frames) }
-
--- The result's value in the caller's slot.
-either : (a b : Bool) → (a || b) ≡ true → (a ≡ true) ⊎ (b ≡ true)
-either true b e = inl refl
-either false b e = inr e
 
 taken_kept : (c : ℕ) (k l : Layout) (v d : Variables) (to from : ℕ) (b : Bool) → is_kind b (slice_get k.numbers from) ≡ true → is_kind b (slice_get l.numbers to) ≡ true → AreVariables c k d → AreVariables c l v → AreVariables c l (with_number v to (number_at d from))
 taken_kept c k l v d to from b e f a r =
@@ -334,17 +328,17 @@ taken_kept c k l v d to from b e f a r =
 back_kept : (c : ℕ) (k l : Layout) (v d : Variables) (r : Option Returning) → fits_returning k l r ≡ true → AreVariables c k d → AreVariables c l v → AreVariables c l (back r v d)
 unfolding back
 back_kept c k l v d None f a b = b
-back_kept c k l v d (Some (NumericResult to from)) f a b = go (either (is_int k from && is_int l to) (is_array k from && is_array l to) f)
+back_kept c k l v d (Some (NumericResult to from)) f a b = go (or_either (is_int k from && is_int l to) (is_array k from && is_array l to) f)
   where
     go : ((is_int k from && is_int l to) ≡ true) ⊎ ((is_array k from && is_array l to) ≡ true) → AreVariables c l (with_number v to (number_at d from))
-    go (inl e) = let s = both (is_int k from) (is_int l to) e in taken_kept c k l v d to from false s.0 s.1 a b
-    go (inr e) = let s = both (is_array k from) (is_array l to) e in taken_kept c k l v d to from true s.0 s.1 a b
+    go (inl e) = let s = and_parts (is_int k from) (is_int l to) e in taken_kept c k l v d to from false s.0 s.1 a b
+    go (inr e) = let s = and_parts (is_array k from) (is_array l to) e in taken_kept c k l v d to from true s.0 s.1 a b
 back_kept c k l v d (Some (LinkResult to from)) f a b = link_kept c l v to (link_at d from) b (link_is c d.links from a.links)
 
 pub returns_keep : ReturnsKeep
 unfolding fits_invoke
 returns_keep i l ls h v d vs f p =
-    let k = both (fits_arguments l i.entering.arguments i.entering.layout.numbers i.entering.layout.links) (fits_returning i.entering.layout l i.returning) f in
+    let k = and_parts (fits_arguments l i.entering.arguments i.entering.layout.numbers i.entering.layout.links) (fits_returning i.entering.layout l i.returning) f in
     record { cells = p.cells; inputs = p.inputs; frames = (back_kept (length h.cells) i.entering.layout l v d i.returning k.1 p.frames.0 p.frames.1.0, p.frames.1.1) }
 
 pub last_alone_keeps : LastAloneKeeps

@@ -6,12 +6,13 @@ use Rattle.std.specs.Ordering.{int_eq}
 use Rattle.std.proofs.Common.{refl, sym, subst, arith}
 use Rattle.std.proofs.lemmas.Bool.Decides.{nat_tests}
 use Rattle.std.proofs.lemmas.Int.{rem_below, fits_signed_from_abs}
+use Rattle.std.proofs.lemmas.Bool.{and_parts, ltb-true}
 use Rattle.imp_slots.specs.Plain.{Numeric, Layout, Term, Literal, Slot, Length, Negative, Binary}
 use Rattle.imp_slots.specs.Fits.{is_kind, fits_term}
 use Rattle.imp_syntax.specs.declared.words.Operator.{Operator}
 use Rattle.imp_syntax.specs.declared.words.Operator.TheVariants.{Add, Subtract, Multiply, Divide, Remainder}
-use Rattle.concrete_sem.specs.declared.fault.FaultKind.{FaultKind}
-use Rattle.concrete_sem.specs.declared.fault.FaultKind.TheVariants.{Overflow, Zero}
+use Rattle.analysis_words.specs.declared.fault.FaultKind.{FaultKind}
+use Rattle.analysis_words.specs.declared.fault.FaultKind.TheVariants.{Overflow, Zero}
 use Rattle.concrete_sem.specs.Values.{Number, Int, Array, Variables, Attempt, Gives, Faults, LacksInput, andthen, is_word, IsWord, as_int, as_array, number_at}
 use Rattle.concrete_sem.specs.Evaluation.{word, quotient, combine, value_of}
 use Rattle.concrete_sem.specs.Proper.{IsNumber, AreVariables}
@@ -30,17 +31,9 @@ given LacksInput f b e = absurd cc
 pub gives_inj : {A : Type 0} (a b : A) → Gives a ≡ Gives b → a ≡ b
 gives_inj a b e = cc
 
-pub both : (a b : Bool) → (a && b) ≡ true → (a ≡ true) × (b ≡ true)
-both true true e = (refl, refl)
-both true false e = absurd cc
-both false b e = absurd cc
-
-pub below : (n m : ℕ) → nat_lt n m ≡ true → n < m
-below n m e = grind (arith, nat_tests)
-
 pub word_of : (z : ℤ) → is_word z ≡ true → IsWord z
-word_of (pos n) e = record { sfits = below n (2 ^ 63) e }
-word_of (negsuc n) e = record { sfits = below n (2 ^ 63) e }
+word_of (pos n) e = record { sfits = ltb-true n (2 ^ 63) e }
+word_of (negsuc n) e = record { sfits = ltb-true n (2 ^ 63) e }
 
 pub is_word_zero : IsWord (pos 0)
 is_word_zero = word_of (pos 0) refl
@@ -138,5 +131,5 @@ value_word cells l v a (Negative e) f z g =
 value_word cells l v a (Binary o x y) f z g =
     let t = given (value_of v x) (λ x. andthen (value_of v y) (λ y. combine o x y)) z g in
     let u = given (value_of v y) (λ y. combine o t.value y) z t.gives in
-    let k = both (fits_term l x) (fits_term l y) f in
+    let k = and_parts (fits_term l x) (fits_term l y) f in
     combine_gives o t.value u.value z (value_word cells l v a x k.0 t.value t.was) (value_word cells l v a y k.1 u.value u.was) u.gives

@@ -18,8 +18,7 @@
 //! well-formedness. The functions here do nothing when they run; each carries laws as its clauses.
 #![tactic(auto)]
 
-mod fault;
 mod laws;
 
-pub use fault::FaultKind;
+pub use analysis_words::FaultKind;
 pub use laws::{steps_are_determined, steps_keep_data, work_is_items};

@@ -4,11 +4,11 @@ ghost use Rattle.daig_gen.specs.Source.{text_of, state_after, piece, pieces, sou
 ghost use Rattle.daig_gen.specs.Script.{turns, script_of};
 
 use crate::draws::Draws;
-use crate::error::Memory;
 use crate::pieces::{
     Kind, put_array, put_constant, put_difference, put_if, put_input, put_node, put_sum, put_while,
 };
 use crate::turns::put_turn;
+use plain_values::Memory;
 use std::alloc::{AllocError, Global};
 
 /// The declarations that each source begins with.

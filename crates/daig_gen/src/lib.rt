@@ -9,12 +9,10 @@
 #![tactic(auto)]
 
 mod draws;
-mod error;
 mod generate;
 mod pieces;
 mod turns;
 
-pub use error::Memory;
 pub use generate::{script, source};
 pub use pieces::Kind;
 

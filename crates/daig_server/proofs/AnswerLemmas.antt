@@ -6,7 +6,7 @@ use Rattle.domain_laws.specs.Operations.{Operations}
 use Rattle.batch_meaning.specs.Values.{Value}
 use Rattle.batch_meaning.specs.Answers.{Answer, Answers, answer}
 use Rattle.batch_interp.specs.declared.error.QueryError.{QueryError}
-use Rattle.batch_interp.specs.declared.error.QueryError.TheVariants.{LongString, NoProcedure, NoStatement, WrongStatement, NoChain, Memory}
+use Rattle.batch_interp.specs.declared.error.QueryError.TheVariants.{Refused, Memory}
 use Rattle.batch_interp.specs.Answered.{IsRefused}
 use Rattle.request_json.specs.declared.request.Query.{Query}
 use Rattle.request_json.specs.declared.reply.Reply.{Reply}
@@ -24,11 +24,7 @@ state_by dom held query v (Ok reply) is same = rw is same
 state_by dom held query v (Err e) is same = tt
 
 refused_answer : {S : Type 0} (dom : Operations S) (layout : Layout) (a : Answer S) (error : QueryError) (reply : Reply) → IsRefused a error → (error ≡ Memory → ⊥) → reply ≡ r.Refused (refusal_of error) → reply ≡ answer_reply dom layout a
-refused_answer dom layout a LongString reply is there same = rw is same
-refused_answer dom layout a NoProcedure reply is there same = rw is same
-refused_answer dom layout a NoStatement reply is there same = rw is same
-refused_answer dom layout a WrongStatement reply is there same = rw is same
-refused_answer dom layout a NoChain reply is there same = rw is same
+refused_answer dom layout a (Refused why) reply is there same = rw is same
 refused_answer dom layout a Memory reply is there same = absurd (there refl)
 
 -- the reply for a refused question

@@ -1,5 +1,6 @@
 -- As many entries as statements.
 use Rattle.std.proofs.Common.{◌≡◌, ℕ, suc, List, [], ◌∷◌, ◌++◌, length, map, Option, Some, None, refl, sym, ap, ◌∙◌}
+use Rattle.std.proofs.lemmas.List.{map-append}
 use Rattle.imp_syntax.specs.Plain.{Statement, Simple, Break, Call, If, While, Statements, Ends, Starts, Procedure, number_of, numbers_in, numbers, program_numbers}
 use Rattle.imp_check.specs.Slots.{Frame, layout_in}
 use Rattle.imp_check.specs.Entries.{inside, inside_loop, statement_entries, block_entries, procedure_entries, entries_from, entries_of}
@@ -8,10 +9,6 @@ use Rattle.imp_check.specs.declared.entry.Which.TheVariants.{Then, Else}
 
 abbrev pub number : Entry → ℕ
 number e = number_of e.stmt
-
-map-append : {A B : Type 0} (f : A → B) (xs ys : List A) → map f (xs ++ ys) ≡ map f xs ++ map f ys
-map-append f [] ys = refl
-map-append f (x ∷ xs) ys = ap (λ zs. f x ∷ zs) (map-append f xs ys)
 
 mutual
   statement_numbers : (f : Frame) (c : _) (front : Option ℕ) (s : Statement) → map number (statement_entries f c front s) ≡ numbers_in s

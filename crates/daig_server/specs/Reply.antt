@@ -1,17 +1,15 @@
 -- The reply to a line.
-use Rattle.std.specs.Prelude.{ℕ, ◌+◌, ℤ, List, [], length, map, reverse, slice_get, true, false, Option, Some, None, Result, Ok, Err}
+use Rattle.std.specs.Prelude.{ℕ, ◌+◌, ℤ, List, [], length, reverse, slice_get, true, false, Option, Some, None, Result, Ok, Err}
 use Rattle.imp_syntax.specs.Plain.{Procedure, program_numbers}
 use Rattle.imp_syntax.specs.declared.edit.Location.{Location}
 use Rattle.imp_slots.specs.Plain.{Layout, Routine}
 use Rattle.imp_check.specs.Slots.{routines_of}
 use Rattle.imp_print.specs.Programs.{program_text}
 use Rattle.concrete_sem.specs.Steps.{start}
-use Rattle.concrete_sem.specs.Runs.{Run, RunEnd, RunEnded, RunFaulted, RunLacksInput, FuelUsedUp, run_from}
+use Rattle.concrete_sem.specs.Runs.{Run, run_from}
 use Rattle.imp_run.specs.Outcome.{stands_at}
-use Rattle.domain_laws.specs.declared.findings.Finding.{Finding}
 use Rattle.domain_laws.specs.Operations.{Operations}
-use Rattle.batch_meaning.specs.declared.refusal.Refusal as meaning
-use Rattle.batch_meaning.specs.declared.refusal.Refusal.TheVariants as why
+use Rattle.analysis_words.specs.declared.refusal.Refusal.TheVariants as why
 use Rattle.batch_meaning.specs.Values.{Value, State, Over}
 use Rattle.batch_meaning.specs.Answers.{Answer, Refuses, Answers, Found, In, Misses, procedure_of, answer}
 use Rattle.batch_meaning.specs.Report.{report}
@@ -23,15 +21,11 @@ use Rattle.request_json.specs.declared.request.Request.{Request}
 use Rattle.request_json.specs.declared.request.Request.TheVariants as q
 use Rattle.request_json.specs.declared.reply.Reply.{Reply}
 use Rattle.request_json.specs.declared.reply.Reply.TheVariants as r
-use Rattle.request_json.specs.declared.reply.ReportItem.{ReportItem}
-use Rattle.request_json.specs.declared.reply.RunEnd as ending
-use Rattle.request_json.specs.declared.reply.RunEnd.TheVariants as end
 use Rattle.request_json.specs.declared.reply.Refusal.{Refusal}
 use Rattle.request_json.specs.declared.reply.Refusal.TheVariants as refusal
 use Rattle.request_json.specs.Requests.{request_of}
 use Rattle.request_json.specs.Replies.{reply_text}
 use Rattle.daig_server.specs.Held.{Held}
-use Rattle.daig_server.specs.Names.{word_of_fault, word_of_check, word_of_verdict}
 
 -- ---- refusals
 
@@ -40,24 +34,10 @@ abbrev pub line_refusal : ReadError → Refusal
 line_refusal e.NoJson = refusal.NoJson
 line_refusal e.BadMember = refusal.BadMember
 line_refusal e.NoRequest = refusal.NoRequest
-line_refusal e.LongString = refusal.LongString
+line_refusal e.LongString = refusal.Query why.LongString
 line_refusal e.Memory = refusal.NoRequest
 
--- why a location has no answer
-abbrev pub question_refusal : meaning.Refusal → Refusal
-question_refusal why.LongString = refusal.LongString
-question_refusal why.NoProcedure = refusal.NoProcedure
-question_refusal why.NoStatement = refusal.NoStatement
-question_refusal why.WrongStatement = refusal.WrongStatement
-question_refusal why.NoChain = refusal.NoChain
-
 -- ---- runs
-
-abbrev pub end_of : RunEnd → ending.RunEnd
-end_of RunEnded = end.Ended
-end_of (RunFaulted n k) = end.Fault (word_of_fault k) n
-end_of (RunLacksInput n) = end.Inputs n
-end_of FuelUsedUp = end.Fuel
 
 -- how often the run stood at the location, if one was asked for
 abbrev pub reached_at : Option Location → ℕ → Option ℕ
@@ -65,7 +45,7 @@ reached_at None n = None
 reached_at (Some l) n = Some n
 
 abbrev pub ran : Option Location → Run → Reply
-ran at run = r.Run (end_of run.end) (reached_at at run.reached)
+ran at run = r.Run run.end (reached_at at run.reached)
 
 -- the run with these inputs and so many steps at most
 unfoldable pub run_reply : List Routine → List ℤ → ℕ → Option Location → Reply
@@ -73,7 +53,7 @@ run_reply program inputs fuel at = ran at (run_from program (stands_at program a
 
 -- the same, where the program has the location
 abbrev pub found_run : List Routine → List ℤ → ℕ → Location → Found → Reply
-found_run program inputs fuel l (Misses why) = r.Refused (question_refusal why)
+found_run program inputs fuel l (Misses why) = r.Refused (refusal.Query why)
 found_run program inputs fuel l (In p) = run_reply program inputs fuel (Some l)
 
 abbrev pub asked_run : List Routine → List ℤ → ℕ → Option Location → Reply
@@ -101,13 +81,8 @@ module _ {S : Type 0} (dom : Operations S) where
   value_reply layout (Over n z) = r.Over n (reverse z)
 
   abbrev pub answer_reply : Layout → Answer S → Reply
-  answer_reply layout (Refuses why) = r.Refused (question_refusal why)
+  answer_reply layout (Refuses why) = r.Refused (refusal.Query why)
   answer_reply layout (Answers v) = value_reply layout v
-
--- ---- reports
-
-abbrev pub item_of : Finding → ReportItem
-item_of f = record { id = f.id; check = word_of_check f.check; verdict = word_of_verdict f.verdict }
 
 -- ---- the machine
 
@@ -124,7 +99,7 @@ module _ {S : Type 0} (dom : Operations S) (held : Held) where
   state_reply query = answer_reply dom (layout_at (routines_of held.program) query.at) (answer dom held.engine (routines_of held.program) query.at query.string)
 
   unfoldable pub report_reply : Reply
-  report_reply = r.Report (map item_of (report dom held.engine (routines_of held.program)))
+  report_reply = r.Report (report dom held.engine (routines_of held.program))
 
   -- The reply to a request. There are no edits, tickets, costs and causes yet.
   unfoldable pub request_reply : Request → Reply

@@ -6,7 +6,7 @@ use Rattle.concrete_sem.specs.Values.{Variables, Heap}
 use Rattle.concrete_sem.specs.Steps.{Config}
 use Rattle.concrete_sem.specs.Reach.{top, Reach}
 use Rattle.concrete_sem.specs.WellFormed.{variables_of}
-use Rattle.domain_laws.specs.declared.findings.Finding.{Finding}
+use Rattle.analysis_words.specs.declared.findings.Finding.{Finding}
 use Rattle.domain_laws.specs.Operations.{Operations}
 use Rattle.batch_meaning.specs.Values.{State}
 use Rattle.batch_meaning.specs.Answers.{Answers, answer}

@@ -1,26 +1,24 @@
-//! Replies by a domain.
-ghost use Rattle.std.specs.Prelude.{◌≡◌, map, IfOk};
+//! The reply to a line, `line_reply` of `specs/Reply.antt`: states and reports by a domain.
+ghost use Rattle.std.specs.Prelude.{◌≡◌, IfOk};
 ghost use Rattle.std.specs.Option.{option_copied};
 ghost use Rattle.imp_check.specs.Slots.{routines_of};
 ghost use Rattle.batch_meaning.specs.Answers.{procedure_of};
 ghost use Rattle.batch_interp.specs.Answered.{value_of};
-ghost use Rattle.daig_server.specs.Names.{word_of_check, word_of_verdict};
 ghost use Rattle.daig_server.specs.Jobs.{engine_of};
 ghost use Rattle.daig_server.specs.Questions.{refusal_of};
-ghost use Rattle.daig_server.specs.Reply.{item_of, layout_at, value_reply, layout_or_none, routine_in, line_refusal, line_reply, report_reply, request_reply, state_reply};
+ghost use Rattle.daig_server.specs.Reply.{layout_at, value_reply, layout_or_none, routine_in, line_refusal, line_reply, report_reply, request_reply, state_reply};
 
 use crate::replies::{asked_run, listing, program_reply};
 use batch_interp::{Answer, QueryError, answer, batch_report};
+use batch_meaning::Refusal as QueryRefusal;
 use call_contexts::place_of;
 use command_words::Settings;
-use domain_laws::{Check, Domain, Finding, Verdict};
+use domain_laws::Domain;
 use imp_check::Checked;
 use imp_slots::{Layout, Routine};
 use imp_syntax::{Chain, Location, StmtId};
 use plain_values::{Items, Memory, Text};
-use request_json::{
-    CheckName, Query, ReadError, Refusal, Reply, ReportItem, Request, VerdictName, read_request,
-};
+use request_json::{Query, ReadError, Refusal, Reply, Request, read_request};
 use std::alloc::Global;
 use std::sync::ledger::Ledger;
 use step_counter::Steps;
@@ -31,11 +29,7 @@ fn refused_reply(error: QueryError) -> Result<Reply, Memory>
     ensures no_memory { IfOk result (λ _. error ≡ QueryError.Memory → ⊥) }
 {
     match error {
-        QueryError::LongString => Ok(Reply::Refused(Refusal::LongString)),
-        QueryError::NoProcedure => Ok(Reply::Refused(Refusal::NoProcedure)),
-        QueryError::NoStatement => Ok(Reply::Refused(Refusal::NoStatement)),
-        QueryError::WrongStatement => Ok(Reply::Refused(Refusal::WrongStatement)),
-        QueryError::NoChain => Ok(Reply::Refused(Refusal::NoChain)),
+        QueryError::Refused(why) => Ok(Reply::Refused(Refusal::Query(why))),
         QueryError::Memory => Err(Memory),
     }
 }
@@ -152,50 +146,6 @@ fn state_reply<D: Domain, L: Ledger>(
     }
 }
 
-/// The word of a check.
-fn word_of_check(check: Check) -> CheckName
-    ensures word { result ≡ word_of_check check }
-{
-    match check {
-        Check::Bounds => CheckName::Bounds,
-        Check::Null => CheckName::Null,
-        Check::Assert => CheckName::Assert,
-    }
-}
-
-/// The word of a verdict.
-fn word_of_verdict(verdict: Verdict) -> VerdictName
-    ensures word { result ≡ word_of_verdict verdict }
-{
-    match verdict {
-        Verdict::Dead => VerdictName::Dead,
-        Verdict::Safe => VerdictName::Safe,
-        Verdict::May => VerdictName::May,
-    }
-}
-
-/// What is written of a finding.
-fn item_of(finding: Finding) -> ReportItem
-    ensures item { result ≡ item_of finding }
-{
-    ReportItem {
-        id: finding.id,
-        check: word_of_check(finding.check),
-        verdict: word_of_verdict(finding.verdict),
-    }
-}
-
-/// What is written of findings.
-fn items_of(alloc: Global, findings: &[Finding]) -> Result<Items<ReportItem>, Memory>
-    ensures items { IfOk result (λ items. items ≡ map item_of findings.now) }
-{
-    let mut items = Items::new(alloc);
-    for finding in findings {
-        items.push(item_of(*finding))?;
-    }
-    Ok(items)
-}
-
 /// The report.
 #[tactic(auto, unfolding(crate::specs::Reply::report_reply))]
 pub(crate) fn report_reply<D: Domain, L: Ledger>(
@@ -215,7 +165,7 @@ pub(crate) fn report_reply<D: Domain, L: Ledger>(
         settings.widening,
         steps,
     )?;
-    Ok(Reply::Report(items_of(alloc, findings.as_slice())?))
+    Ok(Reply::Report(findings))
 }
 
 /// The reply to a request.
@@ -251,7 +201,7 @@ fn line_refusal(error: ReadError) -> Result<Reply, Memory>
         ReadError::NoJson => Ok(Reply::Refused(Refusal::NoJson)),
         ReadError::BadMember => Ok(Reply::Refused(Refusal::BadMember)),
         ReadError::NoRequest => Ok(Reply::Refused(Refusal::NoRequest)),
-        ReadError::LongString => Ok(Reply::Refused(Refusal::LongString)),
+        ReadError::LongString => Ok(Reply::Refused(Refusal::Query(QueryRefusal::LongString))),
         ReadError::Memory => Err(Memory),
     }
 }

@@ -1,65 +1,19 @@
-//! Replies that need no domain.
+//! The replies to a line that need no domain: runs, programs and listings.
 ghost use Rattle.std.specs.Prelude.{◌≡◌, ◌<◌, ◌+◌, ◌^◌, length, IfOk};
 ghost use Rattle.std.specs.Option.{option_copied};
 ghost use Rattle.imp_syntax.specs.Plain.{program_numbers};
 ghost use Rattle.imp_check.specs.Slots.{routines_of};
-ghost use Rattle.imp_run.specs.Outcome as of_runs;
-ghost use Rattle.daig_server.specs.Names.{word_of_fault};
-ghost use Rattle.daig_server.specs.Reply.{question_refusal, end_of, reached_at, run_reply, asked_run, program_reply, listing};
+ghost use Rattle.daig_server.specs.Reply.{reached_at, run_reply, asked_run, program_reply, listing};
 
-use batch_meaning::Refusal as Question;
 use call_contexts::place_of;
-use concrete_sem::FaultKind;
 use imp_check::Checked;
 use imp_print::{numbered_text, program_text};
-use imp_run::{End, run};
+use imp_run::run;
 use imp_slots::Routine;
 use imp_syntax::Location;
 use plain_values::{Memory, Text};
-use request_json::{FaultName, Refusal, Reply, RunEnd};
+use request_json::{Refusal, Reply};
 use std::alloc::Global;
-
-/// Why a location has no answer.
-pub(crate) fn question_refusal(why: Question) -> Refusal
-    ensures refusal { result ≡ question_refusal why }
-{
-    match why {
-        Question::LongString => Refusal::LongString,
-        Question::NoProcedure => Refusal::NoProcedure,
-        Question::NoStatement => Refusal::NoStatement,
-        Question::WrongStatement => Refusal::WrongStatement,
-        Question::NoChain => Refusal::NoChain,
-    }
-}
-
-/// The word of a run's fault.
-fn word_of_fault(fault: FaultKind) -> FaultName
-    ensures word { result ≡ word_of_fault fault }
-{
-    match fault {
-        FaultKind::Overflow => FaultName::Overflow,
-        FaultKind::Zero => FaultName::Zero,
-        FaultKind::Length => FaultName::Length,
-        FaultKind::Index => FaultName::Index,
-        FaultKind::Null => FaultName::Null,
-        FaultKind::Assert => FaultName::Assert,
-    }
-}
-
-/// How a run ended.
-fn end_of(end: &End) -> RunEnd
-    ensures end { result ≡ end_of (of_runs.end_of end.now) }
-{
-    match end {
-        End::Ended => RunEnd::Ended,
-        End::Fault(id, fault) => RunEnd::Fault {
-            fault: word_of_fault(*fault),
-            id: *id,
-        },
-        End::InputsUsedUp(id) => RunEnd::Inputs(*id),
-        End::FuelUsedUp => RunEnd::Fuel,
-    }
-}
 
 /// How often a run stood at the location, if one was asked for.
 fn reached_at(at: Option<&Location>, reached: u64) -> Option<u64>
@@ -94,7 +48,7 @@ fn run_reply(
 {
     let outcome = run(alloc, routines(program), inputs, u64::from(fuel), at)?;
     Ok(Reply::Run {
-        end: end_of(&outcome.end),
+        end: outcome.end,
         reached: reached_at(at, outcome.reached),
     })
 }
@@ -113,7 +67,7 @@ pub(crate) fn asked_run(
         None => run_reply(alloc, program, inputs, fuel, None),
         Some(location) => match place_of(program, location) {
             Ok(_) => run_reply(alloc, program, inputs, fuel, Some(location)),
-            Err(why) => Ok(Reply::Refused(question_refusal(why))),
+            Err(why) => Ok(Reply::Refused(Refusal::Query(why))),
         },
     }
 }

@@ -1,4 +1,5 @@
-//! The way from a job to a status.
+//! From words to a status, one step after another: what is written, and when each status comes, for
+//! the clauses of [`serve`](crate::serve).
 ghost use Rattle.std.specs.Prelude.{◌≡◌, ◌^◌, ◌<◌, ◌++◌, ◌⊎◌, ℕ, List, length, Option, Some, None, Ok, map};
 ghost use Rattle.std.specs.String.{string_bytes};
 ghost use Rattle.io_edge.specs.Outside.{Rose, Lacks};

@@ -1,4 +1,5 @@
-//! The server of a program.
+//! The server of one program, which replies to each line as the machine `server` of
+//! `specs/Reply.antt`.
 ghost use Rattle.std.specs.Prelude.{◌≡◌, IfOk};
 ghost use Rattle.interval_meaning.specs.Domain.{intervals};
 ghost use Rattle.request_json.specs.Replies.{reply_text};
@@ -96,17 +97,11 @@ impl Answerer for Server {
         alloc: Global,
         line: &[u8],
         steps: &mut Steps<L>,
-    ) -> Result<Vec<u8>, script_loop::Memory> {
-        match self.line(alloc, line, steps) {
-            Ok(reply) => Ok(reply),
-            Err(_) => Err(script_loop::Memory),
-        }
+    ) -> Result<Vec<u8>, Memory> {
+        self.line(alloc, line, steps)
     }
 
-    fn answer_long(&self, alloc: Global) -> Result<Vec<u8>, script_loop::Memory> {
-        match long_line(alloc) {
-            Ok(reply) => Ok(reply),
-            Err(_) => Err(script_loop::Memory),
-        }
+    fn answer_long(&self, alloc: Global) -> Result<Vec<u8>, Memory> {
+        long_line(alloc)
     }
 }

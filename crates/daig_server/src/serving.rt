@@ -1,4 +1,4 @@
-//! The top call.
+//! The top call [`serve`], with all that is claimed of it.
 ghost use Rattle.std.specs.Prelude.{◌≡◌, ◌≢◌, ◌≤◌, ◌<◌, ◌^◌, ◌++◌, ◌⊎◌, ℕ, List, [], Option, Some, None, map, length};
 ghost use Rattle.std.specs.String.{string_bytes};
 ghost use Rattle.io_edge.specs.Outside.{Rose};

@@ -1,4 +1,5 @@
-//! Reading a source.
+//! From the bytes of a file to a checked program, or the refusal: `source_of` of
+//! `specs/Sources.antt`.
 ghost use Rattle.std.specs.Prelude.{◌≡◌, ◌<◌, ◌^◌, ℕ, List, length, IfOk, IfErr, None};
 ghost use Rattle.imp_check.specs.Programs.{AreNumbered, check_fault};
 ghost use Rattle.daig_server.specs.Names.{lexical_name, lexical_place, name_of_fault, is_limit};

@@ -1,7 +1,7 @@
 use Rattle.std.specs.Prelude.{ℕ, ◌*◌, ℤ, Option, Bool, List, length}
 use Rattle.std.proofs.Common.{subst, inr}
-use Rattle.dbm_close.specs.declared.Closed.{Closed}
-use Rattle.dbm_close.specs.declared.Closed.TheVariants.{Empty, Matrix}
+use Rattle.dbm_close.specs.declared.closed.Closed.{Closed}
+use Rattle.dbm_close.specs.declared.closed.Closed.TheVariants.{Empty, Matrix}
 use Rattle.dbm_close.proofs.StrongLemmas.{consistent-agree, contradictory-agree, empty_range-agree, in_range-agree, no_empty_range-agree, too_low-agree}
 use Rattle.dbm_close.specs.Close.{HasEmptyRange, HasNoEmptyRange, IsCloseOf, IsContradictory, IsNotContradictory, IsNotTooLow, IsTooLow, closed_entry, strong}
 use Rattle.dbm_close.specs.Finish.{IsFinishOf, IsFinishedTo}

@@ -5,8 +5,8 @@ use Rattle.std.proofs.Common.{arith, ap, sym, ◌∙◌, subst, inl, inr}
 use Rattle.std.proofs.lemmas.Int.{ints, clamps}
 use Rattle.std.proofs.lemmas.Bool.{cases_eq, eq-eqb, ne_eqb}
 use Rattle.std.proofs.lemmas.Bool.Decides.{nat_tests}
-use Rattle.dbm_close.specs.declared.Closed.{Closed}
-use Rattle.dbm_close.specs.declared.Closed.TheVariants.{Empty, Matrix}
+use Rattle.dbm_close.specs.declared.closed.Closed.{Closed}
+use Rattle.dbm_close.specs.declared.closed.Closed.TheVariants.{Empty, Matrix}
 use Rattle.dbm_close.proofs.StrongLemmas.{Agree, HasEntries-change, contradictory-agree, empty_range-agree, strengthened-agree, too_low-agree}
 use Rattle.dbm_close.proofs.WalkLemmas.{add_weight-zero}
 use Rattle.dbm_close.specs.Close.{HasEmptyRange, IsCloseOf, IsContradictory, IsNotContradictory, IsNotTooLow, IsTooLow, closed_entry, slot_high, slot_low, strong}

@@ -1,3 +1,4 @@
+pub mod CloseOfLemmas
 pub mod FinishLemmas
 pub mod LawLemmas
 pub mod MiddleLemmas

@@ -2,7 +2,7 @@
 use Rattle.std.specs.Prelude.{◌≡◌, ℕ, ◌<◌, ◌≤◌, ◌+◌, ◌*◌, ◌/◌, ℤ, Option, None, List, length, slice_set, replicate, refl}
 use Rattle.std.proofs.Common.{arith, suc, zero, ap, sym, subst, ◌∙◌, inl, inr, get_or, get_or-set_other, get_or-set_same}
 use Rattle.std.proofs.lemmas.Bool.{cases_lt, cases_eq, eq-eqb, ne_eqb}
-use Rattle.dbm_close.specs.declared.Middle.{Middle}
+use Rattle.dbm_close.specs.declared.middle.Middle.{Middle}
 use Rattle.dbm_close.specs.Rounds.{HasMiddle, middle_entry, round_entry, rounded, via_both}
 use Rattle.dbm_close.specs.Steps.{half, half_sum, strengthened}
 use Rattle.dbm_core.proofs.NodeLemmas.{flip-below, flip-flip, parity}

@@ -91,7 +91,7 @@ weights-from_walks w s n z all = record {
 pub sound-from_diagonal : (w s : ℕ → ℕ → Option ℤ) (n : ℕ) → AreLeastWeights w n s → ((i : ℕ) → i < n → AtMost (Some (pos 0)) (s i i)) → HasNoNegativeWalk w n
 sound-from_diagonal w s n h zero = λ i xs hi b. AtMost-trans (Some (pos 0)) (s i i) (walk_weight w i xs) (zero i hi) (h.lower i i xs hi hi b)
 
-negative-path : (w : ℕ → ℕ → Option ℤ) (n i : ℕ) (xs : List ℕ) → i < n → Below n xs → AtMost (path_weight w i xs i) (Some (negsuc 0)) → HasNegativeWalk w n
+pub negative-path : (w : ℕ → ℕ → Option ℤ) (n i : ℕ) (xs : List ℕ) → i < n → Below n xs → AtMost (path_weight w i xs i) (Some (negsuc 0)) → HasNegativeWalk w n
 negative-path w n i xs hi b z = (
   i,
   hi,

@@ -1,7 +1,7 @@
 -- What closing answers: steps 1 to 6 in one definition.
 use Rattle.std.specs.Prelude.{ℕ, ◌<◌, ◌+◌, ◌*◌, ◌^◌, ℤ, pos, negsuc, neg_ℤ, ◌≤ℤ◌, ◌<ℤ◌, Option, Some, Bool, List, length, slice_index_or, ◌⊎◌, false}
-use Rattle.dbm_close.specs.declared.Closed.{Closed}
-use Rattle.dbm_close.specs.declared.Closed.TheVariants.{Empty, Matrix}
+use Rattle.dbm_close.specs.declared.closed.Closed.{Closed}
+use Rattle.dbm_close.specs.declared.closed.Closed.TheVariants.{Empty, Matrix}
 use Rattle.dbm_close.specs.Steps.{cut, range_high, range_low, strengthened, tightened}
 use Rattle.dbm_close.specs.Walks.{AreLeastWeights, HasNegativeWalk, HasNoNegativeWalk}
 use Rattle.dbm_core.specs.Half.{HalfMatrix, HasEntries, entry, nodes}

@@ -1,7 +1,7 @@
 -- What steps 2 to 6 answer, over the least weights.
 use Rattle.std.specs.Prelude.{ℕ, ◌*◌, ℤ, Option, Bool, List, length, ◌⊎◌}
-use Rattle.dbm_close.specs.declared.Closed.{Closed}
-use Rattle.dbm_close.specs.declared.Closed.TheVariants.{Empty, Matrix}
+use Rattle.dbm_close.specs.declared.closed.Closed.{Closed}
+use Rattle.dbm_close.specs.declared.closed.Closed.TheVariants.{Empty, Matrix}
 use Rattle.dbm_close.specs.Close.{HasEmptyRange, HasNoEmptyRange, IsContradictory, IsNotContradictory, IsNotTooLow, IsTooLow, closed_entry, strong}
 use Rattle.dbm_close.specs.Steps.{tightened}
 use Rattle.dbm_core.specs.Half.{HalfMatrix, HasEntries}

@@ -1,7 +1,7 @@
 -- Laws of closing.
 use Rattle.std.specs.Prelude.{◌≡◌, ◌↔◌, ℕ, ◌<◌, ◌^◌, ℤ, ◌+ℤ◌, ◌≤ℤ◌, Option, Some, Bool, false, List, length, slice_index_or}
-use Rattle.dbm_close.specs.declared.Closed.{Closed}
-use Rattle.dbm_close.specs.declared.Closed.TheVariants.{Empty, Matrix}
+use Rattle.dbm_close.specs.declared.closed.Closed.{Closed}
+use Rattle.dbm_close.specs.declared.closed.Closed.TheVariants.{Empty, Matrix}
 use Rattle.dbm_close.specs.Close.{IsCloseOf}
 use Rattle.dbm_close.specs.Steps.{extreme_high, extreme_low, half, tightened}
 use Rattle.dbm_core.specs.Half.{HalfMatrix}

@@ -1,4 +1,5 @@
 pub mod Close
+pub mod CloseOf
 pub mod Finish
 pub mod Laws
 pub mod Rounds

@@ -1,6 +1,6 @@
 -- A round lets walks go through both nodes of one slot.
 use Rattle.std.specs.Prelude.{◌≡◌, ℕ, ◌<◌, ◌+◌, ◌*◌, ℤ, pos, Option, Some, None, ◌⊎◌, slice_index_or, cond, eqb, ◌^◌, ◌/◌, negsuc}
-use Rattle.dbm_close.specs.declared.Middle.{Middle}
+use Rattle.dbm_close.specs.declared.middle.Middle.{Middle}
 use Rattle.dbm_close.specs.Walks.{AreLeastWeights, HasNoNegativeWalk}
 use Rattle.dbm_core.specs.Half.{HalfMatrix, IsMatrix, entry, nodes}
 use Rattle.dbm_core.specs.Limits.{AreWithin, IsWithin}

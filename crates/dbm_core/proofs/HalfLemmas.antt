@@ -2,7 +2,7 @@ use Rattle.std.specs.Prelude.{◌≡◌, ℕ, ◌<◌, ◌≤◌, ◌+◌, ◌-�
 use Rattle.std.proofs.Common.{arith, ap, sym, ◌∙◌, inl, inr, get_or, suc, zero, subst}
 use Rattle.std.proofs.lemmas.Bool.{cases_lt, cases_eq, lt-ltb, le-ltb}
 use Rattle.std.proofs.lemmas.Bool.Decides.{nat_tests}
-use Rattle.std.proofs.lemmas.List.{get_or_append_left, get_or-append_right}
+use Rattle.std.proofs.lemmas.List.{get_or_append_left, get_or-append_right, get_or_past}
 use Rattle.dbm_core.proofs.NodeLemmas.{flip-below, flip-even, flip-flip, flip-odd, parity}
 use Rattle.dbm_core.specs.Half.{HalfMatrix, HasEntries, IsMatrix, entry, nodes, row_start, row_width}
 use Rattle.dbm_core.specs.Nodes.{IsCoherent, flip}
@@ -155,3 +155,31 @@ pub entries-if_ok : {E : Type 0} (r : Result HalfMatrix E) (kinds : List Bool) (
     IfOk r IsMatrix → IfOk r (λ m. m.kinds ≡ kinds) → IfOk r (λ m. (i j : ℕ) → i < 2 * length kinds → j < row_width i → entry m i j ≡ f i j) → IfOk r (HasEntries kinds f)
 entries-if_ok (Ok m) kinds f c t k h = HasEntries-from_kept kinds f m t k c h
 entries-if_ok (Err e) kinds f c t k h = tt
+
+-- there are no bounds beyond the nodes
+pub entry-outside : (m : HalfMatrix) → IsMatrix m → (i j : ℕ) → (nodes m ≤ i) ⊎ (nodes m ≤ j) → entry m i j ≡ None
+entry-outside m h i j o = elim (cases_lt j (row_width i)) [
+  | inl p ↦ entry-kept m i j p ∙ past (row_start i + j) (omega (arith, h.fits, row_start-double (length m.kinds), row_start-mono i (nodes m) (row o p)))
+  | inr p ↦ entry-other m i j p ∙ past (row_start (flip j) + flip i) (omega (arith, h.fits, row_start-double (length m.kinds), row_start-mono (flip j) (nodes m) (turned o p)))
+]
+  where
+    past : (p : ℕ) → length m.kept ≤ p → get_or m.kept p None ≡ None
+    past p l = get_or_past m.kept p None l
+
+    row : (nodes m ≤ i) ⊎ (nodes m ≤ j) → j < row_width i → nodes m ≤ i
+    row (inl l) w = l
+    row (inr l) w = omega arith
+
+    turned : (nodes m ≤ i) ⊎ (nodes m ≤ j) → row_width i ≤ j → nodes m ≤ flip j
+    turned o w = elim (parity j) [
+      | inl e ↦ let f : flip j ≡ j + 1 = flip-even j e in by o w f
+      | inr e ↦ let f : flip j ≡ j - 1 = flip-odd j e in odd o w e f
+    ]
+      where
+        by : (nodes m ≤ i) ⊎ (nodes m ≤ j) → row_width i ≤ j → flip j ≡ j + 1 → nodes m ≤ flip j
+        by (inl l) w f = omega arith
+        by (inr l) w f = omega arith
+
+        odd : (nodes m ≤ i) ⊎ (nodes m ≤ j) → row_width i ≤ j → j % 2 ≡ 1 → flip j ≡ j - 1 → nodes m ≤ flip j
+        odd (inl l) w e f = omega arith
+        odd (inr l) w e f = omega arith

@@ -87,7 +87,7 @@ unbounded-meets n x i j hi hj = elim (cases_eq i j) [
 
 -- ---- a slot freed
 
-node_value-agree : (k : ℕ) (x y : ℕ → ℤ) (i : ℕ) → AgreeButAt k x y → (i / 2 ≡ k → ⊥) → node_value x i ≡ node_value y i
+pub node_value-agree : (k : ℕ) (x y : ℕ → ℤ) (i : ℕ) → AgreeButAt k x y → (i / 2 ≡ k → ⊥) → node_value x i ≡ node_value y i
 unfolding node_value
 node_value-agree k x y i a n = ap (λ v. cond (eqb (i % 2) 0) v (neg_ℤ v)) (a (i / 2) n)
 
@@ -122,7 +122,7 @@ lowered-here : (d : ℕ → ℕ → Option ℤ) (i j : ℕ) (b : ℤ) → AtMost
 unfolding lowered
 lowered-here d i j b = rw (either_first i j (flip j) (flip i) i j refl refl) (least-right (d i j) (Some b))
 
-lowered-meets : (d : ℕ → ℕ → Option ℤ) (n i j : ℕ) (b : ℤ) (x : ℕ → ℤ) → Meets n d x → (node_value x j -ℤ node_value x i) ≤ℤ b → Meets n (lowered d i j b) x
+pub lowered-meets : (d : ℕ → ℕ → Option ℤ) (n i j : ℕ) (b : ℤ) (x : ℕ → ℤ) → Meets n d x → (node_value x j -ℤ node_value x i) ≤ℤ b → Meets n (lowered d i j b) x
 unfolding lowered
 lowered-meets d n i j b x m l p q hp hq = elim (hits i j p q) [
   | inl k ↦ rw (either_first i j (flip j) (flip i) p q k.0 k.1) (least-greatest (Some (node_value x q -ℤ node_value x p)) (d p q) (Some b) (m p q hp hq)

@@ -4,5 +4,6 @@ pub mod Nodes
 pub mod Operations
 pub mod Rises
 pub mod Same
+pub mod Tables
 pub mod Valuations
 pub mod Weights

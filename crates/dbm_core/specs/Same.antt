@@ -26,6 +26,10 @@ bound_Decides None (Some y) = (λ e. cc, λ e. cc)
 bound_Decides (Some x) None = (λ e. cc, λ e. cc)
 bound_Decides (Some x) (Some y) = (λ e. ap Some ((Decides-int_eq x y).0 e), λ e. (Decides-int_eq x y).1 (let f : x ≡ y = cc in f))
 
+-- equal kinds are the same
+pub bools_Decide : (a b : List Bool) → Decides (pointwise beq a b) (a ≡ b)
+bools_Decide a b = slice_eq-Decides bool_Decides a b (pointwise beq a b) refl
+
 and-both : (p q : Bool) → p && q ≡ true → (p ≡ true) × (q ≡ true)
 and-both true q e = (refl, e)
 and-both false q e = absurd (let f : ⊥ = cc in f)

@@ -4,16 +4,17 @@ use Rattle.demand_order.specs.Order.{System, IsAcyclic, member, fill_all}
 use Rattle.demand_order.specs.Machine.{AreBelow}
 use Rattle.demand_order.specs.OrderLaws.{under}
 use Rattle.demand_order.specs.Theorems.{OrderIsDistinct, OrderFollowsInputs, OrderIsNeeded, OrderIsClosed, MissingIsRest, FilledIsKeptOrNeeded, FilledIsClosed, RowsAreStable}
-use Rattle.demand_order.proofs.OrderLemmas.{or_cases, or_left}
+use Rattle.std.proofs.lemmas.Bool.{or_left}
+use Rattle.demand_order.proofs.OrderLemmas.{or_cases}
 use Rattle.demand_order.proofs.OrderLawProofs.{order-distinct, order-follows, order-needed, needed-seen, missing-order, closed-after}
 use Rattle.demand_order.proofs.Stable.{stable}
 
 -- a number above the rank of each of these names
-ceiling : {T : Type 0} → System T → List T → ℕ
+pub ceiling : {T : Type 0} → System T → List T → ℕ
 ceiling s [] = 0
 ceiling s (x ∷ xs) = max (s.rank x + 1) (ceiling s xs)
 
-below : {T : Type 0} (s : System T) → IsAcyclic s → (xs : List T) → AreBelow s xs (ceiling s xs)
+pub below : {T : Type 0} (s : System T) → IsAcyclic s → (xs : List T) → AreBelow s xs (ceiling s xs)
 unfolding ceiling
 below s law [] y m = absurd (cc)
 below s law (x ∷ xs) y m = elim (or_cases (s.same y x) (member s.same xs y) m) [

@@ -1,5 +1,6 @@
 -- The edges turned round: the order there is a plan of removal, and what it leaves is closed.
 use Rattle.std.proofs.Common.{◌≡◌, ℕ, ◌+◌, ◌<◌, ◌≤◌, Bool, true, false, not, ◌&&◌, List, refl, arith}
+use Rattle.std.proofs.lemmas.Bool.{and_parts, and_from, not-true}
 use Rattle.demand_order.specs.Order.{System, IsAcyclic, member}
 use Rattle.demand_order.specs.OrderLaws.{order, Needed, input, under, IsClosed}
 use Rattle.demand_order.specs.Machine.{AreBelow}
@@ -7,18 +8,7 @@ use Rattle.demand_order.specs.Turned.{AreUsers, turned, Leads, here, through, Is
 use Rattle.demand_order.proofs.OrderLemmas.{not_both}
 use Rattle.demand_order.proofs.OrderLawProofs.{order-distinct, order-follows, order-needed, needed-seen}
 
-and_both : (a b : Bool) → (a && b) ≡ true → (a ≡ true) × (b ≡ true)
-and_both true b h = (refl, h)
-and_both false b h = absurd (cc)
-
-both_and : (a b : Bool) → a ≡ true → b ≡ true → (a && b) ≡ true
-both_and a b h k = rw (h, k) refl
-
-not_true : (b : Bool) → not b ≡ true → b ≡ false
-not_true true h = absurd (cc)
-not_true false h = refl
-
-not_false : (b : Bool) → (b ≡ true → ⊥) → not b ≡ true
+pub not_false : (b : Bool) → (b ≡ true → ⊥) → not b ≡ true
 not_false true h = absurd (h refl)
 not_false false h = refl
 
@@ -53,6 +43,6 @@ module _ {T : Type 0} (s : System T) (law : IsAcyclic s) (users : T → List T) 
 -- an input of a name that stays leads to no touched one, or the name would
 pub rest-closed : {T : Type 0} (s : System T) (users : T → List T) (peak : ℕ) (touched plan : List T) → IsPlan s users peak touched plan → (kept : T → Bool) → IsClosed s kept → IsClosed s (without s kept plan)
 rest-closed s users peak touched plan p kept closed x y h m =
-    let both = and_both (kept x) (not (member s.same plan x)) h in
-    both_and (kept y) (not (member s.same plan y)) (closed x y both.0 m)
-    (not_false (member s.same plan y) (λ t. not_both (member s.same plan x) (p.each x (through y x (p.only y t) m)) (not_true (member s.same plan x) both.1)))
+    let both = and_parts (kept x) (not (member s.same plan x)) h in
+    and_from (kept y) (not (member s.same plan y)) (closed x y both.0 m)
+    (not_false (member s.same plan y) (λ t. not_both (member s.same plan x) (p.each x (through y x (p.only y t) m)) (not-true (member s.same plan x) both.1)))

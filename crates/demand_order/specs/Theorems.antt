@@ -7,6 +7,8 @@ use Rattle.demand_order.specs.Store.{Holds, first_absent, Puts, missing_of, Leav
 use Rattle.demand_order.specs.Found.{AreFound, Grown}
 use Rattle.demand_order.specs.Machine.{waits, Demand, RunFor, left_of}
 use Rattle.demand_order.specs.Turned.{AreUsers, turned, IsPlan, without}
+use Rattle.demand_order.specs.Within.{within, AreDependents}
+use Rattle.demand_order.specs.InTurn.{missing_in_turn, all_demanded}
 
 -- no name stands twice in the order of a demand
 abbrev pub OrderIsDistinct : Type 0 → Type 0
@@ -123,3 +125,24 @@ TurnedOrderIsPlan T = (s : System T) → IsAcyclic s → (users : T → List T) 
 -- a closed set without a plan's names is closed
 abbrev pub RestIsClosed : Type 0 → Type 0
 RestIsClosed T = (s : System T) (users : T → List T) (peak : ℕ) (touched plan : List T) → IsPlan s users peak touched plan → (kept : T → Bool) → IsClosed s kept → IsClosed s (without s kept plan)
+
+-- the cells and their dependents are a system of their own, in which no name leads back to itself
+abbrev pub WithinIsAcyclic : Type 0 → Type 0
+WithinIsAcyclic T = (s : System T) (cells : T → Bool) → IsAcyclic s → IsAcyclic (within s cells)
+
+-- the dependents are its users
+abbrev pub DependentsAreUsers : Type 0 → Type 0
+DependentsAreUsers T = (s : System T) (cells : T → Bool) (users : T → List T) (peak : ℕ) → AreDependents s cells users peak → AreUsers (within s cells) users peak
+
+-- every list of cells has dependents
+abbrev pub ListsHaveDependents : Type 0 → Type 0
+ListsHaveDependents T = (s : System T) → IsAcyclic s → (xs : List T) → (users : T → List T) × (peak : ℕ) × AreDependents s (member s.same xs) users peak
+
+-- demands one after another fill what one demand for all their names fills, in the same order
+abbrev pub TurnsAreOneDemand : Type 0 → Type 0
+TurnsAreOneDemand T = (s : System T) → IsAcyclic s → (kept : T → Bool) (xss : List (List T)) → missing_in_turn s kept xss ≡ fill_all s kept [] (all_demanded xss)
+
+-- so, of a closed set, each name that some of them needs and that was not kept, and no other, once: so many are filled in all
+abbrev pub TurnsAreUnion : Type 0 → Type 0
+TurnsAreUnion T = (s : System T) → IsAcyclic s → (kept : T → Bool) → IsClosed s kept → (xss : List (List T))
+    → IsDistinct s.same (missing_in_turn s kept xss) × ((x : T) → (member s.same (missing_in_turn s kept xss) x ≡ true) ↔ (Needed s (all_demanded xss) x × (kept x ≡ false)))

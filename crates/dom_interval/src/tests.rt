@@ -7,13 +7,12 @@ use crate::text::state_text;
 use crate::widening::widened;
 use crate::{Interval, IntervalState, SlotRange};
 use domain_laws::{Domain, Steps, Verdict};
-use imp_lex::Number;
 use imp_slots::{
     Layout, NumericSlot, SlotAction, SlotCond, SlotCondNode, SlotExpr, SlotExprNode, SlotStmt,
 };
 use imp_syntax::{Operator, Relation};
 use num_bounds::Range;
-use plain_values::{Items, Text};
+use plain_values::{Items, Number, Text};
 use std::alloc::Global;
 use std::marker::Brand;
 use std::sync::ledger::{Blank, Ledger};

@@ -5,7 +5,7 @@ ghost use Rattle.imp_slots.specs.Plain.{Literal, Length, Does};
 ghost use Rattle.imp_slots.specs.ActionViews.{effect_of, act_of};
 ghost use Rattle.domain_laws.specs.Checks as checks;
 ghost use Rattle.domain_laws.specs.Guards.{verdict_on};
-ghost use Rattle.domain_laws.specs.declared.verdict.Verdict.TheVariants as verdicts;
+ghost use Rattle.analysis_words.specs.declared.verdict.Verdict.TheVariants as verdicts;
 ghost use Rattle.interval_meaning.specs.State.{Within};
 ghost use Rattle.interval_meaning.specs.Operations as operations;
 

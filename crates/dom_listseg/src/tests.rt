@@ -3,7 +3,8 @@
 ghost use Rattle.std.specs.Prelude.{◌≡◌, ◌<◌};
 
 use crate::{ListSeg, SegmentState};
-use domain_laws::{Domain, Steps, Verdict};
+use analysis_words::Verdict;
+use domain_laws::{Domain, Steps};
 use imp_slots::{Layout, SlotAction, SlotStmt};
 use plain_values::{Items, Text};
 use std::alloc::Global;

@@ -3,14 +3,14 @@ ghost use Rattle.std.specs.Prelude.{◌≡◌, false, Some, IfOk, if◌then◌el
 ghost use Rattle.imp_slots.specs.ActionViews.{effect_of, act_of};
 ghost use Rattle.domain_laws.specs.Checks as checks;
 ghost use Rattle.domain_laws.specs.Guards.{verdict_on};
-ghost use Rattle.domain_laws.specs.declared.verdict.Verdict.TheVariants as verdicts;
+ghost use Rattle.analysis_words.specs.declared.verdict.Verdict.TheVariants as verdicts;
 ghost use Rattle.listseg_meaning.specs.Operations as operations;
 
 use crate::SegmentState;
 use crate::assumptions::assumed;
 use crate::state::{copy_of, is_empty};
 use crate::statements::is_cell;
-use domain_laws::Verdict;
+use analysis_words::Verdict;
 use imp_slots::{SlotAction, SlotCond, SlotStmt};
 use plain_values::Memory;
 use std::alloc::Global;

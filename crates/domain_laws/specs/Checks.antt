@@ -2,9 +2,11 @@
 use Rattle.std.specs.Prelude.{ℕ, Option, Some, None, Bool, true, false, not}
 use Rattle.imp_syntax.specs.declared.words.Relation.{Relation}
 use Rattle.imp_syntax.specs.declared.words.Relation.TheVariants.{Equal, NotEqual, Less, AtMost, Greater, AtLeast}
-use Rattle.imp_slots.specs.Plain.{Term, Literal, Length, Guard, Compare, CompareLinks, Not, And, Or, Effect, Skip, Assert, SetInt, Input, ReadElement, ReadItem, MakeArray, CopyArray, WriteElement, SetNull, MakeCell, CopyLink, ReadNext, WriteNext, WriteItem}
-use Rattle.concrete_sem.specs.declared.fault.FaultKind.{FaultKind}
-use Rattle.concrete_sem.specs.declared.fault.FaultKind.TheVariants.{Index, Null, Assert as Failed}
+use Rattle.imp_slots.specs.Plain.{Term, Literal, Length, Guard, Compare, CompareLinks, Not, And, Or, Act, DoBreak, Does, Effect, Skip, Assert, SetInt, Input, ReadElement, ReadItem, MakeArray, CopyArray, WriteElement, SetNull, MakeCell, CopyLink, ReadNext, WriteNext, WriteItem}
+use Rattle.analysis_words.specs.declared.fault.FaultKind.{FaultKind}
+use Rattle.analysis_words.specs.declared.fault.FaultKind.TheVariants.{Index, Null, Assert as Failed}
+use Rattle.analysis_words.specs.declared.findings.Check as asked
+use Rattle.analysis_words.specs.declared.findings.Check.TheVariants as asks
 
 -- What must hold in front of a statement that it does not fail, and how it fails where it does not hold.
 pub data Check : Type 0 where
@@ -28,6 +30,21 @@ check_of (CopyLink p q) = None
 check_of (ReadNext p q) = Some (IsCell q)
 check_of (WriteNext p q) = Some (IsCell p)
 check_of (WriteItem p e) = Some (IsCell p)
+
+-- what a check asks
+abbrev pub kind_of : Check → asked.Check
+kind_of (Within a e) = asks.Bounds
+kind_of (IsCell p) = asks.Null
+kind_of (Claims g) = asks.Assert
+
+abbrev pub kind_if : Option Check → Option asked.Check
+kind_if None = None
+kind_if (Some c) = Some (kind_of c)
+
+-- what the check of a statement asks, if it has one
+abbrev pub kind_in : Act → Option asked.Check
+kind_in DoBreak = None
+kind_in (Does e) = kind_if (check_of e)
 
 -- the check as a guard: 0 <= e && e < len a, p != null, or what is claimed
 abbrev pub checked_guard : Check → Guard

@@ -9,7 +9,7 @@ use Rattle.concrete_sem.specs.Evaluation.{truth_of}
 use Rattle.concrete_sem.specs.Effects.{effect_of}
 use Rattle.concrete_sem.specs.Passing.{first_variables, pass, back}
 use Rattle.concrete_sem.specs.Proper.{IsProper}
-use Rattle.domain_laws.specs.declared.verdict.Verdict.TheVariants.{Dead, Safe}
+use Rattle.analysis_words.specs.declared.verdict.Verdict.TheVariants.{Dead, Safe}
 use Rattle.domain_laws.specs.Operations.{Operations}
 use Rattle.domain_laws.specs.Checks.{Check, check_of, fault_of}
 

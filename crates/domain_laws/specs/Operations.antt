@@ -1,7 +1,7 @@
 -- The operations of a domain of states.
 use Rattle.std.specs.Prelude.{ℕ, ℤ, List, Option, Bool}
 use Rattle.imp_slots.specs.Plain.{Layout, Guard, Act, Entering, Returning}
-use Rattle.domain_laws.specs.declared.verdict.Verdict.{Verdict}
+use Rattle.analysis_words.specs.declared.verdict.Verdict.{Verdict}
 
 pub record Operations (S : Type 0) : Type 0 where
   -- in front of main's body, from main's layout

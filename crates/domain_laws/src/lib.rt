@@ -16,14 +16,13 @@
 
 ghost use Rattle.domain_laws.specs.Claims.{PassesFindChecksTrue, FailuresFindChecksFalse, NegationIsExact};
 
+mod checks;
 mod domain;
-mod findings;
-mod verdict;
 
+pub use analysis_words::{Check, Finding, Findings, Verdict};
+pub use checks::{check_of, check_of_action};
 pub use domain::Domain;
-pub use findings::{Check, Finding, Findings};
 pub use step_counter::Steps;
-pub use verdict::Verdict;
 
 /// A theorem, and no work: the check of a statement holds where the statement goes on, and not
 /// where the statement fails with the fault of its check.

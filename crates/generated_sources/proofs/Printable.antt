@@ -1,7 +1,7 @@
 -- The trees of generated sources have the language's names, numbers and budgets.
 use Rattle.std.proofs.Common.{◌≤◌, ℕ, zero, suc, [], ◌∷◌, refl, arith}
 use Rattle.std.specs.Prelude.{codes}
-use Rattle.imp_lex.specs.Numbers.{greatest}
+use Rattle.plain_values.specs.Numbers.{greatest}
 use Rattle.imp_syntax.specs.declared.words.Operator.TheVariants.{Add, Subtract}
 use Rattle.imp_syntax.specs.Plain.{Expression, Literal, Variable, Binary, Statements}
 use Rattle.imp_parse.specs.Grammar.{disjunction, or_ends, conjunction, and_ends, compare, value}

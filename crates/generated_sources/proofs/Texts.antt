@@ -2,11 +2,12 @@
 use Rattle.std.proofs.Common.{◌≡◌, ◌≤◌, ◌<◌, ℕ, zero, suc, List, [], ◌∷◌, ◌++◌, refl, sym, subst, ◌∙◌, arith, append_assoc}
 use Rattle.std.proofs.lemmas.List.{append-nil}
 use Rattle.std.specs.Prelude.{codes}
+use Rattle.print_round_trip.proofs.PrintedPrograms.{assigns, set}
 use Rattle.imp_lex.specs.declared.token.Kind.{Kind as Token}
 use Rattle.imp_lex.specs.declared.token.Kind.TheVariants as k
 use Rattle.imp_lex.specs.declared.token.Mark.TheVariants as m
 use Rattle.imp_lex.specs.declared.token.Word.TheVariants as w
-use Rattle.imp_lex.specs.Numbers.{greatest}
+use Rattle.plain_values.specs.Numbers.{greatest}
 use Rattle.imp_syntax.specs.Plain.{Statements}
 use Rattle.imp_parse.specs.Answer.{Fits}
 use Rattle.imp_parse.specs.Limits.{outside}
@@ -28,9 +29,6 @@ use Rattle.generated_sources.proofs.Printable.{program_printable}
 
 -- ---- what stands between names and numbers
 
-assigns : Closed (codes " = ") (k.Mark m.Equals ∷ [])
-assigns = closed_closed space equals
-
 adds : Closed (codes " + ") (k.Mark m.Plus ∷ [])
 adds = closed_closed space (closed_closed plus space)
 
@@ -50,9 +48,6 @@ closes = closed_closed space close_brace
 
 abbrev v : ℕ → List ℕ
 v x = variable_text x
-
-set : (x : List ℕ) → IsNamed x → Closed (x ++ codes " = ") (k.Name x ∷ k.Mark m.Equals ∷ [])
-set x h = open_closed (names x h) (λ rest. refl) assigns
 
 constant_closed : (x c : ℕ) → x < 4 → c ≤ greatest → Closed (constant_text x c) (k.Name (v x) ∷ k.Mark m.Equals ∷ k.Number c ∷ k.Mark m.Semicolon ∷ [])
 unfolding constant_text

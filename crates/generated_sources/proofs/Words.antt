@@ -6,7 +6,7 @@ use Rattle.imp_lex.specs.Kinds.{reserved_word}
 use Rattle.std.proofs.lemmas.Nat.{mod_below}
 use Rattle.imp_syntax.specs.declared.words.Kind.TheVariants.{Int}
 use Rattle.imp_lex.specs.Names.{is_name}
-use Rattle.imp_lex.specs.Numbers.{greatest}
+use Rattle.plain_values.specs.Numbers.{greatest}
 use Rattle.imp_check.specs.Names.{kind_of}
 use Rattle.daig_gen.specs.Draws.{next, pick, variable, constant}
 use Rattle.daig_gen.specs.Pieces.{variable_text}

@@ -8,7 +8,7 @@ use Rattle.std.specs.Cmp.Lexicographic.{pointwise}
 use Rattle.imp_slots.specs.Plain.{Guard}
 use Rattle.imp_slots.specs.Fits.{Distinct}
 use Rattle.batch_meaning.specs.Places.{if_some}
-use Rattle.batch_sound.proofs.Procedures.{by_test, some_inj}
+use Rattle.plain_values.proofs.Cases.{by_test, some_inj}
 use Rattle.cell_names.specs.declared.frame.Frame.{Frame}
 use Rattle.cell_names.specs.declared.frame.Point.{Point}
 use Rattle.cell_names.specs.declared.frame.Point.TheVariants.{Fix}

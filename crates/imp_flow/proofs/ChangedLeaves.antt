@@ -5,7 +5,7 @@ use Rattle.std.proofs.Common.{◌≡◌, ◌≢◌, ℕ, zero, suc, ◌<◌, if�
 use Rattle.std.specs.Option.{option_map}
 use Rattle.imp_slots.specs.Plain.{Guard}
 use Rattle.batch_meaning.specs.Places.{if_some}
-use Rattle.batch_sound.proofs.Procedures.{by_test, some_inj}
+use Rattle.plain_values.proofs.Cases.{by_test, some_inj}
 use Rattle.cell_names.specs.declared.frame.Frame.{Frame}
 use Rattle.cell_names.specs.declared.frame.Point.TheVariants.{Leap}
 use Rattle.cell_rows.specs.Names.{next_place, place_of, item}

@@ -10,8 +10,8 @@ use Rattle.std.specs.Ordering.{nat_cmp}
 use Rattle.plain_values.specs.Equal.{same, same_equal, same_Decides}
 use Rattle.imp_slots.specs.PartCodes.{layout_code}
 use Rattle.batch_meaning.specs.Places.{main_layout}
-use Rattle.batch_sound.proofs.Procedures.{by_test, some_inj}
-use Rattle.batch_sound.proofs.Places.{Member, here, there}
+use Rattle.plain_values.proofs.Cases.{by_test, some_inj}
+use Rattle.plain_values.proofs.Members.{Member, here, there}
 use Rattle.cell_names.specs.declared.frame.Frame.{Frame}
 use Rattle.cell_names.specs.declared.frame.Point.{Point}
 use Rattle.cell_names.specs.declared.frame.Point.TheVariants.{Entry, Then, Else, Body, Post, Iterate, Fix, Exit, Leap}

@@ -14,7 +14,7 @@ use Rattle.imp_slots.specs.EnumCodes.{stmt_coded}
 use Rattle.imp_slots.specs.declared.actions.SlotStmt.{SlotStmt}
 use Rattle.batch_meaning.specs.Batch.{Engine}
 use Rattle.batch_meaning.specs.Places.{if_some}
-use Rattle.batch_sound.proofs.Procedures.{some_inj}
+use Rattle.plain_values.proofs.Cases.{some_inj}
 use Rattle.cell_names.specs.declared.frame.Frame.{Frame}
 use Rattle.cell_names.specs.declared.frame.Frame.TheVariants.{InCall, InLoop}
 use Rattle.cell_names.specs.declared.frame.Point.{Point}

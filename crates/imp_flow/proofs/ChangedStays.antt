@@ -4,8 +4,8 @@ use Rattle.imp_slots.specs.Plain.{Code, Stop, Simple, If, While, Call, Break, Ro
 use Rattle.imp_slots.specs.Fits.{Distinct, IsChecked, routine_numbers}
 use Rattle.batch_meaning.specs.Batch.{Engine}
 use Rattle.batch_meaning.specs.Places.{if_some}
-use Rattle.batch_sound.proofs.Procedures.{by_test, some_inj}
-use Rattle.batch_sound.proofs.Places.{Member, here, there, Each, none_there, each_more, each_both}
+use Rattle.plain_values.proofs.Cases.{by_test, some_inj}
+use Rattle.plain_values.proofs.Members.{Member, here, there, Each, none_there, each_more, each_both}
 use Rattle.cell_names.specs.declared.frame.Frame.{Frame}
 use Rattle.cell_names.specs.declared.frame.Frame.TheVariants.{InCall, InLoop}
 use Rattle.cell_names.specs.declared.frame.Point.{Point}
@@ -15,7 +15,8 @@ use Rattle.cell_rows.specs.Names.{Nested}
 use Rattle.cell_rows.specs.Rows.{Row}
 use Rattle.cell_rows.specs.Flat.{flat_row}
 use Rattle.cell_rows.proofs.Checked.{distinct_part, break_part, once_nested}
-use Rattle.cell_rows.proofs.FlatOnce.{left_once, right_once, once_reversed}
+use Rattle.imp_slots.proofs.Distinct.{left_once, right_once}
+use Rattle.cell_rows.proofs.FlatOnce.{once_reversed}
 use Rattle.imp_flow.specs.declared.node.Node.{Node}
 use Rattle.imp_flow.specs.declared.node.Shape.{Shape}
 use Rattle.imp_flow.specs.declared.node.Shape.TheVariants as shape

@@ -4,7 +4,8 @@ use Rattle.std.proofs.lemmas.List.{reverse-reverse}
 use Rattle.std.proofs.lemmas.Option.{slice_get_past, slice_get-get_or}
 use Rattle.imp_slots.specs.Plain.{Routine}
 use Rattle.batch_meaning.specs.Places.{if_some, from, main_layout}
-use Rattle.batch_sound.proofs.Procedures.{by_test, look, look_get, from_look, some_inj}
+use Rattle.plain_values.proofs.Cases.{by_test, some_inj}
+use Rattle.batch_meaning.proofs.Procedures.{look, look_get, from_look}
 use Rattle.std.specs.Option.{option_map}
 use Rattle.cell_names.specs.declared.frame.Frame.{Frame}
 use Rattle.cell_names.specs.declared.frame.Frame.TheVariants.{InCall, InLoop}

@@ -1,7 +1,7 @@
 -- Breaks by their places, and the end of a block.
 use Rattle.std.proofs.Common.{◌≡◌, ◌≢◌, ℕ, zero, suc, ◌+◌, ◌-◌, ◌<◌, ◌≤◌, List, [], ◌∷◌, length, drop, get_or, slice_get, Option, Some, None, if◌then◌else◌, refl, sym, ap, ◌∙◌, arith, add-one, drop-cons}
 use Rattle.std.specs.Option.{option_map}
-use Rattle.batch_sound.proofs.Procedures.{by_test, some_inj}
+use Rattle.plain_values.proofs.Cases.{by_test, some_inj}
 use Rattle.imp_slots.specs.BlockViews.{code_of, number_of}
 use Rattle.imp_slots.specs.declared.blocks.SlotNode.{SlotNode}
 use Rattle.imp_slots.specs.declared.blocks.SlotNode.TheVariants.{Simple, If, While, Call, Break}

@@ -7,7 +7,8 @@ use Rattle.program_chains.specs.Marks.{effect_literals, argument_literals, liter
 use Rattle.batch_meaning.specs.Places.{from}
 use Rattle.cell_names.specs.declared.frame.Point.{Point}
 use Rattle.cell_names.specs.declared.frame.Point.TheVariants.{Entry, Then, Else, Body, Post}
-use Rattle.batch_sound.proofs.Procedures.{by_test, from_behind}
+use Rattle.plain_values.proofs.Cases.{by_test}
+use Rattle.batch_meaning.proofs.Procedures.{from_behind}
 use Rattle.cell_rows.specs.Names.{number}
 use Rattle.cell_rows.specs.Rows.{last_point}
 use Rattle.cell_rows.specs.Targets.{Text, text, deeper, texts}

@@ -9,12 +9,14 @@ use Rattle.cell_names.specs.declared.frame.Frame.{Frame}
 use Rattle.cell_names.specs.declared.frame.Frame.TheVariants.{InCall, InLoop}
 use Rattle.cell_names.specs.declared.frame.Point.{Point}
 use Rattle.cell_names.specs.declared.frame.Point.TheVariants.{Entry, Then, Else, Body, Post, Iterate, Fix, Exit, Leap}
-use Rattle.batch_sound.proofs.Procedures.{by_test, some_inj}
-use Rattle.batch_sound.proofs.Places.{Member, here, there, in_left, in_right, key_member, found_member}
+use Rattle.plain_values.proofs.Cases.{by_test, some_inj}
+use Rattle.plain_values.proofs.Members.{Member, here, there, in_left, in_right, key_member, either}
+use Rattle.batch_meaning.proofs.Places.{found_member}
 use Rattle.cell_rows.specs.Names.{Mark, mark, Place, bare}
 use Rattle.cell_rows.specs.Rows.{Row, enter_row, turn_row, branch_row, post_row, next_row, fix_row, exit_row, leap_row}
 use Rattle.cell_rows.specs.Flat.{Flat, flat, stand_in, by_text, flat_row}
-use Rattle.cell_rows.proofs.FlatOnce.{keys_flat, either, right_once, once_reversed}
+use Rattle.imp_slots.proofs.Distinct.{right_once}
+use Rattle.cell_rows.proofs.FlatOnce.{keys_flat, once_reversed}
 use Rattle.imp_flow.specs.Shifts.{shift_routine, put_in, KeepRows}
 use Rattle.imp_flow.specs.Owners.{owner}
 use Rattle.imp_flow.proofs.ShiftCode.{numbers_shift}

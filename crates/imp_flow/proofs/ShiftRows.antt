@@ -9,8 +9,9 @@ use Rattle.cell_names.specs.declared.frame.Frame.{Frame}
 use Rattle.cell_names.specs.declared.frame.Frame.TheVariants.{InCall, InLoop}
 use Rattle.cell_names.specs.declared.frame.Point.{Point}
 use Rattle.cell_names.specs.declared.frame.Point.TheVariants.{Entry, Then, Else, Body, Post, Iterate, Fix, Exit, Leap}
-use Rattle.batch_sound.proofs.Procedures.{by_test}
-use Rattle.batch_sound.proofs.Places.{keys, found_member}
+use Rattle.plain_values.proofs.Cases.{by_test}
+use Rattle.plain_values.proofs.Members.{keys}
+use Rattle.batch_meaning.proofs.Places.{found_member}
 use Rattle.cell_rows.specs.Names.{Mark, mark, Place, bare, number}
 use Rattle.cell_rows.specs.Rows.{Row, Init, enter_row, turn_row, branch_row, post_row, next_row, fix_row, exit_row, leap_row}
 use Rattle.cell_rows.specs.Targets.{Text, texts}

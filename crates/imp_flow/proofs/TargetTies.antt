@@ -10,14 +10,17 @@ use Rattle.imp_slots.specs.Fits.{Distinct, IsChecked}
 use Rattle.batch_meaning.specs.Places.{find, if_some, from}
 use Rattle.cell_names.specs.declared.frame.Point.{Point}
 use Rattle.cell_names.specs.declared.frame.Point.TheVariants.{Entry, Post, Fix}
-use Rattle.batch_sound.proofs.Procedures.{by_test, some_inj, look_get, look_from, look_below, from_behind, from_from, from_place, from_self}
-use Rattle.batch_sound.proofs.Places.{Member, here, there, in_left, in_right, keys, keys_both, found, found_member}
+use Rattle.plain_values.proofs.Cases.{by_test, some_inj}
+use Rattle.batch_meaning.proofs.Procedures.{look_get, look_from, look_below, from_behind, from_from, from_place, from_self}
+use Rattle.plain_values.proofs.Members.{Member, here, there, in_left, in_right, keys, keys_both}
+use Rattle.batch_meaning.proofs.Places.{found, found_member}
 use Rattle.cell_rows.specs.Names.{number}
 use Rattle.cell_rows.specs.Rows.{last_point}
 use Rattle.cell_rows.specs.Flat.{Flat, flat_of, flat}
 use Rattle.cell_rows.specs.Targets.{Text, text, texts, takes, to_point, callee_of, is_loop, way_of, way_in, way, target_in, target}
 use Rattle.cell_rows.specs.Targets as plain
-use Rattle.cell_rows.proofs.FlatOnce.{flat_once, right_once}
+use Rattle.imp_slots.proofs.Distinct.{right_once}
+use Rattle.cell_rows.proofs.FlatOnce.{flat_once}
 use Rattle.imp_flow.specs.declared.node.Node.{Node}
 use Rattle.imp_flow.specs.declared.node.Shape.TheVariants as shape
 use Rattle.imp_flow.specs.declared.steps.Step.{Step}

@@ -12,8 +12,10 @@ use Rattle.cell_names.specs.declared.frame.Frame.{Frame}
 use Rattle.cell_names.specs.declared.frame.Frame.TheVariants.{InCall, InLoop}
 use Rattle.cell_names.specs.declared.frame.Point.{Point}
 use Rattle.cell_names.specs.declared.frame.Point.TheVariants.{Entry, Then, Else, Body, Post, Iterate, Fix, Exit, Leap}
-use Rattle.batch_sound.proofs.Procedures.{by_test, some_inj, look, look_get}
-use Rattle.batch_sound.proofs.Places.{here, there, Each, none_there, each_more, each_both, each_as, found_member}
+use Rattle.plain_values.proofs.Cases.{by_test, some_inj}
+use Rattle.batch_meaning.proofs.Procedures.{look, look_get}
+use Rattle.plain_values.proofs.Members.{here, there, Each, none_there, each_more, each_both, each_as}
+use Rattle.batch_meaning.proofs.Places.{found_member}
 use Rattle.cell_rows.specs.Names.{name, Mark, mark, Place, bare, number, breaks, break_numbers, place_of, iterate_point, start_of, when}
 use Rattle.cell_rows.specs.Rows.{Row, One, Two, Fixed as FixedRow, Assumes, Enters, Exits, Leaves, next_operation, last_point, leave_points, joined_point, joins_row, loop_row, enter_row, turn_row, branch_row, post_row, next_row, fix_row, exit_row, leap_row, sites_of}
 use Rattle.cell_rows.specs.Targets.{Text, text, deeper, texts}

@@ -45,6 +45,3 @@ pub use row::{Binary, Row, Unary};
 pub use shifts::procedures_shift_no_rows;
 pub use steps::{Step, Target};
 pub use ways::{target, targets};
-
-#[cfg(test)]
-mod tests;

@@ -2,7 +2,7 @@
 ghost use Rattle.std.specs.Prelude.{ℕ, ◌≡◌, ◌++◌, [], map, reverse, option_map, Some, IfOk, OnOk};
 ghost use Rattle.std.specs.Option.{option_copied};
 ghost use Rattle.imp_slots.specs.Fits.{IsChecked};
-ghost use Rattle.batch_meaning.specs.declared.refusal.Refusal.{Refusal};
+ghost use Rattle.analysis_words.specs.declared.refusal.Refusal.{Refusal};
 ghost use Rattle.batch_meaning.specs.Answers.{In, Misses, procedure_of};
 ghost use Rattle.cell_rows.specs.Targets.{target, targets};
 ghost use Rattle.imp_flow.specs.Reached.{target_of, those_there, into_loops, ending_of, reached, node_in_place, way_into, way_along, ending_at, target_from};

@@ -3,7 +3,8 @@ use Rattle.std.proofs.Common.{◌≡◌, ℕ, ◌+◌, ◌-◌, ◌*◌, ◌/◌
 use Rattle.std.proofs.lemmas.Bool.Decides.{nat_tests}
 use Rattle.std.specs.Prelude.{Some, None, nat_le}
 use Rattle.imp_lex.specs.declared.token.Kind.TheVariants as k
-use Rattle.imp_lex.specs.Numbers.{value_on, greatest}
+use Rattle.plain_values.specs.Numbers.{greatest}
+use Rattle.imp_lex.specs.Numbers.{value_on}
 use Rattle.imp_lex.specs.Kinds.{number_kind}
 
 -- what digits write is no less than what stands in front of them

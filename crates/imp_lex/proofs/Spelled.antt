@@ -15,7 +15,8 @@ use Rattle.imp_lex.specs.declared.error.Fault.{Fault}
 use Rattle.imp_lex.specs.declared.error.Fault.TheVariants as f
 use Rattle.imp_lex.specs.declared.front.Front.{Front}
 use Rattle.imp_lex.specs.declared.front.Front.TheVariants as p
-use Rattle.imp_lex.specs.Numbers.{value_on, greatest}
+use Rattle.plain_values.specs.Numbers.{greatest}
+use Rattle.imp_lex.specs.Numbers.{value_on}
 use Rattle.imp_lex.specs.Kinds.{reserved_word, word_or_name, word_kind, number_kind, mark_of, most_name_bytes}
 use Rattle.imp_lex.specs.Front.{front_of, taken, longest, mark_front, run, is_blank, is_letter, is_digit, is_word, begins_comment, IsBounded}
 use Rattle.imp_lex.specs.Lexing.{token_at, IsLexed, done, skip, word, AreInOrder, Spells, IsSpelled}

@@ -7,7 +7,8 @@ use Rattle.imp_lex.specs.declared.token.Mark.{Mark}
 use Rattle.imp_lex.specs.declared.token.Mark.TheVariants as m
 use Rattle.imp_lex.specs.declared.token.Kind.{Kind}
 use Rattle.imp_lex.specs.declared.token.Kind.TheVariants as k
-use Rattle.imp_lex.specs.Numbers.{value_on, greatest}
+use Rattle.plain_values.specs.Numbers.{greatest}
+use Rattle.imp_lex.specs.Numbers.{value_on}
 
 -- what stands beside a text in a table
 abbrev pub look_up : {A : Type 0} → List ℕ → List (List ℕ × A) → Option A

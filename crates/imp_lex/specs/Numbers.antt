@@ -5,7 +5,3 @@ use Rattle.std.specs.Prelude.{ℕ, ◌+◌, ◌-◌, ◌*◌, List, [], ◌∷�
 abbrev pub value_on : ℕ → List ℕ → ℕ
 value_on so_far [] = so_far
 value_on so_far (d ∷ ds) = value_on (so_far * 10 + (d - 48)) ds
-
--- the greatest number of a text, 2^63 - 1
-abbrev pub greatest : ℕ
-greatest = 9223372036854775807

@@ -3,8 +3,8 @@ ghost use Rattle.std.specs.Prelude.{◌≡◌, [], ◌∷◌, IfOk};
 ghost use Rattle.std.specs.Str.{bytes_eq};
 ghost use Rattle.imp_lex.specs.Kinds.{reserved_word, word_kind, number_kind, mark_of};
 
-use crate::{Kind, Mark, Number, Word};
-use plain_values::{Memory, Text};
+use crate::{Kind, Mark, Word};
+use plain_values::{Memory, Number, Text};
 use std::alloc::Global;
 
 /// The most bytes of a name.

@@ -19,13 +19,11 @@ mod front;
 mod kinds;
 mod lexer;
 mod names;
-mod number;
 mod token;
 
 pub use error::LexError;
 pub use lexer::tokens;
 pub use names::is_name;
-pub use number::Number;
 pub use token::{Kind, Mark, Span, Token, Word};
 
 /// A text has its tokens or a fault, one answer and no other.

@@ -1,6 +1,5 @@
-//! Tokens.
-use crate::Number;
-use plain_values::Text;
+//! Tokens, their kinds and their spans: what `tokens` gives.
+use plain_values::{Number, Text};
 
 /// A token: its kind, and where it stands.
 #[derive(Debug, Drop)]

@@ -1,4 +1,4 @@
-//! Conditions.
+//! Reading conditions and their sides, for `parse_cond`.
 ghost use Rattle.std.specs.Prelude.{◌≡◌, ◌<◌, ◌≤◌, length, IfOk};
 ghost use Rattle.imp_syntax.specs.Views.{operand_of};
 ghost use Rattle.imp_parse.specs.Kinds.{kinds};

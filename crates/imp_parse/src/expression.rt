@@ -1,4 +1,4 @@
-//! Expressions.
+//! Reading expressions: sums of products of factors.
 ghost use Rattle.std.specs.Prelude.{◌≡◌, ◌<◌, ◌≤◌, length, IfOk};
 ghost use Rattle.imp_parse.specs.Kinds.{kinds};
 ghost use Rattle.imp_parse.specs.Judged.{Gives};

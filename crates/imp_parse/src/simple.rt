@@ -1,4 +1,4 @@
-//! Simple statements.
+//! Reading simple statements, for `parse_simple`.
 ghost use Rattle.std.specs.Prelude.{◌≡◌, ◌<◌, ◌≤◌, length, IfOk};
 ghost use Rattle.imp_syntax.specs.Plain.{Simple};
 ghost use Rattle.imp_syntax.specs.ActionViews.{action_of};

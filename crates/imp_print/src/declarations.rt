@@ -1,4 +1,4 @@
-//! Declarations.
+//! Writing declarations, for `program_text`.
 ghost use Rattle.std.specs.Prelude.{◌≡◌, ◌++◌, codes, None, OnOk};
 ghost use Rattle.imp_print.specs.Statements.{line};
 ghost use Rattle.imp_print.specs.Programs.{kind_text, declaration_text, more_declarations_text, declarations_text, outcome_text, locals_text};

@@ -1,11 +1,10 @@
 //! One program, made by hand, and its texts.
 use crate::{numbered_text, program_text, stmt_text};
-use imp_lex::Number;
 use imp_syntax::{
     Action, Block, Cond, CondNode, Declaration, Expr, ExprNode, Kind, Operator, Proc, Program,
     Relation, Side, Stmt, StmtId, StmtNode,
 };
-use plain_values::{Items, Text};
+use plain_values::{Items, Number, Text};
 use std::test::Fail;
 
 fn literal(rt: &HostRuntime, value: u32) -> Result<Expr, Fail> {

@@ -1,16 +1,17 @@
 -- Runs that end, and runs that go on.
 use Rattle.std.specs.Prelude.{◌≡◌, ℕ, zero, suc, ◌+◌, List, Bool, true, false, Option, Some, None}
 use Rattle.std.proofs.Common.{refl, sym, ap, ◌∙◌, arith}
+use Rattle.plain_values.proofs.Cases.{some_inj}
 use Rattle.imp_slots.specs.Plain.{Routine}
 use Rattle.concrete_sem.specs.Steps.{Config, Step}
 use Rattle.concrete_sem.specs.Steps as steps
-use Rattle.concrete_sem.specs.Runs.{Run, RunEnd, RunEnded, RunFaulted, RunLacksInput, FuelUsedUp, ends, counted, run_from, run_on, end_with_no_fuel}
+use Rattle.concrete_sem.specs.Runs.{Run, ends, counted, run_from, run_on, end_with_no_fuel}
 use Rattle.imp_run.specs.declared.machine.Stepped.{Stepped}
 use Rattle.imp_run.specs.declared.machine.Stepped.TheVariants.{Next, Fault, NoInput, Ended}
-use Rattle.imp_run.specs.declared.running.End.{End as Ending}
-use Rattle.imp_run.specs.declared.running.End.TheVariants as e
+use Rattle.analysis_words.specs.declared.run_end.RunEnd.{RunEnd}
+use Rattle.analysis_words.specs.declared.run_end.RunEnd.TheVariants as e
 use Rattle.imp_run.specs.Machine.{step_of}
-use Rattle.imp_run.specs.Outcome.{IsEndAfter, end_of, after_more, bit}
+use Rattle.imp_run.specs.Outcome.{IsEndAfter, after_more, bit}
 
 pub count-zero : (n : ℕ) → n ≡ n + 0
 count-zero n = omega arith
@@ -20,23 +21,20 @@ pub after-counted : (n : ℕ) (b : Bool) (r : Run) → after_more n (counted b r
 after-counted n true r = ap (λ m. let q : Run = record { end = r.end; reached = m } in q) (omega arith)
 after-counted n false r = ap (λ m. let q : Run = record { end = r.end; reached = m } in q) (omega arith)
 
-some_same : {A : Type 0} (x y : A) → Some x ≡ Some y → x ≡ y
-some_same x y h = cc
-
 module _ (program : List Routine) (here : Config → Bool) where
-  abbrev ended_by : Config → Ending → Run
-  ended_by c end = counted (here c) (ends (end_of end))
+  abbrev ended_by : Config → RunEnd → Run
+  ended_by c end = counted (here c) (ends end)
 
   -- a step that is the last one of a run
-  pub run-ends : (s : Stepped) (left : ℕ) (end : Ending) (c c2 : Config) → IsEndAfter s left (Some end) → steps.step program c ≡ step_of s c2 → run_from program here left c ≡ counted (here c) (ends (end_of end))
-  run-ends Ended zero end c c2 h is = rw is (ap (ended_by c) (sym (some_same end e.Ended h)))
-  run-ends Ended (suc n) end c c2 h is = rw is (ap (ended_by c) (sym (some_same end e.Ended h)))
-  run-ends Next zero end c c2 h is = rw is (ap (ended_by c) (sym (some_same end e.FuelUsedUp h)))
+  pub run-ends : (s : Stepped) (left : ℕ) (end : RunEnd) (c c2 : Config) → IsEndAfter s left (Some end) → steps.step program c ≡ step_of s c2 → run_from program here left c ≡ counted (here c) (ends end)
+  run-ends Ended zero end c c2 h is = rw is (ap (ended_by c) (sym (some_inj end e.Ended h)))
+  run-ends Ended (suc n) end c c2 h is = rw is (ap (ended_by c) (sym (some_inj end e.Ended h)))
+  run-ends Next zero end c c2 h is = rw is (ap (ended_by c) (sym (some_inj end e.FuelUsedUp h)))
   run-ends Next (suc n) end c c2 h is = absurd (cc)
-  run-ends (Fault n k) zero end c c2 h is = rw is (ap (ended_by c) (sym (some_same end e.FuelUsedUp h)))
-  run-ends (Fault n k) (suc m) end c c2 h is = rw is (ap (ended_by c) (sym (some_same end (e.Fault n k) h)))
-  run-ends (NoInput n) zero end c c2 h is = rw is (ap (ended_by c) (sym (some_same end e.FuelUsedUp h)))
-  run-ends (NoInput n) (suc k) end c c2 h is = rw is (ap (ended_by c) (sym (some_same end (e.InputsUsedUp n) h)))
+  run-ends (Fault n k) zero end c c2 h is = rw is (ap (ended_by c) (sym (some_inj end e.FuelUsedUp h)))
+  run-ends (Fault n k) (suc m) end c c2 h is = rw is (ap (ended_by c) (sym (some_inj end (e.Fault n k) h)))
+  run-ends (NoInput n) zero end c c2 h is = rw is (ap (ended_by c) (sym (some_inj end e.FuelUsedUp h)))
+  run-ends (NoInput n) (suc k) end c c2 h is = rw is (ap (ended_by c) (sym (some_inj end (e.InputsUsedUp n) h)))
 
   -- a step after which the run goes on
   pub run-goes-on : (s : Stepped) (left : ℕ) (c c2 : Config) → IsEndAfter s left None → steps.step program c ≡ step_of s c2 → (k : ℕ) × (left ≡ suc k) × (run_from program here left c ≡ counted (here c) (run_from program here k c2))

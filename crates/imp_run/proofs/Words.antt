@@ -3,7 +3,8 @@ use Rattle.std.specs.Prelude.{◌≡◌, ℕ, ◌^◌, ◌<◌, nat_lt, ℤ, pos
 use Rattle.std.specs.Int.{w64}
 use Rattle.std.proofs.Common.{refl, sym, ap, arith}
 use Rattle.std.proofs.lemmas.Bool.Decides.{nat_tests}
-use Rattle.concrete_sem.specs.declared.fault.FaultKind.TheVariants.{Overflow}
+use Rattle.std.proofs.lemmas.Bool.{false_from_ne_true, ltb-true}
+use Rattle.analysis_words.specs.declared.fault.FaultKind.TheVariants.{Overflow}
 use Rattle.concrete_sem.specs.Values.{Gives, Faults, is_word}
 use Rattle.concrete_sem.specs.Evaluation.{word}
 
@@ -11,16 +12,9 @@ fits : (z : ℤ) → FitsSigned w64 z → is_word z ≡ true
 fits (pos n) f = let h : n < 2 ^ 63 = f.sfits in grind (arith, nat_tests)
 fits (negsuc n) f = let h : n < 2 ^ 63 = f.sfits in grind (arith, nat_tests)
 
-refuted : (b : Bool) → (b ≡ true → ⊥) → b ≡ false
-refuted true f = absurd (f refl)
-refuted false f = refl
-
-below : (n m : ℕ) → nat_lt n m ≡ true → n < m
-below n m e = grind (arith, nat_tests)
-
 does_not : (z : ℤ) → (FitsSigned w64 z → ⊥) → is_word z ≡ false
-does_not (pos n) f = refuted (nat_lt n (2 ^ 63)) (λ e. f (record { sfits = below n (2 ^ 63) e }))
-does_not (negsuc n) f = refuted (nat_lt n (2 ^ 63)) (λ e. f (record { sfits = below n (2 ^ 63) e }))
+does_not (pos n) f = false_from_ne_true (nat_lt n (2 ^ 63)) (λ e. f (record { sfits = ltb-true n (2 ^ 63) e }))
+does_not (negsuc n) f = false_from_ne_true (nat_lt n (2 ^ 63)) (λ e. f (record { sfits = ltb-true n (2 ^ 63) e }))
 
 pub word_fits : (z : ℤ) → FitsSigned w64 z → word z ≡ Gives z
 word_fits z f = rw (fits z f) refl

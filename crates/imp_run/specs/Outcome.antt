@@ -6,7 +6,7 @@ use Rattle.imp_syntax.specs.declared.edit.Location.TheVariants.{Before, After, H
 use Rattle.imp_slots.specs.Plain.{Routine}
 use Rattle.concrete_sem.specs.Steps.{Config}
 use Rattle.concrete_sem.specs.Reach.{standing}
-use Rattle.concrete_sem.specs.Runs.{Run, RunEnd, RunEnded, RunFaulted, RunLacksInput, FuelUsedUp}
+use Rattle.concrete_sem.specs.Runs.{Run}
 use Rattle.imp_slots.specs.BlockViews.{number_of}
 use Rattle.imp_run.specs.declared.work.Item.{Item}
 use Rattle.imp_run.specs.declared.work.Item.TheVariants.{Do, Done, Test}
@@ -14,8 +14,8 @@ use Rattle.imp_run.specs.declared.machine.Machine.{Machine}
 use Rattle.imp_run.specs.declared.machine.Stepped.{Stepped}
 use Rattle.imp_run.specs.declared.machine.Stepped.TheVariants as s
 use Rattle.imp_run.specs.Machine.{config_of}
-use Rattle.imp_run.specs.declared.running.End.{End as Ending}
-use Rattle.imp_run.specs.declared.running.End.TheVariants as e
+use Rattle.analysis_words.specs.declared.run_end.RunEnd.{RunEnd}
+use Rattle.analysis_words.specs.declared.run_end.RunEnd.TheVariants as e
 use Rattle.imp_run.specs.declared.running.Outcome.{Outcome}
 
 -- whether a location is this one
@@ -32,14 +32,8 @@ abbrev pub stands_at : List Routine → Option Location → Config → Bool
 stands_at program None c = false
 stands_at program (Some l) c = same_location (standing program c.frames) l
 
-abbrev pub end_of : Ending → RunEnd
-end_of e.Ended = RunEnded
-end_of (e.Fault n k) = RunFaulted n k
-end_of (e.InputsUsedUp n) = RunLacksInput n
-end_of e.FuelUsedUp = FuelUsedUp
-
 abbrev pub run_of : Outcome → Run
-run_of o = record { end = end_of o.end; reached = o.reached }
+run_of o = record { end = o.end; reached = o.reached }
 
 -- the run, with so many configurations more in front
 abbrev pub after_more : ℕ → Run → Run
@@ -65,7 +59,7 @@ config_or_none None inputs = record { heap = record { cells = []; inputs = input
 config_or_none (Some m) inputs = config_of m
 
 -- The run after this step, with so many steps allowed that it is one of: it ends so, or it goes on.
-abbrev pub IsEndAfter : Stepped → ℕ → Option Ending → Type 0
+abbrev pub IsEndAfter : Stepped → ℕ → Option RunEnd → Type 0
 IsEndAfter s.Ended fuel r = r ≡ Some e.Ended
 IsEndAfter (s.Next) zero r = r ≡ Some e.FuelUsedUp
 IsEndAfter (s.Next) (suc k) r = r ≡ None

@@ -21,4 +21,5 @@ mod slots;
 mod store;
 mod work;
 
-pub use running::{End, Outcome, run};
+pub use analysis_words::RunEnd;
+pub use running::{Outcome, run};

@@ -1,4 +1,4 @@
-//! Runs.
+//! Runs: how one ends, and how often it stands at a location (`run`).
 ghost use Rattle.std.specs.Prelude.{◌≡◌, ◌+◌, ◌<◌, ◌-◌, length, ◌^◌, Some, slice_get, IfOk};
 ghost use Rattle.std.specs.Option.{option_copied};
 ghost use Rattle.concrete_sem.specs.Steps.{start};
@@ -11,30 +11,17 @@ use crate::machine::{Activation, Machine, Stepped, step};
 use crate::passing::first_slots;
 use crate::store::Store;
 use crate::work::{Item, push_block};
-use concrete_sem::FaultKind;
+use analysis_words::RunEnd;
 use imp_slots::{Routine, SlotNode};
 use imp_syntax::{Location, StmtId};
 use plain_values::{Memory, Text};
 use std::alloc::Global;
 
-/// How a run ends.
-#[derive(Clone, Copy, Debug, PartialEq, Eq, Hash)]
-pub enum End {
-    /// Main is done.
-    Ended,
-    /// A statement has no result.
-    Fault(StmtId, FaultKind),
-    /// An input statement found no input.
-    InputsUsedUp(StmtId),
-    /// As many steps as were allowed were taken, and main is not done.
-    FuelUsedUp,
-}
-
 /// What a run comes to.
 #[derive(Clone, Copy, Debug, PartialEq, Eq, Hash)]
 pub struct Outcome {
     /// How it ends.
-    pub end: End,
+    pub end: RunEnd,
     /// How many of its configurations, the first and the last included, stood at the location.
     pub reached: u64,
 }
@@ -158,30 +145,30 @@ fn first_machine<'a>(
 }
 
 /// How the run goes on after a step: to its end, or not at all yet.
-fn end_after(stepped: Stepped, fuel: u64) -> Option<End>
+fn end_after(stepped: Stepped, fuel: u64) -> Option<RunEnd>
     ensures is { IsEndAfter stepped fuel result }
 {
     match stepped {
-        Stepped::Ended => Some(End::Ended),
+        Stepped::Ended => Some(RunEnd::Ended),
         Stepped::Next => {
             if fuel == 0 {
-                Some(End::FuelUsedUp)
+                Some(RunEnd::FuelUsedUp)
             } else {
                 None
             }
         }
         Stepped::Fault(number, fault) => {
             if fuel == 0 {
-                Some(End::FuelUsedUp)
+                Some(RunEnd::FuelUsedUp)
             } else {
-                Some(End::Fault(StmtId::new(number), fault))
+                Some(RunEnd::Fault(StmtId::new(number), fault))
             }
         }
         Stepped::NoInput(number) => {
             if fuel == 0 {
-                Some(End::FuelUsedUp)
+                Some(RunEnd::FuelUsedUp)
             } else {
-                Some(End::InputsUsedUp(StmtId::new(number)))
+                Some(RunEnd::InputsUsedUp(StmtId::new(number)))
             }
         }
     }
@@ -239,7 +226,7 @@ pub fn run(
     match first_machine(alloc, program, inputs)? {
         Some(mut machine) => run_machine(alloc, program, &mut machine, fuel, at),
         None => Ok(Outcome {
-            end: End::Ended,
+            end: RunEnd::Ended,
             reached: 0,
         }),
     }

@@ -1,4 +1,4 @@
-//! Calls.
+//! Calls over slots: how values pass into the callee and back.
 ghost use Rattle.std.specs.Prelude.{◌≡◌, IfOk, map};
 ghost use Rattle.imp_slots.specs.CallViews.{argument_of, taken_of};
 

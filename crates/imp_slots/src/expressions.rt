@@ -2,9 +2,8 @@
 ghost use Rattle.std.specs.Prelude.{◌≡◌, IfOk};
 ghost use Rattle.imp_slots.specs.ExprViews.{term_of};
 
-use imp_lex::Number;
 use imp_syntax::Operator;
-use plain_values::Memory;
+use plain_values::{Memory, Number};
 use std::alloc::{AllocError, Global};
 use std::marker::Model;
 use std::rc::Rc;

@@ -35,9 +35,8 @@ pub use layouts::{Layout, NumericSlot};
 #[cfg(test)]
 mod tests {
     use super::*;
-    use imp_lex::Number;
     use imp_syntax::{Operator, Relation};
-    use plain_values::{Items, Text};
+    use plain_values::{Items, Number, Text};
     use std::alloc::Global;
     use std::hash::{DefaultHasher, Hash, Hasher};
     use std::test::Fail;

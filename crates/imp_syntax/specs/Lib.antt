@@ -9,4 +9,3 @@ pub mod Blocks
 pub mod ProgramCode
 pub mod ProcViews
 pub mod Changes
-pub mod Hashes

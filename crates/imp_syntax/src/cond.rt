@@ -1,4 +1,4 @@
-//! Conditions.
+//! Conditions, seen as plain trees (`condition_of`).
 ghost use Rattle.std.specs.Prelude.{◌≡◌, IfOk};
 ghost use Rattle.imp_syntax.specs.Views.{condition_of};
 

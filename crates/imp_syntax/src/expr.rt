@@ -1,10 +1,9 @@
-//! Expressions.
+//! Expressions and sides, seen as plain trees (`expression_of`, `operand_of`).
 ghost use Rattle.std.specs.Prelude.{◌≡◌, IfOk};
 ghost use Rattle.imp_syntax.specs.Views.{expression_of};
 
 use crate::Operator;
-use imp_lex::Number;
-use plain_values::{Memory, Text};
+use plain_values::{Memory, Number, Text};
 use std::alloc::{AllocError, Global};
 use std::marker::Model;
 use std::rc::Rc;

@@ -10,7 +10,7 @@
 //! Trees are shared by reference counts. A copy takes constant time and is equal to its source; a change
 //! (`with_replaced`, `with_condition`, `with_body` and the like, by the definitions of
 //! `specs/Changes.antt`) copies a list of pointers at most and shares all else. `==` decides whether
-//! two trees are the same ([`plain_values::codes_decide`]), and hashes respect it; both go along the trees.
+//! two trees are the same ([`plain_values::codes_decide`]); it goes along the trees.
 //! Of all calls only those that answer a `Result` allocate, and they fail for want of memory alone.
 //!
 //! # Recursion over trees
@@ -64,8 +64,6 @@ mod equal;
 mod equal_procs;
 mod equal_stmts;
 mod expr;
-mod hashes;
-mod hashes_of_stmts;
 mod numbers;
 mod program;
 mod stmt;
@@ -75,8 +73,8 @@ pub use action::{Action, Call};
 pub use cond::{Cond, CondNode};
 pub use edit::{Chain, Edit, Location, Place};
 pub use expr::{Expr, ExprNode, Side};
-pub use imp_lex::Number;
 pub use numbers::{ProcId, StmtId};
+pub use plain_values::Number;
 pub use program::{Proc, Program};
 pub use stmt::{Block, Stmt, StmtNode};
 pub use words::{Declaration, Kind, Operator, Relation};

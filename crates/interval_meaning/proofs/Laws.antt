@@ -6,7 +6,7 @@ use Rattle.concrete_sem.specs.Values.{Variables, Heap, Faults}
 use Rattle.concrete_sem.specs.Effects.{effect_of}
 use Rattle.concrete_sem.specs.Passing.{first_variables, back}
 use Rattle.concrete_sem.specs.Proper.{IsProper}
-use Rattle.domain_laws.specs.declared.verdict.Verdict.TheVariants.{Dead, Safe}
+use Rattle.analysis_words.specs.declared.verdict.Verdict.TheVariants.{Dead, Safe}
 use Rattle.domain_laws.specs.Checks.{Check, check_of, checked_guard, fault_of}
 use Rattle.domain_laws.specs.Guards.{assumed, past_check, verdict_on}
 use Rattle.domain_laws.specs.Claims.{ChecksTo, FailsCheck}

@@ -10,7 +10,7 @@ use Rattle.imp_syntax.specs.declared.words.Operator.{Operator}
 use Rattle.imp_syntax.specs.declared.words.Operator.TheVariants.{Add, Subtract, Multiply, Divide, Remainder}
 use Rattle.imp_slots.specs.Plain.{Layout, Term, Literal, Slot, Length, Negative, Binary}
 use Rattle.imp_slots.specs.Fits.{fits_term}
-use Rattle.concrete_sem.specs.declared.fault.FaultKind.TheVariants.{Overflow, Zero}
+use Rattle.analysis_words.specs.declared.fault.FaultKind.TheVariants.{Overflow, Zero}
 use Rattle.concrete_sem.specs.Values.{Variables, Gives, Faults, andthen, as_int, as_array, number_at, is_word, IsWord}
 use Rattle.concrete_sem.specs.Evaluation.{value_of, word as word_of, quotient, combine}
 use Rattle.concrete_sem.specs.Proper.{IsNumber}

@@ -8,7 +8,7 @@ use Rattle.std.specs.Int.{int_max, int_min}
 use Rattle.std.specs.List.{AllZip}
 use Rattle.imp_slots.specs.Plain.{Numeric, Layout, Effect, Skip, Assert, SetInt, Input, ReadElement, ReadItem, MakeArray, CopyArray, WriteElement, SetNull, MakeCell, CopyLink, ReadNext, WriteNext, WriteItem, Act, DoBreak, Does}
 use Rattle.imp_slots.specs.Fits.{fits_term, fits_effect, is_int, is_array, is_link, is_kind}
-use Rattle.concrete_sem.specs.declared.fault.FaultKind.TheVariants.{Length as TooLong, Index, Null, Assert as Failed}
+use Rattle.analysis_words.specs.declared.fault.FaultKind.TheVariants.{Length as TooLong, Index, Null, Assert as Failed}
 use Rattle.concrete_sem.specs.Values.{Number, Int, Array, Variables, Cell, Heap, Gives, Faults, andthen, given_or, as_array, number_at, array_at, link_at, with_number, with_link, IsWord}
 use Rattle.concrete_sem.specs.Evaluation.{value_of, truth_of}
 use Rattle.concrete_sem.specs.Effects.{effect_of, new_array, element, with_element, cell_of, take_input, with_cell}

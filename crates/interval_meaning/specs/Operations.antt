@@ -9,7 +9,7 @@ use Rattle.num_bounds.specs.Bounds.{Bounds, least, greatest}
 use Rattle.num_bounds.specs.Operations.{single, cut_of, hull_of}
 use Rattle.domain_laws.specs.Checks.{check_of}
 use Rattle.domain_laws.specs.Guards.{assumed, past_check, verdict_by}
-use Rattle.domain_laws.specs.declared.verdict.Verdict.{Verdict}
+use Rattle.analysis_words.specs.declared.verdict.Verdict.{Verdict}
 use Rattle.interval_meaning.specs.State.{Intervals, Empty, Within}
 use Rattle.interval_meaning.specs.Ranges.{longest, full, range_at, with_range, if_range, range_of}
 use Rattle.interval_meaning.specs.declared.slot_range.SlotRange.{SlotRange}

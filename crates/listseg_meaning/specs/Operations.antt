@@ -8,7 +8,7 @@ use Rattle.concrete_sem.specs.Evaluation.{same_link}
 use Rattle.concrete_sem.specs.Passing.{first_link, over}
 use Rattle.domain_laws.specs.Checks.{check_of}
 use Rattle.domain_laws.specs.Guards.{assumed, past_check, verdict_by}
-use Rattle.domain_laws.specs.declared.verdict.Verdict.{Verdict}
+use Rattle.analysis_words.specs.declared.verdict.Verdict.{Verdict}
 use Rattle.shape_graph.specs.Shape.{Shape, shape_of}
 use Rattle.shape_graph.proofs.Function.{fold_of}
 use Rattle.shape_steps.specs.Steps.{forget_of, new_cell_of, push_frame_of, pop_frame_of, last_frame_of, slot_of, argument_of, read_of, write_of, leave_of}

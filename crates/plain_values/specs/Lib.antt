@@ -1,3 +1,4 @@
 pub mod Equal
 pub mod Copies
 pub mod Claims
+pub mod Numbers

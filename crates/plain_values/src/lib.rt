@@ -1,6 +1,7 @@
-//! Lists and texts that contracts see as plain lists, with no capacity, allocator or pointer.
+//! Lists, texts and numbers that contracts see as plain values, with no capacity, allocator or pointer.
 //!
-//! [`Items`] is a list of any type, seen as the list of its items, and [`Text`] a list of bytes.
+//! [`Items`] is a list of any type, seen as the list of its items, [`Text`] a list of bytes, and
+//! [`Number`] a number of a program, 0 to 2^63 - 1.
 //! So a struct of such fields needs no model of its own: its value is the record of theirs.
 //! `==` compares item by item, and decides `≡` wherever that of the items does
 //! ([`equality_decides`]). Copies are fallible, and equal to what they copy wherever those of the
@@ -17,10 +18,12 @@ ghost use Rattle.plain_values.specs.Claims.{EqualityDecides, CodesDecide, Copies
 
 mod error;
 mod items;
+mod number;
 mod text;
 
 pub use error::Memory;
 pub use items::Items;
+pub use number::Number;
 pub use text::Text;
 
 /// Lists are equal by `==` exactly where they are the same, if that holds of their items.

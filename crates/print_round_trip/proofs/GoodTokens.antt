@@ -7,7 +7,8 @@ use Rattle.imp_lex.specs.declared.token.Word.{Word}
 use Rattle.imp_lex.specs.declared.token.Token.{Token}
 use Rattle.imp_lex.specs.declared.token.Kind.{Kind}
 use Rattle.imp_lex.specs.declared.token.Kind.TheVariants as k
-use Rattle.imp_lex.specs.Numbers.{value_on, greatest}
+use Rattle.plain_values.specs.Numbers.{greatest}
+use Rattle.imp_lex.specs.Numbers.{value_on}
 use Rattle.imp_lex.specs.Names.{is_name}
 use Rattle.imp_lex.specs.Kinds.{reserved_word, word_or_name, word_kind, number_kind, mark_of, most_name_bytes}
 use Rattle.imp_lex.specs.Front.{front_of, taken, longest, run, is_blank, is_letter, is_digit, is_word, begins_comment}

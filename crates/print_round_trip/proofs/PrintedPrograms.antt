@@ -22,7 +22,7 @@ use Rattle.print_round_trip.proofs.PrintedExpressions.{expression_open, side_ope
 
 -- ---- what stands on a line
 
-assigns : Closed (codes " = ") (k.Mark m.Equals ∷ [])
+pub assigns : Closed (codes " = ") (k.Mark m.Equals ∷ [])
 assigns = closed_closed space equals
 
 next_of : Closed (codes ".next = ") (k.Mark m.Dot ∷ k.Word w.Next ∷ k.Mark m.Equals ∷ [])
@@ -32,7 +32,7 @@ item_of : Closed (codes ".item = ") (k.Mark m.Dot ∷ k.Word w.Item ∷ k.Mark m
 item_of = closed_closed dot (open_closed item_word (λ rest. refl) assigns)
 
 -- a variable that is set, up to what it is set to
-set : (x : List ℕ) → IsNamed x → Closed (x ++ codes " = ") (k.Name x ∷ k.Mark m.Equals ∷ [])
+pub set : (x : List ℕ) → IsNamed x → Closed (x ++ codes " = ") (k.Name x ∷ k.Mark m.Equals ∷ [])
 set x h = open_closed (names x h) (λ rest. refl) assigns
 
 action_open : (a : plain.Action) → IsPrintableAction a → Open (action_text a) (action_tokens a)

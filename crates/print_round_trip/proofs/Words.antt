@@ -8,7 +8,8 @@ use Rattle.imp_lex.specs.declared.token.Kind.{Kind}
 use Rattle.imp_lex.specs.declared.token.Kind.TheVariants as k
 use Rattle.imp_lex.specs.declared.token.Word.{Word}
 use Rattle.imp_lex.specs.declared.token.Word.TheVariants as w
-use Rattle.imp_lex.specs.Numbers.{value_on, greatest}
+use Rattle.plain_values.specs.Numbers.{greatest}
+use Rattle.imp_lex.specs.Numbers.{value_on}
 use Rattle.imp_lex.specs.Kinds.{reserved_word, word_kind, number_kind, most_name_bytes}
 use Rattle.imp_lex.specs.Front.{front_of, run, is_blank, is_letter, is_digit, is_word, begins_comment}
 use Rattle.imp_lex.specs.Lexing.{word}

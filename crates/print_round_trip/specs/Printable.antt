@@ -1,7 +1,7 @@
 -- Programs whose printed text is read back.
 use Rattle.std.specs.Prelude.{◌≡◌, ℕ, ◌+◌, ◌<◌, ◌≤◌, true, List, [], ◌∷◌, Option, Some, None}
 use Rattle.imp_lex.specs.declared.token.Kind.{Kind}
-use Rattle.imp_lex.specs.Numbers.{greatest}
+use Rattle.plain_values.specs.Numbers.{greatest}
 use Rattle.imp_lex.specs.Names.{is_name}
 use Rattle.imp_syntax.specs.Plain as plain
 use Rattle.imp_syntax.specs.Plain.{Expression, Literal, Variable, Length, Negative, Binary, Operand, Null, Value, Condition, Compare, Not, And, Or, Statement, Simple, Break, Call, If, While, Statements, Ends, Starts, Procedure}

@@ -6,17 +6,12 @@ use Rattle.std.proofs.lemmas.Bool.Decides.{nat_tests}
 use Rattle.std.proofs.lemmas.Slice.Eq.{bytes_eq-Decides}
 use Rattle.std.proofs.lemmas.List.{length-append}
 use Rattle.std.proofs.lemmas.Option.{slice_get_within}
+use Rattle.imp_slots.proofs.Distinct.{right_once}
+use Rattle.plain_values.proofs.Cases.{by_test}
 use Rattle.imp_slots.specs.Plain.{Layout, Invoke, Code, Stop, Simple, If, While, Call, Break, Routine, code_numbers}
 use Rattle.imp_slots.specs.Fits.{FitsCall, FitsCode, FitInTurn, Absent, Distinct, routine_numbers, IsChecked}
 use Rattle.program_chains.specs.Chains.{calls_to, extended, through, chains_within, has, holder_from, named_from}
 use Rattle.program_chains.specs.Claims.{ChainsAreThroughCallers, PlacesAreFound}
-
-by_test : (a b : ℕ) (P : Bool → Type 0) → (a ≡ b → P true) → (a ≢ b → P false) → P (a == b)
-by_test a b P t f = go (a == b) refl
-  where
-    go : (c : Bool) → (a == b) ≡ c → P c
-    go true e = t (grind (arith, nat_tests))
-    go false e = f (grind (arith, nat_tests))
 
 -- A number of one list that stands once in both is none of the other.
 not_in : (n : ℕ) (ks ms : List ℕ) → Absent n (ks ++ ms) → has n ms ≡ true → ⊥
@@ -41,10 +36,6 @@ has_right : (n : ℕ) (ks ms : List ℕ) → has n ms ≡ true → has n (ks ++ 
 has_right n [] ms h = h
 has_right n (k ∷ ks) ms h = by_test n k (λ c. (if c then true else has n (ks ++ ms)) ≡ true) (λ e. refl) (λ e. has_right n ks ms h)
 
-distinct_right : (ks ms : List ℕ) → Distinct (ks ++ ms) → Distinct ms
-distinct_right [] ms d = d
-distinct_right (k ∷ ks) ms d = distinct_right ks ms d.1
-
 has_in : (n : ℕ) (rs : List Routine) (p : ℕ) (r : Routine) → slice_get rs p ≡ Some r → has n (code_numbers r.code) ≡ true → has n (routine_numbers rs) ≡ true
 has_in n [] p r e h = absurd cc
 has_in n (x ∷ rs) zero r e h = let i : r ≡ x = cc in has_left n (code_numbers x.code) (routine_numbers rs) (subst (λ (r : Routine). has n (code_numbers r.code) ≡ true) i h)
@@ -59,7 +50,7 @@ holds_at n k (x ∷ rs) zero r d e h =
 holds_at n k (x ∷ rs) (suc p) r d e h =
     let j : suc k + p ≡ k + suc p = omega arith in
     ap (λ t. if t then Some k else holder_from n (suc k) rs) (apart n (code_numbers x.code) (routine_numbers rs) d (has_in n rs p r e h))
-    ∙ holds_at n (suc k) rs p r (distinct_right (code_numbers x.code) (routine_numbers rs) d) e h ∙ ap Some j
+    ∙ holds_at n (suc k) rs p r (right_once (code_numbers x.code) (routine_numbers rs) d) e h ∙ ap Some j
 
 -- Names.
 false_not : false ≡ true → ⊥

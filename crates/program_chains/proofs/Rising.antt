@@ -4,17 +4,13 @@ use Rattle.std.specs.Int.{w64}
 use Rattle.std.proofs.Common.{refl, arith}
 use Rattle.std.proofs.lemmas.Bool.Decides.{nat_tests}
 use Rattle.std.proofs.lemmas.Int.{ints}
+use Rattle.std.proofs.lemmas.Bool.{and_parts, ltb-true}
 use Rattle.imp_slots.specs.Plain.{Numeric, Layout, Term, Literal, Slot, Length, Negative, Binary, Guard, Compare, CompareLinks, Not, And, Or, Effect, Skip, Assert, SetInt, Input, ReadElement, ReadItem, MakeArray, CopyArray, WriteElement, SetNull, MakeCell, CopyLink, ReadNext, WriteNext, WriteItem, Argument, IntArgument, ArrayArgument, LinkArgument, Invoke, Code, Stop, Simple, If, While, Call, Break, Routine}
 use Rattle.imp_slots.specs.Fits.{is_kind, is_int, is_array, is_link, is_side, fits_term, fits_guard, fits_effect, fits_arguments, fits_returning, fits_invoke, FitsCall, FitsCode}
 use Rattle.program_chains.specs.Marks.{term_literals, guard_literals, effect_literals, argument_literals, literals, with_mark, marks_of, IsRising}
 use Rattle.program_chains.specs.Claims.{MarksRise}
 
-both : (a b : Bool) → (a && b) ≡ true → (a ≡ true) × (b ≡ true)
-both true true e = (refl, refl)
-both true false e = absurd cc
-both false b e = absurd cc
-
--- each is below 2^63
+-- each is ltb-true 2^63
 abbrev Small : List ℕ → Type 0
 Small [] = Unit {0}
 Small (n ∷ ns) = (n < 2 ^ 63) × Small ns
@@ -23,55 +19,52 @@ small_both : (ns ms : List ℕ) → Small ns → Small ms → Small (ns ++ ms)
 small_both [] ms a b = b
 small_both (n ∷ ns) ms a b = (a.0, small_both ns ms a.1 b)
 
-below : (n m : ℕ) → nat_lt n m ≡ true → n < m
-below n m e = grind (arith, nat_tests)
-
 term_small : (l : Layout) (e : Term) → fits_term l e ≡ true → Small (term_literals e)
 unfolding fits_term
-term_small l (Literal n) f = (below n (2 ^ 63) f, tt)
+term_small l (Literal n) f = (ltb-true n (2 ^ 63) f, tt)
 term_small l (Slot x) f = tt
 term_small l (Length x) f = tt
 term_small l (Negative e) f = term_small l e f
-term_small l (Binary o a b) f = let k = both (fits_term l a) (fits_term l b) f in small_both (term_literals a) (term_literals b) (term_small l a k.0) (term_small l b k.1)
+term_small l (Binary o a b) f = let k = and_parts (fits_term l a) (fits_term l b) f in small_both (term_literals a) (term_literals b) (term_small l a k.0) (term_small l b k.1)
 
 guard_small : (l : Layout) (g : Guard) → fits_guard l g ≡ true → Small (guard_literals g)
 unfolding fits_guard
-guard_small l (Compare r a b) f = let k = both (fits_term l a) (fits_term l b) f in small_both (term_literals a) (term_literals b) (term_small l a k.0) (term_small l b k.1)
+guard_small l (Compare r a b) f = let k = and_parts (fits_term l a) (fits_term l b) f in small_both (term_literals a) (term_literals b) (term_small l a k.0) (term_small l b k.1)
 guard_small l (CompareLinks equal p q) f = tt
 guard_small l (Not g) f = guard_small l g f
-guard_small l (And g h) f = let k = both (fits_guard l g) (fits_guard l h) f in small_both (guard_literals g) (guard_literals h) (guard_small l g k.0) (guard_small l h k.1)
-guard_small l (Or g h) f = let k = both (fits_guard l g) (fits_guard l h) f in small_both (guard_literals g) (guard_literals h) (guard_small l g k.0) (guard_small l h k.1)
+guard_small l (And g h) f = let k = and_parts (fits_guard l g) (fits_guard l h) f in small_both (guard_literals g) (guard_literals h) (guard_small l g k.0) (guard_small l h k.1)
+guard_small l (Or g h) f = let k = and_parts (fits_guard l g) (fits_guard l h) f in small_both (guard_literals g) (guard_literals h) (guard_small l g k.0) (guard_small l h k.1)
 
 effect_small : (l : Layout) (e : Effect) → fits_effect l e ≡ true → Small (effect_literals e)
 unfolding fits_effect
 effect_small l Skip f = tt
 effect_small l (Assert g) f = guard_small l g f
-effect_small l (SetInt x e) f = term_small l e (both (is_int l x) (fits_term l e) f).1
+effect_small l (SetInt x e) f = term_small l e (and_parts (is_int l x) (fits_term l e) f).1
 effect_small l (Input x) f = tt
-effect_small l (ReadElement x a e) f = term_small l e (both (is_array l a) (fits_term l e) (both (is_int l x) (is_array l a && fits_term l e) f).1).1
+effect_small l (ReadElement x a e) f = term_small l e (and_parts (is_array l a) (fits_term l e) (and_parts (is_int l x) (is_array l a && fits_term l e) f).1).1
 effect_small l (ReadItem x q) f = tt
-effect_small l (MakeArray a e) f = term_small l e (both (is_array l a) (fits_term l e) f).1
+effect_small l (MakeArray a e) f = term_small l e (and_parts (is_array l a) (fits_term l e) f).1
 effect_small l (CopyArray a b) f = tt
 effect_small l (WriteElement a e y) f =
-    let k = both (fits_term l e) (fits_term l y) (both (is_array l a) (fits_term l e && fits_term l y) f).1 in
+    let k = and_parts (fits_term l e) (fits_term l y) (and_parts (is_array l a) (fits_term l e && fits_term l y) f).1 in
     small_both (term_literals e) (term_literals y) (term_small l e k.0) (term_small l y k.1)
 effect_small l (SetNull p) f = tt
 effect_small l (MakeCell p) f = tt
 effect_small l (CopyLink p q) f = tt
 effect_small l (ReadNext p q) f = tt
 effect_small l (WriteNext p q) f = tt
-effect_small l (WriteItem p e) f = term_small l e (both (is_link l p) (fits_term l e) f).1
+effect_small l (WriteItem p e) f = term_small l e (and_parts (is_link l p) (fits_term l e) f).1
 
 arguments_small : (l : Layout) (list : List Argument) (ns : List Numeric) (ls : List (List ℕ)) → fits_arguments l list ns ls ≡ true → Small (argument_literals list)
 arguments_small l [] ns ls f = tt
 arguments_small l (IntArgument e ∷ more) ns ls f =
-    let k = both (fits_term l e) (fits_arguments l more (drop 1 ns) ls) (both (is_kind false (slice_get ns 0)) (fits_term l e && fits_arguments l more (drop 1 ns) ls) f).1 in
+    let k = and_parts (fits_term l e) (fits_arguments l more (drop 1 ns) ls) (and_parts (is_kind false (slice_get ns 0)) (fits_term l e && fits_arguments l more (drop 1 ns) ls) f).1 in
     small_both (term_literals e) (argument_literals more) (term_small l e k.0) (arguments_small l more (drop 1 ns) ls k.1)
 arguments_small l (ArrayArgument a ∷ more) ns ls f =
-    let k = both (is_array l a) (fits_arguments l more (drop 1 ns) ls) (both (is_kind true (slice_get ns 0)) (is_array l a && fits_arguments l more (drop 1 ns) ls) f).1 in
+    let k = and_parts (is_array l a) (fits_arguments l more (drop 1 ns) ls) (and_parts (is_kind true (slice_get ns 0)) (is_array l a && fits_arguments l more (drop 1 ns) ls) f).1 in
     arguments_small l more (drop 1 ns) ls k.1
 arguments_small l (LinkArgument p ∷ more) ns ls f =
-    let k = both (is_side l p) (fits_arguments l more ns (drop 1 ls)) (both (nat_lt 0 (length ls)) (is_side l p && fits_arguments l more ns (drop 1 ls)) f).1 in
+    let k = and_parts (is_side l p) (fits_arguments l more ns (drop 1 ls)) (and_parts (nat_lt 0 (length ls)) (is_side l p && fits_arguments l more ns (drop 1 ls)) f).1 in
     arguments_small l more ns (drop 1 ls) k.1
 
 called : (l : Layout) (i : Invoke) (o : Option Routine) → FitsCall l i o → Small (argument_literals i.entering.arguments)
@@ -79,7 +72,7 @@ unfolding fits_invoke
 called l i None f = absurd f
 called l i (Some r) f =
     arguments_small l i.entering.arguments i.entering.layout.numbers i.entering.layout.links
-    (both (fits_arguments l i.entering.arguments i.entering.layout.numbers i.entering.layout.links) (fits_returning i.entering.layout l i.returning) f.1).0
+    (and_parts (fits_arguments l i.entering.arguments i.entering.layout.numbers i.entering.layout.links) (fits_returning i.entering.layout l i.returning) f.1).0
 
 code_small : (before : List Routine) (l : Layout) (c : Code) → FitsCode before l c → Small (literals c)
 unfolding fits_invoke

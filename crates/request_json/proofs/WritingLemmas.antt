@@ -6,10 +6,10 @@ use Rattle.serde_json.specs.Data.{Data, Members, no_members, member, object, str
 use Rattle.serde_json.specs.Written.{compact_text, members_text}
 use Rattle.serde_json.proofs.OnLiterals.{serde_json_on_literals}
 use Rattle.request_json.specs.declared.reply.Reply.TheVariants as r
-use Rattle.request_json.specs.declared.reply.ReportItem.{ReportItem}
-use Rattle.request_json.specs.declared.reply.FaultName.{FaultName}
-use Rattle.request_json.specs.declared.reply.RunEnd.{RunEnd}
-use Rattle.request_json.specs.declared.reply.RunEnd.TheVariants as end
+use Rattle.analysis_words.specs.declared.findings.Finding.{Finding}
+use Rattle.analysis_words.specs.declared.fault.FaultKind.{FaultKind}
+use Rattle.analysis_words.specs.declared.run_end.RunEnd.{RunEnd}
+use Rattle.analysis_words.specs.declared.run_end.RunEnd.TheVariants as end
 use Rattle.request_json.specs.declared.reply.Refusal.{Refusal}
 use Rattle.request_json.specs.declared.reply.Refusal.TheVariants as refusal
 use Rattle.request_json.specs.declared.reply.ProgramFault.{ProgramFault}
@@ -55,7 +55,7 @@ pub cancelled_text : (old : List ℕ) (n : ℕ) → ((old ++ codes "{\"cancelled
 unfolding serde_json_on_literals reply_fields
 cancelled_text old n = two old (codes "{\"cancelled\":") (decimal n) (codes "}")
 
-pub report_text : (old : List ℕ) (items : List ReportItem) → ((old ++ codes "{\"report\":") ++ compact_text (list_of item_data items)) ++ codes "}" ≡ old ++ compact_text (object_of (reply_fields (r.Report items)))
+pub report_text : (old : List ℕ) (items : List Finding) → ((old ++ codes "{\"report\":") ++ compact_text (list_of item_data items)) ++ codes "}" ≡ old ++ compact_text (object_of (reply_fields (r.Report items)))
 unfolding serde_json_on_literals reply_fields
 report_text old items = two old (codes "{\"report\":") (compact_text (list_of item_data items)) (codes "}")
 
@@ -80,12 +80,12 @@ unfolding serde_json_on_literals reply_fields
 program_text old next text = three old (codes "{\"next\":") (decimal next) (codes ",\"program\":") (quoted text) (codes "}")
 
 -- fields with a comma behind each
-pub end_fault_text : (old : List ℕ) (fault : FaultName) (id : ℕ) →
-    ((((old ++ codes "\"fault\":") ++ quoted (fault_name fault)) ++ codes ",\"id\":") ++ decimal id) ++ codes "," ≡ old ++ fields_text (end_fields (end.Fault fault id))
+pub end_fault_text : (old : List ℕ) (fault : FaultKind) (id : ℕ) →
+    ((((old ++ codes "\"fault\":") ++ quoted (fault_name fault)) ++ codes ",\"id\":") ++ decimal id) ++ codes "," ≡ old ++ fields_text (end_fields (end.Fault id fault))
 unfolding serde_json_on_literals
 end_fault_text old fault id = three old (codes "\"fault\":") (quoted (fault_name fault)) (codes ",\"id\":") (decimal id) (codes ",")
 
-pub end_inputs_text : (old : List ℕ) (id : ℕ) → ((old ++ codes "\"id\":") ++ decimal id) ++ codes "," ≡ old ++ fields_text (end_fields (end.Inputs id))
+pub end_inputs_text : (old : List ℕ) (id : ℕ) → ((old ++ codes "\"id\":") ++ decimal id) ++ codes "," ≡ old ++ fields_text (end_fields (end.InputsUsedUp id))
 unfolding serde_json_on_literals
 end_inputs_text old id = two old (codes "\"id\":") (decimal id) (codes ",")
 
@@ -93,7 +93,7 @@ pub reached_text : (old : List ℕ) (n : ℕ) → ((old ++ codes "\"reached\":")
 unfolding serde_json_on_literals
 reached_text old n = two old (codes "\"reached\":") (decimal n) (codes ",")
 
-pub check_text : (old : List ℕ) (found : ReportItem) →
+pub check_text : (old : List ℕ) (found : Finding) →
     ((((old ++ codes "\"check\":") ++ quoted (check_name found.check)) ++ codes ",\"id\":") ++ decimal found.id) ++ codes "," ≡ old ++ fields_text (check_fields found)
 unfolding serde_json_on_literals
 check_text old found = three old (codes "\"check\":") (quoted (check_name found.check)) (codes ",\"id\":") (decimal found.id) (codes ",")
@@ -142,7 +142,7 @@ verdict_last : (name : List ℕ) → codes "\"verdict\":" ++ (quoted name ++ cod
 unfolding serde_json_on_literals
 verdict_last name = refl
 
-pub item_text : (old : List ℕ) (found : ReportItem) →
+pub item_text : (old : List ℕ) (found : Finding) →
     ((((old ++ codes "{") ++ fields_text (check_fields found)) ++ codes "\"verdict\":") ++ quoted (verdict_name found.verdict)) ++ codes "}" ≡ old ++ compact_text (item_data found)
 item_text old found =
     three old (codes "{") (fields_text (check_fields found)) (codes "\"verdict\":") (quoted (verdict_name found.verdict)) (codes "}")
@@ -154,12 +154,12 @@ run_in_order : (end : RunEnd) (reached : Option ℕ) → object_of (reply_fields
 unfolding reply_fields
 run_in_order end.Ended None = refl
 run_in_order end.Ended (Some n) = refl
-run_in_order (end.Fault fault id) None = refl
-run_in_order (end.Fault fault id) (Some n) = refl
-run_in_order (end.Inputs id) None = refl
-run_in_order (end.Inputs id) (Some n) = refl
-run_in_order end.Fuel None = refl
-run_in_order end.Fuel (Some n) = refl
+run_in_order (end.Fault id fault) None = refl
+run_in_order (end.Fault id fault) (Some n) = refl
+run_in_order (end.InputsUsedUp id) None = refl
+run_in_order (end.InputsUsedUp id) (Some n) = refl
+run_in_order end.FuelUsedUp None = refl
+run_in_order end.FuelUsedUp (Some n) = refl
 
 run_last : (name : List ℕ) → codes "\"run\":" ++ (quoted name ++ codes "}") ≡ last_text (codes "run") (string name)
 unfolding serde_json_on_literals
@@ -185,14 +185,10 @@ unfolding reply_fields
 refusal_in_order refusal.NoJson = refl
 refusal_in_order refusal.BadMember = refl
 refusal_in_order refusal.NoRequest = refl
-refusal_in_order refusal.NoStatement = refl
-refusal_in_order refusal.NoProcedure = refl
-refusal_in_order refusal.WrongStatement = refl
+refusal_in_order (refusal.Query why) = refl
 refusal_in_order (refusal.Unread at name) = refl
 refusal_in_order (refusal.IllFormed fault) = refl
 refusal_in_order (refusal.Limit fault) = refl
-refusal_in_order refusal.NoChain = refl
-refusal_in_order refusal.LongString = refl
 refusal_in_order refusal.StillCalled = refl
 refusal_in_order refusal.NoTicket = refl
 refusal_in_order refusal.ManyTickets = refl

@@ -4,15 +4,17 @@ use Rattle.serde_json.specs.Data.{Data, Items, no_items, item, Members, no_membe
 use Rattle.serde_json.specs.Written.{compact_text}
 use Rattle.request_json.specs.declared.reply.Reply.{Reply}
 use Rattle.request_json.specs.declared.reply.Reply.TheVariants as r
-use Rattle.request_json.specs.declared.reply.ReportItem.{ReportItem}
-use Rattle.request_json.specs.declared.reply.CheckName.{CheckName}
-use Rattle.request_json.specs.declared.reply.CheckName.TheVariants as check
-use Rattle.request_json.specs.declared.reply.VerdictName.{VerdictName}
-use Rattle.request_json.specs.declared.reply.VerdictName.TheVariants as verdict
-use Rattle.request_json.specs.declared.reply.FaultName.{FaultName}
-use Rattle.request_json.specs.declared.reply.FaultName.TheVariants as fault
-use Rattle.request_json.specs.declared.reply.RunEnd.{RunEnd}
-use Rattle.request_json.specs.declared.reply.RunEnd.TheVariants as end
+use Rattle.analysis_words.specs.declared.findings.Finding.{Finding}
+use Rattle.analysis_words.specs.declared.findings.Check.{Check}
+use Rattle.analysis_words.specs.declared.findings.Check.TheVariants as check
+use Rattle.analysis_words.specs.declared.verdict.Verdict.{Verdict}
+use Rattle.analysis_words.specs.declared.verdict.Verdict.TheVariants as verdict
+use Rattle.analysis_words.specs.declared.fault.FaultKind.{FaultKind}
+use Rattle.analysis_words.specs.declared.fault.FaultKind.TheVariants as fault
+use Rattle.analysis_words.specs.declared.run_end.RunEnd.{RunEnd}
+use Rattle.analysis_words.specs.declared.run_end.RunEnd.TheVariants as end
+use Rattle.analysis_words.specs.declared.refusal.Refusal as why
+use Rattle.analysis_words.specs.declared.refusal.Refusal.TheVariants as query
 use Rattle.request_json.specs.declared.reply.Refusal.{Refusal}
 use Rattle.request_json.specs.declared.reply.Refusal.TheVariants as refusal
 use Rattle.request_json.specs.declared.reply.ProgramFault.{ProgramFault}
@@ -38,17 +40,17 @@ abbrev pub list_of : {A : Type 0} → (A → Data) → List A → Data
 list_of f xs = array (items_of f xs)
 
 -- the words
-abbrev pub check_name : CheckName → List ℕ
+abbrev pub check_name : Check → List ℕ
 check_name check.Bounds = codes "bounds"
 check_name check.Null = codes "null"
 check_name check.Assert = codes "assert"
 
-abbrev pub verdict_name : VerdictName → List ℕ
+abbrev pub verdict_name : Verdict → List ℕ
 verdict_name verdict.Dead = codes "dead"
 verdict_name verdict.Safe = codes "safe"
 verdict_name verdict.May = codes "may"
 
-abbrev pub fault_name : FaultName → List ℕ
+abbrev pub fault_name : FaultKind → List ℕ
 fault_name fault.Overflow = codes "overflow"
 fault_name fault.Zero = codes "zero"
 fault_name fault.Index = codes "index"
@@ -57,42 +59,46 @@ fault_name fault.Null = codes "null"
 fault_name fault.Assert = codes "assert"
 
 -- the check of a statement, and what is found of it
-abbrev pub check_fields : ReportItem → List (List ℕ × Data)
+abbrev pub check_fields : Finding → List (List ℕ × Data)
 check_fields found = (codes "check", string (check_name found.check)) ∷ (codes "id", count found.id) ∷ []
 
-abbrev pub item_data : ReportItem → Data
+abbrev pub item_data : Finding → Data
 item_data found = object_of (check_fields found ++ (codes "verdict", string (verdict_name found.verdict)) ∷ [])
 
 -- how a run ended, where and by which fault, and how often it stood at the location
 abbrev pub end_name : RunEnd → List ℕ
 end_name end.Ended = codes "ended"
-end_name (end.Fault fault id) = codes "fault"
-end_name (end.Inputs id) = codes "inputs"
-end_name end.Fuel = codes "fuel"
+end_name (end.Fault id fault) = codes "fault"
+end_name (end.InputsUsedUp id) = codes "inputs"
+end_name end.FuelUsedUp = codes "fuel"
 
 abbrev pub end_fields : RunEnd → List (List ℕ × Data)
 end_fields end.Ended = []
-end_fields (end.Fault fault id) = (codes "fault", string (fault_name fault)) ∷ (codes "id", count id) ∷ []
-end_fields (end.Inputs id) = (codes "id", count id) ∷ []
-end_fields end.Fuel = []
+end_fields (end.Fault id fault) = (codes "fault", string (fault_name fault)) ∷ (codes "id", count id) ∷ []
+end_fields (end.InputsUsedUp id) = (codes "id", count id) ∷ []
+end_fields end.FuelUsedUp = []
 
 abbrev pub reached_fields : Option ℕ → List (List ℕ × Data)
 reached_fields None = []
 reached_fields (Some n) = (codes "reached", count n) ∷ []
+
+-- the number of why a query has no answer
+abbrev pub query_number : why.Refusal → ℕ
+query_number query.NoStatement = 4
+query_number query.NoProcedure = 5
+query_number query.WrongStatement = 6
+query_number query.NoChain = 10
+query_number query.LongString = 11
 
 -- the number of a refusal
 unfoldable pub refusal_number : Refusal → ℕ
 refusal_number refusal.NoJson = 1
 refusal_number refusal.BadMember = 2
 refusal_number refusal.NoRequest = 3
-refusal_number refusal.NoStatement = 4
-refusal_number refusal.NoProcedure = 5
-refusal_number refusal.WrongStatement = 6
+refusal_number (refusal.Query why) = query_number why
 refusal_number (refusal.Unread at name) = 7
 refusal_number (refusal.IllFormed fault) = 8
 refusal_number (refusal.Limit fault) = 9
-refusal_number refusal.NoChain = 10
-refusal_number refusal.LongString = 11
 refusal_number refusal.StillCalled = 12
 refusal_number refusal.NoTicket = 13
 refusal_number refusal.ManyTickets = 14
@@ -113,11 +119,7 @@ place_fields (refusal.Limit fault) = fault_fields fault
 place_fields refusal.NoJson = []
 place_fields refusal.BadMember = []
 place_fields refusal.NoRequest = []
-place_fields refusal.NoStatement = []
-place_fields refusal.NoProcedure = []
-place_fields refusal.WrongStatement = []
-place_fields refusal.NoChain = []
-place_fields refusal.LongString = []
+place_fields (refusal.Query why) = []
 place_fields refusal.StillCalled = []
 place_fields refusal.NoTicket = []
 place_fields refusal.ManyTickets = []

@@ -1,4 +1,5 @@
-//! Texts and numbers in JSON.
+//! Texts in quotes and numbers, as JSON has them, for the clause `line` of
+//! [`reply_line`](crate::reply_line).
 ghost use Rattle.std.specs.Prelude.{◌≡◌, ◌<◌, ◌++◌, OnOk, decimal};
 ghost use Rattle.std.specs.Char.{digit_char};
 ghost use Rattle.json.specs.Print.{escape_byte, escape, quoted};

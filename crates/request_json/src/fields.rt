@@ -1,4 +1,5 @@
-//! The fields of a request.
+//! The members of an object as fields of a request, each with the bounds that
+//! [`read_request`](crate::read_request) asks.
 ghost use Rattle.std.specs.Prelude.{◌≡◌, ◌≤◌, ◌<◌, ◌^◌, codes, IfOk, IfSome, option_map, option_and_then, Option, Some, None, List};
 ghost use Rattle.std.specs.Option.{option_copied};
 ghost use Rattle.serde_json.specs.View.{view, items_view};

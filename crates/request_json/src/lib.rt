@@ -8,8 +8,8 @@
 //!
 //! [`reply_line`] gives the line of a reply: compact JSON with its keys in order, and LF. `reply_text`
 //! of `specs/Replies.antt` is the definition: the text that `serde_json`'s data have, an object of the
-//! reply's keys and values. Refusals are replies too; they are numbered from 1. The words of checks,
-//! verdicts and faults are types of this crate, so that it stands on the syntax of programs alone.
+//! reply's keys and values. Refusals are replies too; they are numbered from 1. What is found of checks,
+//! how runs end, and why a query has no answer come in the words of `analysis_words`.
 //!
 //! Reading and writing take time linear in the line.
 #![tactic(auto)]
@@ -27,9 +27,7 @@ mod writing;
 
 pub use error::ReadError;
 pub use reading::read_request;
-pub use reply::{
-    CheckName, FaultName, ProgramFault, Refusal, Reply, ReportItem, RunEnd, VerdictName,
-};
+pub use reply::{ProgramFault, Refusal, Reply};
 pub use request::{Query, Request};
 pub use writing::reply_line;
 

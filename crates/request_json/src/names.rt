@@ -1,4 +1,5 @@
-//! The names of requests.
+//! Which request a `do` names: where [`read_request`](crate::read_request) refuses a line as no
+//! request.
 ghost use Rattle.std.specs.Prelude.{◌≡◌};
 ghost use Rattle.request_json.specs.Names.{verb_of};
 

@@ -1,4 +1,4 @@
-//! Numbers of statements, written in decimal.
+//! Numbers of statements in decimal, as they stand in the locations and places of a request.
 ghost use Rattle.std.specs.Prelude.{◌≡◌, ◌<◌, ◌≤◌, ◌^◌, ◌*◌, ◌+◌, ◌-◌, ◌⊎◌, IfSome, IsNone, true, false};
 ghost use Rattle.imp_lex.specs.Front.{is_digit};
 ghost use Rattle.request_json.specs.Places.{number_of};

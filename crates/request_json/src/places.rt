@@ -1,4 +1,4 @@
-//! Locations, places and kinds as texts.
+//! Locations, places and kinds from their texts, for the fields of a request.
 ghost use Rattle.std.specs.Prelude.{◌≡◌, codes, IfOk, Option, option_map};
 ghost use Rattle.std.specs.Option.{option_copied};
 ghost use Rattle.request_json.specs.Places.{behind, some_text, statement_behind, name_behind, location_of, place_of, kind_of};

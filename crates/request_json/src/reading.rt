@@ -1,4 +1,4 @@
-//! Reading requests.
+//! From a line to its request, or the first of its faults: the clauses of [`read_request`].
 ghost use Rattle.std.specs.Prelude.{◌≡◌, IfOk, IfErr, codes};
 ghost use Rattle.serde_json.specs.View.{view};
 ghost use Rattle.request_json.specs.Requests.{verb_request, request_of, called_request, allowed, or_bad, run_at, replace_at, insert_at, delete_at, guard_at, declare_at, add_at, drop_at, step_at, cancel_at};

@@ -1,4 +1,5 @@
-//! Replies.
+//! What lines are answered: the values that [`reply_line`](crate::reply_line) writes.
+use analysis_words::{Findings, Refusal as QueryRefusal, RunEnd};
 use imp_syntax::{Chain, StmtId};
 use plain_values::{Items, Text};
 
@@ -15,7 +16,7 @@ pub enum Reply {
         chain: Chain,
     },
     /// The findings of all checks.
-    Report(Items<ReportItem>),
+    Report(Findings),
     /// What was worked out.
     Cost {
         /// How many cells the last query filled.
@@ -53,75 +54,7 @@ pub enum Reply {
     Refused(Refusal),
 }
 
-/// What is found of the check of a statement.
-#[derive(Clone, Copy, Debug, PartialEq, Eq, Hash)]
-pub struct ReportItem {
-    /// The statement.
-    pub id: StmtId,
-    /// What its check asks.
-    pub check: CheckName,
-    /// What is found.
-    pub verdict: VerdictName,
-}
-
-/// What a check asks.
-#[derive(Clone, Copy, Debug, PartialEq, Eq, Hash)]
-pub enum CheckName {
-    /// The index of an array is within it.
-    Bounds,
-    /// A link is not null.
-    Null,
-    /// The condition of an `assert` holds.
-    Assert,
-}
-
-/// What is found of a check.
-#[derive(Clone, Copy, Debug, PartialEq, Eq, Hash)]
-pub enum VerdictName {
-    /// No run comes to the statement.
-    Dead,
-    /// No run fails at the check.
-    Safe,
-    /// A run may fail at the check.
-    May,
-}
-
-/// How a run ended.
-#[derive(Clone, Copy, Debug, PartialEq, Eq, Hash)]
-pub enum RunEnd {
-    /// It came to the end of the program.
-    Ended,
-    /// It failed at a statement.
-    Fault {
-        /// What failed.
-        fault: FaultName,
-        /// The statement.
-        id: StmtId,
-    },
-    /// This statement found no input.
-    Inputs(StmtId),
-    /// It took all steps that it was allowed, and is not finished.
-    Fuel,
-}
-
-/// What fails in a run.
-#[derive(Clone, Copy, Debug, PartialEq, Eq, Hash)]
-pub enum FaultName {
-    /// A number outside 64 bits.
-    Overflow,
-    /// A division or remainder by 0.
-    Zero,
-    /// An index outside its array.
-    Index,
-    /// An array of fewer than 0 or more than 1,000,000 elements.
-    Length,
-    /// The next or the item of null.
-    Null,
-    /// A condition that was claimed and is false.
-    Assert,
-}
-
-/// Why a request is refused, in the order of the numbers, which begin at 1.
+/// Why a request is refused.
 #[derive(Debug, Drop)]
 pub enum Refusal {
     /// The line is not UTF-8, or no JSON.
@@ -131,12 +64,8 @@ pub enum Refusal {
     BadMember,
     /// `do` names no request.
     NoRequest,
-    /// There is no such statement.
-    NoStatement,
-    /// There is no such procedure.
-    NoProcedure,
-    /// The statement is none of which this can be asked.
-    WrongStatement,
+    /// The program has no such statement, procedure or chain, or the call string is too long.
+    Query(QueryRefusal),
     /// The text of an edit is not read.
     Unread {
         /// A place in bytes, where tokens fail, or in tokens.
@@ -148,10 +77,6 @@ pub enum Refusal {
     IllFormed(ProgramFault),
     /// The program would pass a limit.
     Limit(ProgramFault),
-    /// No chain ends with the call string.
-    NoChain,
-    /// The call string has more than two members.
-    LongString,
     /// The procedure to be dropped is main, or is still called.
     StillCalled,
     /// There is no such open ticket.

@@ -1,4 +1,4 @@
-//! Requests.
+//! What lines ask: the values that [`read_request`](crate::read_request) gives.
 use imp_syntax::{Chain, Kind, Location, Place, StmtId};
 use plain_values::{Items, Text};
 

@@ -1,5 +1,6 @@
 //! Lines with the requests that they are, and replies with their lines.
 use super::*;
+use analysis_words::{Check, FaultKind, Finding, Refusal as QueryRefusal, RunEnd, Verdict};
 use imp_syntax::{Chain, StmtId};
 use plain_values::{Items, Text};
 use std::alloc::Global;
@@ -172,23 +173,11 @@ fn plain_reply(place: usize) -> Reply {
         2 => Reply::Ticket(1),
         3 => Reply::Pending(0),
         4 => Reply::Cancelled(9_223_372_036_854_775_807),
-        5 => run(
-            RunEnd::Fault {
-                fault: FaultName::Overflow,
-                id: StmtId::new(2),
-            },
-            Some(1),
-        ),
-        6 => run(
-            RunEnd::Fault {
-                fault: FaultName::Length,
-                id: StmtId::new(2),
-            },
-            None,
-        ),
+        5 => run(RunEnd::Fault(StmtId::new(2), FaultKind::Overflow), Some(1)),
+        6 => run(RunEnd::Fault(StmtId::new(2), FaultKind::Length), None),
         7 => run(RunEnd::Ended, Some(11)),
-        8 => run(RunEnd::Inputs(StmtId::new(2)), None),
-        _ => run(RunEnd::Fuel, None),
+        8 => run(RunEnd::InputsUsedUp(StmtId::new(2)), None),
+        _ => run(RunEnd::FuelUsedUp, None),
     }
 }
 
@@ -224,11 +213,11 @@ fn plain_refusal(number: u64) -> Option<Refusal> {
         1 => Some(Refusal::NoJson),
         2 => Some(Refusal::BadMember),
         3 => Some(Refusal::NoRequest),
-        4 => Some(Refusal::NoStatement),
-        5 => Some(Refusal::NoProcedure),
-        6 => Some(Refusal::WrongStatement),
-        10 => Some(Refusal::NoChain),
-        11 => Some(Refusal::LongString),
+        4 => Some(Refusal::Query(QueryRefusal::NoStatement)),
+        5 => Some(Refusal::Query(QueryRefusal::NoProcedure)),
+        6 => Some(Refusal::Query(QueryRefusal::WrongStatement)),
+        10 => Some(Refusal::Query(QueryRefusal::NoChain)),
+        11 => Some(Refusal::Query(QueryRefusal::LongString)),
         12 => Some(Refusal::StillCalled),
         13 => Some(Refusal::NoTicket),
         14 => Some(Refusal::ManyTickets),
@@ -341,12 +330,12 @@ fn lines_of_lists(rt: HostRuntime) -> Result<(), Fail> {
 fn report(alloc: Global) -> Result<Reply, Fail> {
     let mut items = Items::new(alloc);
     for (number, check, verdict) in [
-        (5, CheckName::Bounds, VerdictName::May),
-        (7, CheckName::Null, VerdictName::Safe),
-        (8, CheckName::Assert, VerdictName::Dead),
+        (5, Check::Bounds, Verdict::May),
+        (7, Check::Null, Verdict::Safe),
+        (8, Check::Assert, Verdict::Dead),
     ] {
         let id = StmtId::new(number);
-        items.push(ReportItem { id, check, verdict })?;
+        items.push(Finding { id, check, verdict })?;
     }
     Ok(Reply::Report(items))
 }

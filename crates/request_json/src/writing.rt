@@ -1,51 +1,50 @@
-//! Writing replies.
+//! From a reply to its line, piece by piece: the clause `line` of [`reply_line`].
 ghost use Rattle.std.specs.Prelude.{◌≡◌, ◌++◌, IfOk, OnOk, codes, decimal, true, false};
 ghost use Rattle.json.specs.Print.{quoted};
 ghost use Rattle.serde_json.specs.Written.{compact_text, items_text};
-ghost use Rattle.request_json.specs.Replies.{reply_text, object_of, reply_fields, list_of, items_of, count, item_data, check_fields, check_name, verdict_name, fault_name, end_name, end_fields, reached_fields, refusal_number, place_fields, fault_fields};
+ghost use Rattle.request_json.specs.Replies.{reply_text, object_of, reply_fields, list_of, items_of, count, item_data, check_fields, check_name, verdict_name, fault_name, end_name, end_fields, reached_fields, query_number, refusal_number, place_fields, fault_fields};
 ghost use Rattle.request_json.specs.Pieces.{fields_text};
 
 use crate::escapes::{put_number, put_quoted};
-use crate::reply::{
-    CheckName, FaultName, ProgramFault, Refusal, Reply, ReportItem, RunEnd, VerdictName,
-};
+use crate::reply::{ProgramFault, Refusal, Reply};
+use analysis_words::{Check, FaultKind, Finding, Refusal as QueryRefusal, RunEnd, Verdict};
 use imp_syntax::{Chain, StmtId};
 use plain_values::Memory;
 use std::alloc::Global;
 
 /// The word of a check.
-fn check_word(check: CheckName) -> &'static str
+fn check_word(check: Check) -> &'static str
     ensures word { result.now ≡ check_name check }
 {
     match check {
-        CheckName::Bounds => "bounds",
-        CheckName::Null => "null",
-        CheckName::Assert => "assert",
+        Check::Bounds => "bounds",
+        Check::Null => "null",
+        Check::Assert => "assert",
     }
 }
 
 /// The word of what is found.
-fn verdict_word(verdict: VerdictName) -> &'static str
+fn verdict_word(verdict: Verdict) -> &'static str
     ensures word { result.now ≡ verdict_name verdict }
 {
     match verdict {
-        VerdictName::Dead => "dead",
-        VerdictName::Safe => "safe",
-        VerdictName::May => "may",
+        Verdict::Dead => "dead",
+        Verdict::Safe => "safe",
+        Verdict::May => "may",
     }
 }
 
 /// The word of a fault.
-fn fault_word(fault: FaultName) -> &'static str
+fn fault_word(fault: FaultKind) -> &'static str
     ensures word { result.now ≡ fault_name fault }
 {
     match fault {
-        FaultName::Overflow => "overflow",
-        FaultName::Zero => "zero",
-        FaultName::Index => "index",
-        FaultName::Length => "length",
-        FaultName::Null => "null",
-        FaultName::Assert => "assert",
+        FaultKind::Overflow => "overflow",
+        FaultKind::Zero => "zero",
+        FaultKind::Index => "index",
+        FaultKind::Length => "length",
+        FaultKind::Null => "null",
+        FaultKind::Assert => "assert",
     }
 }
 
@@ -55,9 +54,22 @@ fn end_word(end: &RunEnd) -> &'static str
 {
     match end {
         RunEnd::Ended => "ended",
-        RunEnd::Fault { .. } => "fault",
-        RunEnd::Inputs(_) => "inputs",
-        RunEnd::Fuel => "fuel",
+        RunEnd::Fault(_, _) => "fault",
+        RunEnd::InputsUsedUp(_) => "inputs",
+        RunEnd::FuelUsedUp => "fuel",
+    }
+}
+
+/// The number of why a query has no answer.
+fn query_number(why: QueryRefusal) -> u64
+    ensures number { result ≡ query_number why }
+{
+    match why {
+        QueryRefusal::NoStatement => 4,
+        QueryRefusal::NoProcedure => 5,
+        QueryRefusal::WrongStatement => 6,
+        QueryRefusal::NoChain => 10,
+        QueryRefusal::LongString => 11,
     }
 }
 
@@ -70,14 +82,10 @@ fn refusal_number(refusal: &Refusal) -> u64
         Refusal::NoJson => 1,
         Refusal::BadMember => 2,
         Refusal::NoRequest => 3,
-        Refusal::NoStatement => 4,
-        Refusal::NoProcedure => 5,
-        Refusal::WrongStatement => 6,
+        Refusal::Query(why) => query_number(*why),
         Refusal::Unread { .. } => 7,
         Refusal::IllFormed(_) => 8,
         Refusal::Limit(_) => 9,
-        Refusal::NoChain => 10,
-        Refusal::LongString => 11,
         Refusal::StillCalled => 12,
         Refusal::NoTicket => 13,
         Refusal::ManyTickets => 14,
@@ -132,7 +140,7 @@ fn put_ids(line: &mut Vec<u8>, ids: &[StmtId]) -> Result<(), Memory>
 
 /// Adds the check of a statement, with a comma behind each field.
 #[tactic(auto, using(crate::proofs::WritingLemmas::check_text))]
-fn put_check(line: &mut Vec<u8>, item: &ReportItem) -> Result<(), Memory>
+fn put_check(line: &mut Vec<u8>, item: &Finding) -> Result<(), Memory>
     ensures fields { OnOk result (line.new.items ≡ line.old.items ++ fields_text (check_fields item.now)) }
 {
     put_text_behind(line, b"\"check\":", check_word(item.check).as_bytes())?;
@@ -143,7 +151,7 @@ fn put_check(line: &mut Vec<u8>, item: &ReportItem) -> Result<(), Memory>
 
 /// Adds the check of a statement, and what is found of it.
 #[tactic(auto, using(crate::proofs::WritingLemmas::item_text))]
-fn put_item(line: &mut Vec<u8>, item: &ReportItem) -> Result<(), Memory>
+fn put_item(line: &mut Vec<u8>, item: &Finding) -> Result<(), Memory>
     ensures item { OnOk result (line.new.items ≡ line.old.items ++ compact_text (item_data item.now)) }
 {
     line.push(b'{')?;
@@ -154,7 +162,7 @@ fn put_item(line: &mut Vec<u8>, item: &ReportItem) -> Result<(), Memory>
 }
 
 /// Adds what is found of statements, each behind a comma, and the bracket that closes their list.
-fn put_more_items(line: &mut Vec<u8>, items: &[ReportItem]) -> Result<(), Memory>
+fn put_more_items(line: &mut Vec<u8>, items: &[Finding]) -> Result<(), Memory>
     ensures list { OnOk result (line.new.items ≡ line.old.items ++ items_text true (items_of item_data items.now)) }
 {
     for item in items {
@@ -167,7 +175,7 @@ fn put_more_items(line: &mut Vec<u8>, items: &[ReportItem]) -> Result<(), Memory
 
 /// Adds a list of what is found of statements.
 #[tactic(auto, using(crate::proofs::WritingLemmas::list_text))]
-fn put_items(line: &mut Vec<u8>, items: &[ReportItem]) -> Result<(), Memory>
+fn put_items(line: &mut Vec<u8>, items: &[Finding]) -> Result<(), Memory>
     ensures list { OnOk result (line.new.items ≡ line.old.items ++ compact_text (list_of item_data items.now)) }
 {
     match items {
@@ -196,13 +204,13 @@ fn put_end(line: &mut Vec<u8>, end: &RunEnd) -> Result<(), Memory>
     ensures fields { OnOk result (line.new.items ≡ line.old.items ++ fields_text (end_fields end.now)) }
 {
     match end {
-        RunEnd::Ended | RunEnd::Fuel => {}
-        RunEnd::Fault { fault, id } => {
+        RunEnd::Ended | RunEnd::FuelUsedUp => {}
+        RunEnd::Fault(id, fault) => {
             put_text_behind(line, b"\"fault\":", fault_word(*fault).as_bytes())?;
             put_number_behind(line, b",\"id\":", u64::from(id.number()))?;
             line.push(b',')?;
         }
-        RunEnd::Inputs(id) => {
+        RunEnd::InputsUsedUp(id) => {
             put_number_behind(line, b"\"id\":", u64::from(id.number()))?;
             line.push(b',')?;
         }
@@ -295,7 +303,7 @@ fn put_over(line: &mut Vec<u8>, head: StmtId, chain: &Chain) -> Result<(), Memor
 
 /// Adds a report.
 #[tactic(auto, using(crate::proofs::WritingLemmas::report_text))]
-fn put_report(line: &mut Vec<u8>, items: &[ReportItem]) -> Result<(), Memory>
+fn put_report(line: &mut Vec<u8>, items: &[Finding]) -> Result<(), Memory>
     ensures reply { OnOk result (line.new.items ≡ line.old.items ++ compact_text (object_of (reply_fields (Reply.Report items.now)))) }
 {
     line.extend_from_slice(b"{\"report\":")?;

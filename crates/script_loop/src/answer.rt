@@ -2,7 +2,7 @@
 ghost use Rattle.std.specs.Prelude.{◌≡◌, IfOk, OnOk};
 ghost use Rattle.script_loop.specs.Replies.{Machine};
 
-use crate::outcome::Memory;
+use plain_values::Memory;
 use std::alloc::Global;
 use std::sync::ledger::Ledger;
 use step_counter::Steps;

@@ -19,6 +19,6 @@ mod read;
 mod write;
 
 pub use answer::Answerer;
-pub use outcome::{Memory, Stop};
+pub use outcome::Stop;
 pub use read::answer_script;
 pub use write::write_all;

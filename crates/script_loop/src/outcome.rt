@@ -1,25 +1,7 @@
 //! Why the answering of a script stops short.
 ghost use Rattle.std.specs.Prelude.{◌≡◌};
 
-use std::alloc::{AllocError, AllocFailed};
 use thiserror::Error;
-
-/// Memory ran out.
-#[derive(Clone, Copy, Debug, Drop, Error, PartialEq, Eq)]
-#[error("out of memory")]
-pub struct Memory;
-
-impl From<AllocError> for Memory {
-    fn from(_refused: AllocError) -> Memory {
-        Memory
-    }
-}
-
-impl<T: Drop> From<AllocFailed<T>> for Memory {
-    fn from(_refused: AllocFailed<T>) -> Memory {
-        Memory
-    }
-}
 
 /// Why the answering of a script stopped short.
 #[derive(Clone, Copy, Debug, Drop, Error, PartialEq, Eq)]

@@ -2,7 +2,7 @@
 ghost use Rattle.std.specs.Prelude.{◌≡◌, [], Some, OnOk, option_map};
 ghost use Rattle.script_loop.specs.Lines.{grown};
 
-use crate::outcome::Memory;
+use plain_values::Memory;
 use std::alloc::Global;
 use std::marker::Model;
 

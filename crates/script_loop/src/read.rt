@@ -5,10 +5,11 @@ ghost use Rattle.script_loop.specs.Lines.{whole_lines, last_part, last_line, all
 ghost use Rattle.script_loop.specs.Replies.{reply_to, next_to, replies, after, ReadToEnd, AnsweredRead, ReadBytes, WrotePrefix, WroteLines};
 
 use crate::answer::Answerer;
-use crate::outcome::{Memory, Stop};
+use crate::outcome::Stop;
 use crate::pending::Pending;
 use crate::write::write_all;
 use io_edge::{Failed, Sink, Source};
+use plain_values::Memory;
 use std::alloc::Global;
 use std::sync::ledger::Ledger;
 use step_counter::Steps;

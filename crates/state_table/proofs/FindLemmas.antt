@@ -3,25 +3,19 @@ use Rattle.std.proofs.Common.{◌≡◌, ℕ, zero, suc, ◌+◌, Bool, true, fa
 use Rattle.std.specs.Cmp.{IsEquivalence}
 use Rattle.std.specs.List.{position_from}
 use Rattle.std.proofs.lemmas.Iterator.Adapters.{position_from-zero}
+use Rattle.plain_values.proofs.Cases.{by_bool, some_inj}
 use Rattle.state_table.specs.Numbers.{AreOnce, TellsApart}
 
 -- a place of a list whose element passes, counted from i
 abbrev pub PassesAt : {T : Type 0} → (T → Bool) → ℕ → List T → ℕ → Type 0
 PassesAt {T} test i xs n = (k : ℕ) × (n ≡ i + k) × (s : T) × (slice_get xs k ≡ Some s) × (test s ≡ true)
 
-by_bool : {P : Type 0} (b : Bool) → (b ≡ true → P) → (b ≡ false → P) → P
-by_bool true f g = f refl
-by_bool false f g = g refl
-
-some_same : {A : Type 0} (x y : A) → Some x ≡ Some y → x ≡ y
-some_same x y h = cc
-
 from_passes : {T : Type 0} (test : T → Bool) (i : ℕ) (xs : List T) (n : ℕ) → position_from test i xs ≡ Some n → PassesAt test i xs n
 from_passes test i [] n e = cc
 from_passes test i (x ∷ xs) n e =
     by_bool (test x)
     (λ t. let h : Some i ≡ Some n = ap (λ b. cond b (Some i) (position_from test (i + 1) xs)) (sym t) ∙ e in
-    let k : i ≡ n = some_same i n h in
+    let k : i ≡ n = some_inj i n h in
     (0, omega (arith, k), x, refl, t))
     (λ f. let h : position_from test (i + 1) xs ≡ Some n = ap (λ b. cond b (Some i) (position_from test (i + 1) xs)) (sym f) ∙ e in
     let r : PassesAt test (i + 1) xs n = from_passes test (i + 1) xs n h in
@@ -30,7 +24,7 @@ from_passes test i (x ∷ xs) n e =
 passes_from : {T : Type 0} (test : T → Bool) (i : ℕ) (xs : List T) (k : ℕ) (s : T) → slice_get xs k ≡ Some s → test s ≡ true → (n : ℕ) × (position_from test i xs ≡ Some n)
 passes_from test i [] k s e h = cc
 passes_from test i (x ∷ xs) zero s e h =
-    let is : x ≡ s = some_same x s e in
+    let is : x ≡ s = some_inj x s e in
     let t : test x ≡ true = ap test is ∙ h in
     (i, ap (λ b. cond b (Some i) (position_from test (i + 1) xs)) t)
 passes_from test i (x ∷ xs) (suc k) s e h =

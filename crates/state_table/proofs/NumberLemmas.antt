@@ -3,6 +3,7 @@ use Rattle.std.proofs.Common.{◌≡◌, ℕ, zero, suc, Bool, true, false, List
 use Rattle.std.specs.Cmp.{IsEquivalence}
 use Rattle.std.specs.List.{IsDistinct, AllByRecursion, list_any}
 use Rattle.std.proofs.lemmas.Map.Keys.{IsDistinct-head, IsDistinct-tail}
+use Rattle.plain_values.proofs.Cases.{by_bool}
 use Rattle.state_table.specs.Numbers.{with_state, KeepsNumbers, AreOnce}
 
 -- what holds of all holds at each place
@@ -26,10 +27,6 @@ distinct-once eq law (x ∷ xs) d (suc m) zero s t p q e =
     let h = at_place (λ y. eq x y ≡ false) xs (IsDistinct-head eq x xs d) m s p in
     apart (eq s t) e (law.symm s t ∙ ap (λ y. eq y s) (sym is) ∙ h)
 distinct-once eq law (x ∷ xs) d (suc m) (suc n) s t p q e = ap suc (distinct-once eq law xs (IsDistinct-tail eq x xs d) m n s t p q e)
-
-by_bool : {P : Type 0} (b : Bool) → (b ≡ true → P) → (b ≡ false → P) → P
-by_bool true f g = f refl
-by_bool false f g = g refl
 
 -- places stay where something is put at the end
 pub append-keeps : {T : Type 0} (xs ys : List T) → KeepsNumbers xs (xs ++ ys)

@@ -2,7 +2,8 @@ use Rattle.std.proofs.Common.{◌≡◌, sym, ap, ◌∙◌, [], ◌++◌, map, 
 use Rattle.program_chains.specs.Chains.{selected}
 use Rattle.batch_meaning.specs.Report.{checked_in}
 use Rattle.batch_interp.specs.Reporting.{claim_of, claims}
-use Rattle.batch_interp.proofs.Lists.{get_below, on_ok_as}
+use Rattle.std.proofs.lemmas.Option.{slice_get_within}
+use Rattle.batch_interp.proofs.Lists.{on_ok_as}
 use Rattle.batch_interp.proofs.Fronts.{chains_back, part}
 use Rattle.batch_interp.proofs.Leading.{found_lead}
 use Rattle.batch_interp.proofs.reporting.add_report.Goals as goal
@@ -13,7 +14,7 @@ totals-requires-clause-lead g c =
     let plan = c.args.plan.now in
     let program = sym c.requires.program in
     let z : c.as_slice.result.now ≡ map reverse (selected plan.program c.args.place []) = c.as_slice.ensures.same ∙ c.in_ok-chains.ensures.is ∙ (λ i. map reverse (selected (program i) (c.new.ensures.is i) [])) in
-    found_lead dom plan c.args.place c.as_slice.result.now c.requires.checked c.chains_go_through_callers.ensures.through (get_below plan.program c.args.place c.requires.there.routine c.requires.there.there) (chains_back dom plan c.args.place c.as_slice.result.now z)
+    found_lead dom plan c.args.place c.as_slice.result.now c.requires.checked c.chains_go_through_callers.ensures.through (slice_get_within plan.program c.args.place c.requires.there.routine c.requires.there.there) (chains_back dom plan c.args.place c.as_slice.result.now z)
 
 pub returns : goal.returns
 returns g c =

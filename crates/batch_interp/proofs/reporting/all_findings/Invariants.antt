@@ -1,6 +1,6 @@
 use Rattle.std.proofs.Common.{◌≡◌, ◌++◌, drop, map}
 use Rattle.batch_meaning.specs.Report.{finding, checked_statements, report}
-use Rattle.batch_interp.specs.Answered.{engine_of}
+use Rattle.call_contexts.specs.Settings.{engine_of}
 use Rattle.batch_interp.proofs.reporting.all_findings.Given as goal
 
 abbrev pub invariant-loop-place : goal.invariant-loop-place

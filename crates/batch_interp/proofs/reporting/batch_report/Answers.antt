@@ -1,7 +1,7 @@
 use Rattle.imp_check.specs.Slots.{routines_of}
 use Rattle.batch_meaning.specs.Report.{report}
 use Rattle.batch_sound.specs.Theorem.{IsFindingSound}
-use Rattle.batch_interp.specs.Answered.{engine_of}
+use Rattle.call_contexts.specs.Settings.{engine_of}
 use Rattle.batch_interp.proofs.Fronts.{each_sound}
 use Rattle.batch_interp.proofs.reporting.batch_report.Goals as goal
 

@@ -2,7 +2,7 @@ use Rattle.std.proofs.Common.{sym, subst, map}
 use Rattle.batch_meaning.specs.Report.{checked_in}
 use Rattle.batch_interp.specs.Answered.{value_of}
 use Rattle.batch_interp.specs.Reporting.{claims}
-use Rattle.batch_interp.proofs.Lists.{get_below}
+use Rattle.std.proofs.lemmas.Option.{slice_get_within}
 use Rattle.batch_interp.proofs.Fronts.{SoFar, none_so_far, lead_at, totals_step, all_chains}
 use Rattle.batch_interp.proofs.totals.totals.Goals as goal
 
@@ -13,7 +13,7 @@ loop-chain-init g c =
     subst (λ vs. SoFar dom c.args.plan.now c.args.chains.now 0 cs (map value_of vs)) (sym c.new-all.ensures.empty) (none_so_far dom c.args.plan.now c.args.chains.now cs)
 
 pub enter_procedure-requires-clause-within : goal.enter_procedure-requires-clause-within
-enter_procedure-requires-clause-within g c = get_below c.args.plan.now.program c.args.place c.requires.there.routine c.requires.there.there
+enter_procedure-requires-clause-within g c = slice_get_within c.args.plan.now.program c.args.place c.requires.there.routine c.requires.there.there
 
 pub enter_procedure-requires-clause-leads : goal.enter_procedure-requires-clause-leads
 enter_procedure-requires-clause-leads g c =

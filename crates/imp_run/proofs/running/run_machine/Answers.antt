@@ -3,7 +3,7 @@ use Rattle.std.specs.Option.{option_copied}
 use Rattle.concrete_sem.specs.Steps.{Config}
 use Rattle.concrete_sem.specs.Runs.{Run, ends}
 use Rattle.imp_run.specs.Machine.{config_of}
-use Rattle.imp_run.specs.Outcome.{stands_at, after_more, end_of, bit, IsEndAfter}
+use Rattle.imp_run.specs.Outcome.{stands_at, after_more, bit, IsEndAfter}
 use Rattle.imp_run.proofs.RunLemmas.{after-counted, run-ends, count-zero}
 use Rattle.imp_run.proofs.running.run_machine.Goals as goal
 
@@ -17,8 +17,8 @@ returns-in-Some c =
     let count = c.counted-reached.ensures.is ∙ ap (λ b. c.loop-stepped.reached + bit b) c.stands_at-here.ensures.is in
     record {
       outcome =
-          ap (λ m. let r : Run = record { end = end_of c.in-Some.end; reached = m } in r) (count ∙ count-zero (c.loop-stepped.reached + bit (here before)))
-          ∙ sym (after-counted c.loop-stepped.reached (here before) (ends (end_of c.in-Some.end)))
+          ap (λ m. let r : Run = record { end = c.in-Some.end; reached = m } in r) (count ∙ count-zero (c.loop-stepped.reached + bit (here before)))
+          ∙ sym (after-counted c.loop-stepped.reached (here before) (ends c.in-Some.end))
           ∙ ap (after_more c.loop-stepped.reached) (sym told)
           ∙ c.loop-stepped.invariant.told;
     }

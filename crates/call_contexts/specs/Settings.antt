@@ -1,0 +1,41 @@
+-- How the loops of a program are interpreted.
+use Rattle.std.specs.Prelude.{ℕ, ℤ, Bool, List, [], map, slice_get, Option, Some, None, refl}
+use Rattle.std.specs.Coded.{Coded, codes, code_by, coded×, coded_list, coded_ℤ}
+use Rattle.imp_slots.specs.Plain.{Routine}
+use Rattle.program_chains.specs.declared.widening.Widening.{Widening}
+use Rattle.program_chains.specs.Marks.{marks}
+use Rattle.batch_meaning.specs.Batch.{Engine}
+
+-- how often iterates are made, and how
+abbrev pub engine_of : (budget : ℕ) → Widening → Engine
+engine_of budget widening = record { budget = budget; widening = widening }
+
+-- The engine, and the marks of each procedure, by its place.
+pub record Setting : Type 0 where
+  pub engine : Engine
+  pub marks : List (List ℤ)
+
+abbrev pub all_marks : Widening → List Routine → List (List ℤ)
+all_marks w program = map (marks w) program
+
+-- the setting of a program
+abbrev pub setting_of : Engine → List Routine → Setting
+setting_of engine program = record { engine = engine; marks = all_marks engine.widening program }
+
+abbrev pub or_no_marks : Option (List ℤ) → List ℤ
+or_no_marks None = []
+or_no_marks (Some marks) = marks
+
+-- the marks of the procedure at a place, none where there is none
+abbrev pub marks_at : Setting → (place : ℕ) → List ℤ
+marks_at setting place = or_no_marks (slice_get setting.marks place)
+
+pub loops_code : Coded ((ℕ × ℕ) × Bool)
+loops_code = hlevel codes
+
+abbrev pub setting_code : Coded Setting
+setting_code =
+    code_by (((ℕ × ℕ) × Bool) × List (List ℤ)) (coded× loops_code (coded_list (coded_list coded_ℤ)))
+    (λ s. (((s.engine.budget, s.engine.widening.delay), s.engine.widening.thresholds), s.marks))
+    (λ q. record { engine = record { budget = q.0.0.0; widening = record { delay = q.0.0.1; thresholds = q.0.1 } }; marks = q.1 })
+    (λ _. refl)

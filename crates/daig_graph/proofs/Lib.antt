@@ -1,0 +1,13 @@
+pub mod Cases
+pub mod Views
+pub mod Pushing
+pub mod Removing
+pub mod Linking
+pub mod Walking
+pub mod Listing
+pub mod UseLemmas
+pub mod Maps
+pub mod Agreeing
+pub mod CellFilled
+pub mod CellGone
+pub mod Owning

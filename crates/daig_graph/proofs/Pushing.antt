@@ -1,0 +1,168 @@
+-- An item is put in front of its list.
+use Rattle.std.proofs.Common.{◌≡◌, ◌≢◌, ℕ, suc, ◌<◌, Bool, true, false, cond, Option, Some, None, nat_eq, refl, sym, ap, ◌∙◌, subst, arith, ◌⊎◌, inl, inr}
+use Rattle.daig_graph.specs.declared.pool.Member.{Member}
+use Rattle.daig_graph.specs.Linked.{AreLinked, held_at}
+use Rattle.daig_graph.proofs.Cases.{same_number, has_number, nat_eq-true, nat_eq-false, none-some, some-inj}
+
+module _ {T : Type 0} (old new : ℕ → Option (Member T)) (firsts new_firsts : ℕ → Option ℕ) (list key : ℕ) (item : T) where
+  abbrev pub put_member : Member T
+  put_member = record { list = list; item = item; before = None; next = firsts list }
+
+  pub record Pushed : Type 0 where
+    pub fresh : old key ≡ None
+    pub here : new key ≡ Some put_member
+    pub after : (k : ℕ) (m : Member T) → firsts list ≡ Some k → old k ≡ Some m → new k ≡ Some (record m { before = Some key })
+    pub others : (k : ℕ) → k ≢ key → firsts list ≢ Some k → new k ≡ old k
+    pub head : new_firsts list ≡ Some key
+    pub heads : (q : ℕ) → q ≢ list → new_firsts q ≡ firsts q
+
+  module _ (linked : AreLinked old firsts) (p : Pushed) where
+    known : (k : ℕ) (m : Member T) → old k ≡ Some m → k ≢ key
+    known k m e same = none-some (sym p.fresh ∙ ap old (sym same) ∙ e)
+
+    -- what a member became
+    record Became (k : ℕ) (m : Member T) : Type 0 where
+      to : Member T
+      at : new k ≡ Some to
+      list_same : to.list ≡ m.list
+      next_same : to.next ≡ m.next
+      before_is : (to.before ≡ m.before) ⊎ ((firsts list ≡ Some k) × (to.before ≡ Some key))
+
+    became : (k : ℕ) (m : Member T) → old k ≡ Some m → Became k m
+    became k m e = elim (has_number (firsts list) k) [
+      | inl f ↦ record { to = record m { before = Some key }; at = p.after k m f e; list_same = refl; next_same = refl; before_is = inr (f, refl) }
+      | inr f ↦ record { to = m; at = p.others k (known k m e) f ∙ e; list_same = refl; next_same = refl; before_is = inl refl }
+    ]
+
+    -- what a member was: new, the first of the list, or the same
+    record WasFirst (k : ℕ) (m : Member T) : Type 0 where
+      was : Member T
+      at : old k ≡ Some was
+      first : firsts list ≡ Some k
+      is : m ≡ record was { before = Some key }
+
+    Was : (k : ℕ) (m : Member T) → Type 0
+    Was k m = ((k ≡ key) × (m ≡ put_member)) ⊎ (WasFirst k m ⊎ ((old k ≡ Some m) × (firsts list ≢ Some k)))
+
+    was : (k : ℕ) (m : Member T) → new k ≡ Some m → Was k m
+    unfolding Was
+    was k m e = elim (same_number k key) [
+      | inl same ↦ inl (same, some-inj (sym e ∙ ap new same ∙ p.here))
+      | inr ne ↦ elim (has_number (firsts list) k) [
+        | inl f ↦ let there = linked.first list k f in
+            inr (inl (record { was = there.0; at = there.1; first = f; is = some-inj (sym e ∙ p.after k there.0 f there.1) }))
+        | inr f ↦ inr (inr (sym (p.others k ne f) ∙ e, f))
+      ]
+    ]
+
+    next_first : (l k : ℕ) → new_firsts l ≡ Some k → (m : Member T) × (new k ≡ Some m) × (m.list ≡ l) × (m.before ≡ None)
+    next_first l k e = elim (same_number l list) [
+      | inl same ↦ let k_is : key ≡ k = some-inj (sym p.head ∙ ap new_firsts (sym same) ∙ e) in (put_member, ap new (sym k_is) ∙ p.here, sym same, refl)
+      | inr ne ↦
+          let there = linked.first l k (sym (p.heads l ne) ∙ e) in
+          let b = became k there.0 there.1 in (
+            b.to,
+            b.at,
+            b.list_same ∙ there.2,
+            elim b.before_is [
+              | inl h ↦ h ∙ there.3
+              | inr h ↦ let own = linked.first list k h.0 in
+                  absurd (ne (sym there.2 ∙ ap (λ o. o.list) (some-inj (sym there.1 ∙ own.1)) ∙ own.2))
+            ],
+          )
+    ]
+
+    next_front : (k : ℕ) (m : Member T) → new k ≡ Some m → m.before ≡ None → new_firsts m.list ≡ Some k
+    unfolding Was
+    next_front k m e none = elim (was k m e) [
+      | inl h ↦ ap (λ o. new_firsts o.list) h.1 ∙ p.head ∙ ap Some (sym h.0)
+      | inr (inl h) ↦ none-some (sym none ∙ ap (λ o. o.before) h.is)
+      | inr (inr h) ↦
+          let there = linked.front k m h.0 none in
+          p.heads m.list (λ same. h.1 (ap firsts (sym same) ∙ there)) ∙ there
+    ]
+
+    next_back : (k j : ℕ) (m : Member T) → new k ≡ Some m → m.before ≡ Some j → (n : Member T) × (new j ≡ Some n) × (n.list ≡ m.list) × (n.next ≡ Some k)
+    unfolding Was
+    next_back k j m e some = elim (was k m e) [
+      | inl h ↦ none-some (sym (ap (λ o. o.before) h.1) ∙ some)
+      | inr (inl h) ↦
+          let j_is : key ≡ j = some-inj (sym (ap (λ o. o.before) h.is) ∙ some) in
+          let own = linked.first list k h.first in
+          (put_member, ap new (sym j_is) ∙ p.here, sym own.2 ∙ ap (λ o. o.list) (some-inj (sym own.1 ∙ h.at)) ∙ sym (ap (λ o. o.list) h.is), h.first)
+      | inr (inr h) ↦
+          let n = linked.back k j m h.0 some in
+          let b = became j n.0 n.1 in
+          (b.to, b.at, b.list_same ∙ n.2, b.next_same ∙ n.3)
+    ]
+
+    -- a member with another in front of it keeps that
+    kept_before : (k j : ℕ) (m : Member T) (e : old j ≡ Some m) → m.before ≡ Some k → (became j m e).to.before ≡ Some k
+    kept_before k j m e some = elim (became j m e).before_is [
+      | inl h ↦ h ∙ some
+      | inr h ↦ let own = linked.first list j h.0 in none-some (sym own.3 ∙ ap (λ o. o.before) (some-inj (sym own.1 ∙ e)) ∙ some)
+    ]
+
+    behind : (k j : ℕ) (m m2 : Member T) → old k ≡ Some m → m2.list ≡ m.list → m.next ≡ Some j → (n : Member T) × (new j ≡ Some n) × (n.list ≡ m2.list) × (n.before ≡ Some k)
+    behind k j m m2 e l some =
+        let n = linked.ahead k j m e some in
+        let b = became j n.0 n.1 in
+        (b.to, b.at, b.list_same ∙ n.2 ∙ sym l, kept_before k j n.0 n.1 n.3)
+
+    next_ahead : (k j : ℕ) (m : Member T) → new k ≡ Some m → m.next ≡ Some j → (n : Member T) × (new j ≡ Some n) × (n.list ≡ m.list) × (n.before ≡ Some k)
+    unfolding Was
+    next_ahead k j m e some = elim (was k m e) [
+      | inl h ↦
+          let f : firsts list ≡ Some j = sym (ap (λ o. o.next) h.1) ∙ some in
+          let own = linked.first list j f in
+          (record own.0 { before = Some key }, p.after j own.0 f own.1, own.2 ∙ sym (ap (λ o. o.list) h.1), ap Some (sym h.0))
+      | inr (inl h) ↦ behind k j h.was m h.at (ap (λ o. o.list) h.is) (sym (ap (λ o. o.next) h.is) ∙ some)
+      | inr (inr h) ↦ behind k j m m h.0 refl some
+    ]
+
+    next_rank : ℕ → ℕ
+    next_rank k = cond (nat_eq k key) linked.peak (linked.rank k)
+
+    rank-new : (k : ℕ) → k ≡ key → next_rank k ≡ linked.peak
+    unfolding next_rank
+    rank-new k e = ap (λ b. cond b linked.peak (linked.rank k)) (nat_eq-true k key e)
+
+    rank-old : (k : ℕ) → k ≢ key → next_rank k ≡ linked.rank k
+    unfolding next_rank
+    rank-old k e = ap (λ b. cond b linked.peak (linked.rank k)) (nat_eq-false k key e)
+
+    falls_from : (k j : ℕ) (m : Member T) → old k ≡ Some m → m.next ≡ Some j → next_rank j < next_rank k
+    falls_from k j m e some =
+        let n = linked.ahead k j m e some in
+        rw (rank-old k (known k m e), rank-old j (known j n.0 n.1)) (linked.falls k j m e some)
+
+    next_falls : (k j : ℕ) (m : Member T) → new k ≡ Some m → m.next ≡ Some j → next_rank j < next_rank k
+    unfolding Was
+    next_falls k j m e some = elim (was k m e) [
+      | inl h ↦
+          let own = linked.first list j (sym (ap (λ o. o.next) h.1) ∙ some) in
+          rw (rank-new k h.0, rank-old j (known j own.0 own.1)) (linked.low j own.0 own.1)
+      | inr (inl h) ↦ falls_from k j h.was h.at (sym (ap (λ o. o.next) h.is) ∙ some)
+      | inr (inr h) ↦ falls_from k j m h.0 some
+    ]
+
+    low_from : (k : ℕ) (m : Member T) → old k ≡ Some m → next_rank k < suc linked.peak
+    low_from k m e = let h = linked.low k m e in let r = rank-old k (known k m e) in omega arith
+
+    next_low : (k : ℕ) (m : Member T) → new k ≡ Some m → next_rank k < suc linked.peak
+    unfolding Was
+    next_low k m e = elim (was k m e) [
+      | inl h ↦ let r = rank-new k h.0 in omega arith
+      | inr (inl h) ↦ low_from k h.was h.at
+      | inr (inr h) ↦ low_from k m h.0
+    ]
+
+    pub linked-push : AreLinked new new_firsts
+    linked-push = record { first = next_first; front = next_front; back = next_back; ahead = next_ahead; rank = next_rank; peak = suc linked.peak; falls = next_falls; low = next_low }
+
+    -- the other keys hold what they held
+    pub held_same : (k : ℕ) → k ≢ key → held_at (new k) ≡ held_at (old k)
+    held_same k ne = elim (has_number (firsts list) k) [
+      | inl f ↦ let there = linked.first list k f in ap held_at (p.after k there.0 f there.1) ∙ sym (ap held_at there.1)
+      | inr f ↦ ap held_at (p.others k ne f)
+    ]

@@ -1,0 +1,17 @@
+use Rattle.std.proofs.Common.{◌≡◌, ◌≤◌, ◌+◌, ℕ, Some, slice_get, get_or, arith}
+use Rattle.daig_graph.specs.Uses.{Unlinks}
+use Rattle.daig_graph.proofs.UseLemmas.{at_index, still_there, unlinks-more}
+use Rattle.daig_graph.proofs.filling.unlink.Goals as goal
+
+pub remove-requires : goal.remove-requires
+remove-requires c =
+    let at = at_index c.args.keys.now c.loop-key.key-index 0 c.loop-key-test.true in
+    record { there = still_there c.args.uses.now c.loop-key.uses c.args.keys.now c.loop-key.key-index _ c.loop-key.invariant.unlinks c.requires.once at (c.requires.there c.loop-key.key-index _ at) }
+
+pub loop-key-preserved : goal.loop-key-preserved
+loop-key-preserved c =
+    let at = at_index c.args.keys.now c.loop-key.key-index 0 c.loop-key-test.true in
+    record {
+      unlinks = unlinks-more c.args.uses.now c.loop-key.uses c.remove.new.self c.args.keys.now c.loop-key.key-index _ c.loop-key.invariant.unlinks at c.remove.ensures.takes;
+      room = omega (arith, c.loop-key.invariant.room, c.remove.ensures.room);
+    }

@@ -1,0 +1,35 @@
+-- What a graph holds.
+use Rattle.std.specs.Prelude.{◌≡◌, ◌≢◌, ℕ, List, Option, Some, IsSome, slice_get}
+use Rattle.std.specs.Ordering.{nat_cmp}
+use Rattle.std.specs.FinMap.{FinMap, get}
+use Rattle.daig_graph.specs.declared.value.Value.{Value}
+use Rattle.daig_graph.specs.declared.graph.Use.{Use}
+
+-- what a cell was filled with: the statement that it belongs to, its value, and its inputs from left to right
+pub record Filled (V : Type 0) : Type 0 where
+  pub owner : ℕ
+  pub value : Value V
+  pub inputs : List ℕ
+
+-- the cells by their numbers, and how many cells and inputs more can be filled without memory
+pub record Cells (V : Type 0) : Type 0 where
+  pub cells : FinMap nat_cmp (Filled V)
+  pub cell_room : ℕ
+  pub edge_room : ℕ
+
+module _ {V : Type 0} (cells : FinMap nat_cmp (Filled V)) where
+  -- x is the input of a cell at a place
+  abbrev pub IsUse : ℕ → Use → Type 0
+  IsUse x u = (f : Filled V) × (get cells u.cell ≡ Some f) × (slice_get f.inputs u.place ≡ Some x)
+
+  -- a cell belongs to a statement
+  abbrev pub IsOwned : ℕ → ℕ → Type 0
+  IsOwned n x = (f : Filled V) × (get cells x ≡ Some f) × (f.owner ≡ n)
+
+  -- all of these are cells
+  abbrev pub AreCells : List ℕ → Type 0
+  AreCells xs = (i x : ℕ) → slice_get xs i ≡ Some x → IsSome (get cells x)
+
+  -- no cell has this one as an input
+  abbrev pub IsUnused : ℕ → Type 0
+  IsUnused x = (y i : ℕ) (f : Filled V) → get cells y ≡ Some f → slice_get f.inputs i ≢ Some x

@@ -1,0 +1,6 @@
+pub mod Linked
+pub mod Held
+pub mod Walks
+pub mod Cells
+pub mod Agrees
+pub mod Uses

@@ -1,0 +1,138 @@
+//! Filling cells and taking them away.
+ghost use Rattle.std.specs.Prelude.{◌≡◌, ◌≢◌, ℕ, ◌+◌, ◌≤◌, ◌<◌, None, Some, IsSome, IsOk, OnOk, OnErr, length, slice_get};
+ghost use Rattle.std.specs.FinMap as map;
+ghost use Rattle.daig_graph.specs.Held.{held, IsOnce};
+ghost use Rattle.daig_graph.specs.Uses.{Links, Unlinks};
+ghost use Rattle.daig_graph.specs.Cells.{AreCells, IsUnused};
+
+use crate::graph::{Cell, Graph, Use};
+use crate::inputs::Inputs;
+use crate::pool::Lists;
+use crate::value::Value;
+use plain_values::Memory;
+use slab::Slab;
+use smallvec::SmallVec;
+use std::alloc::Global;
+use std::collections::HashMap;
+
+impl<V> Graph<V> {
+    /// No cells. It takes no memory yet.
+    pub fn new(alloc: Global) -> Graph<V>
+        ensures empty { result.cells ≡ map.empty }
+    {
+        Graph {
+            cells: Slab::new(alloc),
+            keys: HashMap::new(alloc),
+            owned: Lists::new(alloc),
+            uses: Lists::new(alloc),
+        }
+    }
+
+    /// Room for so many cells more, with so many inputs in all.
+    pub fn reserve(&mut self, cells: usize, edges: usize) -> Result<(), Memory>
+        ensures cells { self.new.cells ≡ self.old.cells }
+        ensures cell_room { OnOk result (cells ≤ self.new.cell_room) }
+        ensures edge_room { OnOk result (edges ≤ self.new.edge_room) }
+        ensures cells_kept { self.old.cell_room ≤ self.new.cell_room }
+        ensures edges_kept { self.old.edge_room ≤ self.new.edge_room }
+        ensures succeeds { cells ≤ self.old.cell_room → edges ≤ self.old.edge_room → IsOk result }
+    {
+        let _capacity = self.cells.capacity();
+        self.cells.reserve(cells)?;
+        self.keys.reserve(cells)?;
+        self.owned.reserve(cells)?;
+        self.uses.reserve(edges)?;
+        Ok(())
+    }
+
+    /// Fills a cell that is not there: its number, the statement that it belongs to, its value and its inputs. It takes
+    /// as many steps as the cell has inputs.
+    pub fn fill(
+        &mut self,
+        cell: usize,
+        owner: u32,
+        value: Value<V>,
+        inputs: Inputs,
+    ) -> Result<(), Memory>
+    where
+        V: Drop,
+        requires absent { map.get self.old.cells cell ≡ None }
+        requires inputs { AreCells self.old.cells inputs }
+        ensures fills { OnOk result (self.new.cells ≡ map.insert self.old.cells cell (record { owner = owner; value = value; inputs = inputs })) }
+        ensures err { OnErr result (self.new.cells ≡ self.old.cells) }
+        ensures succeeds { 0 < self.old.cell_room → length inputs ≤ self.old.edge_room → IsOk result }
+        ensures cell_room { self.old.cell_room ≤ self.new.cell_room + 1 }
+        ensures edge_room { self.old.edge_room ≤ self.new.edge_room + length inputs }
+    {
+        self.reserve(1, inputs.len())?;
+        let Inputs {
+            cells: inputs,
+            mut uses,
+        } = inputs;
+        link_inputs(&mut self.uses, cell, inputs.as_slice(), &mut uses);
+        let own = self.owned.push(owner as usize, cell);
+        let key = self.cells.insert_reserved(Cell {
+            number: cell,
+            owner,
+            value,
+            own,
+            inputs,
+            uses,
+        });
+        let _ = self.keys.insert(cell, key);
+        Ok(())
+    }
+
+    /// Takes a cell away that is an input of no other. It takes as many steps as the cell has inputs, and no memory.
+    pub fn remove(&mut self, cell: usize)
+    where
+        V: Drop,
+        requires there { IsSome (map.get self.old.cells cell) }
+        requires unused { IsUnused self.old.cells cell }
+        ensures removes { self.new.cells ≡ map.remove self.old.cells cell }
+        ensures cells_kept { self.old.cell_room ≤ self.new.cell_room }
+        ensures edges_kept { self.old.edge_room ≤ self.new.edge_room }
+    {
+        let Some(key) = self.keys.remove(&cell) else {
+            return;
+        };
+        let removed = self.cells.remove(key);
+        self.owned.remove(removed.own);
+        unlink(&mut self.uses, removed.uses.as_slice());
+    }
+}
+
+/// Puts the uses of these inputs into their lists, and their keys in place of what `keys` has.
+fn link_inputs(uses: &mut Lists<Use>, cell: usize, inputs: &[usize], keys: &mut SmallVec<usize, 4>)
+    requires as_many { length keys.old.items ≡ length inputs.now }
+    requires room { length inputs.now ≤ uses.old.room }
+    ensures links { Links uses.old uses.new cell inputs.now keys.new.items (length inputs.now) }
+    ensures as_many { length keys.new.items ≡ length inputs.now }
+    ensures room { uses.old.room ≤ uses.new.room + length inputs.now }
+{
+    link(uses, cell, inputs, keys.as_mut_slice());
+}
+
+/// Puts the uses of these inputs into their lists, and their keys into `keys`.
+fn link(uses: &mut Lists<Use>, cell: usize, inputs: &[usize], keys: &mut [usize])
+    requires as_many { length keys.old ≡ length inputs.now }
+    requires room { length inputs.now ≤ uses.old.room }
+    ensures links { Links uses.old uses.new cell inputs.now keys.new (length inputs.now) }
+    ensures room { uses.old.room ≤ uses.new.room + length inputs.now }
+{
+    for (place, input) in inputs.iter().enumerate() {
+        keys[place] = uses.push(*input, Use { cell, place });
+    }
+}
+
+/// Takes the uses under these keys out of their lists.
+fn unlink(uses: &mut Lists<Use>, keys: &[usize])
+    requires there { (i u : ℕ) → slice_get keys.now i ≡ Some u → IsSome (held uses.old u) }
+    requires once { IsOnce keys.now }
+    ensures unlinks { Unlinks uses.old uses.new keys.now (length keys.now) }
+    ensures room { uses.old.room ≤ uses.new.room }
+{
+    for key in keys {
+        uses.remove(*key);
+    }
+}

@@ -1,0 +1,29 @@
+//! The graph of cells: each holds a value, its inputs and its dependents.
+//!
+//! A [`Graph`] is a finite map from numbers to cells, each with the statement that it belongs to, its [`Value`] and
+//! its inputs from left to right; contracts see it as that map. A cell is filled when all its inputs are there, and
+//! taken away when no other has it as an input, so inputs are always cells.
+//!
+//! Cells stand in a slab and are found by hash. What uses a cell, and what belongs to a statement, are lists that are
+//! threaded through two pools of members (`specs/Linked.antt`), so that an item goes in and out in constant time,
+//! however long its list is. Filling and removing take as many steps as the cell has inputs; reading takes constant
+//! time, and a list of dependents or of the cells of a statement is walked, not copied. Removing and reading take no
+//! memory. Filling takes none after [`Graph::reserve`] but what is handed in: a list of inputs comes as [`Inputs`],
+//! which keep the memory that the cell needs for them.
+//!
+//! The crate knows neither names nor programs nor domains.
+#![tactic(auto)]
+
+mod filling;
+mod graph;
+mod inputs;
+mod lists;
+mod pool;
+mod reading;
+mod value;
+mod walk;
+
+pub use graph::{Graph, Use};
+pub use inputs::Inputs;
+pub use value::{SharedChain, Value};
+pub use walk::Walk;

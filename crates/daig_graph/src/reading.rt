@@ -1,0 +1,67 @@
+//! Reading cells.
+ghost use Rattle.std.specs.Prelude.{◌≡◌, ℕ, ◌↔◌, option_copied, option_map, IfSome, IsTrue, None};
+ghost use Rattle.std.specs.FinMap as map;
+ghost use Rattle.daig_graph.specs.Agrees.{filled};
+ghost use Rattle.daig_graph.specs.Held.{IsIn, IsOnce};
+ghost use Rattle.daig_graph.specs.Cells.{AreCells, IsOwned, IsUse};
+
+use crate::graph::{Cell, Graph, Use};
+use crate::value::Value;
+use crate::walk::Walk;
+
+impl<V> Graph<V> {
+    /// The value of a cell, or `None` where it is not there.
+    pub fn value(&self, cell: usize) -> Option<&Value<V>>
+        ensures value { option_copied result ≡ option_map (λ f. f.value) (map.get self.now.cells cell) }
+    {
+        match self.cell(cell) {
+            Some(found) => Some(&found.value),
+            None => None,
+        }
+    }
+
+    /// The inputs of a cell from left to right, or `None` where it is not there. They are cells.
+    pub fn inputs(&self, cell: usize) -> Option<&[usize]>
+        ensures inputs { option_copied result ≡ option_map (λ f. f.inputs) (map.get self.now.cells cell) }
+        ensures cells { IfSome result (λ inputs. AreCells self.now.cells inputs.now) }
+    {
+        match self.cell(cell) {
+            Some(found) => Some(found.inputs.as_slice()),
+            None => None,
+        }
+    }
+
+    /// The cells of which a cell is an input, each with the place where it stands among its inputs; none where the cell
+    /// is not there. No two are alike.
+    pub fn dependents(&self, cell: usize) -> Walk<'_, Use>
+        ensures once { IsOnce result }
+        ensures uses { (u : Use) → IsIn result u ↔ IsUse self.now.cells cell u }
+    {
+        self.uses.items(cell)
+    }
+
+    /// The cells that belong to a statement, each once.
+    pub fn cells_of_statement(&self, statement: u32) -> Walk<'_, usize>
+        ensures once { IsOnce result }
+        ensures cells { (x : ℕ) → IsIn result x ↔ IsOwned self.now.cells statement x }
+    {
+        self.owned.items(statement as usize)
+    }
+
+    /// How many cells there are.
+    pub fn kept_count(&self) -> usize
+        ensures count { result ≡ map.len self.now.cells }
+    {
+        self.cells.len()
+    }
+
+    fn cell(&self, number: usize) -> Option<&Cell<V>>
+        ensures filled { option_map filled (option_copied result) ≡ map.get self.now.cells number }
+        ensures cells { IfSome result (λ c. AreCells self.now.cells c.now.inputs.items) }
+    {
+        match self.keys.get(&number) {
+            Some(key) => self.cells.get(*key),
+            None => None,
+        }
+    }
+}

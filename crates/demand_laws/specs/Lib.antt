@@ -1,0 +1,5 @@
+pub mod Indices
+pub mod Stops
+pub mod Walks
+pub mod Reports
+pub mod Claims

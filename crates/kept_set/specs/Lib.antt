@@ -1,0 +1,4 @@
+pub mod Touched
+pub mod Places
+pub mod RowTest
+pub mod Claims

@@ -1,0 +1,10 @@
+pub mod Calls
+pub mod Convergence
+pub mod Exact
+pub mod Fitting
+pub mod Guards
+pub mod Laws
+pub mod Matrices
+pub mod Ranges
+pub mod Small
+pub mod Steps

@@ -1,0 +1,10 @@
+pub mod Claims
+pub mod Convergence
+pub mod Covers
+pub mod Domain
+pub mod Forms
+pub mod Matrices
+pub mod Operations
+pub mod Ranges
+pub mod States
+pub mod Text
