@@ -64,7 +64,7 @@ mutual
   count_of_block Ends = refl
   count_of_block (Starts s ss) = simp length-append (omega (arith, count_of_statement s, count_of_block ss))
 
-number_count : (ps : List Procedure) → length (program_numbers ps) ≡ program_count ps
+pub number_count : (ps : List Procedure) → length (program_numbers ps) ≡ program_count ps
 number_count [] = refl
 number_count (p ∷ ps) = simp length-append (omega (arith, count_of_block p.body, number_count ps))
 

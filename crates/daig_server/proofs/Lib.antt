@@ -1,5 +1,4 @@
 pub mod NumberingLemmas
-pub mod EntryLemmas
 pub mod FewLemmas
 pub mod LineLemmas
 pub mod ServeLemmas

@@ -73,12 +73,12 @@ pub(crate) fn asked_run(
 }
 
 /// The next statement number that is not used.
-#[tactic(auto, using(crate::proofs::FewLemmas::few_numbers, crate::proofs::EntryLemmas::entry_count))]
+#[tactic(auto, using(crate::proofs::FewLemmas::few_numbers, crate::proofs::FewLemmas::number_count))]
 fn next_number(program: &Checked) -> u32
     ensures number { result ≡ length (program_numbers program.now) + 1 }
 {
     let _tree = program.program();
-    program.entries().len() as u32 + 1
+    program.count() + 1
 }
 
 /// The program's text, and the next statement number.

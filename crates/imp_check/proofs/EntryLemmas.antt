@@ -1,9 +1,11 @@
 -- Entries.
-use Rattle.std.proofs.Common.{ℕ, zero, suc, ◌≡◌, ◌+◌, ◌<◌, ◌≤◌, ◌==◌, cond, Bool, true, false, List, [], ◌∷◌, ◌++◌, length, take, drop, get_or, slice_get, Option, Some, None, refl, sym, ap, ◌∙◌, arith, add-one, drop-cons}
+use Rattle.std.proofs.Common.{ℕ, ◌≡◌, ◌+◌, ◌<◌, List, ◌∷◌, ◌++◌, Option, length, take, drop, get_or, refl, sym, ap, ◌∙◌, add-one, drop-cons}
 use Rattle.std.proofs.Math.Seq.{take-suc}
-use Rattle.imp_syntax.specs.Plain.{Procedure, number_of}
-use Rattle.imp_check.specs.Entries.{procedure_entries, entries_from, entry_of, place_of}
+use Rattle.imp_syntax.specs.Plain.{Procedure}
+use Rattle.imp_check.specs.Entries.{procedure_entries, entries_from, heads_of, head_of}
+use Rattle.imp_check.specs.Puts.{put_all, with_sites}
 use Rattle.imp_check.specs.declared.entry.Entry.{Entry}
+use Rattle.imp_check.proofs.PutLemmas.{all_both, sites_both}
 use Rattle.imp_slots.specs.Plain.{Effect}
 use Rattle.imp_slots.specs.ActionViews.{action_of, effect_of, action_of-effect_of}
 use Rattle.imp_slots.specs.declared.actions.SlotAction.{SlotAction}
@@ -15,37 +17,16 @@ action_again a e h = sym (action_of-effect_of a) ∙ ap action_of h
 pub entries_step : (ps : List Procedure) (i : ℕ) (p : Procedure) → i < length ps → p ≡ get_or ps i p → entries_from (take i ps) (drop i ps) ≡ procedure_entries (take i ps) p ++ entries_from (take (i + 1) ps) (drop (i + 1) ps)
 entries_step ps i p h e = rw (drop-cons ps i p, add-one, take-suc ps i p, ← e) refl
 
-pub place_step : (es : List Entry) (i : ℕ) (e : Entry) (n : ℕ) → i < length es → e ≡ get_or es i e → place_of i (drop i es) n ≡ cond (number_of e.stmt == n) (Some i) (place_of (i + 1) (drop (i + 1) es) n)
-place_step es i e n h p = rw (drop-cons es i e, add-one, ← p) refl
+-- a procedure more, whose entries are put
+pub put_step : (ps : List Procedure) (i : ℕ) (p : Procedure) (old new : List (Option Entry)) → i < length ps → p ≡ get_or ps i p → new ≡ put_all (procedure_entries (take i ps) p) old → put_all (entries_from (take (i + 1) ps) (drop (i + 1) ps)) new ≡ put_all (entries_from (take i ps) (drop i ps)) old
+put_step ps i p old new h e q =
+    ap (put_all (entries_from (take (i + 1) ps) (drop (i + 1) ps))) q
+    ∙ sym (ap (λ es. put_all es old) (entries_step ps i p h e) ∙ all_both (procedure_entries (take i ps) p) (entries_from (take (i + 1) ps) (drop (i + 1) ps)) old)
 
-at_least_by : (b : Bool) (k i : ℕ) (rest : Option ℕ) → (rest ≡ Some i → suc k ≤ i) → cond b (Some k) rest ≡ Some i → k ≤ i
-at_least_by true k i rest ih h = let e : k ≡ i = cc in omega arith
-at_least_by false k i rest ih h = omega (arith, ih h)
+pub sites_step : (ps : List Procedure) (i : ℕ) (p : Procedure) (old new : List (List ℕ)) → i < length ps → p ≡ get_or ps i p → new ≡ with_sites (procedure_entries (take i ps) p) old → with_sites (entries_from (take (i + 1) ps) (drop (i + 1) ps)) new ≡ with_sites (entries_from (take i ps) (drop i ps)) old
+sites_step ps i p old new h e q =
+    ap (with_sites (entries_from (take (i + 1) ps) (drop (i + 1) ps))) q
+    ∙ sym (ap (λ es. with_sites es old) (entries_step ps i p h e) ∙ sites_both (procedure_entries (take i ps) p) (entries_from (take (i + 1) ps) (drop (i + 1) ps)) old)
 
-place_at_least : (es : List Entry) (n k i : ℕ) → place_of k es n ≡ Some i → k ≤ i
-place_at_least [] n k i h = cc
-place_at_least (e ∷ es) n k i h = at_least_by (number_of e.stmt == n) k i (place_of (suc k) es n) (place_at_least es n (suc k) i) h
-
-found_by : (b : Bool) (e : Entry) (es : List Entry) (n k i j : ℕ) → ((m : ℕ) → place_of (suc k) es n ≡ Some i → i ≡ suc k + m → slice_get es m ≡ entry_of es n) → cond b (Some k) (place_of (suc k) es n) ≡ Some i → i ≡ k + j → slice_get (e ∷ es) j ≡ cond b (Some e) (entry_of es n)
-found_by true e es n k i zero ih h g = refl
-found_by true e es n k i (suc j) ih h g = let q : k ≡ i = cc in absurd (omega arith)
-found_by false e es n k i zero ih h g = absurd (omega (arith, place_at_least es n (suc k) i h))
-found_by false e es n k i (suc j) ih h g = ih j h (omega arith)
-
-found_at : (es : List Entry) (n k i j : ℕ) → place_of k es n ≡ Some i → i ≡ k + j → slice_get es j ≡ entry_of es n
-found_at [] n k i j h g = cc
-found_at (e ∷ es) n k i j h g = found_by (number_of e.stmt == n) e es n k i j (found_at es n (suc k) i) h g
-
-pub place_found : (es : List Entry) (n i : ℕ) → place_of 0 es n ≡ Some i → slice_get es i ≡ entry_of es n
-place_found es n i h = found_at es n 0 i i h (omega arith)
-
-gone_by : (b : Bool) (e : Entry) (es : List Entry) (n k : ℕ) → (place_of (suc k) es n ≡ None → entry_of es n ≡ None) → cond b (Some k) (place_of (suc k) es n) ≡ None → cond b (Some e) (entry_of es n) ≡ None
-gone_by true e es n k ih h = cc
-gone_by false e es n k ih h = ih h
-
-gone_at : (es : List Entry) (n k : ℕ) → place_of k es n ≡ None → entry_of es n ≡ None
-gone_at [] n k h = refl
-gone_at (e ∷ es) n k h = gone_by (number_of e.stmt == n) e es n k (gone_at es n (suc k)) h
-
-pub place_gone : (es : List Entry) (n : ℕ) → place_of 0 es n ≡ None → entry_of es n ≡ None
-place_gone es n h = gone_at es n 0 h
+pub heads_step : (ps : List Procedure) (i : ℕ) (p : Procedure) → i < length ps → p ≡ get_or ps i p → heads_of (drop i ps) ≡ head_of p ∷ heads_of (drop (i + 1) ps)
+heads_step ps i p h e = rw (drop-cons ps i p, add-one, ← e) refl

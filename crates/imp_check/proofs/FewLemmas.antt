@@ -1,5 +1,6 @@
 -- A program without faults has few procedures and variables.
-use Rattle.std.proofs.Common.{ℕ, zero, suc, ◌+◌, ◌<◌, ◌≡◌, Bool, true, false, not, List, [], ◌∷◌, ◌++◌, length, take, drop, get_or, map, append_assoc, append-nil, Option, Some, None, refl, ap, sym, ◌∙◌, subst, arith, nat_lt, add-one, drop-cons}
+use Rattle.std.proofs.Common.{ℕ, zero, suc, ◌+◌, ◌-◌, ◌^◌, ◌<◌, ◌≡◌, min, Bool, true, false, not, List, [], ◌∷◌, ◌++◌, length, take, drop, get_or, map, append_assoc, append-nil, Option, Some, None, refl, ap, sym, ◌∙◌, subst, arith, nat_lt, add-one, drop-cons}
+use Rattle.std.proofs.Math.Nat.{min-eq_left}
 use Rattle.std.proofs.Math.Seq.{take-suc}
 use Rattle.std.proofs.lemmas.Bool.{ltb-true}
 use Rattle.imp_syntax.specs.Plain.{Procedure}
@@ -98,3 +99,16 @@ pub layouts_step : (ps : List Procedure) (i : ℕ) (p : Procedure) → i < lengt
 layouts_step [] i p h e = absurd (omega arith)
 layouts_step (q ∷ ps) zero p h e = rw (← e) refl
 layouts_step (q ∷ ps) (suc i) p h e = let r = layouts_step ps i p (omega arith) e in rw add-one (ap (λ (z : List Layout). layout_in q ∷ z) (rw add-one at r))
+
+-- few statements, in few blocks inside one another
+pub few_statements : (ps : List Procedure) → check_fault ps ≡ None → (program_count ps < 10001) × (deepest ps < 33)
+few_statements ps h =
+    let rest = first (procedures_fault [] ps) (in_procedure (name_of (last_of ps)) (at 0 (ending_fault ps))) in
+    let p = first_none (in_procedure (name_of (last_of ps)) (at 0 (size_fault ps))) rest h in
+    let size = at_none 0 (size_fault ps) (in_none (name_of (last_of ps)) (at 0 (size_fault ps)) p.0) in
+    let others = first (unless (nat_lt (program_count ps) 10001) TooMany) (unless (nat_lt (deepest ps) 33) Nesting) in
+    let q = first_none (unless (nat_lt (program_count ps) 10001) TooMany) (unless (nat_lt (deepest ps) 33) Nesting) (first_none (unless (nat_lt (length ps) 65) Procedures) others size).1 in
+    (unless_lt (program_count ps) 10001 TooMany q.0, unless_lt (deepest ps) 33 Nesting q.1)
+
+pub count_is : (ps : List Procedure) (n : ℕ) → n ≡ min (program_count ps) (2 ^ 32 - 1) → program_count ps < 10001 → n ≡ program_count ps
+count_is ps n e h = e ∙ min-eq_left (omega arith)

@@ -13,3 +13,11 @@ pub mod FitsBlocks
 pub mod FitsPrograms
 pub mod SmallLemmas
 pub mod SiteLemmas
+pub mod RebuildLemmas
+pub mod TableLemmas
+pub mod PartLemmas
+pub mod PutLemmas
+pub mod SitesMade
+pub mod OverlayLemmas
+pub mod ExchangeLemmas
+pub mod StepLemmas

@@ -1,12 +1,8 @@
 -- Call statements.
 use Rattle.std.proofs.Common.{ℕ, zero, suc, ◌≡◌, ◌+◌, ◌<◌, ◌≤◌, ◌==◌, cond, List, [], ◌∷◌, ◌++◌, length, drop, get_or, slice_get, Option, Some, None, refl, sym, ap, ◌∙◌, arith, add-one, drop-cons, length-append, ◌⊎◌, inl, inr}
 use Rattle.std.proofs.lemmas.Bool.{cases_lt}
-use Rattle.imp_syntax.specs.Plain.{number_of}
-use Rattle.imp_check.specs.Entries.{calls_here, sites_in, sites_below}
+use Rattle.imp_check.specs.Entries.{sites_in, sites_below}
 use Rattle.imp_check.specs.declared.entry.Entry.{Entry}
-
-pub sites_step : (es : List Entry) (i : ℕ) (e : Entry) (p : ℕ) → i < length es → e ≡ get_or es i e → sites_in (drop i es) p ≡ cond (calls_here e.form p) (number_of e.stmt ∷ sites_in (drop (i + 1) es) p) (sites_in (drop (i + 1) es) p)
-sites_step es i e p h q = rw (drop-cons es i e, add-one, ← q) refl
 
 pub below_step : (es : List Entry) (n : ℕ) → sites_below es (n + 1) ≡ sites_below es n ++ sites_in es n ∷ []
 below_step es n = rw add-one refl

@@ -11,5 +11,11 @@ pub mod FrameCode
 pub mod Few
 pub mod Tables
 pub mod Refused
+pub mod Parts
 pub mod Entries
+pub mod Rebuilt
+pub mod Fine
+pub mod Checks
+pub mod Changes
+pub mod Puts
 pub mod Small

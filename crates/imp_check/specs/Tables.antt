@@ -1,18 +1,33 @@
--- What is kept of a checked program.
-use Rattle.std.specs.Prelude.{ℕ, length, ◌≡◌, nat_eq, None}
-use Rattle.std.specs.HashMap.{get}
-use Rattle.imp_slots.specs.Fits.{IsChecked}
-use Rattle.imp_check.specs.Programs.{AreNumbered, check_fault}
-use Rattle.imp_check.specs.Slots.{routines_of}
-use Rattle.imp_check.specs.Entries.{entries_of, place_of, sites_below}
-use Rattle.imp_check.specs.declared.checked.Parts.{Parts}
+-- A program as a table of its statements by number.
+use Rattle.std.specs.Prelude.{ℕ, zero, suc, ◌≡◌, List, [], ◌∷◌, Option, Some, None, refl}
+use Rattle.std.specs.Coded.{Coded, code_by, coded×, coded_ℕ}
+use Rattle.imp_syntax.specs.Plain.{Procedure}
+use Rattle.imp_syntax.specs.ProgramCode.{program_code}
+use Rattle.imp_check.specs.Programs.{program_count}
+use Rattle.imp_check.specs.Entries.{entries_of, entry_of, heads_of, sites_of}
+use Rattle.imp_check.specs.Rebuilt.{program_by}
+use Rattle.imp_check.specs.Fine.{IsFine}
+use Rattle.imp_check.specs.declared.entry.Entry.{Entry}
+use Rattle.imp_check.specs.declared.entry.Head.{Head}
 
--- the program has no fault, and the tables are those of the program
-pub record AreRight (p : Parts) : Type 0 where
-  pub faultless : check_fault p.program ≡ None
-  pub numbered : AreNumbered p.program
-  pub fit : IsChecked (routines_of p.program)
-  pub routines : p.routines ≡ routines_of p.program
-  pub entries : p.entries ≡ entries_of p.program
-  pub index : (n : ℕ) → get nat_eq p.index n ≡ place_of 0 p.entries n
-  pub sites : p.sites ≡ sites_below p.entries (length p.program)
+-- a program, and below which number its table has places
+pub record Tabled : Type 0 where
+  pub program : List Procedure
+  pub room : ℕ
+
+abbrev pub tabled_code : Coded Tabled
+tabled_code = code_by (List Procedure × ℕ) (coded× program_code coded_ℕ) (λ t. (t.program, t.room)) (λ p. record { program = p.0; room = p.1 }) (λ _. refl)
+
+-- the entry at a place
+abbrev pub entry_in : List (Option Entry) → ℕ → Option Entry
+entry_in [] n = None
+entry_in (o ∷ os) zero = o
+entry_in (o ∷ os) (suc n) = entry_in os n
+
+-- The table, the procedures, the count and the call statements are those of this program, which has no fault.
+pub record AreOf (program : List Procedure) (at : ℕ → Option Entry) (count : ℕ) (heads : List Head) (sites : List (List ℕ)) : Type 0 where
+  pub fine : IsFine program
+  pub entries : (n : ℕ) → at n ≡ entry_of (entries_of program) n
+  pub counted : count ≡ program_count program
+  pub procedures : heads ≡ heads_of program
+  pub calls : sites ≡ sites_of program

@@ -1,30 +1,28 @@
 //! Checked programs.
 ghost use Rattle.std.specs.Prelude.{◌≡◌, ◌<◌, ◌≤◌, [], length, IfOk, IfErr, None};
-ghost use Rattle.imp_slots.specs.Fits.{IsChecked};
-ghost use Rattle.imp_check.specs.Programs.{AreNumbered, check_fault};
-ghost use Rattle.imp_check.specs.Slots.{routines_of};
 ghost use Rattle.std.specs.Option.{option_copied};
+ghost use Rattle.imp_slots.specs.Fits.{IsChecked};
+ghost use Rattle.imp_check.specs.Programs.{AreNumbered, check_fault, program_count};
+ghost use Rattle.imp_check.specs.Slots.{routines_of};
 ghost use Rattle.imp_check.specs.Entries.{entries_of, entry_of, sites_in};
 ghost use Rattle.imp_check.specs.Names.{named_in};
 ghost use Rattle.imp_check.specs.Refused.{IsRefused};
 
 use crate::CheckError;
+use crate::building::table_of;
 use crate::entry::Entry;
-use crate::index::{entry_of, index_of};
 use crate::literals::small_program;
-use crate::names::{is_named, place_named};
 use crate::programs::check_fault;
 use crate::routines::routines_of;
-use crate::sites::sites_below;
+use crate::table::Table;
 use imp_slots::Routine;
 use imp_syntax::{ProcId, Program, StmtId};
 use plain_values::{Items, Memory, Text};
 use std::alloc::{AllocError, Global};
-use std::collections::HashMap;
 use std::marker::Model;
 use std::rc::Rc;
 
-/// A program without faults, seen as its procedures. Copies share it.
+/// A program without faults as a tree, over slots and as a table, seen as its procedures. Copies share it.
 #[derive(Drop)]
 pub struct Checked {
     parts: Rc<Parts>,
@@ -34,9 +32,7 @@ pub struct Checked {
 struct Parts {
     program: Program,
     routines: Items<Routine>,
-    entries: Items<Entry>,
-    index: HashMap<u32, usize>,
-    sites: Items<Items<StmtId>>,
+    table: Table,
 }
 
 impl Model for Checked {
@@ -48,7 +44,7 @@ impl Model for Checked {
 
     ghost coded = { program_code };
 
-    ghost use Rattle.imp_check.specs.Tables.{AreRight};
+    ghost use Rattle.imp_check.specs.Checks.{AreRight};
 
     ghost view = { λ a. a.parts.value.program };
 
@@ -61,7 +57,6 @@ impl Model for Checked {
 ///
 /// [`CheckError::Fault`] with the first fault, and [`CheckError::Memory`] for want of memory. On an
 /// error the program is dropped.
-#[tactic(auto, using(crate::proofs::FewLemmas::few_checked))]
 pub fn check(alloc: Global, program: Program) -> Result<Checked, CheckError>
     requires numbered { AreNumbered program }
     ensures accepted { IfOk result (λ c. c ≡ program) }
@@ -81,17 +76,12 @@ fn accept(alloc: Global, program: Program) -> Result<Checked, Memory>
     ensures is { IfOk result (λ c. c ≡ program) }
 {
     small_program(program.procs());
-    let mut entries = Items::new(alloc);
-    let routines = routines_of(alloc, program.procs(), &mut entries)?;
-    let index = index_of(alloc, entries.as_slice())?;
-    let count = program.procs().len() as u32;
-    let sites = sites_below(alloc, entries.as_slice(), count)?;
+    let table = table_of(alloc, program.procs())?;
+    let routines = routines_of(alloc, program.procs())?;
     let parts = Parts {
         program,
         routines,
-        entries,
-        index,
-        sites,
+        table,
     };
     let parts = Rc::new(alloc, parts)?;
     Ok(Checked { parts })
@@ -116,45 +106,42 @@ impl Checked {
         self.parts.routines.as_slice()
     }
 
+    /// The table of the program's statements.
+    pub fn table(&self) -> &Table
+        ensures is { result.now.program ≡ self.now }
+    {
+        &self.parts.table
+    }
+
     /// The first procedure of a name, or `None` where there is none. It takes time linear in the procedures.
-    #[tactic(auto, using(crate::proofs::FewLemmas::few_checked))]
     pub fn proc_named(&self, name: &Text) -> Option<ProcId>
         ensures is { result ≡ named_in self.now name.now }
     {
-        let procs = self.program().procs();
-        if is_named(procs, name) {
-            Some(ProcId::new(place_named(procs, name) as u32))
-        } else {
-            None
-        }
+        self.table().proc_named(name)
     }
 
     /// The call statements of a procedure, in the order of the text; none for a procedure that is not there. It takes
     /// constant time.
-    #[tactic(auto, using(crate::proofs::SiteLemmas::below_at, crate::proofs::SiteLemmas::below_past))]
     pub fn sites(&self, proc: ProcId) -> &[StmtId]
         ensures is { proc < length self.now → result.now ≡ sites_in (entries_of self.now) proc }
         ensures none { length self.now ≤ proc → result.now ≡ [] }
     {
-        match self.parts.sites.get(proc.place() as usize) {
-            Some(sites) => sites.as_slice(),
-            None => &[],
-        }
+        self.table().sites(proc)
     }
 
-    /// All statements in the order of the text, each with where it stands and with its slots.
-    pub fn entries(&self) -> &[Entry]
-        ensures is { result.now ≡ entries_of self.now }
+    /// How many statements the program has.
+    pub fn count(&self) -> u32
+        ensures is { result ≡ program_count self.now }
     {
-        self.parts.entries.as_slice()
+        self.table().count()
     }
 
     /// The statement of a number, with where it stands and with its slots, or `None` where the program has no such
-    /// statement. It takes constant time, by a hash.
+    /// statement. It takes constant time.
     pub fn entry(&self, id: StmtId) -> Option<&Entry>
         ensures is { option_copied result ≡ entry_of (entries_of self.now) id }
     {
-        entry_of(&self.parts.index, &self.parts.entries, id.number())
+        self.table().entry(id)
     }
 }
 

@@ -1,9 +1,14 @@
-//! What is known of each statement.
-ghost use Rattle.std.specs.Prelude.{◌≡◌, ◌∷◌, ◌++◌, IfOk, OnOk, None};
-ghost use Rattle.imp_syntax.specs.Plain.{number_of};
+//! The table of statements, made from the tree.
+ghost use Rattle.std.specs.Prelude.{◌≡◌, ◌∷◌, ◌++◌, ◌+◌, ◌<◌, ◌^◌, IfOk, OnOk, Some, None};
+ghost use Rattle.imp_check.specs.Programs.{statement_nesting, nesting};
+ghost use Rattle.imp_check.specs.Parts.{part_of, first_ends, second_ends, leaving_in, leaving, breaks_of};
 ghost use Rattle.imp_check.specs.Entries.{form_in, entry_at, inside, inside_loop, statement_entries, block_entries};
+ghost use Rattle.imp_check.specs.Puts.{put_at, put_all, with_site, with_sites, with_form};
 
-use crate::entry::{Around, Context, Entry, SlotForm, Which};
+use crate::entry::{Around, BlockEnds, Context, Entry, SlotForm, Which};
+use crate::heads::{ends_of, number_at};
+use crate::place::Place;
+use crate::putting::put_entry;
 use crate::resolve::Frame;
 use crate::terms::{effect_in, guard_in};
 use imp_slots::SlotStmt;
@@ -31,39 +36,124 @@ fn form_in(alloc: Global, frame: &Frame, stmt: &Stmt) -> Result<SlotForm, Memory
     }
 }
 
+/// A statement with its blocks empty.
+fn part_of(alloc: Global, stmt: &Stmt) -> Result<Stmt, Memory>
+    ensures is { IfOk result (λ part. part ≡ part_of stmt.now) }
+{
+    let node = match stmt.node() {
+        StmtNode::If(cond, _, _) => StmtNode::If(cond.clone()?, Block::empty(), Block::empty()),
+        StmtNode::While(cond, _) => StmtNode::While(cond.clone()?, Block::empty()),
+        _ => return Ok(stmt.clone()?),
+    };
+    Stmt::new(alloc, stmt.id(), node)
+}
+
+const NO_ENDS: BlockEnds = BlockEnds {
+    first: None,
+    last: None,
+};
+
+/// The ends of the first block of an if or of the body of a while.
+fn first_ends(stmt: &Stmt) -> BlockEnds
+    ensures is { result ≡ first_ends stmt.now }
+{
+    match stmt.node() {
+        StmtNode::If(_, then, _) => ends_of(then),
+        StmtNode::While(_, body) => ends_of(body),
+        _ => NO_ENDS,
+    }
+}
+
+/// The ends of the second block of an if.
+fn second_ends(stmt: &Stmt) -> BlockEnds
+    ensures is { result ≡ second_ends stmt.now }
+{
+    match stmt.node() {
+        StmtNode::If(_, _, els) => ends_of(els),
+        _ => NO_ENDS,
+    }
+}
+
+/// Adds the breaks that leave the loop around a block.
+#[cycle(leaving)]
+#[tactic(auto, using(imp_syntax::specs::Blocks::member_smaller, imp_syntax::specs::Blocks::block_rest))]
+fn leaving(block: &Block, breaks: &mut Items<StmtId>) -> Result<(), Memory>
+    ensures added { OnOk result (breaks.new ≡ breaks.old ++ leaving block.now) }
+{
+    for stmt in block.as_slice() {
+        leaving_in(stmt, breaks)?;
+    }
+    Ok(())
+}
+
+#[cycle(leaving)]
+fn leaving_in(stmt: &Stmt, breaks: &mut Items<StmtId>) -> Result<(), Memory>
+    ensures added { OnOk result (breaks.new ≡ breaks.old ++ leaving_in stmt.now) }
+{
+    match stmt.node() {
+        StmtNode::Break => breaks.push(stmt.id()),
+        StmtNode::If(_, then, els) => {
+            leaving(then, breaks)?;
+            leaving(els, breaks)
+        }
+        _ => Ok(()),
+    }
+}
+
+/// The breaks that leave a while. Over a whole program this takes linear time: each statement is looked at for its
+/// innermost loop alone.
+fn breaks_of(alloc: Global, stmt: &Stmt) -> Result<Items<StmtId>, Memory>
+    ensures is { IfOk result (λ breaks. breaks ≡ breaks_of stmt.now) }
+{
+    let mut breaks = Items::new(alloc);
+    if let StmtNode::While(_, body) = stmt.node() {
+        leaving(body, &mut breaks)?;
+    }
+    Ok(breaks)
+}
+
+/// A statement between these two of its block.
 fn entry_at(
     alloc: Global,
     frame: &Frame,
     context: &Context,
     front: Option<StmtId>,
+    next: Option<StmtId>,
     stmt: &Stmt,
 ) -> Result<Entry, Memory>
-    ensures is { IfOk result (λ entry. entry ≡ entry_at frame.now context.now front stmt.now) }
+    ensures is { IfOk result (λ entry. entry ≡ entry_at frame.now context.now front next stmt.now) }
 {
     let form = form_in(alloc, frame, stmt)?;
-    let stmt = stmt.clone()?;
+    let part = part_of(alloc, stmt)?;
+    let breaks = breaks_of(alloc, stmt)?;
     Ok(Entry {
-        stmt,
+        number: stmt.id(),
+        part,
         form,
-        proc: context.proc,
-        around: context.around,
+        context: *context,
         front,
-        inner: context.inner,
+        next,
+        inner: first_ends(stmt),
+        other: second_ends(stmt),
+        breaks,
     })
 }
 
 impl Context {
     fn inside(&self, stmt: StmtId, which: Which) -> Context
+        requires shallow { self.now.depth + 1 < 2 ^ 32 }
         ensures is { result ≡ inside self.now stmt which }
     {
         Context {
             proc: self.proc,
             around: Some(Around { stmt, which }),
-            inner: self.inner,
+            head: self.head,
+            depth: self.depth + 1,
         }
     }
 
     fn inside_loop(&self, stmt: StmtId) -> Context
+        requires shallow { self.now.depth + 1 < 2 ^ 32 }
         ensures is { result ≡ inside_loop self.now stmt }
     {
         Context {
@@ -72,26 +162,71 @@ impl Context {
                 stmt,
                 which: Which::Body,
             }),
-            inner: Some(stmt),
+            head: Some(stmt),
+            depth: self.depth + 1,
         }
     }
 }
 
+/// A table that is being made: the places of statements, and the call statements of each procedure.
+#[derive(Drop)]
+pub(crate) struct Making {
+    pub(crate) places: Vec<Place>,
+    pub(crate) sites: Vec<Items<StmtId>>,
+}
+
+impl Making {
+    /// Adds a statement.
+    fn add(&mut self, alloc: Global, entry: Entry) -> Result<(), Memory>
+        ensures put { OnOk result (self.new.places.items ≡ put_at self.old.places.items entry.number (Some entry)) }
+        ensures sites { OnOk result (self.new.sites.items ≡ with_form entry.number entry.form self.old.sites.items) }
+    {
+        add_call(&mut self.sites, &entry.form, entry.number)?;
+        put_entry(alloc, &mut self.places, entry)
+    }
+}
+
+/// Adds a statement that does this, if it is a call.
+fn add_call(sites: &mut Vec<Items<StmtId>>, form: &SlotForm, site: StmtId) -> Result<(), Memory>
+    ensures added { OnOk result (sites.new.items ≡ with_form site form.now sites.old.items) }
+{
+    match form {
+        SlotForm::Call(_, callee) => add_site(sites, callee.place(), site),
+        _ => Ok(()),
+    }
+}
+
+/// Adds a call statement of the procedure at a place.
+#[tactic(auto, using(crate::proofs::SitesMade::site_there, crate::proofs::SitesMade::site_gone))]
+fn add_site(sites: &mut Vec<Items<StmtId>>, place: u32, site: StmtId) -> Result<(), Memory>
+    ensures added { OnOk result (sites.new.items ≡ with_site site place sites.old.items) }
+{
+    let place = place as usize;
+    if place < sites.len() {
+        sites[place].push(site)?;
+    }
+    Ok(())
+}
+
 /// Adds the statements of a block and all inside them, in the order of the text.
 #[cycle(entries)]
-#[tactic(auto, using(imp_syntax::specs::Blocks::member_smaller, imp_syntax::specs::Blocks::block_rest))]
+#[tactic(auto, using(imp_syntax::specs::Blocks::member_smaller, imp_syntax::specs::Blocks::block_rest, crate::proofs::PartLemmas::member_nesting, crate::proofs::PartLemmas::next_is, crate::proofs::PutLemmas::all_both, crate::proofs::PutLemmas::sites_both))]
 pub(crate) fn block_entries(
     alloc: Global,
     frame: &Frame,
     context: &Context,
     block: &Block,
-    entries: &mut Items<Entry>,
+    making: &mut Making,
 ) -> Result<(), Memory>
-    ensures added { OnOk result (entries.new ≡ entries.old ++ block_entries frame.now context.now None block.now) }
+    requires shallow { context.now.depth + nesting block.now < 2 ^ 32 }
+    ensures put { OnOk result (making.new.places.items ≡ put_all (block_entries frame.now context.now None None block.now) making.old.places.items) }
+    ensures sites { OnOk result (making.new.sites.items ≡ with_sites (block_entries frame.now context.now None None block.now) making.old.sites.items) }
 {
     let mut front: Option<StmtId> = None;
-    for stmt in block.as_slice() {
-        statement_entries(alloc, frame, context, front, stmt, entries)?;
+    let stmts = block.as_slice();
+    for (i, stmt) in stmts.iter().enumerate() {
+        let next = number_at(stmts, i + 1);
+        statement_entries(alloc, frame, context, front, next, stmt, making)?;
         front = Some(stmt.id());
     }
     Ok(())
@@ -99,31 +234,29 @@ pub(crate) fn block_entries(
 
 /// Adds a statement and all inside it.
 #[cycle(entries)]
+#[tactic(auto, using(crate::proofs::PartLemmas::below_max_left, crate::proofs::PartLemmas::below_max_right, crate::proofs::PutLemmas::all_both, crate::proofs::PutLemmas::sites_both))]
 fn statement_entries(
     alloc: Global,
     frame: &Frame,
     context: &Context,
     front: Option<StmtId>,
+    next: Option<StmtId>,
     stmt: &Stmt,
-    entries: &mut Items<Entry>,
+    making: &mut Making,
 ) -> Result<(), Memory>
-    ensures added { OnOk result (entries.new ≡ entries.old ++ statement_entries frame.now context.now front stmt.now) }
+    requires shallow { context.now.depth + statement_nesting stmt.now < 2 ^ 32 }
+    ensures put { OnOk result (making.new.places.items ≡ put_all (statement_entries frame.now context.now front next stmt.now) making.old.places.items) }
+    ensures sites { OnOk result (making.new.sites.items ≡ with_sites (statement_entries frame.now context.now front next stmt.now) making.old.sites.items) }
 {
-    entries.push(entry_at(alloc, frame, context, front, stmt)?)?;
+    making.add(alloc, entry_at(alloc, frame, context, front, next, stmt)?)?;
     let id = stmt.id();
     match stmt.node() {
         StmtNode::If(_, then, els) => {
-            block_entries(
-                alloc,
-                frame,
-                &context.inside(id, Which::Then),
-                then,
-                entries,
-            )?;
-            block_entries(alloc, frame, &context.inside(id, Which::Else), els, entries)
+            block_entries(alloc, frame, &context.inside(id, Which::Then), then, making)?;
+            block_entries(alloc, frame, &context.inside(id, Which::Else), els, making)
         }
         StmtNode::While(_, body) => {
-            block_entries(alloc, frame, &context.inside_loop(id), body, entries)
+            block_entries(alloc, frame, &context.inside_loop(id), body, making)
         }
         _ => Ok(()),
     }

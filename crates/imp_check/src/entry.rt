@@ -1,22 +1,30 @@
-//! What is known of a statement by its number.
-use imp_slots::{SlotCall, SlotCond, SlotStmt};
-use imp_syntax::{ProcId, Stmt, StmtId};
+//! What is known of a statement by its number, and of a procedure by its place.
+use imp_slots::{Layout, SlotCall, SlotCond, SlotStmt};
+use imp_syntax::{Proc, ProcId, Stmt, StmtId};
+use plain_values::Items;
 
-/// A statement of a checked program, and where it stands.
+/// A statement of a checked program, and where it stands. It holds none of the statements inside it, so a change of a
+/// block leaves the entries of the statements around it, but where the ends of the block or the breaks of a loop change.
 #[derive(Drop)]
 pub struct Entry {
-    /// The statement.
-    pub stmt: Stmt,
+    /// Its number.
+    pub number: StmtId,
+    /// The statement, with its blocks empty.
+    pub part: Stmt,
     /// What it does, over slots.
     pub form: SlotForm,
-    /// Its procedure.
-    pub proc: ProcId,
-    /// The block that it stands in, or `None` for the procedure's own.
-    pub around: Option<Around>,
+    /// The block that it stands in.
+    pub context: Context,
     /// The statement in front of it in its block.
     pub front: Option<StmtId>,
-    /// The innermost loop of its procedure around it.
-    pub inner: Option<StmtId>,
+    /// The statement behind it in its block.
+    pub next: Option<StmtId>,
+    /// The ends of the first block of an if, or of the body of a while.
+    pub inner: BlockEnds,
+    /// The ends of the second block of an if.
+    pub other: BlockEnds,
+    /// Of a while, the breaks that leave it, in the order of the text.
+    pub breaks: Items<StmtId>,
 }
 
 /// What a statement does, over slots.
@@ -52,8 +60,31 @@ pub enum Which {
 
 /// Where the statements of a block stand.
 #[derive(Clone, Copy, Debug, PartialEq, Eq)]
-pub(crate) struct Context {
-    pub(crate) proc: ProcId,
-    pub(crate) around: Option<Around>,
-    pub(crate) inner: Option<StmtId>,
+pub struct Context {
+    /// Their procedure.
+    pub proc: ProcId,
+    /// The block that they make, or `None` for the procedure's own.
+    pub around: Option<Around>,
+    /// The innermost loop of the procedure around them.
+    pub head: Option<StmtId>,
+    /// How many blocks of the procedure are around them, but its own.
+    pub depth: u32,
+}
+
+/// The first and the last statement of a block, where it has any.
+#[derive(Clone, Copy, Debug, PartialEq, Eq)]
+pub struct BlockEnds {
+    pub first: Option<StmtId>,
+    pub last: Option<StmtId>,
+}
+
+/// A procedure of a checked program, without its statements.
+#[derive(Drop)]
+pub struct Head {
+    /// The procedure with an empty body.
+    pub bare: Proc,
+    /// Its variables as slots.
+    pub layout: Layout,
+    /// The ends of its body.
+    pub body: BlockEnds,
 }

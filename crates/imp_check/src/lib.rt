@@ -23,26 +23,34 @@
 //! memory.
 #![tactic(auto)]
 
+mod building;
 mod chains;
+mod change;
 mod checked;
 mod counts;
 mod entries;
 mod entry;
 mod fault;
-mod index;
+mod heads;
 mod kinds;
 mod literals;
 mod names;
 mod numbered;
+mod place;
 mod programs;
+mod putting;
+mod rebuilt;
 mod resolve;
 mod routines;
-mod sites;
 mod slots;
 mod statements;
+mod table;
 mod terms;
 
+pub use change::{Change, Put};
 pub use checked::{Checked, check};
-pub use entry::{Around, Entry, SlotForm, Which};
+pub use entry::{Around, BlockEnds, Context, Entry, Head, SlotForm, Which};
 pub use fault::{CheckError, Fault, Found};
 pub use numbered::is_numbered;
+pub use place::Place;
+pub use table::Table;

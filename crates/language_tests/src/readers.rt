@@ -50,11 +50,15 @@ fn places(rt: HostRuntime) -> Result<(), Fail> {
         stmt: StmtId::new(2),
         which: Which::Then,
     };
-    assert!(rt; broken.around == Some(then));
-    assert!(rt; broken.inner == Some(StmtId::new(1)));
+    assert!(rt; broken.context.around == Some(then));
+    assert!(rt; broken.context.head == Some(StmtId::new(1)));
     let called = checked.entry(StmtId::new(4)).expect(&rt, "statement 4");
     assert!(rt; called.front == Some(StmtId::new(2)));
-    assert!(rt; called.proc == ProcId::new(1));
+    assert!(rt; called.next.is_none());
+    assert!(rt; called.context.proc == ProcId::new(1));
+    let looping = checked.entry(StmtId::new(1)).expect(&rt, "statement 1");
+    assert!(rt; looping.inner.last == Some(StmtId::new(4)));
+    assert!(rt; looping.breaks.as_slice().first() == Some(&StmtId::new(3)));
     let main = checked.program().procs().last().expect(&rt, "main");
     assert!(rt; checked.proc_named(main.name()) == Some(ProcId::new(1)));
     assert!(rt; checked.sites(ProcId::new(0)).first() == Some(&StmtId::new(4)));

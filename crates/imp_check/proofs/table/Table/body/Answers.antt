@@ -1,0 +1,14 @@
+use Rattle.std.proofs.Common.{◌≡◌, slice_get, Option, Some, None, option_map, refl, sym, ap, ◌∙◌}
+use Rattle.imp_syntax.specs.Plain.{Procedure}
+use Rattle.imp_check.specs.Parts.{ends_of}
+use Rattle.imp_check.specs.Entries.{heads_of, head_of}
+use Rattle.imp_check.specs.Tables.{Tabled}
+use Rattle.imp_check.specs.declared.entry.Head.{Head}
+use Rattle.imp_check.proofs.TableLemmas.{head_at, body_at}
+use Rattle.imp_check.proofs.table.Table.body.Goals as goal
+
+pub returns-in-Some : goal.returns-in-Some
+returns-in-Some c = record { is = ap (option_map (λ (h : Head). h.body)) (c.in-Some.ensures.item ∙ ap (λ hs. slice_get hs c.place.result) (c.self.invariant.procedures ∙ ap (λ (t : Tabled). heads_of t.program) c.self.view_is)) ∙ body_at c.args.self.now.program c.place.result ∙ ap (λ k. option_map (λ (p : Procedure). ends_of p.body) (slice_get c.args.self.now.program k)) c.place.ensures.is }
+
+pub returns-in-None : goal.returns-in-None
+returns-in-None c = record { is = ap (option_map (λ (h : Head). h.body)) (c.in-None.ensures.item ∙ ap (λ hs. slice_get hs c.place.result) (c.self.invariant.procedures ∙ ap (λ (t : Tabled). heads_of t.program) c.self.view_is)) ∙ body_at c.args.self.now.program c.place.result ∙ ap (λ k. option_map (λ (p : Procedure). ends_of p.body) (slice_get c.args.self.now.program k)) c.place.ensures.is }

@@ -1,0 +1,24 @@
+use Rattle.std.proofs.Common.{◌≡◌, ℕ, List, length, Bool, true, false, cond, Option, Some, None, sym, ap, ◌∙◌, arith}
+use Rattle.imp_syntax.specs.Plain.{Procedure}
+use Rattle.imp_check.specs.Names.{is_named, place_named}
+use Rattle.imp_check.specs.Entries.{heads_of, is_headed, place_headed}
+use Rattle.imp_check.specs.Tables.{Tabled}
+use Rattle.imp_check.specs.declared.entry.Head.{Head}
+use Rattle.imp_check.proofs.FewLemmas.{few_checked}
+use Rattle.imp_check.proofs.TableLemmas.{headed, headed_place, heads_length, named_by}
+use Rattle.imp_check.proofs.table.Table.proc_named.Goals as goal
+
+pub overflow_cast-place_named : goal.overflow_cast-place_named
+overflow_cast-place_named c =
+    let e = c.as_slice-heads.ensures.same ∙ c.self.invariant.procedures ∙ ap (λ (t : Tabled). heads_of t.program) c.self.view_is in
+    omega (arith, c.place_named.ensures.within, ap length e, heads_length c.args.self.now.program, (few_checked c.args.self.now.program c.procs.ensures.faultless).procedures)
+
+pub returns-then-is_named : goal.returns-then-is_named
+returns-then-is_named c =
+    let e = c.as_slice-heads.ensures.same ∙ c.self.invariant.procedures ∙ ap (λ (t : Tabled). heads_of t.program) c.self.view_is in
+    record { is = ap Some (c.new.ensures.is ∙ c.place_named.ensures.is ∙ ap (λ hs. place_headed hs c.args.name.now) e) ∙ named_by c.args.self.now.program c.args.name.now true (sym (ap (λ hs. is_headed hs c.args.name.now) e) ∙ sym c.is_named.ensures.is ∙ c.if-is_named.true) }
+
+pub returns-else-is_named : goal.returns-else-is_named
+returns-else-is_named c =
+    let e = c.as_slice-heads.ensures.same ∙ c.self.invariant.procedures ∙ ap (λ (t : Tabled). heads_of t.program) c.self.view_is in
+    record { is = named_by c.args.self.now.program c.args.name.now false (sym (ap (λ hs. is_headed hs c.args.name.now) e) ∙ sym c.is_named.ensures.is ∙ c.if-is_named.false) }

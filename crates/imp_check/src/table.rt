@@ -1,0 +1,192 @@
+//! Programs as tables of their statements.
+ghost use Rattle.std.specs.Prelude.{◌≡◌, ◌<◌, ◌≤◌, [], List, length, slice_get, option_map, IfOk, OnOk, OnErr, None};
+ghost use Rattle.std.specs.Option.{option_copied};
+ghost use Rattle.imp_syntax.specs.Plain.{Procedure, program_numbers};
+ghost use Rattle.imp_slots.specs.Fits.{IsChecked};
+ghost use Rattle.imp_check.specs.Names.{named_in};
+ghost use Rattle.imp_check.specs.Programs.{AreNumbered, check_fault, program_count};
+ghost use Rattle.imp_check.specs.Slots.{layout_in, routines_of};
+ghost use Rattle.imp_check.specs.Parts.{ends_of};
+ghost use Rattle.imp_check.specs.Entries.{entries_of, entry_of, heads_of, head_of, sites_in};
+ghost use Rattle.imp_check.specs.Fine.{IsFine};
+ghost use Rattle.imp_check.specs.Rebuilt.{program_by};
+ghost use Rattle.imp_check.specs.Tables.{entry_in, AreOf};
+ghost use Rattle.imp_check.specs.Changes.{AreWithin, Makes};
+
+use crate::change::{Change, exchange_list};
+use crate::entry::{BlockEnds, Entry, Head};
+use crate::heads::{is_named, place_named};
+use crate::place::Place;
+use crate::putting::{entry_in, make_room, put_all};
+use crate::rebuilt::procedures_from;
+use crate::routines::routines_of;
+use imp_slots::{Layout, Routine};
+use imp_syntax::{ProcId, Program, StmtId};
+use plain_values::{Items, Memory, Text};
+use std::alloc::Global;
+use std::marker::Model;
+
+/// A program without faults as the table of its statements by number, seen as its procedures and as the number below
+/// which the table has places.
+#[derive(Drop)]
+pub struct Table {
+    heads: Items<Head>,
+    places: Vec<Place>,
+    count: u32,
+    sites: Items<Items<StmtId>>,
+}
+
+impl Model for Table {
+    ghost use Rattle.std.specs.Prelude.{length};
+    ghost use Rattle.imp_check.specs.Tables.{Tabled, tabled_code, entry_in, AreOf};
+    ghost use Rattle.imp_check.specs.Rebuilt.{program_by};
+
+    ghost Value = { Tabled };
+
+    ghost coded = { tabled_code };
+
+    ghost view = { λ a. record { program = program_by (entry_in a.places.items) a.count a.heads; room = length a.places.items } };
+
+    ghost invariant = { λ a. AreOf (program_by (entry_in a.places.items) a.count a.heads) (entry_in a.places.items) a.count a.heads a.sites };
+}
+
+impl Table {
+    /// The table of these parts.
+    pub(crate) fn new(
+        heads: Items<Head>,
+        places: Vec<Place>,
+        count: u32,
+        sites: Items<Items<StmtId>>,
+    ) -> Table
+        requires right { AreOf (program_by (entry_in places.items) count heads) (entry_in places.items) count heads sites }
+        ensures is { result.program ≡ program_by (entry_in places.items) count heads }
+    {
+        Table {
+            heads,
+            places,
+            count,
+            sites,
+        }
+    }
+
+    /// The statement of a number, with where it stands and with its slots, or `None` where the program has no such
+    /// statement. It takes constant time.
+    pub fn entry(&self, id: StmtId) -> Option<&Entry>
+        ensures is { option_copied result ≡ entry_of (entries_of self.now.program) id }
+    {
+        entry_in(self.places.as_slice(), id.number())
+    }
+
+    /// The procedures without their statements, in the order of the text. They have no fault, their numbers stand once,
+    /// and over slots they fit.
+    pub fn procs(&self) -> &[Head]
+        ensures are { result.now ≡ heads_of self.now.program }
+        ensures faultless { check_fault self.now.program ≡ None }
+        ensures numbered { AreNumbered self.now.program }
+        ensures fit { IsChecked (routines_of self.now.program) }
+    {
+        self.heads.as_slice()
+    }
+
+    /// How many statements the program has.
+    pub fn count(&self) -> u32
+        ensures is { result ≡ program_count self.now.program }
+    {
+        self.count
+    }
+
+    /// The call statements of a procedure, in the order of the text; none for a procedure that is not there. It takes
+    /// constant time.
+    #[tactic(auto, using(crate::proofs::SiteLemmas::below_at, crate::proofs::SiteLemmas::below_past))]
+    pub fn sites(&self, proc: ProcId) -> &[StmtId]
+        ensures is { proc < length self.now.program → result.now ≡ sites_in (entries_of self.now.program) proc }
+        ensures none { length self.now.program ≤ proc → result.now ≡ [] }
+    {
+        match self.sites.get(proc.place() as usize) {
+            Some(sites) => sites.as_slice(),
+            None => &[],
+        }
+    }
+
+    /// The ends of a procedure's body, or `None` where there is no such procedure.
+    pub fn body(&self, proc: ProcId) -> Option<BlockEnds>
+        ensures is { result ≡ option_map (λ (p : Procedure). ends_of p.body) (slice_get self.now.program proc) }
+    {
+        match self.heads.get(proc.place() as usize) {
+            Some(head) => Some(head.body),
+            None => None,
+        }
+    }
+
+    /// The variables of a procedure as slots, or `None` where there is no such procedure.
+    pub fn layout(&self, proc: ProcId) -> Option<&Layout>
+        ensures is { option_copied result ≡ option_map layout_in (slice_get self.now.program proc) }
+    {
+        match self.heads.get(proc.place() as usize) {
+            Some(head) => Some(&head.layout),
+            None => None,
+        }
+    }
+
+    /// The first procedure of a name, or `None` where there is none. It takes time linear in the procedures.
+    pub fn proc_named(&self, name: &Text) -> Option<ProcId>
+        ensures is { result ≡ named_in self.now.program name.now }
+    {
+        self.procs();
+        let heads = self.heads.as_slice();
+        if is_named(heads, name) {
+            Some(ProcId::new(place_named(heads, name) as u32))
+        } else {
+            None
+        }
+    }
+
+    /// The program as a tree, made anew. It takes time linear in the program, and fails for want of memory alone.
+    #[tactic(auto, using(crate::proofs::FewLemmas::few_statements))]
+    pub fn tree(&self, alloc: Global) -> Result<Program, Memory>
+        ensures is { IfOk result (λ program. program ≡ self.now.program) }
+    {
+        let heads = self.heads.as_slice();
+        let procs = procedures_from(alloc, self.places.as_slice(), self.count + 1, heads)?;
+        Program::new(alloc, procs)
+    }
+
+    /// The procedures over slots, made anew, in the order of the text. Slots are of the layouts with their kinds, callees
+    /// stand earlier and take their arguments, numbers stand once, and each break has a loop around it. It takes time
+    /// linear in the program, and fails for want of memory alone.
+    #[tactic(auto, using(crate::proofs::FewLemmas::few_checked))]
+    pub fn routines(&self, alloc: Global) -> Result<Items<Routine>, Memory>
+        ensures is { IfOk result (λ routines. routines ≡ routines_of self.now.program) }
+        ensures fit { IsChecked (routines_of self.now.program) }
+    {
+        self.procs();
+        let program = self.tree(alloc)?;
+        routines_of(alloc, program.procs())
+    }
+
+    /// Makes places below a number. For want of memory the table keeps those that it has.
+    pub fn make_room(&mut self, below: u32) -> Result<(), Memory>
+        ensures room { OnOk result (below ≤ self.new.room) }
+        ensures kept { self.new.program ≡ self.old.program }
+        ensures no_less { self.old.room ≤ self.new.room }
+    {
+        make_room(&mut self.places, below as usize)
+    }
+
+    /// Puts a change in, and leaves in its place the change back. It takes no memory and cannot fail.
+    pub fn exchange(&mut self, change: &mut Change)
+        ghost program: { List Procedure }
+        requires makes { Makes self.old.program change.old program }
+        requires fine { IsFine program }
+        requires within { AreWithin self.old.room change.old.entries.items }
+        ensures is { self.new.program ≡ program }
+        ensures room { self.new.room ≡ self.old.room }
+        ensures back { Makes program change.new self.old.program }
+        ensures back_within { AreWithin self.old.room change.new.entries.items }
+    {
+        put_all(&mut self.places, change.entries.as_mut_slice());
+        std::mem::swap(&mut self.count, &mut change.count);
+        exchange_list(&mut self.heads, &mut change.heads);
+        exchange_list(&mut self.sites, &mut change.sites);
+    }
+}
