@@ -1,0 +1,34 @@
+//! The domains that the words name, each with the code that computes it.
+ghost use Rattle.batch_sound.specs.Theorem.{AreAnswersSound, AreReportsSound};
+ghost use Rattle.command_words.specs.declared.job.DomainName.{DomainName as Name};
+ghost use Rattle.daig_server.specs.Domains.{RepliesAs, meaning_of};
+
+use batch_sound::{answers_are_sound, reports_are_sound};
+use dom_interval::Interval;
+use domain_laws::Domain;
+
+/// A domain that the words name: replies by it are those by what the name means.
+pub trait Named: Domain + Drop {
+    /// Its name.
+    ghost name: { Name };
+
+    ghost replies: { (d : Self) → RepliesAs name (operations d) };
+}
+
+impl Named for Interval {
+    ghost use Rattle.std.specs.Prelude.{refl};
+    ghost use Rattle.command_words.specs.declared.job.DomainName.TheVariants as domain;
+
+    ghost name = { domain.Interval };
+
+    ghost replies = { λ _. record { lines = λ _ _. refl; reports = λ _. refl } };
+}
+
+/// Answers and reports are sound by each domain that the words name.
+pub(crate) fn named_domains_are_sound()
+    ensures answers { (name : Name) → AreAnswersSound (meaning_of name).operations (meaning_of name).covers }
+    ensures reports { (name : Name) → AreReportsSound (meaning_of name).operations }
+{
+    answers_are_sound::<Interval>();
+    reports_are_sound::<Interval>();
+}
