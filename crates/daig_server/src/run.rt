@@ -22,6 +22,7 @@ use crate::status::Status;
 use crate::task::Task;
 use command_words::{DomainName, Job, Settings, WordsError, read_words};
 use dom_interval::Interval;
+use dom_octagon::Octagon;
 use imp_check::Checked;
 use io_edge::{Failed, Files, LoadFault, Sink, Source};
 use request_json::{Refusal, Reply, reply_line};
@@ -115,6 +116,35 @@ fn run_task<D: Named, I: Source, O: Sink, L: Ledger>(
     }
 }
 
+/// Does the task for a program without faults, by the domain that the settings name.
+fn run_by<D: Named, I: Source, O: Sink, L: Ledger>(
+    alloc: Global,
+    domain: D,
+    task: Task,
+    settings: Settings,
+    program: Checked,
+    script: &mut I,
+    out: &mut O,
+    steps: &mut Steps<L>,
+) -> Status
+    requires named { settings.domain ≡ D.name }
+    ensures fits { Fits result 0 }
+    ensures wrote { (text taken : List ℕ) → I.told script.old ≡ Some text → O.told out.old ≡ Some taken
+        → Wrote result (source_output task settings (Ok program) text) text taken (I.told script.new) (O.told out.new) }
+    ensures ended { result ≡ Status.Done → task ≡ Task.Serve → (text : List ℕ) → I.told script.old ≡ Some text → ReadToEnd text (I.told script.new) }
+    ensures unread { task ≡ Task.Batch → I.told script.new ≡ I.told script.old }
+    ensures long { result ≡ Status.LongScript → (task ≡ Task.Serve) × ((text : List ℕ) → I.told script.old ≡ Some text → ReadBytes (2 ^ 40) text (I.told script.new)) }
+    ensures script_failed { result ≡ Status.Script → (task ≡ Task.Serve) × Rose (I.faults script.old) (I.faults script.new) }
+    ensures sink_failed { result ≡ Status.Sink → Rose (O.faults out.old) (O.faults out.new) }
+    ensures no_file { result ≡ Status.Files → ⊥ }
+    ensures no_words { result ≡ Status.Words → ⊥ }
+    ensures no_long_file { result ≡ Status.LongFile → ⊥ }
+    ensures no_source { result ≡ Status.Source → ⊥ }
+{
+    let server = Server::new(domain, program, settings);
+    run_task(alloc, task, server, script, out, steps)
+}
+
 /// Does the task for a program without faults.
 fn run_program<I: Source, O: Sink, L: Ledger>(
     alloc: Global,
@@ -142,9 +172,9 @@ fn run_program<I: Source, O: Sink, L: Ledger>(
     let _routines = program.routines();
     match settings.domain {
         DomainName::Interval => {
-            let server = Server::new(Interval, program, settings);
-            run_task(alloc, task, server, script, out, steps)
+            run_by(alloc, Interval, task, settings, program, script, out, steps)
         }
+        DomainName::Octagon => run_by(alloc, Octagon, task, settings, program, script, out, steps),
     }
 }
 
