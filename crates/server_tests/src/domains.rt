@@ -2,8 +2,13 @@
 use crate::table::served;
 use std::test::Fail;
 
+/// Counts to ten.
+const TEN: &str =
+    "proc main() { var i: int; var n: int; n = 10; i = 0; while (i < n) { i = i + 1; } }";
+
 /// An array of a length that is read, filled to its end.
-const FILLED: &str = "proc main() { var i: int; var n: int; var a: array; n = input; a = array n; i = 0; while (i < len a) { a[i] = i; i = i + 1; } }";
+const FILLED: &str =
+    "proc main() { var i: int; var n: int; var a: array; n = input; a = array n; i = 0; while (i < len a) { a[i] = i; i = i + 1; } }";
 
 /// Octagons: what is known of two numbers at once, where intervals know each alone.
 #[test]
@@ -19,9 +24,16 @@ fn octagons(rt: HostRuntime) -> Result<(), Fail> {
         ),
         (
             "daig serve --widening plain --domain octagon f",
-            "proc main() { var i: int; var n: int; n = 10; i = 0; while (i < n) { i = i + 1; } }",
+            TEN,
             "{\"at\":\"after 3\",\"do\":\"state\"}\n",
             "{\"state\":\"i=[10,max] n=[10,10]\"}\n",
+            0,
+        ),
+        (
+            "daig serve --domain octagon f",
+            TEN,
+            "{\"at\":\"after 3\",\"do\":\"state\"}\n{\"at\":\"before 4\",\"do\":\"state\"}\n",
+            "{\"state\":\"i=[10,10] n=[10,10]\"}\n{\"state\":\"i=[0,9] n=[10,10]\"}\n",
             0,
         ),
         (
@@ -51,6 +63,7 @@ fn octagons(rt: HostRuntime) -> Result<(), Fail> {
 #[test]
 fn no_domains(rt: HostRuntime) -> Result<(), Fail> {
     let alloc = rt.alloc();
+    let usage = "usage: daig serve|batch|gen [OPTIONS] [FILE]\n";
     for words in [
         "daig serve --domain cubes f",
         "daig batch --domain cubes f",
@@ -59,7 +72,7 @@ fn no_domains(rt: HostRuntime) -> Result<(), Fail> {
         "daig serve --domain listseg+interval f",
     ] {
         let (status, bytes) = served(alloc, words, FILLED.as_bytes(), b"", 100_000)?;
-        assert_eq!(rt; bytes.as_slice(), b"usage: daig serve|batch|gen [OPTIONS] [FILE]\n", "{words}");
+        assert_eq!(rt; bytes.as_slice(), usage.as_bytes(), "{words}");
         assert_eq!(rt; status, 2, "{words}");
     }
     Ok(())
