@@ -6,6 +6,10 @@ use Rattle.listseg_meaning.specs.State.{Segments, Top, Graphs}
 use Rattle.listseg_meaning.specs.Sets.{capped}
 use Rattle.listseg_meaning.specs.Operations.{each, returned, leave, dead}
 
+no-graph : (f : Shape → List Shape) → each f (Graphs []) ≡ Graphs []
+unfolding capped
+no-graph f = refl
+
 -- by the graphs of the callee's state
 pub leave_graphs : (o : Option Returning) (gs : List Shape) (d : Segments) → dead (Graphs gs) ≡ false → leave o (Graphs gs) d ≡ each (λ (h : Shape). returned o h ∷ []) d
 unfolding leave dead
@@ -29,9 +33,5 @@ unfolding leave dead
 leave_done o s Top h = cc
 leave_done o Top (Graphs []) h = refl
 leave_done o (Graphs []) (Graphs []) h = refl
-leave_done o (Graphs (g ∷ gs)) (Graphs []) h = none
-  where
-    none : each (λ (h : Shape). returned o h ∷ []) (Graphs []) ≡ Graphs []
-    unfolding capped
-    none = refl
+leave_done o (Graphs (g ∷ gs)) (Graphs []) h = no-graph (λ (h : Shape). returned o h ∷ [])
 leave_done o s (Graphs (g ∷ gs)) h = cc

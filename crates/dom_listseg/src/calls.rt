@@ -1,5 +1,5 @@
 //! Frames: main's first state, entering and leaving calls, and the last frame alone.
-ghost use Rattle.std.specs.Prelude.{◌≡◌, ◌-◌, [], ◌∷◌, length, IfOk, map};
+ghost use Rattle.std.specs.Prelude.{◌≡◌, ◌-◌, [], ◌∷◌, length, IfOk, map, None, slice_index_or};
 ghost use Rattle.concrete_sem.specs.Passing.{first_link, over};
 ghost use Rattle.imp_slots.specs.CallViews.{argument_of, taken_of};
 ghost use Rattle.shape_steps.specs.Steps as steps;
@@ -49,21 +49,41 @@ fn link_arguments(alloc: Global, arguments: &[Argument]) -> Result<Vec<Option<u3
     Ok(links)
 }
 
+// The side that a slot of a callee starts with: its argument, or null.
+fn started_side(links: &[Option<u32>], slot: usize) -> Option<u32>
+    ensures side { result ≡ slice_index_or links.now slot None }
+{
+    if slot < links.len() {
+        links[slot]
+    } else {
+        None
+    }
+}
+
+// The sides that slots of these names start with.
+fn started_sides(
+    alloc: Global,
+    names: &[Text],
+    links: &[Option<u32>],
+) -> Result<Vec<Option<u32>>, Memory>
+    ensures exact { IfOk result (λ v. v.items ≡ over links.now (map first_link names.now)) }
+{
+    let mut sides = Vec::with_capacity(alloc, names.len())?;
+    for slot in 0..names.len() {
+        sides.push(started_side(links, slot))?;
+    }
+    Ok(sides)
+}
+
 // The sides that the list slots of a callee start with.
 fn entered_sides(alloc: Global, entering: &Entering) -> Result<Vec<Option<u32>>, Memory>
     ensures exact { IfOk result (λ v. v.items ≡ operations.entered entering.now) }
 {
     let links = link_arguments(alloc, entering.arguments())?;
-    let count = entering.layout().links().len();
-    let mut sides = Vec::with_capacity(alloc, count)?;
-    for slot in 0..count {
-        sides.push(if slot < links.len() { links[slot] } else { None })?;
-    }
-    Ok(sides)
+    started_sides(alloc, entering.layout().links(), &links)
 }
 
 // The targets of sides.
-#[tactic(auto, using(crate::proofs::Collected::map_next))]
 fn targets(alloc: Global, graph: &Graph, sides: &[Option<u32>]) -> Result<Vec<Option<usize>>, Memory>
     ensures exact { IfOk result (λ v. v.items ≡ map (steps.argument_of graph.now.frames) sides.now) }
 {
@@ -84,7 +104,7 @@ fn entered_graph(alloc: Global, sides: &[Option<u32>], graph: &Graph) -> Result<
 }
 
 // The graphs with a frame of the callee.
-#[tactic(auto, unfolding(listseg_meaning::specs::Operations::enter), using(crate::proofs::Collected::single_next))]
+#[tactic(auto, unfolding(listseg_meaning::specs::Operations::enter))]
 fn entered_graphs(
     alloc: Global,
     entering: &Entering,
@@ -143,7 +163,6 @@ fn returned_graph(
 }
 
 // The graphs without their last frame, with the result taken.
-#[tactic(auto, using(crate::proofs::Collected::single_next))]
 fn returned_graphs(
     alloc: Global,
     returning: Option<Returning>,
@@ -180,7 +199,7 @@ pub fn left(
 }
 
 // The last frames of graphs alone.
-#[tactic(auto, unfolding(listseg_meaning::specs::Operations::shed), using(crate::proofs::Collected::single_next))]
+#[tactic(auto, unfolding(listseg_meaning::specs::Operations::shed))]
 fn last_frames(alloc: Global, graphs: &[Graph]) -> Result<SegmentState, Memory>
     ensures exact { IfOk result (λ t. t ≡ operations.shed (Graphs graphs.now)) }
 {

@@ -40,7 +40,6 @@ pub fn put_folded(alloc: Global, graphs: &mut Vec<Graph>, graph: &Graph) -> Resu
 }
 
 /// Puts the folds of graphs in their places, unless they are there.
-#[tactic(auto, using(crate::proofs::Collected::put_next))]
 pub fn put_all(alloc: Global, graphs: &mut Vec<Graph>, others: &[Graph]) -> Result<(), Memory>
     ensures put { IfOk result (λ _. graphs.new.items ≡ sets.union graphs.old.items (map fold_of others.now)) }
 {
@@ -63,7 +62,6 @@ pub fn capped(graphs: Vec<Graph>) -> SegmentState
 }
 
 // The graphs of both.
-#[tactic(auto, using(crate::proofs::Collected::insert_next))]
 fn union(alloc: Global, left: &[Graph], right: &[Graph]) -> Result<Vec<Graph>, Memory>
     ensures union { IfOk result (λ v. v.items ≡ sets.union left.now right.now) }
 {

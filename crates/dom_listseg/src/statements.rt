@@ -17,7 +17,6 @@ use shape_graph::Graph;
 use std::alloc::Global;
 
 // What a statement that changes a link makes of graphs.
-#[tactic(auto, using(crate::proofs::Collected::step_next))]
 fn moved_graphs(
     alloc: Global,
     action: &SlotAction,
@@ -44,6 +43,7 @@ fn moved(alloc: Global, action: &SlotAction, s: &SegmentState) -> Result<Segment
 }
 
 // The state where the check of a statement holds.
+#[tactic(auto, using(crate::proofs::Assumed::index_passed))]
 fn checked(alloc: Global, action: &SlotAction, s: SegmentState) -> Result<SegmentState, Memory>
     ensures exact { IfOk result (λ t. t ≡ past_check operations.assume (checks.check_of (effect_of action.now)) s) }
 {

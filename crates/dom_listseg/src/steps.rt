@@ -21,7 +21,6 @@ fn single(alloc: Global, graph: Graph) -> Result<Vec<Graph>, Memory>
 }
 
 // `p = q.next`
-#[tactic(auto, using(crate::proofs::Collected::map_next))]
 fn read(alloc: Global, graph: &Graph, to: usize, from: usize) -> Result<Vec<Graph>, Memory>
     ensures exact { IfOk result (λ v. v.items ≡ operations.read_at graph.now to (slot_of graph.now.frames from)) }
 {
@@ -37,7 +36,6 @@ fn read(alloc: Global, graph: &Graph, to: usize, from: usize) -> Result<Vec<Grap
 }
 
 // `p.next = q`
-#[tactic(auto, using(crate::proofs::Collected::map_next))]
 fn write(alloc: Global, graph: &Graph, to: usize, from: usize) -> Result<Vec<Graph>, Memory>
     ensures exact { IfOk result (λ v. v.items ≡ operations.write_at graph.now (slot_of graph.now.frames to) from) }
 {
