@@ -1,6 +1,6 @@
 -- Frames whose slots start with nil, or with arguments.
-use Rattle.std.proofs.Common.{◌≡◌, ℕ, zero, suc, ◌+◌, ◌<◌, List, [], ◌∷◌, ◌++◌, length, map, replicate, drop, get_or, Option, None, refl, sym, ◌∙◌, ap, inl, arith, add-one}
-use Rattle.std.proofs.lemmas.List.{append_assoc}
+use Rattle.std.proofs.Common.{◌≡◌, ℕ, zero, suc, ◌+◌, ◌<◌, ◌≤◌, List, [], ◌∷◌, ◌++◌, length, map, replicate, drop, get_or, Option, None, refl, sym, ◌∙◌, ap, inl, arith, add-one}
+use Rattle.std.proofs.lemmas.List.{append_assoc, append-nil, drop_all}
 use Rattle.imp_slots.specs.Plain.{Layout}
 use Rattle.concrete_sem.specs.Passing.{first_link, over}
 use Rattle.shape_graph.specs.declared.graph.Atom.{Atom}
@@ -38,3 +38,12 @@ sides_next xs names sides after whole i h w e =
     (ap (λ v. v ++ over (drop (suc i) xs) (map first_link (drop (suc i) names))) e
     ∙ append_assoc sides (get_or xs i None ∷ []) (over (drop (suc i) xs) (map first_link (drop (suc i) names)))
     ∙ ap (λ v. sides ++ v) (sym (side-next xs names i h)) ∙ w)
+
+over-none : (xs : List (Option ℕ)) → over xs [] ≡ []
+over-none [] = refl
+over-none (x ∷ xs) = refl
+
+-- behind the last slot none are to come
+pub sides_all : (xs : List (Option ℕ)) (names : List (List ℕ)) (sides whole : List (Option ℕ)) (i : ℕ) → length names ≤ i → sides ++ over (drop i xs) (map first_link (drop i names)) ≡ whole → sides ≡ whole
+sides_all xs names sides whole i h w =
+    sym (append-nil sides) ∙ ap (λ v. sides ++ v) (sym (ap (λ ns. over (drop i xs) (map first_link ns)) (drop_all i names h) ∙ over-none (drop i xs))) ∙ w

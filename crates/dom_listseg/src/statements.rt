@@ -107,6 +107,31 @@ fn done(alloc: Global, action: &SlotAction, s: SegmentState) -> Result<SegmentSt
     }
 }
 
+// The state behind a simple statement. One without a check is done on the graphs as they stand.
+#[tactic(auto, unfolding(listseg_meaning::specs::Operations::does))]
+fn acted(alloc: Global, action: &SlotAction, s: &SegmentState) -> Result<SegmentState, Memory>
+    ensures exact { IfOk result (λ t. t ≡ operations.does (effect_of action.now) (past_check operations.assume (checks.check_of (effect_of action.now)) s.now)) }
+{
+    match action {
+        SlotAction::SetNull(_) => moved(alloc, action, s),
+        SlotAction::MakeCell(_) => moved(alloc, action, s),
+        SlotAction::CopyLink(_, _) => moved(alloc, action, s),
+        _ => checked_first(alloc, action, s),
+    }
+}
+
+// The state behind a simple statement, by its check.
+fn checked_first(
+    alloc: Global,
+    action: &SlotAction,
+    s: &SegmentState,
+) -> Result<SegmentState, Memory>
+    ensures exact { IfOk result (λ t. t ≡ operations.does (effect_of action.now) (past_check operations.assume (checks.check_of (effect_of action.now)) s.now)) }
+{
+    let passed = checked(alloc, action, copy_of(alloc, s)?)?;
+    done(alloc, action, passed)
+}
+
 /// The state behind a simple statement or a break.
 #[tactic(auto, unfolding(listseg_meaning::specs::Operations::post))]
 pub fn behind(alloc: Global, stmt: &SlotStmt, s: &SegmentState) -> Result<SegmentState, Memory>
@@ -114,9 +139,6 @@ pub fn behind(alloc: Global, stmt: &SlotStmt, s: &SegmentState) -> Result<Segmen
 {
     match stmt {
         SlotStmt::Break => Ok(empty(alloc)),
-        SlotStmt::Simple(action) => {
-            let passed = checked(alloc, action, copy_of(alloc, s)?)?;
-            done(alloc, action, passed)
-        }
+        SlotStmt::Simple(action) => acted(alloc, action, s),
     }
 }
