@@ -84,7 +84,11 @@ fn entered_sides(alloc: Global, entering: &Entering) -> Result<Vec<Option<u32>>,
 }
 
 // The targets of sides.
-fn targets(alloc: Global, graph: &Graph, sides: &[Option<u32>]) -> Result<Vec<Option<usize>>, Memory>
+fn targets(
+    alloc: Global,
+    graph: &Graph,
+    sides: &[Option<u32>],
+) -> Result<Vec<Option<usize>>, Memory>
     ensures exact { IfOk result (λ v. v.items ≡ map (steps.argument_of graph.now.frames) sides.now) }
 {
     let mut targets = Vec::with_capacity(alloc, sides.len())?;
@@ -123,11 +127,7 @@ fn entered_graphs(
 
 /// The state in front of a callee's body.
 #[tactic(auto, unfolding(listseg_meaning::specs::Operations::enter))]
-pub fn entered(
-    alloc: Global,
-    entering: &Entering,
-    s: &SegmentState,
-) -> Result<SegmentState, Memory>
+pub fn entered(alloc: Global, entering: &Entering, s: &SegmentState) -> Result<SegmentState, Memory>
     ensures exact { IfOk result (λ t. t ≡ operations.enter entering.now s.now) }
 {
     match &s.kept {

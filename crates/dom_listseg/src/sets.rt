@@ -5,7 +5,7 @@ ghost use Rattle.listseg_meaning.specs.Sets as sets;
 ghost use Rattle.listseg_meaning.specs.Operations as operations;
 
 use crate::SegmentState;
-use crate::state::{Kept, copy_of, copied, top, within};
+use crate::state::{Kept, copied, copy_of, top, within};
 use plain_values::Memory;
 use shape_graph::{Graph, fold};
 use std::alloc::Global;

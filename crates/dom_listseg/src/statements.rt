@@ -68,12 +68,7 @@ fn checked(alloc: Global, action: &SlotAction, s: SegmentState) -> Result<Segmen
 
 /// The state where a link is a cell, or where it is none.
 #[tactic(auto, unfolding(listseg_meaning::specs::Operations::assume))]
-pub fn is_cell(
-    alloc: Global,
-    p: u32,
-    sense: bool,
-    s: SegmentState,
-) -> Result<SegmentState, Memory>
+pub fn is_cell(alloc: Global, p: u32, sense: bool, s: SegmentState) -> Result<SegmentState, Memory>
     ensures exact { IfOk result (λ t. t ≡ operations.assume (checks.checked_guard (checks.IsCell p)) sense s) }
 {
     if sense {

@@ -52,8 +52,8 @@ fn follow<L: Ledger>(alloc: Global, blank: Blank) -> Result<bool, Fail>
     let once = ListSeg.post(alloc, &first, &made, &mut steps)?;
     let may = ListSeg.check(alloc, &second, &once)? == Verdict::May;
     let twice = ListSeg.post(alloc, &second, &once, &mut steps)?;
-    let shown = ListSeg.text(alloc, &layout, &once)?.as_slice() == b"p=1 q=nil 1:one(nil)";
-    let none = ListSeg.text(alloc, &layout, &twice)?.as_slice() == b"none";
+    let shown = ListSeg.text(alloc, &layout, &once)?.as_slice() == b"p=1 q=nil 1:one(nil)".as_slice();
+    let none = ListSeg.text(alloc, &layout, &twice)?.as_slice() == b"none".as_slice();
     Ok(safe && may && shown && none)
 }
 
@@ -82,7 +82,7 @@ fn build<L: Ledger>(alloc: Global, blank: Blank) -> Result<bool, Fail>
     let third = ListSeg.widen(alloc, &[], &second, &next, &mut steps)?;
     let text = ListSeg.text(alloc, &layout, &second)?;
     let shown = text.as_slice()
-        == b"p=nil q=nil x=nil | p=1 q=1 x=nil 1:one(nil) | p=1 q=1 x=nil 1:seg(nil)";
+        == b"p=nil q=nil x=nil | p=1 q=1 x=nil 1:one(nil) | p=1 q=1 x=nil 1:seg(nil)".as_slice();
     Ok(shown && third == second)
 }
 

@@ -12,5 +12,5 @@ returns-in-Top-default c =
     let described = sym c.if-is_empty-2.ensures.exact in
     record {
       exact = c.top-in-Top-default.ensures.top
-      ∙ sym (ap (λ s. operations.leave (taken_of c.args.returning) s c.args.done.now) is_top ∙ leave_top (taken_of c.args.returning) c.args.done.now described);
+          ∙ sym (ap (λ s. operations.leave (taken_of c.args.returning) s c.args.done.now) is_top ∙ leave_top (taken_of c.args.returning) c.args.done.now described);
     }
