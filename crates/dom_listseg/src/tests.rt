@@ -1,11 +1,13 @@
-//! What no clause says: that the operations succeed, and the texts of two programs.
+//! What no clause says: that the operations succeed, and the texts of three programs.
 
 ghost use Rattle.std.specs.Prelude.{◌≡◌, ◌<◌};
 
 use crate::{ListSeg, SegmentState};
 use analysis_words::Verdict;
 use domain_laws::{Domain, Steps};
-use imp_slots::{Layout, SlotAction, SlotStmt};
+use imp_slots::{
+    Argument, Entering, Layout, Returning, SlotAction, SlotCall, SlotCond, SlotCondNode, SlotStmt,
+};
 use plain_values::{Items, Text};
 use std::alloc::Global;
 use std::marker::Brand;
@@ -86,14 +88,73 @@ fn build<L: Ledger>(alloc: Global, blank: Blank) -> Result<bool, Fail>
     Ok(shown && third == second)
 }
 
+// p = new; q = f(p), where f puts a new cell in front of its list.
+fn call<L: Ledger>(alloc: Global, blank: Blank) -> Result<bool, Fail>
+    requires name { blank.name ≡ L.name }
+    requires parts { blank.parts ≡ L.parts }
+    requires some { 0 < blank.parts }
+{
+    let mut steps = Steps::<L>::new(blank);
+    let caller = layout(alloc, &["p", "q"])?;
+    let mut arguments = Items::new(alloc);
+    arguments.push(Argument::Link(Some(0)))?;
+    let entering = Entering::new(alloc, layout(alloc, &["a", "r"])?, arguments)?;
+    let call = SlotCall::new(entering, Some(Returning::Link { to: 1, from: 1 }));
+    let start = ListSeg.init(alloc, &caller, &mut steps)?;
+    let before = behind(alloc, &[SlotAction::MakeCell(0)], start, &mut steps)?;
+    let inside = ListSeg.enter(alloc, &call, &before, &mut steps)?;
+    let body = [SlotAction::MakeCell(1), SlotAction::WriteNext(1, 0)];
+    let done = behind(alloc, &body, inside, &mut steps)?;
+    let alone = ListSeg.shed(alloc, &done, &mut steps)?;
+    let callee = ListSeg.text(alloc, call.entering().layout(), &alone)?;
+    let after = ListSeg.leave(alloc, &call, &before, &done, &mut steps)?;
+    let shown = callee.as_slice() == b"a=1 r=2 1:one(nil) 2:one(1)".as_slice()
+        && ListSeg.text(alloc, &caller, &after)?.as_slice()
+            == b"p=1 q=2 1:one(nil) 2:one(1)".as_slice();
+    Ok(shown && links_differ(alloc, &after, &mut steps)?)
+}
+
+// That q is no null, and is not p.
+fn links_differ<L: Ledger>(
+    alloc: Global,
+    s: &SegmentState,
+    steps: &mut Steps<L>,
+) -> Result<bool, Fail> {
+    let null = SlotCond::new(alloc, SlotCondNode::CompareLinks(true, Some(1), None))?;
+    let same = SlotCond::new(alloc, SlotCondNode::CompareLinks(true, Some(0), Some(1)))?;
+    let either = SlotCond::new(alloc, SlotCondNode::Or(null, same))?;
+    let with = ListSeg.assume(alloc, &either, true, s, steps)?;
+    let without = ListSeg.assume(alloc, &either, false, s, steps)?;
+    let both = ListSeg.join(alloc, &with, &without, steps)?;
+    Ok(ListSeg.dead(&with) && without == *s && both == *s)
+}
+
+fn follows(alloc: Global) -> Result<bool, Fail> {
+    follow::<Brand>(alloc, Blank::new(1))
+}
+
+fn builds(alloc: Global) -> Result<bool, Fail> {
+    build::<Brand>(alloc, Blank::new(1))
+}
+
+fn calls(alloc: Global) -> Result<bool, Fail> {
+    call::<Brand>(alloc, Blank::new(1))
+}
+
 #[test]
 fn follows_links(rt: HostRuntime) -> Result<(), Fail> {
-    assert!(rt; follow::<Brand>(rt.alloc(), Blank::new(1))?);
+    assert!(rt; follows(rt.alloc())?);
     Ok(())
 }
 
 #[test]
 fn builds_lists(rt: HostRuntime) -> Result<(), Fail> {
-    assert!(rt; build::<Brand>(rt.alloc(), Blank::new(1))?);
+    assert!(rt; builds(rt.alloc())?);
+    Ok(())
+}
+
+#[test]
+fn calls_and_returns(rt: HostRuntime) -> Result<(), Fail> {
+    assert!(rt; calls(rt.alloc())?);
     Ok(())
 }
