@@ -9,7 +9,7 @@ use Rattle.batch_converges.specs.Converges.{Ending, Grows}
 use Rattle.product_answers.specs.Claims.{later_of_both, changes_of_both}
 
 -- where neither part changes the pair stays; else a part has fewer changes left, and the other no more
-falls : {S T : Type 0} (left : S → ℕ) (right : T → ℕ) (s x : S) (t y : T) → (x ≡ s) ⊎ (left x < left s) → (y ≡ t) ⊎ (right y < right t) → ((x, y) ≡ (s, t)) ⊎ (left x + right y < left s + right t)
+falls : {S T : Type 0} (left : S → ℕ) (right : T → ℕ) (s x : S) (t y : T) → (x ≡ s) ⊎ (left x < left s) → (y ≡ t) ⊎ (right y < right t) → (◌≡◌ {A = S × T} (x, y) (s, t)) ⊎ (left x + right y < left s + right t)
 falls left right s x t y (inl e) (inl d) = inl (λ i. (e i, d i))
 falls left right s x t y (inl e) (inr d) = let same = ap left e in inr (omega arith)
 falls left right s x t y (inr e) (inl d) = let same = ap right d in inr (omega arith)
