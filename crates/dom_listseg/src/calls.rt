@@ -8,7 +8,7 @@ ghost use Rattle.listseg_meaning.specs.Operations as operations;
 
 use crate::SegmentState;
 use crate::sets::{capped, put_folded};
-use crate::state::{Kept, empty, is_empty, top, within};
+use crate::state::{Kept, empty, is_empty, listed, top, within};
 use crate::targets::{side, target};
 use imp_slots::{Argument, Entering, Layout, Returning};
 use plain_values::{Memory, Text};
@@ -33,7 +33,7 @@ pub fn initial(alloc: Global, main: &Layout) -> Result<SegmentState, Memory>
     frames.push(Row::from_slots(nils(alloc, main.links())?))?;
     let mut graphs = Vec::with_capacity(alloc, 1)?;
     graphs.push(Graph::from_parts(frames, Vec::new(alloc)))?;
-    Ok(within(graphs))
+    within(alloc, graphs)
 }
 
 // The links among the arguments of a call, in order.
@@ -122,7 +122,7 @@ fn entered_graphs(
         let next = entered_graph(alloc, &sides, graph)?;
         put_folded(alloc, &mut all, &next)?;
     }
-    Ok(capped(all))
+    capped(alloc, all)
 }
 
 /// The state in front of a callee's body.
@@ -132,7 +132,7 @@ pub fn entered(alloc: Global, entering: &Entering, s: &SegmentState) -> Result<S
 {
     match &s.kept {
         Kept::Top => Ok(top()),
-        Kept::Graphs(graphs) => entered_graphs(alloc, entering, graphs),
+        Kept::Graphs(shared) => entered_graphs(alloc, entering, listed(shared)),
     }
 }
 
@@ -175,7 +175,7 @@ fn returned_graphs(
         let below = returned_graph(alloc, returning, graph)?;
         put_folded(alloc, &mut all, &below)?;
     }
-    Ok(capped(all))
+    capped(alloc, all)
 }
 
 /// The state behind a call.
@@ -189,10 +189,12 @@ pub fn left(
     ensures exact { IfOk result (λ t. t ≡ operations.leave (taken_of returning) s.now done.now) }
 {
     if is_empty(s) || is_empty(done) {
-        return Ok(empty(alloc));
+        return empty(alloc);
     }
     match (&s.kept, &done.kept) {
-        (Kept::Graphs(_), Kept::Graphs(graphs)) => returned_graphs(alloc, returning, graphs),
+        (Kept::Graphs(_), Kept::Graphs(shared)) => {
+            returned_graphs(alloc, returning, listed(shared))
+        }
         (Kept::Top, _) => Ok(top()),
         (_, Kept::Top) => Ok(top()),
     }
@@ -208,7 +210,7 @@ fn last_frames(alloc: Global, graphs: &[Graph]) -> Result<SegmentState, Memory>
         let next = last_frame(alloc, graph)?;
         put_folded(alloc, &mut all, &next)?;
     }
-    Ok(capped(all))
+    capped(alloc, all)
 }
 
 /// The last frame alone.
@@ -218,6 +220,6 @@ pub fn shed(alloc: Global, s: &SegmentState) -> Result<SegmentState, Memory>
 {
     match &s.kept {
         Kept::Top => Ok(top()),
-        Kept::Graphs(graphs) => last_frames(alloc, graphs),
+        Kept::Graphs(shared) => last_frames(alloc, listed(shared)),
     }
 }

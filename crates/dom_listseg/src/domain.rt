@@ -62,8 +62,7 @@ impl Domain for ListSeg {
         steps: &mut Steps<L>,
     ) -> Result<SegmentState, Memory> {
         steps.tick();
-        let copy = copy_of(alloc, s)?;
-        assumed(alloc, c, sense, copy)
+        assumed(alloc, c, sense, s)
     }
 
     fn join<L: Ledger>(
@@ -139,7 +138,7 @@ impl Domain for ListSeg {
     }
 
     fn copy(&self, alloc: Global, s: &SegmentState) -> Result<SegmentState, Memory> {
-        copy_of(alloc, s)
+        copy_of(s)
     }
 
     ghost laws = { λ d. segments_laws };

@@ -9,8 +9,9 @@ use shape_graph::Graph;
 use std::alloc::Global;
 use std::hash::{Hash, Hasher};
 use std::marker::Model;
+use std::rc::Rc;
 
-/// A state of list segments: all, or what one of its graphs covers.
+/// A state of list segments: all, or what one of its graphs covers. Copies share the graphs.
 #[derive(Drop)]
 pub struct SegmentState {
     pub(crate) kept: Kept,
@@ -19,7 +20,7 @@ pub struct SegmentState {
 #[derive(Drop)]
 pub(crate) enum Kept {
     Top,
-    Graphs(Vec<Graph>),
+    Graphs(Rc<Vec<Graph>>),
 }
 
 impl Model for SegmentState {
@@ -42,7 +43,7 @@ impl PartialEq for SegmentState {
     fn eq(&self, other: &SegmentState) -> bool {
         match (&self.kept, &other.kept) {
             (Kept::Top, Kept::Top) => true,
-            (Kept::Graphs(a), Kept::Graphs(b)) => *a == *b,
+            (Kept::Graphs(a), Kept::Graphs(b)) => *listed(a) == *listed(b),
             _ => false,
         }
     }
@@ -60,9 +61,9 @@ impl Hash for SegmentState {
     fn hash<H: Hasher>(&self, state: &mut H) {
         match &self.kept {
             Kept::Top => state.write_u8(0),
-            Kept::Graphs(graphs) => {
+            Kept::Graphs(shared) => {
                 state.write_u8(1);
-                graphs.hash(state);
+                listed(shared).hash(state);
             }
         }
     }
@@ -76,19 +77,27 @@ pub fn top() -> SegmentState
 }
 
 /// What one of these graphs covers.
-pub fn within(graphs: Vec<Graph>) -> SegmentState
-    ensures graphs { result ≡ Graphs graphs.items }
+pub fn within(alloc: Global, graphs: Vec<Graph>) -> Result<SegmentState, Memory>
+    ensures graphs { IfOk result (λ s. s ≡ Graphs graphs.items) }
 {
-    SegmentState {
-        kept: Kept::Graphs(graphs),
-    }
+    let shared = Rc::new(alloc, graphs)?;
+    Ok(SegmentState {
+        kept: Kept::Graphs(shared),
+    })
 }
 
 /// Nothing.
-pub fn empty(alloc: Global) -> SegmentState
-    ensures empty { result ≡ Graphs [] }
+pub fn empty(alloc: Global) -> Result<SegmentState, Memory>
+    ensures empty { IfOk result (λ s. s ≡ Graphs []) }
 {
-    within(Vec::new(alloc))
+    within(alloc, Vec::new(alloc))
+}
+
+/// The graphs that a state shares.
+pub fn listed(shared: &Rc<Vec<Graph>>) -> &[Graph]
+    ensures listed { result.now ≡ shared.now.value.items }
+{
+    shared.as_ref().as_slice()
 }
 
 /// Whether nothing is described.
@@ -98,7 +107,7 @@ pub fn is_empty(s: &SegmentState) -> bool
 {
     match &s.kept {
         Kept::Top => false,
-        Kept::Graphs(graphs) => graphs.is_empty(),
+        Kept::Graphs(shared) => listed(shared).is_empty(),
     }
 }
 
@@ -113,12 +122,17 @@ pub fn copied(alloc: Global, graphs: &[Graph]) -> Result<Vec<Graph>, Memory>
     Ok(copies)
 }
 
-/// The state once more.
-pub fn copy_of(alloc: Global, s: &SegmentState) -> Result<SegmentState, Memory>
+/// The state once more, which shares its graphs.
+pub fn copy_of(s: &SegmentState) -> Result<SegmentState, Memory>
     ensures same { IfOk result (λ t. t ≡ s.now) }
 {
     match &s.kept {
         Kept::Top => Ok(top()),
-        Kept::Graphs(graphs) => Ok(within(copied(alloc, graphs)?)),
+        Kept::Graphs(shared) => {
+            let shared = shared.clone()?;
+            Ok(SegmentState {
+                kept: Kept::Graphs(shared),
+            })
+        }
     }
 }

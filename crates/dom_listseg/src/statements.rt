@@ -9,7 +9,7 @@ ghost use Rattle.listseg_meaning.specs.Operations as operations;
 use crate::SegmentState;
 use crate::assumptions::{assumed, compared};
 use crate::sets::{capped, put_all};
-use crate::state::{Kept, copy_of, empty, top};
+use crate::state::{Kept, copy_of, empty, listed, top};
 use crate::steps::stepped;
 use imp_slots::{SlotAction, SlotStmt};
 use plain_values::Memory;
@@ -29,7 +29,7 @@ fn moved_graphs(
         let next = stepped(alloc, action, graph)?;
         put_all(alloc, &mut all, &next)?;
     }
-    Ok(capped(all))
+    capped(alloc, all)
 }
 
 // What a statement that changes a link makes of a state.
@@ -38,14 +38,14 @@ fn moved(alloc: Global, action: &SlotAction, s: &SegmentState) -> Result<Segment
 {
     match &s.kept {
         Kept::Top => Ok(top()),
-        Kept::Graphs(graphs) => moved_graphs(alloc, action, graphs),
+        Kept::Graphs(shared) => moved_graphs(alloc, action, listed(shared)),
     }
 }
 
 // The state where the check of a statement holds.
 #[tactic(auto, using(crate::proofs::Assumed::index_passed))]
-fn checked(alloc: Global, action: &SlotAction, s: SegmentState) -> Result<SegmentState, Memory>
-    ensures exact { IfOk result (λ t. t ≡ past_check operations.assume (checks.check_of (effect_of action.now)) s) }
+fn checked(alloc: Global, action: &SlotAction, s: &SegmentState) -> Result<SegmentState, Memory>
+    ensures exact { IfOk result (λ t. t ≡ past_check operations.assume (checks.check_of (effect_of action.now)) s.now) }
 {
     match action {
         SlotAction::Assert(c) => assumed(alloc, c, true, s),
@@ -53,23 +53,23 @@ fn checked(alloc: Global, action: &SlotAction, s: SegmentState) -> Result<Segmen
         SlotAction::ReadNext(_, q) => is_cell(alloc, *q, true, s),
         SlotAction::WriteNext(p, _) => is_cell(alloc, *p, true, s),
         SlotAction::WriteItem(p, _) => is_cell(alloc, *p, true, s),
-        SlotAction::ReadElement(_, _, _) => Ok(s),
-        SlotAction::WriteElement(_, _, _) => Ok(s),
-        SlotAction::Skip => Ok(s),
-        SlotAction::SetInt(_, _) => Ok(s),
-        SlotAction::Input(_) => Ok(s),
-        SlotAction::MakeArray(_, _) => Ok(s),
-        SlotAction::CopyArray(_, _) => Ok(s),
-        SlotAction::SetNull(_) => Ok(s),
-        SlotAction::MakeCell(_) => Ok(s),
-        SlotAction::CopyLink(_, _) => Ok(s),
+        SlotAction::ReadElement(_, _, _) => copy_of(s),
+        SlotAction::WriteElement(_, _, _) => copy_of(s),
+        SlotAction::Skip => copy_of(s),
+        SlotAction::SetInt(_, _) => copy_of(s),
+        SlotAction::Input(_) => copy_of(s),
+        SlotAction::MakeArray(_, _) => copy_of(s),
+        SlotAction::CopyArray(_, _) => copy_of(s),
+        SlotAction::SetNull(_) => copy_of(s),
+        SlotAction::MakeCell(_) => copy_of(s),
+        SlotAction::CopyLink(_, _) => copy_of(s),
     }
 }
 
 /// The state where a link is a cell, or where it is none.
 #[tactic(auto, unfolding(listseg_meaning::specs::Operations::assume))]
-pub fn is_cell(alloc: Global, p: u32, sense: bool, s: SegmentState) -> Result<SegmentState, Memory>
-    ensures exact { IfOk result (λ t. t ≡ operations.assume (checks.checked_guard (checks.IsCell p)) sense s) }
+pub fn is_cell(alloc: Global, p: u32, sense: bool, s: &SegmentState) -> Result<SegmentState, Memory>
+    ensures exact { IfOk result (λ t. t ≡ operations.assume (checks.checked_guard (checks.IsCell p)) sense s.now) }
 {
     if sense {
         compared(alloc, false, Some(p), None, s)
@@ -123,7 +123,7 @@ fn checked_first(
 ) -> Result<SegmentState, Memory>
     ensures exact { IfOk result (λ t. t ≡ operations.does (effect_of action.now) (past_check operations.assume (checks.check_of (effect_of action.now)) s.now)) }
 {
-    let passed = checked(alloc, action, copy_of(alloc, s)?)?;
+    let passed = checked(alloc, action, s)?;
     done(alloc, action, passed)
 }
 
@@ -133,7 +133,7 @@ pub fn behind(alloc: Global, stmt: &SlotStmt, s: &SegmentState) -> Result<Segmen
     ensures exact { IfOk result (λ t. t ≡ operations.post (act_of stmt.now) s.now) }
 {
     match stmt {
-        SlotStmt::Break => Ok(empty(alloc)),
+        SlotStmt::Break => empty(alloc),
         SlotStmt::Simple(action) => acted(alloc, action, s),
     }
 }

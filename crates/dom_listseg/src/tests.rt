@@ -54,7 +54,8 @@ fn follow<L: Ledger>(alloc: Global, blank: Blank) -> Result<bool, Fail>
     let once = ListSeg.post(alloc, &first, &made, &mut steps)?;
     let may = ListSeg.check(alloc, &second, &once)? == Verdict::May;
     let twice = ListSeg.post(alloc, &second, &once, &mut steps)?;
-    let shown = ListSeg.text(alloc, &layout, &once)?.as_slice() == b"p=1 q=nil 1:one(nil)".as_slice();
+    let shown = ListSeg.text(alloc, &layout, &once)?.as_slice()
+        == b"p=1 q=nil 1:one(nil)".as_slice();
     let none = ListSeg.text(alloc, &layout, &twice)?.as_slice() == b"none".as_slice();
     Ok(safe && may && shown && none)
 }

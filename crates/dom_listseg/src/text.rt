@@ -5,7 +5,7 @@ ghost use Rattle.listseg_meaning.specs.State.{Graphs};
 ghost use Rattle.listseg_meaning.specs.Text as texts;
 
 use crate::SegmentState;
-use crate::state::Kept;
+use crate::state::{Kept, listed};
 use crate::targets::last_slots;
 use imp_slots::Layout;
 use itoa::Buffer;
@@ -145,6 +145,6 @@ pub fn state_text(alloc: Global, layout: &Layout, s: &SegmentState) -> Result<Te
 {
     match &s.kept {
         Kept::Top => Text::from_slice(alloc, b"top"),
-        Kept::Graphs(graphs) => graphs_text(alloc, layout, graphs),
+        Kept::Graphs(shared) => graphs_text(alloc, layout, listed(shared)),
     }
 }

@@ -8,7 +8,7 @@ ghost use Rattle.listseg_meaning.specs.Operations as operations;
 
 use crate::SegmentState;
 use crate::assumptions::assumed;
-use crate::state::{copy_of, is_empty};
+use crate::state::is_empty;
 use crate::statements::is_cell;
 use analysis_words::Verdict;
 use imp_slots::{SlotAction, SlotCond, SlotStmt};
@@ -31,7 +31,7 @@ fn claim_verdict(alloc: Global, c: &SlotCond, s: &SegmentState) -> Result<Verdic
     requires alive { operations.dead s.now ≡ false }
     ensures exact { IfOk result (λ v. v ≡ verdict_on operations.assume operations.dead (Some (checks.Claims c.now)) s.now) }
 {
-    let failing = assumed(alloc, c, false, copy_of(alloc, s)?)?;
+    let failing = assumed(alloc, c, false, s)?;
     Ok(safe_if_empty(&failing))
 }
 
@@ -40,7 +40,7 @@ fn cell_verdict(alloc: Global, p: u32, s: &SegmentState) -> Result<Verdict, Memo
     requires alive { operations.dead s.now ≡ false }
     ensures exact { IfOk result (λ v. v ≡ verdict_on operations.assume operations.dead (Some (checks.IsCell p)) s.now) }
 {
-    let failing = is_cell(alloc, p, false, copy_of(alloc, s)?)?;
+    let failing = is_cell(alloc, p, false, s)?;
     Ok(safe_if_empty(&failing))
 }
 
