@@ -6,8 +6,10 @@
 //! `listseg_meaning`; the code here computes exactly these operations.
 //!
 //! An operation that changes links makes one graph or two of each graph, folds them in time linear in their slots and
-//! nodes but for what `fold` says, and puts each in its place among the graphs so far. A comparison of links goes through
-//! the graphs once. A condition with `&&` or `||` takes a further copy for each join.
+//! nodes but for what `fold` says, and puts each in its place among the graphs so far, by going through these. A
+//! comparison of links goes through the graphs once, and again to copy those that it keeps. Copies of a state share its
+//! graphs; where a statement changes no link, a comparison holds in all graphs, or a join adds none to the left ones,
+//! the state that comes is such a copy.
 #![tactic(auto)]
 
 mod assumptions;
