@@ -11,3 +11,6 @@ mod stage;
 mod unroll;
 
 pub use unroll::{converged, next_wanted, over};
+
+#[cfg(test)]
+mod tests;
