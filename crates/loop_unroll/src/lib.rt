@@ -11,6 +11,3 @@ mod stage;
 mod unroll;
 
 pub use unroll::{converged, next_wanted, over};
-
-#[cfg(test)]
-mod tests;
