@@ -193,7 +193,6 @@ impl Table {
 
     /// The change that makes this program of another table's. It has the numbers below this one at which either program
     /// has a statement. It takes time linear in that number, and fails for want of memory alone.
-    #[tactic(auto, using(crate::proofs::ChangeLemmas::entries_made))]
     pub fn into_change(self, alloc: Global, from: &Table, below: u32) -> Result<Change, Memory>
         requires old { All (λ (n : ℕ). n < below) (program_numbers from.now.program) }
         requires new { All (λ (n : ℕ). n < below) (program_numbers self.program) }
@@ -211,7 +210,6 @@ impl Table {
 }
 
 /// What comes below a number where a table gets these places.
-#[tactic(auto, using(crate::proofs::ChangeLemmas::still_kept, crate::proofs::ChangeLemmas::comes_put, crate::proofs::ChangeLemmas::high_put, crate::proofs::ChangeLemmas::within_put, crate::proofs::ChangeLemmas::comes_left, crate::proofs::ChangeLemmas::high_left))]
 fn changed_places(
     alloc: Global,
     from: &Table,
