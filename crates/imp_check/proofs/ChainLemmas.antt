@@ -2,7 +2,7 @@
 use Rattle.std.proofs.Common.{ℕ, zero, suc, ◌≡◌, ◌+◌, ◌-◌, ◌*◌, ◌^◌, ◌<◌, ◌≤◌, Bool, true, false, cond, List, [], ◌∷◌, ◌++◌, length, drop, min, max, map, refl, ap, sym, ◌∙◌, arith, length-append, add-one, drop-cons, get_or, nat_lt, ◌==◌, ◌⊎◌, inl, inr}
 use Rattle.std.proofs.lemmas.Bool.{lt-ltb, cases_lt, false≢true}
 use Rattle.std.proofs.Math.Dec.{eqb-suc-zero}
-use Rattle.imp_syntax.specs.Plain.{Statement, Statements, Starts, Procedure, block_of}
+use Rattle.imp_syntax.specs.Plain.{Statement, Statements, Starts, Procedure}
 use Rattle.imp_check.specs.Chains.{calls_in, calls, extended, chains_through, chains_to, all_chains}
 use Rattle.imp_check.specs.Programs.{longest}
 use Rattle.imp_check.specs.Tallies.{capped, tally_of, added, called, none, tallies_of}

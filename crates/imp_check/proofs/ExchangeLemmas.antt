@@ -1,5 +1,5 @@
 -- A change exchanged into a table.
-use Rattle.std.proofs.Common.{◌≡◌, ℕ, List, Option, Some, None, option_map, unwrap_or, refl, ap, ◌∙◌, sym}
+use Rattle.std.proofs.Common.{◌≡◌, ℕ, List, Option, Some, None, option_map, unwrap_or, ap, ◌∙◌, sym}
 use Rattle.imp_syntax.specs.Plain.{Procedure}
 use Rattle.imp_check.specs.Entries.{entries_of, entry_of, heads_of, sites_of}
 use Rattle.imp_check.specs.Fine.{IsFine}
@@ -8,7 +8,6 @@ use Rattle.imp_check.specs.Changes.{overlay, Makes}
 use Rattle.imp_check.specs.declared.entry.Entry.{Entry}
 use Rattle.imp_check.specs.declared.entry.Head.{Head}
 use Rattle.imp_check.specs.declared.change.Change.{Change}
-use Rattle.imp_check.specs.declared.change.Put.{Put}
 use Rattle.imp_check.proofs.OverlayLemmas.{overlay_alike}
 
 -- a list that was exchanged, and what was there before

@@ -7,7 +7,6 @@ use Rattle.imp_syntax.specs.Plain.{Procedure}
 use Rattle.imp_syntax.specs.declared.words.Declaration.{Declaration}
 use Rattle.imp_check.specs.declared.fault.Fault.{Fault}
 use Rattle.imp_check.specs.declared.fault.Spot.{Spot}
-use Rattle.imp_check.specs.declared.fault.Found.{Found}
 use Rattle.imp_check.specs.Faults.{unless, first, at, in_procedure}
 use Rattle.imp_check.specs.declared.fault.Fault.TheVariants.{Procedures, Statements as TooMany, Nesting, Redeclared, Ints, Lists}
 use Rattle.imp_check.specs.Names.{variables, is_known, kind_of, is_named}

@@ -1,9 +1,9 @@
 -- Simple statements and calls without faults fit the layouts.
-use Rattle.std.proofs.Common.{ℕ, zero, suc, ◌≡◌, ◌+◌, ◌<◌, Bool, true, false, not, ◌&&◌, ◌||◌, cond, ◌⊎◌, inl, inr, List, [], ◌∷◌, ◌++◌, length, drop, slice_get, Option, Some, None, refl, sym, ap, ◌∙◌, nat_lt, arith, subst, append_assoc}
+use Rattle.std.proofs.Common.{ℕ, suc, ◌≡◌, Bool, true, false, ◌&&◌, ◌||◌, cond, ◌⊎◌, inl, inr, List, [], ◌∷◌, ◌++◌, length, Option, Some, None, refl, sym, ap, ◌∙◌, arith, subst, append_assoc}
 use Rattle.std.specs.Str.{bytes_eq}
 use Rattle.std.specs.Cmp.Lexicographic.{bytes_decides}
 use Rattle.std.proofs.lemmas.Bool.{and_parts, and_from, false≢true, lt-ltb}
-use Rattle.imp_syntax.specs.Plain.{Expression, Literal, Variable, Length, Negative, Binary, Operand, Null, Value, Condition, Action, Skip, Assert, Assign, Input, MakeArray, SetNull, MakeCell, ReadElement, ReadNext, ReadItem, WriteElement, WriteNext, WriteItem, Procedure}
+use Rattle.imp_syntax.specs.Plain.{Expression, Literal, Variable, Length, Negative, Binary, Operand, Null, Value, Action, Skip, Assert, Assign, Input, MakeArray, SetNull, MakeCell, ReadElement, ReadNext, ReadItem, WriteElement, WriteNext, WriteItem, Procedure}
 use Rattle.imp_syntax.specs.declared.words.Declaration.{Declaration}
 use Rattle.imp_syntax.specs.declared.words.Kind.{Kind}
 use Rattle.imp_syntax.specs.declared.words.Kind.TheVariants.{Int, Array, List as OfLinks}
@@ -12,10 +12,10 @@ use Rattle.imp_slots.specs.Fits.{fits_term, fits_guard, fits_effect, fits_argume
 use Rattle.imp_slots.specs.Plain as slot
 use Rattle.imp_slots.specs.Plain.{Numeric}
 use Rattle.imp_check.specs.Names.{kind_of, is_int, is_array, is_link, variables, outcomes}
-use Rattle.imp_check.specs.Kinds.{int, array, link, int_expression, int_operand, array_expression, link_expression, array_operand, link_operand, fits_condition, fits_assign, fits_action}
-use Rattle.imp_check.specs.Statements.{same_length, gives_result, fits_parameter, fit_parameters, alike, fits_result}
-use Rattle.imp_check.specs.Slots.{with_numeric, with_link, layout_of, layout_in, numerics, links, number_in, link_in, is_link_in, is_array_in, term_in, guard_in, copy_in, assign_in, effect_in, variable_argument, expression_argument, argument_in, arguments_in, result_in, returning_in, invoke_of}
-use Rattle.imp_check.specs.Small.{small_expression, small_operand, small_operands, small_condition, small_action}
+use Rattle.imp_check.specs.Kinds.{int, array, link, int_expression, int_operand, array_operand, link_operand, fits_assign, fits_action}
+use Rattle.imp_check.specs.Statements.{same_length, fits_parameter, fit_parameters, fits_result}
+use Rattle.imp_check.specs.Slots.{with_numeric, with_link, layout_of, layout_in, numerics, links, number_in, link_in, term_in, copy_in, assign_in, effect_in, expression_argument, argument_in, arguments_in, result_in, returning_in, invoke_of}
+use Rattle.imp_check.specs.Small.{small_expression, small_operand, small_operands, small_action}
 use Rattle.imp_check.proofs.Lookup.{Apart, int_slot, array_slot, link_there, named_link, named_array, not_array}
 use Rattle.imp_check.proofs.FitsTerms.{or_cases, fits_expression, int_is_no_link, array_is_no_link, condition_fits}
 

@@ -2,20 +2,18 @@
 use Rattle.std.proofs.Common.{ℕ, zero, suc, ◌≡◌, Bool, true, false, ◌&&◌, ◌||◌, cond, List, [], ◌∷◌, ◌++◌, slice_get, Option, Some, None, refl, sym, ap, ◌∙◌, subst, append_assoc}
 use Rattle.std.specs.Prelude.{MatchOption}
 use Rattle.std.specs.Str.{bytes_eq}
-use Rattle.std.proofs.lemmas.Bool.{and_parts, and_from, false≢true}
+use Rattle.std.proofs.lemmas.Bool.{and_parts, false≢true}
 use Rattle.imp_syntax.specs.Plain.{Operand, Condition, Action, Statement, Simple, Break, Call, If, While, Statements, Ends, Starts, Procedure, numbers_in, numbers}
 use Rattle.imp_syntax.specs.declared.words.Declaration.{Declaration}
-use Rattle.imp_slots.specs.Fits.{FitsCode, FitsCall, breaks, fits_guard, fits_effect, fits_invoke}
-use Rattle.imp_slots.specs.Plain as slot
-use Rattle.imp_slots.specs.Plain.{Code, Layout, Routine, code_numbers}
-use Rattle.imp_check.specs.declared.fault.Fault.{Fault}
-use Rattle.imp_check.specs.declared.fault.Fault.TheVariants.{UnknownName, CallsLater, WrongArguments, WrongKind, BreakOutside}
+use Rattle.imp_slots.specs.Fits.{FitsCode, FitsCall, breaks, fits_invoke}
+use Rattle.imp_slots.specs.Plain.{Code, Routine, code_numbers}
+use Rattle.imp_check.specs.declared.fault.Fault.TheVariants.{UnknownName, CallsLater, WrongArguments, WrongKind}
 use Rattle.imp_check.specs.Faults.{unless, first, at}
 use Rattle.imp_check.specs.Names.{procedure_named, place_named, is_named, variables}
 use Rattle.imp_check.specs.Kinds.{knows_action, knows_condition, knows_operands, fits_action, fits_condition}
 use Rattle.imp_check.specs.Statements.{Scope, action_fault, condition_fault, callee_fault, knows_target, same_length, gives_result, fit_parameters, fits_result, arguments_fault, call_fault, statement_fault, block_fault}
-use Rattle.imp_check.specs.Slots.{Frame, layout_of, layout_in, effect_in, guard_in, invoke_of, invoke_in, callee_in, statement_in, code_in, routine_of, routines_from, routines_of}
-use Rattle.imp_check.specs.Small.{small_operands, small_condition, small_action, small_statement, small_block}
+use Rattle.imp_check.specs.Slots.{Frame, layout_of, layout_in, invoke_of, invoke_in, statement_in, code_in, routine_of, routines_from, routines_of}
+use Rattle.imp_check.specs.Small.{small_operands, small_condition, small_statement, small_block}
 use Rattle.imp_check.proofs.FewLemmas.{first_none, unless_none, at_none}
 use Rattle.imp_check.proofs.Lookup.{Apart}
 use Rattle.imp_check.proofs.FitsTerms.{condition_fits}

@@ -1,18 +1,17 @@
 -- Programs without faults fit.
-use Rattle.std.proofs.Common.{ℕ, zero, suc, ◌≡◌, ◌≢◌, ◌<◌, Bool, true, false, not, ◌&&◌, ◌||◌, List, [], ◌∷◌, ◌++◌, length, map, Option, Some, None, refl, sym, ap, ◌∙◌, subst, arith, append_assoc, append-nil, nat_lt}
-use Rattle.std.specs.Prelude.{codes}
+use Rattle.std.proofs.Common.{ℕ, ◌≡◌, ◌≢◌, ◌<◌, Bool, true, false, not, ◌||◌, List, [], ◌∷◌, ◌++◌, length, map, None, refl, sym, ap, ◌∙◌, subst, arith, append_assoc, append-nil}
 use Rattle.std.specs.Str.{bytes_eq}
 use Rattle.std.specs.Cmp.Lexicographic.{bytes_decides}
 use Rattle.std.proofs.lemmas.Bool.{and_parts, false≢true}
 use Rattle.imp_syntax.specs.Plain.{Procedure, numbers, program_numbers}
-use Rattle.imp_slots.specs.Fits.{FitsCode, FitsRoutine, FitInTurn, IsChecked, Absent, Distinct, routine_numbers}
-use Rattle.imp_slots.specs.Plain.{Routine, code_numbers}
-use Rattle.imp_check.specs.declared.fault.Fault.TheVariants.{Redeclared, NoMain, MainHasParameters}
+use Rattle.imp_slots.specs.Fits.{FitsRoutine, FitInTurn, IsChecked, Absent, Distinct, routine_numbers}
+use Rattle.imp_slots.specs.Plain.{Routine}
+use Rattle.imp_check.specs.declared.fault.Fault.TheVariants.{Redeclared}
 use Rattle.imp_check.specs.Faults.{unless, first, at, in_procedure}
 use Rattle.imp_check.specs.Names.{is_named, variables}
-use Rattle.imp_check.specs.Statements.{Scope, block_fault}
-use Rattle.imp_check.specs.Programs.{variables_fault, procedure_fault, procedures_fault, size_fault, chains_fault, ending_fault, check_fault, name_of, last_of, takes_nothing, AreNumbered}
-use Rattle.imp_check.specs.Slots.{layout_in, code_in, routine_of, routines_from, routines_of}
+use Rattle.imp_check.specs.Statements.{block_fault}
+use Rattle.imp_check.specs.Programs.{variables_fault, procedure_fault, procedures_fault, size_fault, ending_fault, check_fault, name_of, last_of, AreNumbered}
+use Rattle.imp_check.specs.Slots.{layout_in, routine_of, routines_from, routines_of}
 use Rattle.imp_check.specs.Small.{small_block, small_program}
 use Rattle.imp_check.proofs.FewLemmas.{first_none, unless_none, at_none, in_none}
 use Rattle.imp_check.proofs.Lookup.{Apart, apart}

@@ -1,16 +1,15 @@
 -- Expressions, conditions and simple statements without faults fit the layout.
-use Rattle.std.proofs.Common.{ℕ, ◌≡◌, Bool, true, false, not, ◌&&◌, ◌||◌, cond, ◌⊎◌, inl, inr, List, [], ◌∷◌, Option, Some, None, refl, sym, ap, ◌∙◌, nat_lt}
+use Rattle.std.proofs.Common.{ℕ, ◌≡◌, Bool, true, false, ◌&&◌, ◌||◌, ◌⊎◌, inl, inr, List, refl, sym}
 use Rattle.std.proofs.lemmas.Bool.{and_parts, and_from, false≢true}
-use Rattle.imp_syntax.specs.Plain.{Expression, Literal, Variable, Length, Negative, Binary, Operand, Null, Value, Condition, Compare, Not, And, Or, Action, Skip, Assert, Assign, Input, MakeArray, SetNull, MakeCell, ReadElement, ReadNext, ReadItem, WriteElement, WriteNext, WriteItem}
+use Rattle.imp_syntax.specs.Plain.{Expression, Literal, Variable, Length, Negative, Binary, Operand, Null, Value, Condition, Compare, Not, And, Or}
 use Rattle.imp_syntax.specs.declared.words.Declaration.{Declaration}
 use Rattle.imp_syntax.specs.declared.words.Relation.{Relation}
-use Rattle.imp_slots.specs.Fits.{fits_term, fits_guard, fits_effect, is_side}
-use Rattle.imp_slots.specs.Plain as slot
-use Rattle.imp_check.specs.Names.{kind_of, is_int, is_array, is_link}
-use Rattle.imp_check.specs.Kinds.{int, array, link, int_expression, int_operand, array_expression, link_expression, array_operand, link_operand, is_equality, fits_condition, fits_assign, fits_action}
-use Rattle.imp_check.specs.Slots.{layout_of, numerics, links, names_link, names_array, term_in, is_link_in, is_array_in, is_link_expression, is_link_operand, link_of, side_in, operand_term, is_equal, comparison_in, guard_in, copy_in, assign_in, effect_in}
-use Rattle.imp_check.specs.Small.{small_expression, small_operand, small_condition, small_action}
-use Rattle.imp_check.proofs.Lookup.{Apart, int_slot, array_slot, link_there, named_link, named_array, not_array, not_link, int_no_link, array_no_link}
+use Rattle.imp_slots.specs.Fits.{fits_term, fits_guard, is_side}
+use Rattle.imp_check.specs.Names.{kind_of}
+use Rattle.imp_check.specs.Kinds.{int, array, int_expression, int_operand, link_expression, link_operand, is_equality, fits_condition}
+use Rattle.imp_check.specs.Slots.{layout_of, term_in, is_link_in, is_link_expression, is_link_operand, link_of, side_in, operand_term, comparison_in, guard_in}
+use Rattle.imp_check.specs.Small.{small_expression, small_operand, small_condition}
+use Rattle.imp_check.proofs.Lookup.{Apart, int_slot, array_slot, link_there, named_link, not_link, int_no_link, array_no_link}
 
 pub or_cases : (a b : Bool) → (a || b) ≡ true → (a ≡ true) ⊎ (b ≡ true)
 or_cases true b h = inl refl

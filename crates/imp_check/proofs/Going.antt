@@ -1,5 +1,5 @@
 -- Going along variables and procedures.
-use Rattle.std.proofs.Common.{ℕ, ◌≡◌, ◌+◌, ◌<◌, List, [], ◌∷◌, ◌++◌, length, take, drop, refl, add-one, drop-cons, get_or}
+use Rattle.std.proofs.Common.{ℕ, ◌≡◌, ◌+◌, ◌<◌, List, length, take, drop, refl, add-one, drop-cons, get_or}
 use Rattle.std.proofs.Math.Seq.{take-suc}
 use Rattle.imp_syntax.specs.Plain.{Procedure}
 use Rattle.imp_syntax.specs.declared.words.Declaration.{Declaration}

@@ -1,6 +1,6 @@
 -- Statement numbers.
 use Rattle.std.proofs.Common.{ℕ, zero, suc, ◌≡◌, ◌≢◌, ◌+◌, ◌<◌, ◌≤◌, ◌==◌, ◌&&◌, ◌||◌, not, ◌↔◌, Bool, true, false, List, [], ◌∷◌, ◌++◌, length, drop, get_or, refl, sym, ap, ◌∙◌, arith, add-one, drop-cons, eq-eqb}
-use Rattle.std.proofs.lemmas.Bool.{and_parts, and_from, false≢true}
+use Rattle.std.proofs.lemmas.Bool.{and_parts, false≢true}
 use borrow.Author.Tests.{eqb-true}
 use Rattle.imp_slots.specs.Fits.{Absent, Distinct}
 use Rattle.imp_syntax.specs.Plain.{Procedure, numbers, program_numbers}

@@ -1,12 +1,11 @@
 -- Entries exchanged into a table.
 use Rattle.std.proofs.lemmas.Bool.Decides.{nat_tests}
-use Rattle.std.proofs.Common.{◌≡◌, ℕ, zero, suc, ◌+◌, ◌<◌, ◌==◌, cond, Bool, true, false, List, [], ◌∷◌, ◌++◌, ◌≤◌, length, map, take, drop, slice_index_or, slice_set, Option, Some, None, refl, sym, ap, ◌∙◌, subst, arith, add-one}
-use Rattle.std.specs.List.{All}
+use Rattle.std.proofs.Common.{◌≡◌, ℕ, zero, suc, ◌+◌, ◌<◌, ◌==◌, cond, Bool, true, false, List, [], ◌∷◌, ◌++◌, ◌≤◌, length, map, take, drop, slice_index_or, slice_set, Option, refl, sym, ap, ◌∙◌, subst, arith, add-one}
 use Rattle.imp_slots.specs.Fits.{Absent, Distinct}
 use Rattle.imp_check.specs.Changes.{overlay, AreWithin}
 use Rattle.imp_check.specs.declared.entry.Entry.{Entry}
 use Rattle.imp_check.specs.declared.change.Put.{Put}
-use Rattle.imp_check.proofs.PutLemmas.{other, same}
+use Rattle.imp_check.proofs.PutLemmas.{other}
 
 abbrev pub put_numbers : List Put → List ℕ
 put_numbers ps = map (λ (p : Put). p.number) ps

@@ -1,10 +1,9 @@
 -- The ends of blocks, and how deep their statements are.
-use Rattle.std.proofs.Common.{◌≡◌, ℕ, zero, suc, ◌+◌, ◌-◌, ◌<◌, ◌≤◌, max, List, [], ◌∷◌, length, drop, slice_get, slice_index_or, Option, Some, None, option_map, refl, ap, ◌∙◌, sym, subst, arith, add-one}
+use Rattle.std.proofs.Common.{◌≡◌, ℕ, zero, suc, ◌-◌, ◌<◌, ◌≤◌, max, List, [], ◌∷◌, length, drop, slice_get, slice_index_or, Option, Some, None, option_map, refl, ap, ◌∙◌, sym, arith}
 use Rattle.std.proofs.Math.Nat.{le-max_left, le-max_right}
-use Rattle.imp_syntax.specs.Plain.{Statement, Statements, Ends, Starts, block_of, number_of, Procedure}
+use Rattle.imp_syntax.specs.Plain.{Statement, Statements, block_of, number_of, Procedure}
 use Rattle.imp_check.specs.Programs.{statement_nesting, nesting, deepest}
 use Rattle.imp_check.specs.Parts.{first_or, last_or, ends_of}
-use Rattle.imp_check.specs.declared.entry.BlockEnds.{BlockEnds}
 
 -- the number of a statement of a list, if there is one
 abbrev pub number_at : List Statement → ℕ → Option ℕ

@@ -1,17 +1,17 @@
 -- The tree that is made from what is known of statements is the program.
 use Rattle.std.proofs.lemmas.Bool.Decides.{nat_tests}
-use Rattle.std.proofs.Common.{◌≡◌, ◌≢◌, ℕ, zero, suc, ◌+◌, ◌<◌, ◌≤◌, ◌==◌, ◌⊎◌, inl, inr, cond, List, [], ◌∷◌, ◌++◌, map, Option, Some, None, Bool, true, false, refl, sym, ap, ◌∙◌, subst, arith, append_assoc}
+use Rattle.std.proofs.Common.{◌≡◌, ℕ, zero, suc, ◌<◌, ◌==◌, ◌⊎◌, inl, inr, cond, List, [], ◌∷◌, ◌++◌, map, Option, Some, None, Bool, true, false, refl, sym, ap, ◌∙◌, subst, arith}
 use Rattle.imp_syntax.specs.Plain.{Statement, Statements, Ends, Starts, Procedure, number_of, numbers_in, numbers, program_numbers}
 use Rattle.imp_syntax.specs.Plain as tree
 use Rattle.imp_slots.specs.Fits.{Absent, Distinct}
 use Rattle.imp_check.specs.Slots.{Frame}
-use Rattle.imp_check.specs.Programs.{statement_count, block_count, program_count}
+use Rattle.imp_check.specs.Programs.{block_count, program_count}
 use Rattle.imp_check.specs.declared.entry.Which.TheVariants as which
 use Rattle.imp_check.specs.declared.entry.Context.{Context}
 use Rattle.imp_check.specs.declared.entry.Entry.{Entry}
 use Rattle.imp_check.specs.Parts.{first_or}
 use Rattle.imp_check.specs.Entries.{inside, inside_loop, entry_at, statement_entries, block_entries, procedure_entries, entries_from, entries_of, entry_of, frame_at, context_at, heads_of}
-use Rattle.imp_check.specs.Rebuilt.{statement_with, from_entry, block_from, procedure_from, program_from}
+use Rattle.imp_check.specs.Rebuilt.{statement_with, from_entry, block_from, program_from}
 
 abbrev pub In : Entry → List Entry → Type 0
 In x [] = ⊥

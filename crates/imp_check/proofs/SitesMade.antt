@@ -1,5 +1,4 @@
 -- Call statements, each put to those of its callee.
-use Rattle.std.proofs.lemmas.Bool.Decides.{nat_tests}
 use Rattle.std.proofs.Common.{◌≡◌, ℕ, zero, suc, ◌+◌, ◌<◌, ◌≤◌, ◌==◌, ◌⊎◌, inl, inr, cond, Bool, true, false, List, [], ◌∷◌, ◌++◌, length, slice_get, slice_set, slice_index_or, Option, Some, None, option_map, refl, sym, ap, ◌∙◌, arith, add-one, append-nil, append_assoc}
 use Rattle.imp_check.specs.Entries.{calls_here, sites_in, sites_below}
 use Rattle.imp_check.specs.Puts.{with_site, with_form, with_sites, no_sites}

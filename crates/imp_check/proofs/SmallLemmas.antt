@@ -1,5 +1,5 @@
 -- Literals of lists.
-use Rattle.std.proofs.Common.{ℕ, ◌≡◌, ◌+◌, ◌<◌, ◌&&◌, List, ◌∷◌, length, drop, get_or, refl, add-one, drop-cons}
+use Rattle.std.proofs.Common.{ℕ, ◌≡◌, ◌+◌, ◌<◌, ◌&&◌, List, length, drop, get_or, refl, add-one, drop-cons}
 use Rattle.imp_syntax.specs.Views.{operand_of}
 use Rattle.imp_syntax.specs.ActionViews.{operands_of}
 use Rattle.imp_syntax.specs.declared.expr.Side.{Side}

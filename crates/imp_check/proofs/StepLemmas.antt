@@ -1,6 +1,6 @@
 -- Blocks from a table, statement by statement.
-use Rattle.std.proofs.Common.{◌≡◌, ℕ, zero, suc, ◌+◌, ◌-◌, ◌<◌, List, [], ◌∷◌, Option, Some, None, refl, ap, ◌∙◌, sym, arith}
-use Rattle.imp_syntax.specs.Plain.{Statement, Statements, Ends, Starts, statements_of, block_of}
+use Rattle.std.proofs.Common.{◌≡◌, ℕ, zero, suc, ◌-◌, ◌<◌, List, [], ◌∷◌, Option, Some, None, refl, ap, ◌∙◌, sym, arith}
+use Rattle.imp_syntax.specs.Plain.{Statement, Statements, statements_of, block_of}
 use Rattle.imp_syntax.specs.Blocks.{block_again}
 use Rattle.imp_check.specs.Rebuilt.{statement_with, next_in, from_entry, block_from}
 use Rattle.imp_check.specs.declared.entry.Entry.{Entry}

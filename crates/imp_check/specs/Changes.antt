@@ -1,5 +1,5 @@
 -- What comes in a table by numbers, and the programs of which one comes from the other by it.
-use Rattle.std.specs.Prelude.{ℕ, ◌≡◌, ◌<◌, List, [], ◌∷◌, map, Option, Some, None, cond, ◌==◌, unwrap_or}
+use Rattle.std.specs.Prelude.{ℕ, ◌≡◌, ◌<◌, List, [], ◌∷◌, map, Option, cond, ◌==◌, unwrap_or}
 use Rattle.std.specs.List.{All}
 use Rattle.imp_syntax.specs.Plain.{Procedure}
 use Rattle.imp_slots.specs.Fits.{Distinct}

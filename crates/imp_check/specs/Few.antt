@@ -1,5 +1,5 @@
 -- What is few in a program without faults.
-use Rattle.std.specs.Prelude.{ℕ, ◌<◌, List, [], ◌∷◌, length}
+use Rattle.std.specs.Prelude.{◌<◌, List, [], ◌∷◌, length}
 use Rattle.imp_syntax.specs.Plain.{Procedure}
 use Rattle.imp_check.specs.Names.{variables}
 use Rattle.imp_check.specs.Programs.{count_numeric, count_links}

@@ -11,8 +11,8 @@ use Rattle.imp_check.specs.declared.fault.Spot.{Spot}
 use Rattle.imp_check.specs.declared.fault.Found.{Found}
 use Rattle.imp_slots.specs.Fits.{Absent, Distinct}
 use Rattle.imp_check.specs.Faults.{unless, first, at, in_procedure}
-use Rattle.imp_check.specs.Names.{kind_of, is_known, is_link, is_named, variables}
-use Rattle.imp_check.specs.Statements.{Scope, block_fault}
+use Rattle.imp_check.specs.Names.{kind_of, is_known, is_named, variables}
+use Rattle.imp_check.specs.Statements.{block_fault}
 use Rattle.imp_check.specs.Chains.{all_chains}
 
 -- how many statements stand in a block

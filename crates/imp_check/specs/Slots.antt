@@ -1,6 +1,6 @@
 -- Programs with variables as slots and callees as places. Where a name is of nothing, which no checked program has, the slot
 -- is the number of slots.
-use Rattle.std.specs.Prelude.{ℕ, suc, List, [], ◌∷◌, ◌++◌, map, Option, Some, None, Bool, true, false, ◌||◌, ◌&&◌, cond, slice_get}
+use Rattle.std.specs.Prelude.{ℕ, suc, List, [], ◌∷◌, ◌++◌, Option, Some, None, Bool, true, false, ◌||◌, ◌&&◌, cond, slice_get}
 use Rattle.std.specs.Str.{bytes_eq}
 use Rattle.imp_syntax.specs.Plain.{Expression, Operand, Condition, Action, Statement, Statements, Procedure}
 use Rattle.imp_syntax.specs.Plain as tree

@@ -1,5 +1,5 @@
 -- The first fault of statements, in the order of the text.
-use Rattle.std.specs.Prelude.{ℕ, List, [], ◌∷◌, Option, Some, None, Bool, true, false, ◌||◌, ◌&&◌, cond}
+use Rattle.std.specs.Prelude.{ℕ, List, [], ◌∷◌, Option, Some, None, Bool, true, false, ◌||◌, ◌&&◌}
 use Rattle.imp_syntax.specs.Plain.{Operand, Condition, Action, Statement, Simple, Break, Call, If, While, Statements, Ends, Starts, Procedure}
 use Rattle.imp_syntax.specs.declared.words.Declaration.{Declaration}
 use Rattle.imp_syntax.specs.declared.words.Kind.{Kind}

@@ -1,11 +1,10 @@
 -- A program as a table of its statements by number.
-use Rattle.std.specs.Prelude.{ℕ, zero, suc, ◌≡◌, List, [], ◌∷◌, Option, Some, None, refl}
+use Rattle.std.specs.Prelude.{ℕ, zero, suc, ◌≡◌, List, [], ◌∷◌, Option, None, refl}
 use Rattle.std.specs.Coded.{Coded, code_by, coded×, coded_ℕ}
 use Rattle.imp_syntax.specs.Plain.{Procedure}
 use Rattle.imp_syntax.specs.ProgramCode.{program_code}
 use Rattle.imp_check.specs.Programs.{program_count}
 use Rattle.imp_check.specs.Entries.{entries_of, entry_of, heads_of, sites_of}
-use Rattle.imp_check.specs.Rebuilt.{program_by}
 use Rattle.imp_check.specs.Fine.{IsFine}
 use Rattle.imp_check.specs.declared.entry.Entry.{Entry}
 use Rattle.imp_check.specs.declared.entry.Head.{Head}

@@ -1,7 +1,7 @@
 -- How many chains there are, and how long the longest is, each up to 2^32 - 1.
-use Rattle.std.specs.Prelude.{ℕ, ◌+◌, ◌-◌, ◌*◌, ◌^◌, List, [], ◌∷◌, min, max, length, Bool, true, false, ◌||◌, nat_lt, cond}
+use Rattle.std.specs.Prelude.{ℕ, ◌+◌, ◌-◌, ◌*◌, ◌^◌, List, [], ◌∷◌, min, max, length, nat_lt, cond}
 use Rattle.imp_syntax.specs.Plain.{Procedure}
-use Rattle.imp_check.specs.Chains.{chains_to, all_chains}
+use Rattle.imp_check.specs.Chains.{chains_to}
 use Rattle.imp_check.specs.Programs.{longest}
 use Rattle.imp_check.specs.declared.chains.Tally.{Tally}
 

@@ -14,13 +14,17 @@
 //!
 //! A [`Checked`] is seen as its procedures. What it answers is defined over them: `routines_of` of
 //! `specs/Slots.antt` is the program over slots, and it fits ([`Checked::routines`]); `entries_of` of
-//! `specs/Entries.antt` lists all statements, each with its slot form, its procedure, the block that it stands in, the
-//! statement in front of it and the innermost loop around it; `entry_of` finds one by its number, `sites_in`
-//! the calls of a procedure.
+//! `specs/Entries.antt` lists all statements, each without those inside it, with its slot form, the block that it
+//! stands in, its neighbours there, the ends of its own blocks and the breaks that leave it; `entry_of` finds one by
+//! its number, `sites_in` the calls of a procedure.
+//!
+//! A [`Table`] has these entries by their numbers. It gives the program back as a tree and over slots, and takes a
+//! [`Change`] in place, by which one program is made of another (`Makes` of `specs/Changes.antt`) and which becomes the
+//! change back.
 //!
 //! Checking takes time linear in the program, times the variables of a procedure for each name, and
-//! times the procedures for the calls. A copy of a [`Checked`] shares it, and its readers take constant time and no
-//! memory.
+//! times the procedures for the calls; the table takes memory linear in the largest statement number. A copy of a
+//! [`Checked`] shares it, and its readers take constant time and no memory.
 #![tactic(auto)]
 
 mod building;

@@ -133,7 +133,6 @@ impl Table {
     pub fn proc_named(&self, name: &Text) -> Option<ProcId>
         ensures is { result ≡ named_in self.now.program name.now }
     {
-        self.procs();
         let heads = self.heads.as_slice();
         if is_named(heads, name) {
             Some(ProcId::new(place_named(heads, name) as u32))
@@ -160,7 +159,7 @@ impl Table {
         ensures is { IfOk result (λ routines. routines ≡ routines_of self.now.program) }
         ensures fit { IsChecked (routines_of self.now.program) }
     {
-        self.procs();
+        let _ = &self.heads;
         let program = self.tree(alloc)?;
         routines_of(alloc, program.procs())
     }

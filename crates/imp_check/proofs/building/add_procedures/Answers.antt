@@ -1,6 +1,5 @@
-use Rattle.std.proofs.Common.{◌≡◌, ◌+◌, ◌<◌, ◌∷◌, [], ◌++◌, map, length, take, drop, get_or, append_assoc, sym, ap, ◌∙◌}
-use Rattle.imp_check.specs.Slots.{layout_in}
-use Rattle.imp_check.specs.Entries.{heads_of, head_of}
+use Rattle.std.proofs.Common.{◌≡◌, ◌+◌, ◌<◌, ◌∷◌, [], ◌++◌, length, drop, get_or, append_assoc, sym, ap, ◌∙◌}
+use Rattle.imp_check.specs.Entries.{heads_of}
 use Rattle.imp_check.proofs.FewLemmas.{layouts_step}
 use Rattle.imp_check.proofs.EntryLemmas.{put_step, sites_step, heads_step}
 use Rattle.imp_check.proofs.building.add_procedures.Goals as goal

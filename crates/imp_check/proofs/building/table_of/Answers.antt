@@ -1,4 +1,4 @@
-use Rattle.std.proofs.Common.{◌≡◌, ap, ◌∙◌}
+use Rattle.std.proofs.Common.{ap, ◌∙◌}
 use Rattle.imp_check.specs.Entries.{entries_of}
 use Rattle.imp_check.specs.Puts.{put_all, with_sites}
 use Rattle.imp_check.proofs.FewLemmas.{few_statements, count_is}

@@ -1,4 +1,3 @@
-use Rattle.std.proofs.Common.{arith}
 use Rattle.imp_check.proofs.ChainLemmas.{through_next, through_end, added_few}
 use Rattle.imp_check.proofs.chains.through.Goals as goal
 

@@ -1,4 +1,4 @@
-use Rattle.std.proofs.Common.{◌≡◌, sym, ap, ◌∙◌, subst}
+use Rattle.std.proofs.Common.{sym, ap, ◌∙◌, subst}
 use Rattle.imp_check.specs.Small.{small_program}
 use Rattle.imp_check.specs.Fine.{IsFine}
 use Rattle.imp_check.proofs.FitsPrograms.{programs_fit}

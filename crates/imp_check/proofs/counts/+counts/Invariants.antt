@@ -1,4 +1,4 @@
-use Rattle.std.proofs.Common.{◌≡◌, ◌+◌, ◌-◌, ◌^◌, ◌≤◌, min, max, drop}
+use Rattle.std.proofs.Common.{◌≡◌, ◌+◌, ◌-◌, ◌^◌, ◌≤◌, min, drop}
 use Rattle.imp_syntax.specs.Plain.{block_of}
 use Rattle.imp_check.specs.Programs.{block_count}
 use Rattle.imp_check.proofs.counts.+counts.Given as goal

@@ -1,4 +1,4 @@
-use Rattle.std.proofs.Common.{◌≡◌, ◌+◌, ◌-◌, ◌^◌, ◌≤◌, min, max, drop}
+use Rattle.std.proofs.Common.{◌≡◌, ◌-◌, ◌^◌, ◌≤◌, min, max, drop}
 use Rattle.imp_syntax.specs.Plain.{block_of}
 use Rattle.imp_check.specs.Programs.{nesting}
 use Rattle.imp_check.proofs.counts.+nestings.Given as goal

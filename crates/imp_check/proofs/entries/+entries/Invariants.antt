@@ -1,6 +1,5 @@
-use Rattle.std.proofs.Common.{◌≡◌, ◌<◌, ◌+◌, ◌^◌, drop, None}
+use Rattle.std.proofs.Common.{◌≡◌, drop, None}
 use Rattle.imp_syntax.specs.Plain.{block_of}
-use Rattle.imp_check.specs.Programs.{nesting}
 use Rattle.imp_check.specs.Entries.{block_entries}
 use Rattle.imp_check.specs.Puts.{put_all, with_sites}
 use Rattle.imp_check.proofs.entries.+entries.Given as goal

@@ -1,8 +1,8 @@
-use Rattle.std.proofs.Common.{ℕ, ◌≡◌, ◌+◌, ◌<◌, ◌≤◌, ◌∙◌, sym, ap, length, None, slice_index_or, arith, subst}
+use Rattle.std.proofs.Common.{◌≡◌, ◌<◌, ◌≤◌, ◌∙◌, sym, ap, length, slice_index_or, arith, subst}
 use Rattle.imp_check.specs.Tables.{entry_in}
 use Rattle.imp_check.specs.Changes.{overlay, AreWithin}
 use Rattle.imp_check.specs.declared.change.Put.{Put}
-use Rattle.imp_check.proofs.OverlayLemmas.{back_of, back_within, overlay_back, at_same, drop_more, as_long, overlay_step, back_step, all_back, all_in}
+use Rattle.imp_check.proofs.OverlayLemmas.{back_within, overlay_back, at_same, drop_more, as_long, overlay_step, back_step, all_back, all_in}
 use Rattle.imp_check.proofs.putting.put_in.Goals as goal
 
 pub put_one-requires : goal.put_one-requires

@@ -1,5 +1,4 @@
-use Rattle.std.proofs.Common.{◌≡◌, ◌++◌, [], IfOk, None, option_copied, append-nil, sym, ap, ◌∙◌, subst}
-use Rattle.imp_syntax.specs.Plain.{block_of, statements_of}
+use Rattle.std.proofs.Common.{◌≡◌, ◌++◌, IfOk, None, append-nil, sym, ap, ◌∙◌, subst}
 use Rattle.imp_check.specs.Tables.{entry_in}
 use Rattle.imp_check.specs.Rebuilt.{next_in, block_from}
 use Rattle.imp_check.proofs.StepLemmas.{step_none, block_is_of}

@@ -1,4 +1,3 @@
-use Rattle.std.proofs.Common.{◌∙◌}
 use Rattle.imp_check.proofs.CodeLemmas.{code_end}
 use Rattle.imp_check.proofs.resolve.+blocks.Goals as goal
 

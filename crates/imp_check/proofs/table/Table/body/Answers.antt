@@ -1,10 +1,10 @@
-use Rattle.std.proofs.Common.{◌≡◌, slice_get, Option, Some, None, option_map, refl, sym, ap, ◌∙◌}
+use Rattle.std.proofs.Common.{slice_get, option_map, ap, ◌∙◌}
 use Rattle.imp_syntax.specs.Plain.{Procedure}
 use Rattle.imp_check.specs.Parts.{ends_of}
-use Rattle.imp_check.specs.Entries.{heads_of, head_of}
+use Rattle.imp_check.specs.Entries.{heads_of}
 use Rattle.imp_check.specs.Tables.{Tabled}
 use Rattle.imp_check.specs.declared.entry.Head.{Head}
-use Rattle.imp_check.proofs.TableLemmas.{head_at, body_at}
+use Rattle.imp_check.proofs.TableLemmas.{body_at}
 use Rattle.imp_check.proofs.table.Table.body.Goals as goal
 
 pub returns-in-Some : goal.returns-in-Some

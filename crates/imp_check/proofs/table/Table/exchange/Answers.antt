@@ -1,4 +1,4 @@
-use Rattle.std.proofs.Common.{◌≡◌, ℕ, List, Option, length, drop, sym, ap, ◌∙◌, subst, arith}
+use Rattle.std.proofs.Common.{length, drop, ap, ◌∙◌, subst, arith}
 use Rattle.imp_check.specs.Tables.{Tabled, entry_in, AreOf}
 use Rattle.imp_check.specs.Changes.{overlay}
 use Rattle.imp_check.proofs.TableLemmas.{table_is, table_right, written}

@@ -1,10 +1,9 @@
-use Rattle.std.proofs.Common.{◌≡◌, slice_get, Option, Some, None, option_map, refl, sym, ap, ◌∙◌}
-use Rattle.imp_syntax.specs.Plain.{Procedure}
+use Rattle.std.proofs.Common.{slice_get, option_map, ap, ◌∙◌}
 use Rattle.imp_check.specs.Slots.{layout_in}
-use Rattle.imp_check.specs.Entries.{heads_of, head_of}
+use Rattle.imp_check.specs.Entries.{heads_of}
 use Rattle.imp_check.specs.Tables.{Tabled}
 use Rattle.imp_check.specs.declared.entry.Head.{Head}
-use Rattle.imp_check.proofs.TableLemmas.{head_at, layout_at}
+use Rattle.imp_check.proofs.TableLemmas.{layout_at}
 use Rattle.imp_check.proofs.table.Table.layout.Goals as goal
 
 pub returns-in-Some : goal.returns-in-Some

@@ -1,17 +1,15 @@
-use Rattle.std.proofs.Common.{◌≡◌, ℕ, List, length, Bool, true, false, cond, Option, Some, None, sym, ap, ◌∙◌, arith}
-use Rattle.imp_syntax.specs.Plain.{Procedure}
-use Rattle.imp_check.specs.Names.{is_named, place_named}
+use Rattle.std.proofs.Common.{◌≡◌, length, true, false, Some, None, sym, ap, ◌∙◌, subst, arith}
+use Rattle.imp_check.specs.Programs.{check_fault}
 use Rattle.imp_check.specs.Entries.{heads_of, is_headed, place_headed}
 use Rattle.imp_check.specs.Tables.{Tabled}
-use Rattle.imp_check.specs.declared.entry.Head.{Head}
 use Rattle.imp_check.proofs.FewLemmas.{few_checked}
-use Rattle.imp_check.proofs.TableLemmas.{headed, headed_place, heads_length, named_by}
+use Rattle.imp_check.proofs.TableLemmas.{heads_length, named_by}
 use Rattle.imp_check.proofs.table.Table.proc_named.Goals as goal
 
 pub overflow_cast-place_named : goal.overflow_cast-place_named
 overflow_cast-place_named c =
     let e = c.as_slice-heads.ensures.same ∙ c.self.invariant.procedures ∙ ap (λ (t : Tabled). heads_of t.program) c.self.view_is in
-    omega (arith, c.place_named.ensures.within, ap length e, heads_length c.args.self.now.program, (few_checked c.args.self.now.program c.procs.ensures.faultless).procedures)
+    omega (arith, c.place_named.ensures.within, ap length e, heads_length c.args.self.now.program, (few_checked c.args.self.now.program (subst (λ (t : Tabled). check_fault t.program ≡ None) c.self.view_is c.self.invariant.fine.faultless)).procedures)
 
 pub returns-then-is_named : goal.returns-then-is_named
 returns-then-is_named c =
