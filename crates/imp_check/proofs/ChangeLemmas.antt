@@ -1,6 +1,6 @@
 -- The change from one table to another.
 use Rattle.std.proofs.lemmas.Bool.Decides.{nat_tests}
-use Rattle.std.proofs.Common.{◌≡◌, ℕ, zero, suc, ◌+◌, ◌<◌, ◌≤◌, ◌==◌, ◌⊎◌, inl, inr, cond, Bool, true, false, List, [], ◌∷◌, ◌++◌, length, map, slice_index_or, Option, Some, None, refl, sym, ap, ◌∙◌, subst, arith}
+use Rattle.std.proofs.Common.{◌≡◌, ℕ, zero, suc, ◌<◌, ◌≤◌, ◌==◌, ◌⊎◌, inl, inr, cond, Bool, true, false, List, [], ◌∷◌, ◌++◌, length, Option, Some, None, refl, sym, ap, ◌∙◌, subst, arith}
 use Rattle.std.specs.List.{All}
 use Rattle.imp_slots.specs.Fits.{Absent, Distinct}
 use Rattle.imp_syntax.specs.Plain.{Procedure, program_numbers}
@@ -9,7 +9,7 @@ use Rattle.imp_check.specs.Entries.{entries_of, entry_of}
 use Rattle.imp_check.specs.declared.entry.Entry.{Entry}
 use Rattle.imp_check.specs.declared.change.Put.{Put}
 use Rattle.imp_check.specs.Tables.{entry_in}
-use Rattle.imp_check.proofs.PutLemmas.{other, same}
+use Rattle.imp_check.proofs.PutLemmas.{other, entry_past}
 use Rattle.imp_check.proofs.RebuildLemmas.{entry_numbers, all_numbers}
 use Rattle.imp_check.proofs.OverlayLemmas.{put_numbers, overlay_more, overlay_other}
 
@@ -124,3 +124,32 @@ entries_made old new at puts b low lows is comes w n = go (order n b)
     go : (n < b) ⊎ (b ≤ n) → entry_of (entries_of new) n ≡ overlay puts (entry_of (entries_of old)) n
     go (inl l) = sym (comes n l ∙ is n)
     go (inr l) = past_entry new b lows n l ∙ sym (overlay_other puts (entry_of (entries_of old)) n (absent_put b puts w.below n l) ∙ past_entry old b low n l)
+
+-- a number without an entry is of no statement
+pub no_number : (es : List Entry) (n : ℕ) → entry_of es n ≡ None → Absent n (entry_numbers es)
+no_number [] n h = tt
+no_number (e ∷ es) n h = go (no_number es n) (e.number == n) refl h
+  where
+    go : (entry_of es n ≡ None → Absent n (entry_numbers es)) → (b : Bool) → (e.number == n) ≡ b → cond b (Some e) (entry_of es n) ≡ None → Absent n (entry_numbers (e ∷ es))
+    go f true q h = absurd cc
+    go f false q h = ((λ s. let r : e.number ≡ n = sym s in absurd (grind (arith, nat_tests))), f h)
+
+-- numbers of which none is at a bound or past it
+none_past : (b : ℕ) (ns : List ℕ) → ((m : ℕ) → b ≤ m → Absent m ns) → All (λ (n : ℕ). n < b) ns
+none_past b [] h = λ i d k. absurd (omega arith)
+none_past b (n ∷ ns) h = go (none_past b ns (λ m l. (h m l).1))
+  where
+    order : (n b : ℕ) → (n < b) ⊎ (b ≤ n)
+    order n b = grind arith
+
+    first : (n < b) ⊎ (b ≤ n) → n < b
+    first (inl l) = l
+    first (inr l) = absurd ((h n l).0 refl)
+
+    go : All (λ (n : ℕ). n < b) ns → All (λ (n : ℕ). n < b) (n ∷ ns)
+    go a zero d k = first (order n b)
+    go a (suc i) d k = a i d (omega arith)
+
+-- All statements of a table have numbers below its places.
+pub all_placed : (ps : List Procedure) (places : List (Option Entry)) → ((n : ℕ) → entry_in places n ≡ entry_of (entries_of ps) n) → All (λ (n : ℕ). n < length places) (program_numbers ps)
+all_placed ps places is = subst (λ ns. All (λ (n : ℕ). n < length places) ns) (all_numbers ps) (none_past (length places) (entry_numbers (entries_of ps)) (λ m l. no_number (entries_of ps) m (sym (is m) ∙ entry_past places m l)))

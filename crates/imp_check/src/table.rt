@@ -89,6 +89,14 @@ impl Table {
         self.heads.as_slice()
     }
 
+    /// The number below which the table has places. All its statements have numbers below it.
+    pub fn room(&self) -> usize
+        ensures is { result ≡ self.now.room }
+        ensures below { All (λ (n : ℕ). n < result) (program_numbers self.now.program) }
+    {
+        self.places.len()
+    }
+
     /// How many statements the program has.
     pub fn count(&self) -> u32
         ensures is { result ≡ program_count self.now.program }

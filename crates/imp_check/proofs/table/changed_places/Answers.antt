@@ -1,9 +1,8 @@
-use Rattle.std.proofs.Common.{◌≡◌, ℕ, ◌<◌, ◌≤◌, ◌++◌, ◌∷◌, [], List, length, Option, None, refl, sym, ap, ◌∙◌, subst, arith}
+use Rattle.std.proofs.Common.{◌≡◌, ℕ, ◌<◌, ◌≤◌, ◌++◌, ◌∷◌, [], List, length, None, refl, sym, ap, ◌∙◌, subst, arith}
 use Rattle.std.specs.List.{All}
 use Rattle.imp_check.specs.Entries.{entries_of, entry_of}
 use Rattle.imp_check.specs.Tables.{entry_in}
 use Rattle.imp_check.specs.Changes.{overlay, AreWithin}
-use Rattle.imp_check.specs.declared.entry.Entry.{Entry}
 use Rattle.imp_check.specs.declared.change.Put.{Put}
 use Rattle.imp_check.proofs.ChangeLemmas.{still_kept, comes_put, high_put, within_put, comes_left, high_left}
 use Rattle.imp_check.proofs.table.changed_places.Goals as goal
@@ -44,10 +43,10 @@ loop-entry-preserved-else-number-below c =
     let i = c.loop-entry.invariant in
     let n : c.len-number.result ≡ length ys = omega (arith, c.len-number.ensures, c.pop.new.self.ok) in
     let none : length ys < b → (o ≡ None) × (at (length ys) ≡ None) =
-        elim c.else-number-below.branch [
-        else-number-below-via-then-number-below+else-stands w ↦ λ l. let k = w.stands.ensures.neither w.if-stands.false in (k.0, ap at (sym n) ∙ k.1) |
-        else-number-below-via-else-number-below w ↦ λ l. absurd (omega (arith, n, l, w.if-number-below.false))
-        ] in
+    elim c.else-number-below.branch [
+      | else-number-below-via-then-number-below+else-stands w ↦ λ l. let k = w.stands.ensures.neither w.if-stands.false in (k.0, ap at (sym n) ∙ k.1)
+      | else-number-below-via-else-number-below w ↦ λ l. absurd (omega (arith, n, l, w.if-number-below.false))
+    ] in
     record {
       kept = still_kept xs ys zs o e i.kept;
       comes = comes_left xs ys zs o e i.kept at b ps i.high i.comes none;
@@ -68,10 +67,10 @@ loop-entry-preserved c =
     let i = c.loop-entry.invariant in
     let n : c.len-number.result ≡ length ys = omega (arith, c.len-number.ensures, c.pop.new.self.ok) in
     let none : length ys < b → (o ≡ None) × (at (length ys) ≡ None) =
-        elim c.else-number-below.branch [
-        else-number-below-via-then-number-below+else-stands w ↦ λ l. let k = w.stands.ensures.neither w.if-stands.false in (k.0, ap at (sym n) ∙ k.1) |
-        else-number-below-via-else-number-below w ↦ λ l. absurd (omega (arith, n, l, w.if-number-below.false))
-        ] in
+    elim c.else-number-below.branch [
+      | else-number-below-via-then-number-below+else-stands w ↦ λ l. let k = w.stands.ensures.neither w.if-stands.false in (k.0, ap at (sym n) ∙ k.1)
+      | else-number-below-via-else-number-below w ↦ λ l. absurd (omega (arith, n, l, w.if-number-below.false))
+    ] in
     record {
       kept = still_kept xs ys zs o e i.kept;
       comes = comes_left xs ys zs o e i.kept at b ps i.high i.comes none;
