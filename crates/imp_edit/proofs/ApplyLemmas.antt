@@ -1,5 +1,5 @@
 -- The first refusal of an edit, as it is looked for.
-use Rattle.std.proofs.Common.{ℕ, ◌≡◌, ◌+◌, cond, Bool, true, false, List, Option, Some, None, refl, sym, ap, ◌∙◌}
+use Rattle.std.proofs.Common.{ℕ, ◌≡◌, cond, Bool, true, false, List, Option, Some, None, refl, sym, ap, ◌∙◌}
 use Rattle.std.specs.Option.{option_map}
 use Rattle.imp_syntax.specs.Plain.{Procedure}
 use Rattle.imp_syntax.specs.declared.edit.Edit.{Edit}

@@ -1,8 +1,7 @@
 -- The numbers of an edited program.
-use Rattle.std.proofs.lemmas.Bool.Decides.{nat_tests}
-use Rattle.std.proofs.Common.{ℕ, zero, suc, ◌≡◌, ◌+◌, ◌*◌, ◌<◌, ◌≤◌, ◌⊎◌, inl, inr, List, [], ◌∷◌, ◌++◌, refl, sym, ap, ◌∙◌, subst, arith}
+use Rattle.std.proofs.Common.{ℕ, ◌≡◌, ◌+◌, ◌<◌, ◌≤◌, ◌⊎◌, inl, inr, List, [], ◌++◌, ap, arith}
 use Rattle.std.specs.List.{All}
-use Rattle.imp_slots.specs.Fits.{Absent, Distinct}
+use Rattle.imp_slots.specs.Fits.{Distinct}
 use Rattle.imp_syntax.specs.Plain.{Condition, Statement, Simple, Break, Call, If, While, Statements, Ends, Starts, Procedure, numbers_in, numbers, program_numbers}
 use Rattle.imp_syntax.specs.declared.words.Declaration.{Declaration}
 use Rattle.imp_syntax.specs.declared.edit.Edit.{Edit}
@@ -10,9 +9,9 @@ use Rattle.imp_syntax.specs.declared.edit.Edit.TheVariants as edit
 use Rattle.imp_syntax.specs.declared.edit.Place.{Place}
 use Rattle.imp_syntax.specs.declared.edit.Place.TheVariants as place
 use Rattle.imp_check.specs.Programs.{AreNumbered}
-use Rattle.imp_edit.specs.Changes.{append, in_program, deleted, exchanged, followed, then_started, else_started, body_started, guarded, at_named, started, declared_in, preceded, dropped}
+use Rattle.imp_edit.specs.Changes.{append, in_program, deleted, exchanged, followed, then_started, else_started, body_started, guarded, started, declared_in, preceded, dropped}
 use Rattle.imp_edit.specs.Edited.{placed, edited, brought, uses, next_after, counting, Continues}
-use Rattle.imp_edit.proofs.Tallies.{one, often, often_both, numbers_append, program_often, named_often}
+use Rattle.imp_edit.proofs.Tallies.{often, often_both, numbers_append, program_often, named_often}
 use Rattle.imp_edit.proofs.Once.{distinct_once, once_distinct, absent_never, never_absent, below_never, never_below, counting_low, counting_high, counting_once, some_times}
 
 -- What each change brings of a number.

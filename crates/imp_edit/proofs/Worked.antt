@@ -1,5 +1,5 @@
 -- What edits make of a small program.
-use Rattle.std.proofs.Common.{ℕ, ◌≡◌, refl, List, [], ◌∷◌, Option, Some, None}
+use Rattle.std.proofs.Common.{ℕ, ◌≡◌, refl, List, [], ◌∷◌, Some, None}
 use Rattle.imp_syntax.specs.Plain.{Condition, Break, If, While, Statements, Ends, Starts, Procedure}
 use Rattle.imp_syntax.specs.declared.words.Declaration.{Declaration}
 use Rattle.imp_syntax.specs.declared.edit.Edit.TheVariants as edit

@@ -1,6 +1,6 @@
 -- What an edit makes of a program.
 use Rattle.std.specs.Prelude.{◌≡◌, ℕ, zero, suc, ◌+◌, List, [], ◌∷◌}
-use Rattle.imp_syntax.specs.Plain.{Statement, Statements, Ends, Starts, Procedure, numbers}
+use Rattle.imp_syntax.specs.Plain.{Statements, Ends, Starts, Procedure, numbers}
 use Rattle.imp_syntax.specs.declared.edit.Edit.{Edit}
 use Rattle.imp_syntax.specs.declared.edit.Edit.TheVariants as edit
 use Rattle.imp_syntax.specs.declared.edit.Place.{Place}
