@@ -21,3 +21,4 @@ pub mod SitesMade
 pub mod OverlayLemmas
 pub mod ExchangeLemmas
 pub mod StepLemmas
+pub mod ChangeLemmas

@@ -5,6 +5,7 @@ ghost use Rattle.imp_slots.specs.Fits.{IsChecked};
 ghost use Rattle.imp_check.specs.Programs.{AreNumbered, check_fault, program_count};
 ghost use Rattle.imp_check.specs.Slots.{routines_of};
 ghost use Rattle.imp_check.specs.Entries.{entries_of, entry_of, sites_in};
+ghost use Rattle.imp_check.specs.Fine.{IsFine};
 ghost use Rattle.imp_check.specs.Names.{named_in};
 ghost use Rattle.imp_check.specs.Refused.{IsRefused};
 ghost use Rattle.imp_check.specs.Small.{small_program};
@@ -67,6 +68,25 @@ pub fn check(alloc: Global, program: Program) -> Result<Checked, CheckError>
         return Err(CheckError::Fault(found));
     }
     Ok(accept(alloc, program)?)
+}
+
+/// Checks a program as [`check`] does, and makes its table alone. It leaves the program.
+///
+/// # Errors
+///
+/// As [`check`].
+#[tactic(auto, using(crate::proofs::FewLemmas::few_checked, crate::proofs::FitsPrograms::programs_fit))]
+pub fn check_table(alloc: Global, program: &Program) -> Result<Table, CheckError>
+    requires numbered { AreNumbered program.now }
+    ensures accepted { IfOk result (λ table. table.program ≡ program.now) }
+    ensures fine { IfOk result (λ _. IsFine program.now) }
+    ensures refused { IfErr result (IsRefused (check_fault program.now)) }
+{
+    if let Some(found) = check_fault(alloc, program.procs())? {
+        return Err(CheckError::Fault(found));
+    }
+    small_program(program.procs());
+    Ok(table_of(alloc, program.procs())?)
 }
 
 #[tactic(auto, using(crate::proofs::FewLemmas::few_checked, crate::proofs::FitsPrograms::programs_fit))]

@@ -15,9 +15,10 @@ pub(crate) fn program_count(procs: &[Proc]) -> u32
     total
 }
 
+/// How many statements stand in a block, those inside them too, up to 2^32 - 1.
 #[cycle(counts)]
 #[tactic(auto, using(imp_syntax::specs::Blocks::member_smaller, imp_syntax::specs::Blocks::block_rest))]
-fn block_count(block: &Block) -> u32
+pub fn block_count(block: &Block) -> u32
     ensures is { result ≡ min (block_count block.now) (2 ^ 32 - 1) }
 {
     let mut total: u32 = 0;
@@ -27,8 +28,9 @@ fn block_count(block: &Block) -> u32
     total
 }
 
+/// How many statements a statement is, with those inside it, up to 2^32 - 1.
 #[cycle(counts)]
-fn statement_count(stmt: &Stmt) -> u32
+pub fn statement_count(stmt: &Stmt) -> u32
     ensures is { result ≡ min (statement_count stmt.now) (2 ^ 32 - 1) }
 {
     match stmt.node() {

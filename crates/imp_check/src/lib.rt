@@ -51,7 +51,8 @@ mod table;
 mod terms;
 
 pub use change::{Change, Put};
-pub use checked::{Checked, check};
+pub use checked::{Checked, check, check_table};
+pub use counts::{block_count, statement_count};
 pub use entry::{Around, BlockEnds, Context, Entry, Head, SlotForm, Which};
 pub use fault::{CheckError, Fault, Found};
 pub use numbered::is_numbered;

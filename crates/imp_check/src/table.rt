@@ -1,5 +1,6 @@
 //! Programs as tables of their statements.
-ghost use Rattle.std.specs.Prelude.{◌≡◌, ◌<◌, ◌≤◌, [], List, length, slice_get, option_map, IfOk, OnOk, OnErr, None};
+ghost use Rattle.std.specs.Prelude.{◌≡◌, ℕ, ◌<◌, ◌≤◌, [], List, length, slice_get, option_map, false, IfOk, OnOk, OnErr, None};
+ghost use Rattle.std.specs.List.{All};
 ghost use Rattle.std.specs.Option.{option_copied};
 ghost use Rattle.imp_syntax.specs.Plain.{Procedure, program_numbers};
 ghost use Rattle.imp_slots.specs.Fits.{IsChecked};
@@ -11,9 +12,9 @@ ghost use Rattle.imp_check.specs.Entries.{entries_of, entry_of, heads_of, head_o
 ghost use Rattle.imp_check.specs.Fine.{IsFine};
 ghost use Rattle.imp_check.specs.Rebuilt.{program_by};
 ghost use Rattle.imp_check.specs.Tables.{entry_in, AreOf};
-ghost use Rattle.imp_check.specs.Changes.{AreWithin, Makes};
+ghost use Rattle.imp_check.specs.Changes.{AreWithin, Makes, overlay};
 
-use crate::change::{Change, exchange_list};
+use crate::change::{Change, Put, exchange_list};
 use crate::entry::{BlockEnds, Entry, Head};
 use crate::heads::{is_named, place_named};
 use crate::place::Place;
@@ -86,6 +87,14 @@ impl Table {
         ensures fit { IsChecked (routines_of self.now.program) }
     {
         self.heads.as_slice()
+    }
+
+    /// The number below which the table has places. All its statements have numbers below it.
+    pub fn room(&self) -> usize
+        ensures is { result ≡ self.now.room }
+        ensures below { All (λ (n : ℕ). n < result) (program_numbers self.now.program) }
+    {
+        self.places.len()
     }
 
     /// How many statements the program has.
@@ -188,4 +197,50 @@ impl Table {
         exchange_list(&mut self.heads, &mut change.heads);
         exchange_list(&mut self.sites, &mut change.sites);
     }
+
+    /// The change that makes this program of another table's. It has the numbers below this one at which either program
+    /// has a statement. It takes time linear in that number, and fails for want of memory alone.
+    pub fn into_change(self, alloc: Global, from: &Table, below: u32) -> Result<Change, Memory>
+        requires old { All (λ (n : ℕ). n < below) (program_numbers from.now.program) }
+        requires new { All (λ (n : ℕ). n < below) (program_numbers self.program) }
+        ensures makes { IfOk result (λ change. Makes from.now.program change self.program) }
+        ensures within { IfOk result (λ change. AreWithin below change.entries.items) }
+    {
+        let entries = changed_places(alloc, from, self.places, below)?;
+        Ok(Change {
+            entries,
+            heads: Some(self.heads),
+            count: self.count,
+            sites: Some(self.sites),
+        })
+    }
+}
+
+/// What comes below a number where a table gets these places.
+fn changed_places(
+    alloc: Global,
+    from: &Table,
+    mut places: Vec<Place>,
+    below: u32,
+) -> Result<Vec<Put>, Memory>
+    ensures comes { IfOk result (λ puts. (n : ℕ) → n < below → overlay puts.items (entry_of (entries_of from.now.program)) n ≡ entry_in places.items n) }
+    ensures within { IfOk result (λ puts. AreWithin below puts.items) }
+{
+    make_room(&mut places, below as usize)?;
+    let mut puts = Vec::new(alloc);
+    while let Some(entry) = places.pop() {
+        let number = places.len();
+        if number < below as usize && stands(from, number as u32, &entry) {
+            let number = number as u32;
+            puts.push(Put { number, entry })?;
+        }
+    }
+    Ok(puts)
+}
+
+/// Whether something stands at a place, or at its number in a table.
+fn stands(table: &Table, number: u32, place: &Place) -> bool
+    ensures neither { result ≡ false → (place.now ≡ None) × (entry_of (entries_of table.now.program) number ≡ None) }
+{
+    place.entry().is_some() || table.entry(StmtId::new(number)).is_some()
 }

@@ -1,0 +1,9 @@
+pub mod Tallies
+pub mod Once
+pub mod Numbered
+pub mod TreeLemmas
+pub mod ProcedureLemmas
+pub mod NextLemmas
+pub mod RefusalLemmas
+mod Worked
+pub mod ApplyLemmas

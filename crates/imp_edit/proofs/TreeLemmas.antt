@@ -1,0 +1,65 @@
+-- Changes of trees, as the code makes them.
+use Rattle.std.proofs.Common.{ℕ, zero, suc, ◌+◌, ◌<◌, ◌≤◌, ◌≡◌, refl, List, [], ◌∷◌, ◌++◌, length, drop, slice_index_or, cond, ◌==◌, true, false, ap, sym, ◌∙◌, arith, append_assoc}
+use Rattle.std.proofs.lemmas.List.{append-nil}
+use Rattle.std.proofs.lemmas.Bool.Decides.{nat_tests}
+use Rattle.imp_syntax.specs.Plain.{Condition, Statement, Simple, Break, Call, If, While, Statements, Ends, Starts, block_of, statements_of, number_of}
+use Rattle.imp_syntax.specs.Changes.{inserted, with_condition}
+use Rattle.imp_syntax.specs.Blocks.{statements_back, block_again, block_rest}
+use Rattle.imp_edit.specs.Changes.{append, guarded, in_block, in_statement}
+
+-- the statements of one block in front of another, and back
+pub both : (xs ys : Statements) → statements_of (append xs ys) ≡ statements_of xs ++ statements_of ys
+both Ends ys = refl
+both (Starts s xs) ys = ap (λ (zs : List Statement). s ∷ zs) (both xs ys)
+
+pub in_front : (more b : Statements) → inserted b 0 more ≡ append more b
+in_front more b = ap block_of (sym (both more b)) ∙ block_again (append more b)
+
+-- an if or while with another condition
+pub conditioned : (d : Condition) (s : Statement) → statements_of (guarded d s) ≡ with_condition s d ∷ []
+conditioned d (Simple n a) = refl
+conditioned d (Break n) = refl
+conditioned d (Call n x g es) = refl
+conditioned d (If n c t e) = refl
+conditioned d (While n c b) = refl
+
+-- What is still to come of a block with a change at a statement: the statement is met, another one is passed, none is left.
+abbrev pub to_come : ℕ → (Statement → Statements) → List Statement → ℕ → List Statement
+to_come n made ss i = statements_of (in_block n made (block_of (drop i ss)))
+
+it_is : (m n : ℕ) → m ≡ n → (m == n) ≡ true
+it_is m n e = grind (arith, nat_tests)
+
+met : (n : ℕ) (made : Statement → Statements) (ss : List Statement) (i : ℕ) (s : Statement) → i < length ss → s ≡ slice_index_or ss i s → (number_of s == n) ≡ true → to_come n made ss i ≡ statements_of (made s) ++ drop (i + 1) ss
+met n made ss i s h e q =
+    ap (λ b. statements_of (in_block n made b)) (block_rest ss i s h e)
+    ∙ ap (λ t. statements_of (cond t (append (made s) (block_of (drop (i + 1) ss))) (Starts (in_statement n made s) (in_block n made (block_of (drop (i + 1) ss)))))) q
+    ∙ both (made s) (block_of (drop (i + 1) ss))
+    ∙ ap (λ zs. statements_of (made s) ++ zs) (statements_back (drop (i + 1) ss))
+
+pub passed : (n : ℕ) (made : Statement → Statements) (ss : List Statement) (i : ℕ) (s : Statement) → i < length ss → s ≡ slice_index_or ss i s → (number_of s == n) ≡ false → to_come n made ss i ≡ in_statement n made s ∷ to_come n made ss (i + 1)
+passed n made ss i s h e q =
+    ap (λ b. statements_of (in_block n made b)) (block_rest ss i s h e)
+    ∙ ap (λ t. statements_of (cond t (append (made s) (block_of (drop (i + 1) ss))) (Starts (in_statement n made s) (in_block n made (block_of (drop (i + 1) ss)))))) q
+
+past : (ss : List Statement) (i : ℕ) → length ss ≤ i → drop i ss ≡ []
+past [] zero h = refl
+past [] (suc i) h = refl
+past (s ∷ ss) zero h = absurd (omega arith)
+past (s ∷ ss) (suc i) h = past ss i (omega arith)
+
+ended : (n : ℕ) (made : Statement → Statements) (ss : List Statement) (i : ℕ) → length ss ≤ i → to_come n made ss i ≡ []
+ended n made ss i h = ap (λ zs. statements_of (in_block n made (block_of zs))) (past ss i h)
+
+whole : (xs : List Statement) (b : Statements) → xs ≡ statements_of b → block_of xs ≡ b
+whole xs b e = ap block_of e ∙ block_again b
+
+-- the block once the statement is met, and at the end
+pub met_whole : (n : ℕ) (made : Statement → Statements) (ss : List Statement) (b : Statements) (i : ℕ) (s : Statement) (front met_too all : List Statement) → i < length ss → s ≡ slice_index_or ss i s → number_of s ≡ n → front ++ to_come n made ss i ≡ statements_of (in_block n made b) → met_too ≡ front ++ statements_of (made s) → all ≡ met_too ++ drop (i + 1) ss → block_of all ≡ in_block n made b
+met_whole n made ss b i s front met_too all h e q told r t =
+    whole all (in_block n made b)
+    (t ∙ ap (λ zs. zs ++ drop (i + 1) ss) r ∙ append_assoc front (statements_of (made s)) (drop (i + 1) ss) ∙ ap (λ zs. front ++ zs) (sym (met n made ss i s h e (it_is (number_of s) n q))) ∙ told)
+
+pub left_whole : (n : ℕ) (made : Statement → Statements) (ss : List Statement) (b : Statements) (i : ℕ) (front : List Statement) → length ss ≤ i → front ++ to_come n made ss i ≡ statements_of (in_block n made b) → block_of front ≡ in_block n made b
+left_whole n made ss b i front h told =
+    whole front (in_block n made b) (sym (append-nil front) ∙ ap (λ zs. front ++ zs) (sym (ended n made ss i h)) ∙ told)

@@ -1,0 +1,4 @@
+pub mod Changes
+pub mod Edited
+pub mod Made
+pub mod Refusals

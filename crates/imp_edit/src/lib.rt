@@ -1,0 +1,25 @@
+//! Edits of programs without faults: what each of the seven makes of a program, and why one is refused.
+//!
+//! [`apply`] takes the table of a program ([`imp_check::Table`]), an edit and the next new number. It answers the change
+//! of the table ([`imp_check::Change`]) and the number behind those that the edit uses exactly where no refusal holds, and
+//! else the first refusal, or want of memory. It changes nothing itself, so a refused edit leaves the program, and uses
+//! no number. `edited` of `specs/Edited.antt` is the program after an edit, by the definitions of `specs/Changes.antt`;
+//! `edit_refusal` of `specs/Refusals.antt` is the first refusal.
+//!
+//! - An edit at a statement changes the one statement of a number: `in_program n made`, where `made` says what becomes of
+//!   it. The numbers of the others stay.
+//! - An edit at a procedure changes the first one of a name: `at_named x made`.
+//!
+//! An edit's own statements carry the numbers from `next` on, so a number is never used again, and numbers of the new
+//! program stand once.
+#![tactic(auto)]
+
+mod applying;
+mod error;
+mod numbers;
+mod procedures;
+mod refusals;
+mod trees;
+
+pub use applying::{Edited, apply};
+pub use error::EditError;
