@@ -1,7 +1,6 @@
 -- How often list segments can change.
-use Rattle.std.specs.Prelude.{◌≡◌, ◌≤◌, ◌+◌, ℤ, List, ◌∷◌, length, true}
+use Rattle.std.specs.Prelude.{◌≤◌, ◌∷◌}
 use Rattle.std.proofs.Common.{arith}
-use Rattle.imp_slots.specs.Plain.{Layout}
 use Rattle.listseg_meaning.specs.State.{Segments, Top, Graphs}
 use Rattle.listseg_meaning.specs.Domain.{segments}
 use Rattle.listseg_meaning.specs.Convergence.{changes_left}

@@ -1,7 +1,6 @@
 -- How often a pair can still change in the rounds of a loop.
-use Rattle.std.specs.Prelude.{◌≡◌, ◌<◌, ◌⊎◌, ℕ, ◌+◌, ℤ, List, ◌∷◌}
+use Rattle.std.specs.Prelude.{◌≡◌, ◌<◌, ◌⊎◌, ℕ, ◌+◌, ◌∷◌}
 use Rattle.std.proofs.Common.{ap, arith, inl, inr}
-use Rattle.imp_slots.specs.Plain.{Layout}
 use Rattle.domain_laws.specs.Operations.{Operations}
 use Rattle.product_meaning.specs.Product.{product}
 use Rattle.product_meaning.proofs.Fitting.{fits_parts}
