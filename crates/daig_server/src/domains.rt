@@ -5,7 +5,9 @@ ghost use Rattle.daig_server.specs.Domains.{RepliesAs, meaning_of};
 
 use batch_sound::{answers_are_sound, reports_are_sound};
 use dom_interval::Interval;
+use dom_listseg::ListSeg;
 use dom_octagon::Octagon;
+use dom_product::Pair;
 use domain_laws::Domain;
 
 /// A domain that the words name: replies by it are those by what the name means.
@@ -34,6 +36,33 @@ impl Named for Octagon {
     ghost replies = { λ _. record { lines = λ _ _. refl; reports = λ _. refl } };
 }
 
+impl Named for ListSeg {
+    ghost use Rattle.std.specs.Prelude.{refl};
+    ghost use Rattle.command_words.specs.declared.job.DomainName.TheVariants as domain;
+
+    ghost name = { domain.ListSeg };
+
+    ghost replies = { λ _. record { lines = λ _ _. refl; reports = λ _. refl } };
+}
+
+impl Named for Pair<Interval, ListSeg> {
+    ghost use Rattle.std.specs.Prelude.{refl};
+    ghost use Rattle.command_words.specs.declared.job.DomainName.TheVariants as domain;
+
+    ghost name = { domain.IntervalListSeg };
+
+    ghost replies = { λ _. record { lines = λ _ _. refl; reports = λ _. refl } };
+}
+
+impl Named for Pair<Octagon, ListSeg> {
+    ghost use Rattle.std.specs.Prelude.{refl};
+    ghost use Rattle.command_words.specs.declared.job.DomainName.TheVariants as domain;
+
+    ghost name = { domain.OctagonListSeg };
+
+    ghost replies = { λ _. record { lines = λ _ _. refl; reports = λ _. refl } };
+}
+
 /// Answers and reports are sound by a domain.
 fn domain_is_sound<D: Domain>()
     ensures answers { (d : D) → AreAnswersSound (D.operations d) (D.covers d) }
@@ -50,4 +79,7 @@ pub(crate) fn named_domains_are_sound()
 {
     domain_is_sound::<Interval>();
     domain_is_sound::<Octagon>();
+    domain_is_sound::<ListSeg>();
+    domain_is_sound::<Pair<Interval, ListSeg>>();
+    domain_is_sound::<Pair<Octagon, ListSeg>>();
 }
