@@ -15,7 +15,7 @@ pub trait Named: Domain + Drop {
     /// Its name.
     ghost name: { Name };
 
-    ghost replies: { (d : Self) → RepliesAs name (operations d) };
+    ghost replies: { (d : Self) → RepliesAs name (Self.Domain.operations d) };
 }
 
 impl Named for Interval {
