@@ -1,9 +1,8 @@
 -- Verdicts without going through the graphs.
-use Rattle.std.proofs.Common.{◌≡◌, ℕ, ◌≤◌, ◌<◌, Bool, true, false, cond, if◌then◌else◌, List, [], ◌∷◌, ◌⊎◌, inl, inr, length, Option, None, Some, refl, sym, ◌∙◌, ap, subst, arith}
+use Rattle.std.proofs.Common.{◌≡◌, ℕ, ◌<◌, Bool, true, false, cond, if◌then◌else◌, List, [], ◌∷◌, inl, inr, length, Option, None, Some, refl, sym, subst, arith}
 use Rattle.std.specs.Prelude.{nat_le}
 use Rattle.std.proofs.lemmas.Bool.{cases_Bool}
 use Rattle.imp_slots.specs.Plain.{Term, Act, DoBreak, Does}
-use Rattle.analysis_words.specs.declared.verdict.Verdict.{Verdict}
 use Rattle.analysis_words.specs.declared.verdict.Verdict.TheVariants.{Dead, Safe, May}
 use Rattle.domain_laws.specs.Checks.{Check, Within, check_of, checked_guard}
 use Rattle.domain_laws.specs.Guards.{verdict_on}

@@ -1,5 +1,5 @@
 -- Behind a call, where both states describe something.
-use Rattle.std.proofs.Common.{◌≡◌, true, false, List, [], ◌∷◌, Option, refl, sym, ◌∙◌}
+use Rattle.std.proofs.Common.{◌≡◌, true, false, List, [], ◌∷◌, Option, refl}
 use Rattle.imp_slots.specs.Plain.{Returning}
 use Rattle.shape_graph.specs.Shape.{Shape}
 use Rattle.listseg_meaning.specs.State.{Segments, Top, Graphs}

@@ -1,4 +1,4 @@
-use Rattle.std.proofs.Common.{arith, ap, map, ◌∙◌}
+use Rattle.std.proofs.Common.{arith, ap, ◌∙◌}
 use Rattle.shape_steps.specs.Steps.{last_frame_of}
 use Rattle.shape_graph.proofs.Function.{fold_of}
 use Rattle.listseg_meaning.specs.Sets as sets

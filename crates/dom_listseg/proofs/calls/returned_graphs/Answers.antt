@@ -1,4 +1,4 @@
-use Rattle.std.proofs.Common.{arith, ap, map, ◌∙◌}
+use Rattle.std.proofs.Common.{arith, ap, ◌∙◌}
 use Rattle.imp_slots.specs.CallViews.{taken_of}
 use Rattle.listseg_meaning.specs.Operations.{returned}
 use Rattle.shape_graph.proofs.Function.{fold_of}

@@ -1,5 +1,5 @@
 use Rattle.std.proofs.Common.{◌≡◌, IfOk, subst}
-use Rattle.shape_graph.proofs.Function.{fold_of, Folds-fold_of}
+use Rattle.shape_graph.proofs.Function.{Folds-fold_of}
 use Rattle.listseg_meaning.specs.Sets as sets
 use Rattle.dom_listseg.proofs.sets.put_folded.Goals as goal
 

@@ -1,4 +1,4 @@
-use Rattle.std.proofs.Common.{arith, ◌≡◌, ◌<◌, ◌-◌, length, ap, ◌∙◌}
+use Rattle.std.proofs.Common.{arith, ◌<◌, ◌-◌, length, ap, ◌∙◌}
 use Rattle.std.proofs.lemmas.Bool.Decides.{nat_tests}
 use Rattle.shape_steps.specs.Steps.{last_of}
 use Rattle.shape_steps.proofs.Graphs.{last_of-is}
