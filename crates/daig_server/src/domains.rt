@@ -1,6 +1,8 @@
 //! The domains that the words name, each with the code that computes it.
 ghost use Rattle.batch_sound.specs.Theorem.{AreAnswersSound, AreReportsSound};
 ghost use Rattle.command_words.specs.declared.job.DomainName.{DomainName as Name};
+ghost use Rattle.listseg_meaning.specs.Domain.{segments};
+ghost use Rattle.product_meaning.specs.Product.{product};
 ghost use Rattle.daig_server.specs.Domains.{RepliesAs, meaning_of};
 
 use batch_sound::{answers_are_sound, reports_are_sound};
@@ -45,22 +47,36 @@ impl Named for ListSeg {
     ghost replies = { λ _. record { lines = λ _ _. refl; reports = λ _. refl } };
 }
 
-impl Named for Pair<Interval, ListSeg> {
-    ghost use Rattle.std.specs.Prelude.{refl};
-    ghost use Rattle.command_words.specs.declared.job.DomainName.TheVariants as domain;
+/// A domain that the words name together with list segments: replies by the product are those by what that name means.
+pub trait NamedWithLists: Domain + Drop {
+    /// The name of the product.
+    ghost product_name: { Name };
 
-    ghost name = { domain.IntervalListSeg };
-
-    ghost replies = { λ _. record { lines = λ _ _. refl; reports = λ _. refl } };
+    ghost product_replies: { (d : Self) → RepliesAs product_name (product (Self.Domain.operations d) segments) };
 }
 
-impl Named for Pair<Octagon, ListSeg> {
+impl NamedWithLists for Interval {
     ghost use Rattle.std.specs.Prelude.{refl};
     ghost use Rattle.command_words.specs.declared.job.DomainName.TheVariants as domain;
 
-    ghost name = { domain.OctagonListSeg };
+    ghost product_name = { domain.IntervalListSeg };
 
-    ghost replies = { λ _. record { lines = λ _ _. refl; reports = λ _. refl } };
+    ghost product_replies = { λ _. record { lines = λ _ _. refl; reports = λ _. refl } };
+}
+
+impl NamedWithLists for Octagon {
+    ghost use Rattle.std.specs.Prelude.{refl};
+    ghost use Rattle.command_words.specs.declared.job.DomainName.TheVariants as domain;
+
+    ghost product_name = { domain.OctagonListSeg };
+
+    ghost product_replies = { λ _. record { lines = λ _ _. refl; reports = λ _. refl } };
+}
+
+impl<A: NamedWithLists> Named for Pair<A, ListSeg> {
+    ghost name = { A.product_name };
+
+    ghost replies = { λ d. A.product_replies d.first };
 }
 
 /// Answers and reports are sound by a domain.

@@ -11,7 +11,8 @@ const FILLED: &str =
     "proc main() { var i: int; var n: int; var a: array; n = input; a = array n; i = 0; while (i < len a) { a[i] = i; i = i + 1; } }";
 
 /// A list that is pushed a number of times that is read, and then walked.
-const PUSHED: &str = "proc main() { var i: int; var n: int; var p: list; var q: list; var x: list; n = input; while (i < n) { q = new; q.next = p; p = q; i = i + 1; } x = p; while (x != null) { x = x.next; } }";
+const PUSHED: &str =
+    "proc main() { var i: int; var n: int; var p: list; var q: list; var x: list; n = input; while (i < n) { q = new; q.next = p; p = q; i = i + 1; } x = p; while (x != null) { x = x.next; } }";
 
 /// A number that is 0, and the item of a cell that was made.
 const MADE: &str = "proc main() { var i: int; var p: list; assert i == 0; p = new; i = p.item; }";
