@@ -20,7 +20,7 @@ use Rattle.batch_converges.specs.Converges.{Ending}
 use Rattle.batch_converges.proofs.Known.{Known, EachKnown, known_lift, known_lift2, known_both, known_joined}
 use Rattle.batch_converges.proofs.Rounds.{IsRoomy, fix_known}
 
-module _ {S : Type 0} (dom : Operations S) (engine : Engine) (covers : S → Heap → List Variables → Type 0) (laws : Laws dom covers) (most : ℕ → ℕ → ℕ) (ending : Ending dom most) where
+module _ {S : Type 0} (dom : Operations S) (engine : Engine) (covers : S → Heap → List Variables → Type 0) (laws : Laws dom covers) (wait : ℕ → ℕ) (most : ℕ → ℕ → ℕ) (ending : Ending dom wait most) where
   abbrev Good : Value S → List Layout → Type 0
   Good = Fit dom engine covers laws
 
@@ -38,7 +38,7 @@ module _ {S : Type 0} (dom : Operations S) (engine : Engine) (covers : S → Hea
   plain : (n : ℕ) (v w : Value S) (c : Option (Invoke × ℕ)) → Known v → Known w → SpotKnown (n, spot v None w c)
   plain n v w c k j = record { before_known = k; head_known = λ x e. absurd cc; after_known = j }
 
-  module _ (marks : List ℤ) (rising : IsRising marks) (z : List ℕ) (calls : ℕ → ℕ → Value S → Value S) (before : List Routine) (l : Layout) (ls : List Layout) (roomy : IsRoomy dom engine covers laws most ending l marks)
+  module _ (marks : List ℤ) (rising : IsRising marks) (z : List ℕ) (calls : ℕ → ℕ → Value S → Value S) (before : List Routine) (l : Layout) (ls : List Layout) (roomy : IsRoomy dom engine covers laws wait most ending l marks)
       (keep : (n q : ℕ) (c : Routine) (v : Value S) → slice_get before q ≡ Some c → Fit dom engine covers laws v (c.layout ∷ l ∷ ls) → Fit dom engine covers laws (calls n q v) (c.layout ∷ l ∷ ls))
       (knows : (n q : ℕ) (c : Routine) (v : Value S) → slice_get before q ≡ Some c → Fit dom engine covers laws v (c.layout ∷ l ∷ ls) → Known v → Known (calls n q v)) where
     abbrev fitting : (c : Code) (a : Value S) → FitsCode before l c → Fit dom engine covers laws a (l ∷ ls) → Good (batch dom engine marks z calls c a).value (l ∷ ls)
@@ -70,7 +70,7 @@ module _ {S : Type 0} (dom : Operations S) (engine : Engine) (covers : S → Hea
         let keeps = λ (v : Value S) (fv : Fit dom engine covers laws v (l ∷ ls)). fitting b (lift (dom.assume g true) v) s.1 (fit_assume dom engine covers laws g true l ls v s.0 fv) in
         let inner = λ (v : Value S) (fv : Fit dom engine covers laws v (l ∷ ls)) (kv : Known v). block_known b (lift (dom.assume g true) v) s.1 (fit_assume dom engine covers laws g true l ls v s.0 fv) (known_lift (dom.assume g true) v kv) in
         let h = fix_is_head dom engine covers laws (l ∷ ls) marks rising (λ v. (batch dom engine marks z calls b (lift (dom.assume g true) v)).value) n z a keeps f in
-        let j = fix_known dom engine covers laws most ending l ls marks rising roomy (λ v. (batch dom engine marks z calls b (lift (dom.assume g true) v)).value) (Over n z) a keeps (λ v fv kv. (inner v fv kv).value) f k in
+        let j = fix_known dom engine covers laws wait most ending l ls marks rising roomy (λ v. (batch dom engine marks z calls b (lift (dom.assume g true) v)).value) (Over n z) a keeps (λ v fv kv. (inner v fv kv).value) f k in
         let top = (head_of dom engine marks z n g (batch dom engine marks z calls b) a).value in
         let leaves = (block_fit dom engine covers laws marks rising z calls before l ls keep b (lift (dom.assume g true) top) s.1 (fit_assume dom engine covers laws g true l ls top s.0 h.fit)).leaving in
         block_known r _ s.2
@@ -98,7 +98,7 @@ module _ {S : Type 0} (dom : Operations S) (engine : Engine) (covers : S → Hea
         let keeps = λ (v : Value S) (fv : Fit dom engine covers laws v (l ∷ ls)). fitting b (lift (dom.assume g true) v) s.1 (fit_assume dom engine covers laws g true l ls v s.0 fv) in
         let inner = λ (v : Value S) (fv : Fit dom engine covers laws v (l ∷ ls)) (kv : Known v). block_known b (lift (dom.assume g true) v) s.1 (fit_assume dom engine covers laws g true l ls v s.0 fv) (known_lift (dom.assume g true) v kv) in
         let h = fix_is_head dom engine covers laws (l ∷ ls) marks rising (λ v. (batch dom engine marks z calls b (lift (dom.assume g true) v)).value) n z a keeps f in
-        let j = fix_known dom engine covers laws most ending l ls marks rising roomy (λ v. (batch dom engine marks z calls b (lift (dom.assume g true) v)).value) (Over n z) a keeps (λ v fv kv. (inner v fv kv).value) f k in
+        let j = fix_known dom engine covers laws wait most ending l ls marks rising roomy (λ v. (batch dom engine marks z calls b (lift (dom.assume g true) v)).value) (Over n z) a keeps (λ v fv kv. (inner v fv kv).value) f k in
         let top = (head_of dom engine marks z n g (batch dom engine marks z calls b) a).value in
         let fi = fit_assume dom engine covers laws g true l ls top s.0 h.fit in
         let leaves = (block_fit dom engine covers laws marks rising z calls before l ls keep b (lift (dom.assume g true) top) s.1 fi).leaving in
@@ -115,7 +115,7 @@ module _ {S : Type 0} (dom : Operations S) (engine : Engine) (covers : S → Hea
   -- The budget is enough for each of these procedures.
   abbrev pub EachRoomy : List Routine → Type 0
   EachRoomy [] = Unit {0}
-  EachRoomy (r ∷ rs) = IsRoomy dom engine covers laws most ending r.layout (marks engine.widening r) × EachRoomy rs
+  EachRoomy (r ∷ rs) = IsRoomy dom engine covers laws wait most ending r.layout (marks engine.widening r) × EachRoomy rs
 
   module _ (rises : MarksRise) where
     pub procedure_known : (procs : List Routine) (z : List ℕ) (q : ℕ) (c : Routine) (ls : List Layout) (a : Value S) → look procs q ≡ Some c → FitBack procs → EachRoomy procs → Fit dom engine covers laws a (c.layout ∷ ls) → Known a → Known (procedure dom engine procs z q a)

@@ -4,3 +4,4 @@ pub mod Blocks
 pub mod OfIntervals
 pub mod Whole
 pub mod OfOctagons
+pub mod OfSegments

@@ -8,14 +8,14 @@ use Rattle.interval_meaning.specs.Covers.{fits}
 use Rattle.interval_meaning.specs.Domain.{intervals}
 use Rattle.interval_meaning.specs.Convergence.{most_changes, changes_left}
 use Rattle.interval_meaning.proofs.ConvergenceLaws.{widening_does_end}
-use Rattle.batch_converges.specs.Converges.{Ending, Grows}
+use Rattle.batch_converges.specs.Converges.{Ending, Grows, until_widening}
 
 seldom : (ms : List ℤ) (l : Layout) (ls : List Layout) (s : Intervals) → fits s (l ∷ ls) ≡ true → changes_left ms l s ≤ most_changes (length l.numbers) (length ms) + 1
 seldom ms l ls Empty h = let e = widening_does_end.few_from_empty ms l in omega arith
 seldom ms l ls (Within rs) h = let f = widening_does_end.few ms l ls rs h in omega arith
 
-pub interval_ending : Ending intervals most_changes
-interval_ending = record { left = changes_left; falls = widening_does_end.falls; few = seldom }
+pub interval_ending : Ending intervals until_widening most_changes
+interval_ending = record { left = changes_left; falls = widening_does_end.falls; joins_fall = λ delay ms l ls s t h. absurd (omega arith); few = seldom }
 
 pub interval_grows : Grows most_changes
 interval_grows v w m n h k =

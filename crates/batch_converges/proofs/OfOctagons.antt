@@ -1,14 +1,14 @@
 -- How often octagons can change.
-use Rattle.std.specs.Prelude.{◌≡◌, ◌≤◌, ◌+◌, ◌*◌, length, true}
+use Rattle.std.specs.Prelude.{◌≤◌, ◌+◌, ◌*◌}
 use Rattle.std.proofs.Common.{arith}
 use Rattle.std.proofs.Math.Nat.{mul-le-mul_left, mul-le-mul_right}
 use Rattle.octagon_meaning.specs.Domain.{octagons}
 use Rattle.octagon_meaning.specs.Convergence.{most_changes, changes_left}
 use Rattle.octagon_meaning.proofs.Convergence.{widening_ends}
-use Rattle.batch_converges.specs.Converges.{Ending, Grows}
+use Rattle.batch_converges.specs.Converges.{Ending, Grows, until_widening}
 
-pub octagon_ending : Ending octagons most_changes
-octagon_ending = record { left = changes_left; falls = widening_ends.falls; few = widening_ends.few }
+pub octagon_ending : Ending octagons until_widening most_changes
+octagon_ending = record { left = changes_left; falls = widening_ends.falls; joins_fall = λ delay ms l ls s t h. absurd (omega arith); few = widening_ends.few }
 
 pub octagon_grows : Grows most_changes
 octagon_grows v w m n h k =

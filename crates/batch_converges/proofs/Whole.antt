@@ -34,12 +34,12 @@ max-left a b = omega arith
 max-right : (a b : ℕ) → b ≤ max a b
 max-right a b = omega arith
 
-module _ {S : Type 0} (dom : Operations S) (engine : Engine) (covers : S → Heap → List Variables → Type 0) (laws : Laws dom covers) (most : ℕ → ℕ → ℕ) (ending : Ending dom most) (rises : MarksRise) where
+module _ {S : Type 0} (dom : Operations S) (engine : Engine) (covers : S → Heap → List Variables → Type 0) (laws : Laws dom covers) (wait : ℕ → ℕ) (most : ℕ → ℕ → ℕ) (ending : Ending dom wait most) (rises : MarksRise) where
   abbrev Fine : Value S → List Layout → Type 0
   Fine = Fit dom engine covers laws
 
   abbrev Roomy : List Routine → Type 0
-  Roomy = EachRoomy dom engine covers laws most ending
+  Roomy = EachRoomy dom engine covers laws wait most ending
 
   -- Procedures and the value in front of the last one's body: it fits a frame of the last, and is known.
   record Entry (list : List Routine) (v : Value S) : Type 0 where
@@ -61,7 +61,7 @@ module _ {S : Type 0} (dom : Operations S) (engine : Engine) (covers : S → Hea
     keep_call n q c v g f = procedure_fit dom engine covers laws rises earlier (n ∷ z) q c (r.layout ∷ x.below) v (look_get earlier q ∙ g) x.back.1 f
 
     know_call : (n q : ℕ) (c : Routine) (v : Value S) → slice_get (reverse earlier) q ≡ Some c → Fine v (c.layout ∷ r.layout ∷ x.below) → Known v → Known (calls_of dom engine earlier z n q v)
-    know_call n q c v g f k = procedure_known dom engine covers laws most ending rises earlier (n ∷ z) q c (r.layout ∷ x.below) v (look_get earlier q ∙ g) x.back.1 x.roomy.1 f k
+    know_call n q c v g f k = procedure_known dom engine covers laws wait most ending rises earlier (n ∷ z) q c (r.layout ∷ x.below) v (look_get earlier q ∙ g) x.back.1 x.roomy.1 f k
 
     abbrev SpotFine : ℕ × Spot S → Type 0
     SpotFine = SpotFit dom engine covers laws (marks engine.widening r) (rises engine.widening (reverse earlier) r x.back.0) z (calls_of dom engine earlier z) (reverse earlier) r.layout x.below keep_call
@@ -69,10 +69,10 @@ module _ {S : Type 0} (dom : Operations S) (engine : Engine) (covers : S → Hea
     spot_fine : (n : ℕ) (s : Spot S) → find n (spots_here z r earlier v) ≡ Some s → SpotFine (n, s)
     spot_fine n s e = (spots_fit dom engine covers laws (marks engine.widening r) (rises engine.widening (reverse earlier) r x.back.0) z (calls_of dom engine earlier z) (reverse earlier) r.layout x.below keep_call r.code v x.back.0 (x.fine r earlier refl)).at (n, s) (found_member n s _ e)
 
-    spot_known : (n : ℕ) (s : Spot S) → find n (spots_here z r earlier v) ≡ Some s → SpotKnown dom engine covers laws most ending (n, s)
-    spot_known n s e = (spots_known dom engine covers laws most ending (marks engine.widening r) (rises engine.widening (reverse earlier) r x.back.0) z (calls_of dom engine earlier z) (reverse earlier) r.layout x.below x.roomy.0 keep_call know_call r.code v x.back.0 (x.fine r earlier refl) x.known).at (n, s) (found_member n s _ e)
+    spot_known : (n : ℕ) (s : Spot S) → find n (spots_here z r earlier v) ≡ Some s → SpotKnown dom engine covers laws wait most ending (n, s)
+    spot_known n s e = (spots_known dom engine covers laws wait most ending (marks engine.widening r) (rises engine.widening (reverse earlier) r x.back.0) z (calls_of dom engine earlier z) (reverse earlier) r.layout x.below x.roomy.0 keep_call know_call r.code v x.back.0 (x.fine r earlier refl) x.known).at (n, s) (found_member n s _ e)
 
-    entered_here : (n : ℕ) (s : Spot S) (k : Invoke × ℕ) → s.call ≡ Some k → SpotFine (n, s) → SpotKnown dom engine covers laws most ending (n, s) → Entry (from earlier k.1) (lift (dom.enter k.0.entering) s.before)
+    entered_here : (n : ℕ) (s : Spot S) (k : Invoke × ℕ) → s.call ≡ Some k → SpotFine (n, s) → SpotKnown dom engine covers laws wait most ending (n, s) → Entry (from earlier k.1) (lift (dom.enter k.0.entering) s.before)
     entered_here n s k e f j =
         let c = callee (reverse earlier) r.layout k.0 k.1 (f.call k e) in
         let at : look earlier k.1 ≡ Some c.routine = look_get earlier k.1 ∙ c.at in
@@ -87,7 +87,7 @@ module _ {S : Type 0} (dom : Operations S) (engine : Engine) (covers : S → Hea
           known = known_lift (dom.enter k.0.entering) s.before j.before_known;
         }
 
-    spot_value : (n : ℕ) (f : Spot S → Option (Value S)) (u : Value S) → ((s : Spot S) → f s ≡ Some u → SpotKnown dom engine covers laws most ending (n, s) → Known u) → if_some (find n (spots_here z r earlier v)) f ≡ Some u → Known u
+    spot_value : (n : ℕ) (f : Spot S → Option (Value S)) (u : Value S) → ((s : Spot S) → f s ≡ Some u → SpotKnown dom engine covers laws wait most ending (n, s) → Known u) → if_some (find n (spots_here z r earlier v)) f ≡ Some u → Known u
     spot_value n f u k g = let t = then_inv (find n (spots_here z r earlier v)) f u g in k t.value t.gives (spot_known n t.value t.was)
 
     end_value : (c : Bool) (u w : Value S) → Known w → (if c then Some w else None) ≡ Some u → Known u
@@ -100,7 +100,7 @@ module _ {S : Type 0} (dom : Operations S) (engine : Engine) (covers : S → Hea
     value_known (Head n) u g = spot_value n head_value u (λ s e f. f.head_known u e) g
     value_known (End y) u g =
         end_value (bytes_eq y r.name) u _
-        (block_known dom engine covers laws most ending (marks engine.widening r) (rises engine.widening (reverse earlier) r x.back.0) z (calls_of dom engine earlier z) (reverse earlier) r.layout x.below x.roomy.0 keep_call know_call r.code v x.back.0 (x.fine r earlier refl) x.known).value g
+        (block_known dom engine covers laws wait most ending (marks engine.widening r) (rises engine.widening (reverse earlier) r x.back.0) z (calls_of dom engine earlier z) (reverse earlier) r.layout x.below x.roomy.0 keep_call know_call r.code v x.back.0 (x.fine r earlier refl) x.known).value g
 
   entered_entry : (n : ℕ) (z : List ℕ) (list : List Routine) (v : Value S) → Entry list v → (t : List Routine × Value S) → entered dom engine n z (list, v) ≡ Some t → Entry t.0 t.1
   entered_entry n z [] v x t g = absurd cc
@@ -136,7 +136,7 @@ module _ {S : Type 0} (dom : Operations S) (engine : Engine) (covers : S → Hea
   summed_known [] k = tt
   summed_known (v ∷ vs) k = known_joined dom engine (lift dom.shed v) (map (lift dom.shed) vs) (known_lift dom.shed v k.0) (shed_known vs k.1)
 
-  module _ (grows : Grows most) (program : List Routine) (checked : IsChecked program) (enough : IsEnough most engine program) where
+  module _ (grows : Grows most) (program : List Routine) (checked : IsChecked program) (enough : IsEnough wait most engine program) where
     each_forth : (rs : List Routine) → most_slots rs ≤ most_slots program → most_marks engine.widening rs ≤ most_marks engine.widening program → Roomy rs
     each_forth [] s m = tt
     each_forth (r ∷ rs) s m =
@@ -196,5 +196,5 @@ module _ {S : Type 0} (dom : Operations S) (engine : Engine) (covers : S → Hea
         by true = tt
         by false = in_known l string (procedure_of program l)
 
-pub converges : {S : Type 0} (dom : Operations S) (covers : S → Heap → List Variables → Type 0) (laws : Laws dom covers) (rises : MarksRise) (most : ℕ → ℕ → ℕ) → Ending dom most → Grows most → Converge dom most
-converges dom covers laws rises most ending grows engine program l string n z checked enough e = subst (NotOver dom engine covers laws most ending rises) e (not_over dom engine covers laws most ending rises grows program checked enough l string)
+pub converges : {S : Type 0} (dom : Operations S) (covers : S → Heap → List Variables → Type 0) (laws : Laws dom covers) (rises : MarksRise) (wait : ℕ → ℕ) (most : ℕ → ℕ → ℕ) → Ending dom wait most → Grows most → Converge dom wait most
+converges dom covers laws rises wait most ending grows engine program l string n z checked enough e = subst (NotOver dom engine covers laws wait most ending rises) e (not_over dom engine covers laws wait most ending rises grows program checked enough l string)

@@ -13,13 +13,25 @@ use Rattle.interval_meaning.specs.Domain.{intervals}
 use Rattle.interval_meaning.specs.Convergence.{most_changes}
 use Rattle.octagon_meaning.specs.Domain.{octagons}
 use Rattle.octagon_meaning.specs.Convergence.{most_changes as most_rises}
+use Rattle.listseg_meaning.specs.Sets as sets
+use Rattle.listseg_meaning.specs.Domain.{segments}
 
--- How often a state of a frame can still change under widening with these marks: each widening keeps the state or leaves
--- fewer changes, and there are at most so many, by the numeric slots and the marks, and one more.
-pub record Ending {S : Type 0} (dom : Operations S) (most : (slots marks : ℕ) → ℕ) : Type 0 where
+-- How often a state of a frame can still change in the rounds of a loop, from the round `wait delay` on: each widening with
+-- these marks keeps the state or leaves fewer changes, and so does each join, where there are joins from that round on.
+-- There are at most so many changes, by the numeric slots and the marks, and one more.
+pub record Ending {S : Type 0} (dom : Operations S) (wait : (delay : ℕ) → ℕ) (most : (slots marks : ℕ) → ℕ) : Type 0 where
   pub left : List ℤ → Layout → S → ℕ
   pub falls : (ms : List ℤ) (l : Layout) (ls : List Layout) (s t : S) → dom.fits s (l ∷ ls) ≡ true → dom.fits t (l ∷ ls) ≡ true → (dom.widen ms s t ≡ s) ⊎ (left ms l (dom.widen ms s t) < left ms l s)
+  pub joins_fall : (delay : ℕ) (ms : List ℤ) (l : Layout) (ls : List Layout) (s t : S) → wait delay < delay → dom.fits s (l ∷ ls) ≡ true → dom.fits t (l ∷ ls) ≡ true → (dom.join s t ≡ s) ⊎ (left ms l (dom.join s t) < left ms l s)
   pub few : (ms : List ℤ) (l : Layout) (ls : List Layout) (s : S) → dom.fits s (l ∷ ls) ≡ true → left ms l s ≤ most (length l.numbers) (length ms) + 1
+
+-- only widenings are counted
+abbrev pub until_widening : (delay : ℕ) → ℕ
+until_widening delay = delay
+
+-- joins are counted as well
+abbrev pub from_the_first : (delay : ℕ) → ℕ
+from_the_first delay = 0
 
 -- more slots or marks allow no fewer changes
 abbrev pub Grows : (ℕ → ℕ → ℕ) → Type 0
@@ -34,17 +46,24 @@ abbrev pub most_marks : Widening → List Routine → ℕ
 most_marks w [] = 0
 most_marks w (r ∷ rs) = max (length (marks w r)) (most_marks w rs)
 
--- the changes, the rounds below the delay, the first iterate and the one that shows that it is over
-abbrev pub IsEnough : (ℕ → ℕ → ℕ) → Engine → List Routine → Type 0
-IsEnough most engine program = most (most_slots program) (most_marks engine.widening program) + engine.widening.delay + 2 ≤ engine.budget
+-- the changes, the rounds before they are counted, the first iterate and the one that shows that it is over
+abbrev pub IsEnough : (ℕ → ℕ) → (ℕ → ℕ → ℕ) → Engine → List Routine → Type 0
+IsEnough wait most engine program = most (most_slots program) (most_marks engine.widening program) + wait engine.widening.delay + 2 ≤ engine.budget
 
-abbrev pub Converge : {S : Type 0} → Operations S → (ℕ → ℕ → ℕ) → Type 0
-Converge {S} dom most =
-    (engine : Engine) (program : List Routine) (l : Location) (string : List ℕ) (n : ℕ) (z : List ℕ) → IsChecked program → IsEnough most engine program →
+abbrev pub Converge : {S : Type 0} → Operations S → (ℕ → ℕ) → (ℕ → ℕ → ℕ) → Type 0
+Converge {S} dom wait most =
+    (engine : Engine) (program : List Routine) (l : Location) (string : List ℕ) (n : ℕ) (z : List ℕ) → IsChecked program → IsEnough wait most engine program →
     answer dom engine program l string ≡ Answers (Over n z) → ⊥
 
 abbrev pub IntervalsConverge : Type 0
-IntervalsConverge = Converge intervals most_changes
+IntervalsConverge = Converge intervals until_widening most_changes
 
 abbrev pub OctagonsConverge : Type 0
-OctagonsConverge = Converge octagons most_rises
+OctagonsConverge = Converge octagons until_widening most_rises
+
+-- a set of graphs can grow so often, and become Top once more
+abbrev pub most_graphs : (slots marks : ℕ) → ℕ
+most_graphs slots marks = sets.most
+
+abbrev pub SegmentsConverge : Type 0
+SegmentsConverge = Converge segments from_the_first most_graphs

@@ -3,7 +3,7 @@ use Rattle.std.specs.Prelude.{ℕ, ◌&&◌, nat_le, Bool, true, false, List, Op
 use Rattle.std.specs.Str.{bytes_eq}
 use Rattle.std.specs.Str.Parse.{digits_value}
 use Rattle.command_words.specs.declared.job.DomainName.{DomainName}
-use Rattle.command_words.specs.declared.job.DomainName.TheVariants.{Interval}
+use Rattle.command_words.specs.declared.job.DomainName.TheVariants.{Interval, Octagon}
 
 -- a number within these bounds, as its decimal digits
 unfoldable pub number_in : ℕ → ℕ → List ℕ → Option ℕ
@@ -12,7 +12,10 @@ number_in least most text =
     if bytes_eq text (decimal number) && nat_le least number && nat_le number most then Some number else None
 
 unfoldable pub domain_of : List ℕ → Option DomainName
-domain_of text = if bytes_eq text (codes "interval") then Some Interval else None
+domain_of text =
+    if bytes_eq text (codes "interval") then Some Interval
+    else (if bytes_eq text (codes "octagon") then Some Octagon
+    else None)
 
 -- whether the numbers of a procedure are the marks of widening
 unfoldable pub thresholds_of : List ℕ → Option Bool

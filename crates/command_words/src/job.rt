@@ -44,6 +44,8 @@ pub struct Settings {
 pub enum DomainName {
     /// A range for each number.
     Interval,
+    /// Bounds on numbers, and on the sums and differences of two.
+    Octagon,
 }
 
 /// The name of a file, seen as the list of its bytes.

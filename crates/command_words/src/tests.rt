@@ -35,6 +35,10 @@ fn words_that_are_taken(rt: HostRuntime) -> Result<(), Fail> {
             r#"Serve { settings: Settings { domain: Interval, widening: Widening { delay: 0, thresholds: true }, budget: 1 }, memo: 1, file: FileName { text: "é" } }"#,
         ),
         (
+            "daig serve --domain octagon a",
+            r#"Serve { settings: Settings { domain: Octagon, widening: Widening { delay: 0, thresholds: true }, budget: 100 }, memo: 1024, file: FileName { text: "a" } }"#,
+        ),
+        (
             "daig batch --delay 7 -- --budget",
             r#"Batch { settings: Settings { domain: Interval, widening: Widening { delay: 7, thresholds: true }, budget: 100 }, file: FileName { text: "--budget" } }"#,
         ),
@@ -77,6 +81,8 @@ fn words_that_are_refused(rt: HostRuntime) -> Result<(), Fail> {
         "daig serve --widening wide a",
         "daig serve --domain cubes a",
         "daig serve --domain Interval a",
+        "daig serve --domain octagons a",
+        "daig serve --domain interval+octagon a",
         "daig serve --cubes a",
     ] {
         let found = shown(rt.alloc(), line)?;

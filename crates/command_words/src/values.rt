@@ -31,6 +31,7 @@ pub(crate) fn domain_of(text: &str) -> Option<DomainName>
 {
     match text {
         "interval" => Some(DomainName::Interval),
+        "octagon" => Some(DomainName::Octagon),
         _ => None,
     }
 }

@@ -11,3 +11,4 @@ pub mod Agreeing
 pub mod CellFilled
 pub mod CellGone
 pub mod Owning
+pub mod TestLemmas

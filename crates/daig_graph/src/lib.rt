@@ -27,3 +27,6 @@ pub use graph::{Graph, Use};
 pub use inputs::Inputs;
 pub use value::{SharedChain, Value};
 pub use walk::Walk;
+
+#[cfg(test)]
+mod tests;

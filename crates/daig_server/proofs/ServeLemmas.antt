@@ -2,14 +2,14 @@
 use Rattle.std.proofs.Common.{◌≡◌, ◌≢◌, ℕ, ◌<◌, ◌≤◌, ◌^◌, ◌++◌, ◌⊎◌, inl, inr, List, [], length, Bool, true, false, nat_le, Option, Some, None, Result, Ok, Err, IfSome, if◌then◌else◌, append-nil, length-append, sym, ◌∙◌, ap, refl, arith}
 use Rattle.io_edge.specs.Outside.{Rose}
 use Rattle.imp_syntax.specs.Plain.{Procedure}
-use Rattle.batch_meaning.specs.Batch.{Engine}
 use Rattle.script_loop.specs.Replies.{ReadBytes}
 use Rattle.request_json.specs.declared.reply.Refusal.{Refusal}
 use Rattle.command_words.specs.declared.job.Job.{Job}
+use Rattle.command_words.specs.declared.job.Settings.{Settings}
 use Rattle.daig_server.specs.declared.task.Task.{Task}
 use Rattle.daig_server.specs.declared.status.Status.{Status}
 use Rattle.daig_server.specs.declared.status.Status.TheVariants.{Done, Words, Source, Script, Sink, Memory, Files, LongScript, LongFile}
-use Rattle.daig_server.specs.Jobs.{task_of, settings_of, file_of, engine_of}
+use Rattle.daig_server.specs.Jobs.{task_of, settings_of, file_of}
 use Rattle.daig_server.specs.Sources.{Reading, source_of}
 use Rattle.daig_server.specs.Output.{Output, source_output, file_output, output, most_source, IsProgram, LacksFile}
 use Rattle.daig_server.specs.Ends.{code_of, Fits, Wrote, WroteAll}
@@ -71,24 +71,24 @@ is_long_script Files e = absurd (omega (arith, e))
 is_long_script LongFile e = absurd (omega (arith, e))
 
 -- a source that is refused or a program ends below 7
-source_speaks : (task : Task) (engine : Engine) (source : Result (List Procedure) Refusal) (script : List ℕ) → (source_output task engine source script).status < 7
-source_speaks task engine (Err why) script = omega arith
-source_speaks task engine (Ok program) script = omega arith
+source_speaks : (task : Task) (settings : Settings) (source : Result (List Procedure) Refusal) (script : List ℕ) → (source_output task settings source script).status < 7
+source_speaks task settings (Err why) script = omega arith
+source_speaks task settings (Ok program) script = omega arith
 
 -- from status 7 on nothing is written
-source_quiet : (short : Bool) (task : Task) (engine : Engine) (source : Result (List Procedure) Refusal) (script : List ℕ) →
-    let given = if short then source_output task engine source script else record { status = 9; bytes = [] } in 7 ≤ given.status → given.bytes ≡ []
-source_quiet true task engine source script late = absurd (omega (arith, source_speaks task engine source script, late))
-source_quiet false task engine source script late = refl
+source_quiet : (short : Bool) (task : Task) (settings : Settings) (source : Result (List Procedure) Refusal) (script : List ℕ) →
+    let given = if short then source_output task settings source script else record { status = 9; bytes = [] } in 7 ≤ given.status → given.bytes ≡ []
+source_quiet true task settings source script late = absurd (omega (arith, source_speaks task settings source script, late))
+source_quiet false task settings source script late = refl
 
-file_quiet : (reading : Reading) (task : Task) (engine : Engine) (file : Option (List ℕ)) (script : List ℕ) → 7 ≤ (file_output reading task engine file script).status → (file_output reading task engine file script).bytes ≡ []
-file_quiet reading task engine None script late = refl
-file_quiet reading task engine (Some source) script late = source_quiet (nat_le (length source) most_source) task engine (source_of reading source) script late
+file_quiet : (reading : Reading) (task : Task) (settings : Settings) (file : Option (List ℕ)) (script : List ℕ) → 7 ≤ (file_output reading task settings file script).status → (file_output reading task settings file script).bytes ≡ []
+file_quiet reading task settings None script late = refl
+file_quiet reading task settings (Some source) script late = source_quiet (nat_le (length source) most_source) task settings (source_of reading source) script late
 
 pub quiet_output : (reading : Reading) (job : Option Job) (folder : List ℕ → Option (List ℕ)) (script : List ℕ) →
     7 ≤ (output reading job folder script).status → (output reading job folder script).bytes ≡ []
 quiet_output reading None folder script late = absurd (omega (arith, late))
-quiet_output reading (Some job) folder script late = file_quiet reading (task_of job) (engine_of (settings_of job)) (folder (file_of job)) script late
+quiet_output reading (Some job) folder script late = file_quiet reading (task_of job) (settings_of job) (folder (file_of job)) script late
 
 -- a file that the folder lacks gives status 7
 pub lacking_output : (reading : Reading) (job : Option Job) (told : Option (List ℕ → Option (List ℕ))) (folder : List ℕ → Option (List ℕ)) (script : List ℕ) →

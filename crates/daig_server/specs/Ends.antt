@@ -1,15 +1,14 @@
 -- How the program ends: by a status, with what was read and written.
 use Rattle.std.specs.Prelude.{◌≡◌, ℕ, ◌<◌, ◌++◌, ◌⊎◌, List, [], ◌∷◌, Option, Some}
-use Rattle.imp_syntax.specs.Plain.{Procedure}
-use Rattle.interval_meaning.specs.Domain.{intervals}
-use Rattle.batch_meaning.specs.Batch.{Engine}
+use Rattle.command_words.specs.declared.job.DomainName.{DomainName}
 use Rattle.script_loop.specs.Replies.{AnsweredRead, WrotePrefix}
 use Rattle.daig_server.specs.declared.status.Status.{Status}
 use Rattle.daig_server.specs.declared.status.Status.TheVariants.{Done, Words, Source, Script, Sink, Memory, Files, LongScript, LongFile}
 use Rattle.daig_server.specs.declared.task.Task.TheVariants.{Serve}
+use Rattle.daig_server.specs.Domains.{meaning_of}
 use Rattle.daig_server.specs.Held.{Held}
 use Rattle.daig_server.specs.Reply.{server}
-use Rattle.daig_server.specs.Output.{Output, held_by, program_bytes}
+use Rattle.daig_server.specs.Output.{Output, program_bytes}
 
 -- the number of a status
 abbrev pub code_of : Status → ℕ
@@ -37,10 +36,11 @@ pub record WroteWholeLines (bytes taken : List ℕ) (output : Option (List ℕ))
 
 -- A program is served: the replies to the lines whose LF was read are written, and no more.
 pub record WroteRead (output : Output) (script taken : List ℕ) (rest written : Option (List ℕ)) : Type 0 where
+  pub domain : DomainName
   pub held : Held
   pub succeeds : output.status ≡ 0
-  pub is : output.bytes ≡ program_bytes Serve held script
-  pub answered : AnsweredRead (server intervals) held script taken rest written
+  pub is : output.bytes ≡ program_bytes domain Serve held script
+  pub answered : AnsweredRead (server (meaning_of domain).operations) held script taken rest written
 
 -- The output was written, and the status is that of the output.
 pub record WroteAll (status : ℕ) (output : Output) (taken : List ℕ) (written : Option (List ℕ)) : Type 0 where

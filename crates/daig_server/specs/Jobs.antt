@@ -1,5 +1,7 @@
 -- What the words ask for.
 use Rattle.std.specs.Prelude.{◌≡◌, ℕ, List, [], Option, Some, None, false}
+use Rattle.command_words.specs.declared.job.DomainName.{DomainName}
+use Rattle.command_words.specs.declared.job.DomainName.TheVariants.{Interval}
 use Rattle.command_words.specs.declared.job.Job.{Job}
 use Rattle.command_words.specs.declared.job.Job.TheVariants as job
 use Rattle.command_words.specs.declared.job.Settings.{Settings}
@@ -33,3 +35,8 @@ Asks task (Some job) = task_of job ≡ task
 abbrev pub engine_in : Option Job → Engine
 engine_in None = record { budget = 0; widening = record { delay = 0; thresholds = false } }
 engine_in (Some job) = engine_of (settings_of job)
+
+-- what is known of variables for a job; without one that of intervals
+abbrev pub domain_in : Option Job → DomainName
+domain_in None = Interval
+domain_in (Some job) = (settings_of job).domain

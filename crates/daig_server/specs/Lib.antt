@@ -3,6 +3,7 @@ pub mod Names
 pub mod Questions
 pub mod Held
 pub mod Reply
+pub mod Domains
 pub mod Jobs
 pub mod Output
 pub mod Ends

@@ -1,7 +1,6 @@
 -- What the program writes, and the status that it ends with.
 use Rattle.std.specs.Prelude.{◌≡◌, ◌≤◌, ℕ, nat_le, List, [], ◌∷◌, ◌++◌, length, Option, Some, None, Result, Ok, Err, codes, if◌then◌else◌}
 use Rattle.imp_syntax.specs.Plain.{Procedure}
-use Rattle.interval_meaning.specs.Domain.{intervals}
 use Rattle.batch_meaning.specs.Batch.{Engine}
 use Rattle.io_edge.specs.Outside.{Lacks}
 use Rattle.script_loop.specs.Lines.{all_lines}
@@ -9,10 +8,13 @@ use Rattle.script_loop.specs.Replies.{replies}
 use Rattle.request_json.specs.declared.reply.Reply.TheVariants as r
 use Rattle.request_json.specs.declared.reply.Refusal.{Refusal}
 use Rattle.request_json.specs.Replies.{reply_text}
+use Rattle.command_words.specs.declared.job.DomainName.{DomainName}
 use Rattle.command_words.specs.declared.job.Job.{Job}
+use Rattle.command_words.specs.declared.job.Settings.{Settings}
 use Rattle.daig_server.specs.declared.task.Task.{Task}
 use Rattle.daig_server.specs.declared.task.Task.TheVariants.{Serve, Batch}
 use Rattle.daig_server.specs.Sources.{Reading, source_of}
+use Rattle.daig_server.specs.Domains.{meaning_of}
 use Rattle.daig_server.specs.Held.{Held}
 use Rattle.daig_server.specs.Reply.{server, listing, report_reply}
 use Rattle.daig_server.specs.Jobs.{task_of, settings_of, file_of, engine_of}
@@ -35,29 +37,30 @@ abbrev pub held_by : Engine → List Procedure → Held
 held_by engine program = record { engine = engine; program = program }
 
 -- the listing, then the line of the report
-unfoldable pub batch_bytes : Held → List ℕ
-batch_bytes held = listing held.program ++ reply_text (report_reply intervals held)
+unfoldable pub batch_bytes : DomainName → Held → List ℕ
+batch_bytes domain held = listing held.program ++ reply_text (report_reply (meaning_of domain).operations held)
 
--- serve: the replies to the lines of the script; batch: the listing and the report; both by intervals
-abbrev pub program_bytes : Task → Held → List ℕ → List ℕ
-program_bytes Serve held script = replies (server intervals) held (all_lines script)
-program_bytes Batch held script = batch_bytes held
+-- serve: the replies to the lines of the script; batch: the listing and the report; both by the domain of this name
+abbrev pub program_bytes : DomainName → Task → Held → List ℕ → List ℕ
+program_bytes domain Serve held script = replies (server (meaning_of domain).operations) held (all_lines script)
+program_bytes domain Batch held script = batch_bytes domain held
 
 -- a source that is refused, or a program
-abbrev pub source_output : Task → Engine → Result (List Procedure) Refusal → List ℕ → Output
-source_output task engine (Err why) script = record { status = 3; bytes = reply_text (r.Refused why) }
-source_output task engine (Ok program) script = record { status = 0; bytes = program_bytes task (held_by engine program) script }
+abbrev pub source_output : Task → Settings → Result (List Procedure) Refusal → List ℕ → Output
+source_output task settings (Err why) script = record { status = 3; bytes = reply_text (r.Refused why) }
+source_output task settings (Ok program) script =
+    record { status = 0; bytes = program_bytes settings.domain task (held_by (engine_of settings) program) script }
 
 -- a file that is absent, too long, or a source
-abbrev pub file_output : Reading → Task → Engine → Option (List ℕ) → List ℕ → Output
-file_output reading task engine None script = record { status = 7; bytes = [] }
-file_output reading task engine (Some source) script =
-    if nat_le (length source) most_source then source_output task engine (source_of reading source) script else record { status = 9; bytes = [] }
+abbrev pub file_output : Reading → Task → Settings → Option (List ℕ) → List ℕ → Output
+file_output reading task settings None script = record { status = 7; bytes = [] }
+file_output reading task settings (Some source) script =
+    if nat_le (length source) most_source then source_output task settings (source_of reading source) script else record { status = 9; bytes = [] }
 
 -- what the job that the words name, the files and the script give
 abbrev pub output : Reading → Option Job → (List ℕ → Option (List ℕ)) → List ℕ → Output
 output reading None files script = record { status = 2; bytes = usage }
-output reading (Some job) files script = file_output reading (task_of job) (engine_of (settings_of job)) (files (file_of job)) script
+output reading (Some job) files script = file_output reading (task_of job) (settings_of job) (files (file_of job)) script
 
 -- the file is there, and the program without faults that it is
 abbrev pub IsProgram : Reading → Option (List ℕ) → List Procedure → Type 0

@@ -15,6 +15,8 @@ use Rattle.batch_sound.specs.Theorem.{IsFindingSound}
 use Rattle.request_json.specs.declared.request.Request.TheVariants as q
 use Rattle.request_json.specs.declared.reply.Reply.TheVariants as r
 use Rattle.request_json.specs.Requests.{request_of}
+use Rattle.command_words.specs.declared.job.DomainName.{DomainName}
+use Rattle.daig_server.specs.Domains.{meaning_of}
 use Rattle.daig_server.specs.Held.{Held}
 use Rattle.daig_server.specs.Reply.{layout_at, line_reply}
 
@@ -33,3 +35,10 @@ IsSound {S} dom covers held line =
 -- No run fails a check that the report calls safe, and none comes to a statement that it calls dead.
 abbrev pub IsReportSound : {S : Type 0} → Operations S → Held → Type 0
 IsReportSound dom held = (f : Finding) → Contains (report dom held.engine (routines_of held.program)) f → IsFindingSound (routines_of held.program) f
+
+-- the same by the domain of this name
+abbrev pub IsSoundBy : DomainName → Held → List ℕ → Type 0
+IsSoundBy domain held line = IsSound (meaning_of domain).operations (meaning_of domain).covers held line
+
+abbrev pub IsReportSoundBy : DomainName → Held → Type 0
+IsReportSoundBy domain held = IsReportSound (meaning_of domain).operations held

@@ -5,11 +5,13 @@
 //! what was written. Each line that is answered by a state is answered soundly, and so is each report
 //! (`specs/Sound.antt`).
 //!
-//! A program is answered by intervals, each line by interpreting the program from nothing. The reply to
-//! a line is `line_reply` of `specs/Reply.antt`; a source is read by `source_of` of `specs/Sources.antt`.
+//! A program is answered by the domain that the words name (`specs/Domains.antt`), each line by
+//! interpreting the program from nothing. The reply to a line is `line_reply` of `specs/Reply.antt`; a
+//! source is read by `source_of` of `specs/Sources.antt`.
 #![tactic(auto)]
 
 mod answers;
+mod domains;
 mod replies;
 mod run;
 mod server;

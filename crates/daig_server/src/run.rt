@@ -6,21 +6,23 @@ ghost use Rattle.io_edge.specs.Outside.{Rose, Lacks};
 ghost use Rattle.imp_slots.specs.Fits.{IsChecked};
 ghost use Rattle.imp_syntax.specs.Plain.{Procedure};
 ghost use Rattle.imp_check.specs.Slots.{routines_of};
-ghost use Rattle.batch_meaning.specs.Batch.{Engine};
 ghost use Rattle.request_json.specs.declared.reply.Reply.TheVariants as r;
 ghost use Rattle.request_json.specs.Replies.{reply_text};
 ghost use Rattle.script_loop.specs.Replies.{ReadToEnd, ReadBytes};
 ghost use Rattle.daig_server.specs.Sources.{Reading, source_of};
-ghost use Rattle.daig_server.specs.Jobs.{Asks, engine_of};
+ghost use Rattle.daig_server.specs.Jobs.{Asks};
 ghost use Rattle.command_words.specs.Jobs.{job_of};
 ghost use Rattle.daig_server.specs.Output.{Output, batch_bytes, file_output, output, program_bytes, source_output, usage, IsProgram, IsAccepted, LacksFile};
 ghost use Rattle.daig_server.specs.Ends.{Fits, Wrote};
 
+use crate::domains::Named;
 use crate::server::Server;
 use crate::source::{SourceError, read_source};
 use crate::status::Status;
 use crate::task::Task;
-use command_words::{Job, Settings, WordsError, read_words};
+use command_words::{DomainName, Job, Settings, WordsError, read_words};
+use dom_interval::Interval;
+use dom_octagon::Octagon;
 use imp_check::Checked;
 use io_edge::{Failed, Files, LoadFault, Sink, Source};
 use request_json::{Refusal, Reply, reply_line};
@@ -36,16 +38,16 @@ const MOST_SOURCE: usize = 1_048_576;
 const USAGE: &[u8] = b"usage: daig serve|batch|gen [OPTIONS] [FILE]\n";
 
 /// Answers the script by the program.
-fn serve_program<I: Source, O: Sink, L: Ledger>(
+fn serve_program<D: Named, I: Source, O: Sink, L: Ledger>(
     alloc: Global,
-    mut server: Server,
+    mut server: Server<D>,
     script: &mut I,
     out: &mut O,
     steps: &mut Steps<L>,
 ) -> Status
     ensures fits { Fits result 0 }
     ensures wrote { (text taken : List ℕ) → I.told script.old ≡ Some text → O.told out.old ≡ Some taken
-        → Wrote result (record { status = 0; bytes = program_bytes Task.Serve server text }) text taken (I.told script.new) (O.told out.new) }
+        → Wrote result (record { status = 0; bytes = program_bytes D.name Task.Serve server text }) text taken (I.told script.new) (O.told out.new) }
     ensures ended { result ≡ Status.Done → (text : List ℕ) → I.told script.old ≡ Some text → ReadToEnd text (I.told script.new) }
     ensures long { result ≡ Status.LongScript → (text : List ℕ) → I.told script.old ≡ Some text → ReadBytes (2 ^ 40) text (I.told script.new) }
     ensures script_failed { result ≡ Status.Script → Rose (I.faults script.old) (I.faults script.new) }
@@ -65,16 +67,16 @@ fn serve_program<I: Source, O: Sink, L: Ledger>(
 }
 
 /// Writes the listing and the report of the program.
-fn batch_program<O: Sink, L: Ledger>(
+fn batch_program<D: Named, O: Sink, L: Ledger>(
     alloc: Global,
-    server: &Server,
+    server: &Server<D>,
     out: &mut O,
     steps: &mut Steps<L>,
 ) -> Status
     ensures status { (result ≡ Status.Done) ⊎ ((result ≡ Status.Sink) ⊎ (result ≡ Status.Memory)) }
     ensures fits { Fits result 0 }
     ensures wrote { (text taken : List ℕ) (rest : Option (List ℕ)) → O.told out.old ≡ Some taken
-        → Wrote result (record { status = 0; bytes = batch_bytes server.now }) text taken rest (O.told out.new) }
+        → Wrote result (record { status = 0; bytes = batch_bytes D.name server.now }) text taken rest (O.told out.new) }
     ensures sink_failed { result ≡ Status.Sink → Rose (O.faults out.old) (O.faults out.new) }
 {
     let Ok(bytes) = server.batch(alloc, steps) else {
@@ -87,17 +89,17 @@ fn batch_program<O: Sink, L: Ledger>(
 }
 
 /// Does the task for the program.
-fn run_task<I: Source, O: Sink, L: Ledger>(
+fn run_task<D: Named, I: Source, O: Sink, L: Ledger>(
     alloc: Global,
     task: Task,
-    server: Server,
+    server: Server<D>,
     script: &mut I,
     out: &mut O,
     steps: &mut Steps<L>,
 ) -> Status
     ensures fits { Fits result 0 }
     ensures wrote { (text taken : List ℕ) → I.told script.old ≡ Some text → O.told out.old ≡ Some taken
-        → Wrote result (record { status = 0; bytes = program_bytes task server text }) text taken (I.told script.new) (O.told out.new) }
+        → Wrote result (record { status = 0; bytes = program_bytes D.name task server text }) text taken (I.told script.new) (O.told out.new) }
     ensures ended { result ≡ Status.Done → task ≡ Task.Serve → (text : List ℕ) → I.told script.old ≡ Some text → ReadToEnd text (I.told script.new) }
     ensures unread { task ≡ Task.Batch → I.told script.new ≡ I.told script.old }
     ensures long { result ≡ Status.LongScript → (task ≡ Task.Serve) × ((text : List ℕ) → I.told script.old ≡ Some text → ReadBytes (2 ^ 40) text (I.told script.new)) }
@@ -114,6 +116,35 @@ fn run_task<I: Source, O: Sink, L: Ledger>(
     }
 }
 
+/// Does the task for a program without faults, by the domain that the settings name.
+fn run_by<D: Named, I: Source, O: Sink, L: Ledger>(
+    alloc: Global,
+    domain: D,
+    task: Task,
+    settings: Settings,
+    program: Checked,
+    script: &mut I,
+    out: &mut O,
+    steps: &mut Steps<L>,
+) -> Status
+    requires named { settings.domain ≡ D.name }
+    ensures fits { Fits result 0 }
+    ensures wrote { (text taken : List ℕ) → I.told script.old ≡ Some text → O.told out.old ≡ Some taken
+        → Wrote result (source_output task settings (Ok program) text) text taken (I.told script.new) (O.told out.new) }
+    ensures ended { result ≡ Status.Done → task ≡ Task.Serve → (text : List ℕ) → I.told script.old ≡ Some text → ReadToEnd text (I.told script.new) }
+    ensures unread { task ≡ Task.Batch → I.told script.new ≡ I.told script.old }
+    ensures long { result ≡ Status.LongScript → (task ≡ Task.Serve) × ((text : List ℕ) → I.told script.old ≡ Some text → ReadBytes (2 ^ 40) text (I.told script.new)) }
+    ensures script_failed { result ≡ Status.Script → (task ≡ Task.Serve) × Rose (I.faults script.old) (I.faults script.new) }
+    ensures sink_failed { result ≡ Status.Sink → Rose (O.faults out.old) (O.faults out.new) }
+    ensures no_file { result ≡ Status.Files → ⊥ }
+    ensures no_words { result ≡ Status.Words → ⊥ }
+    ensures no_long_file { result ≡ Status.LongFile → ⊥ }
+    ensures no_source { result ≡ Status.Source → ⊥ }
+{
+    let server = Server::new(domain, program, settings);
+    run_task(alloc, task, server, script, out, steps)
+}
+
 /// Does the task for a program without faults.
 fn run_program<I: Source, O: Sink, L: Ledger>(
     alloc: Global,
@@ -126,7 +157,7 @@ fn run_program<I: Source, O: Sink, L: Ledger>(
 ) -> Status
     ensures fits { Fits result 0 }
     ensures wrote { (text taken : List ℕ) → I.told script.old ≡ Some text → O.told out.old ≡ Some taken
-        → Wrote result (source_output task (engine_of settings) (Ok program) text) text taken (I.told script.new) (O.told out.new) }
+        → Wrote result (source_output task settings (Ok program) text) text taken (I.told script.new) (O.told out.new) }
     ensures ended { result ≡ Status.Done → task ≡ Task.Serve → (text : List ℕ) → I.told script.old ≡ Some text → ReadToEnd text (I.told script.new) }
     ensures unread { task ≡ Task.Batch → I.told script.new ≡ I.told script.old }
     ensures long { result ≡ Status.LongScript → (task ≡ Task.Serve) × ((text : List ℕ) → I.told script.old ≡ Some text → ReadBytes (2 ^ 40) text (I.told script.new)) }
@@ -139,8 +170,12 @@ fn run_program<I: Source, O: Sink, L: Ledger>(
     ensures checked { IsChecked (routines_of program) }
 {
     let _routines = program.routines();
-    let server = Server::new(program, settings);
-    run_task(alloc, task, server, script, out, steps)
+    match settings.domain {
+        DomainName::Interval => {
+            run_by(alloc, Interval, task, settings, program, script, out, steps)
+        }
+        DomainName::Octagon => run_by(alloc, Octagon, task, settings, program, script, out, steps),
+    }
 }
 
 /// Refuses the source.
@@ -188,9 +223,9 @@ fn run_source<I: Source, O: Sink, L: Ledger>(
     steps: &mut Steps<L>,
 ) -> Status
     requires short { length source.now < 2 ^ 31 }
-    ensures fits { (reading : Reading) (text : List ℕ) → Fits result (source_output task (engine_of settings) (source_of reading source.now) text).status }
+    ensures fits { (reading : Reading) (text : List ℕ) → Fits result (source_output task settings (source_of reading source.now) text).status }
     ensures wrote { (reading : Reading) (text taken : List ℕ) → I.told script.old ≡ Some text → O.told out.old ≡ Some taken
-        → Wrote result (source_output task (engine_of settings) (source_of reading source.now) text) text taken (I.told script.new) (O.told out.new) }
+        → Wrote result (source_output task settings (source_of reading source.now) text) text taken (I.told script.new) (O.told out.new) }
     ensures ended { result ≡ Status.Done → task ≡ Task.Serve → (text : List ℕ) → I.told script.old ≡ Some text → ReadToEnd text (I.told script.new) }
     ensures unread { task ≡ Task.Batch → I.told script.new ≡ I.told script.old }
     ensures long { result ≡ Status.LongScript → (task ≡ Task.Serve) × ((text : List ℕ) → I.told script.old ≡ Some text → ReadBytes (2 ^ 40) text (I.told script.new)) }
@@ -200,7 +235,7 @@ fn run_source<I: Source, O: Sink, L: Ledger>(
     ensures no_words { result ≡ Status.Words → ⊥ }
     ensures no_long_file { result ≡ Status.LongFile → ⊥ }
     ensures refusal { result ≡ Status.Source → (reading : Reading) (text taken : List ℕ) → O.told out.old ≡ Some taken
-        → O.told out.new ≡ Some (taken ++ (source_output task (engine_of settings) (source_of reading source.now) text).bytes) }
+        → O.told out.new ≡ Some (taken ++ (source_output task settings (source_of reading source.now) text).bytes) }
     ensures checked { (reading : Reading) (program : List Procedure) → source_of reading source.now ≡ Ok program → (result ≡ Status.Memory → ⊥) → IsChecked (routines_of program) }
 {
     match read_source(alloc, source) {
@@ -222,9 +257,9 @@ pub(crate) fn run_file<F: Files, I: Source, O: Sink, L: Ledger>(
     steps: &mut Steps<L>,
 ) -> Status
     ensures fits { (reading : Reading) (folder : List ℕ → Option (List ℕ)) (text : List ℕ) → F.told files.old ≡ Some folder
-        → Fits result (file_output reading task (engine_of settings) (folder name.now) text).status }
+        → Fits result (file_output reading task settings (folder name.now) text).status }
     ensures wrote { (reading : Reading) (folder : List ℕ → Option (List ℕ)) (text taken : List ℕ) → F.told files.old ≡ Some folder → I.told script.old ≡ Some text → O.told out.old ≡ Some taken
-        → Wrote result (file_output reading task (engine_of settings) (folder name.now) text) text taken (I.told script.new) (O.told out.new) }
+        → Wrote result (file_output reading task settings (folder name.now) text) text taken (I.told script.new) (O.told out.new) }
     ensures ended { result ≡ Status.Done → task ≡ Task.Serve → (text : List ℕ) → I.told script.old ≡ Some text → ReadToEnd text (I.told script.new) }
     ensures unread { task ≡ Task.Batch → I.told script.new ≡ I.told script.old }
     ensures long { result ≡ Status.LongScript → (task ≡ Task.Serve) × ((text : List ℕ) → I.told script.old ≡ Some text → ReadBytes (2 ^ 40) text (I.told script.new)) }
@@ -234,7 +269,7 @@ pub(crate) fn run_file<F: Files, I: Source, O: Sink, L: Ledger>(
     ensures no_words { result ≡ Status.Words → ⊥ }
     ensures files_failed { result ≡ Status.Files → (Rose (F.faults files.old) (F.faults files.new)) ⊎ (Lacks (F.told files.old) name.now) }
     ensures refusal { result ≡ Status.Source → (reading : Reading) (folder : List ℕ → Option (List ℕ)) (text taken : List ℕ) → F.told files.old ≡ Some folder → O.told out.old ≡ Some taken
-        → O.told out.new ≡ Some (taken ++ (file_output reading task (engine_of settings) (folder name.now) text).bytes) }
+        → O.told out.new ≡ Some (taken ++ (file_output reading task settings (folder name.now) text).bytes) }
     ensures checked { (reading : Reading) (folder : List ℕ → Option (List ℕ)) (program : List Procedure) → F.told files.old ≡ Some folder
         → IsProgram reading (folder name.now) program → (result ≡ Status.Memory → ⊥) → (result ≡ Status.Files → ⊥) → IsChecked (routines_of program) }
 {

@@ -1,17 +1,17 @@
 //! The server of one program, which replies to each line as the machine `server` of
 //! `specs/Reply.antt`.
 ghost use Rattle.std.specs.Prelude.{◌≡◌, IfOk};
-ghost use Rattle.interval_meaning.specs.Domain.{intervals};
 ghost use Rattle.request_json.specs.Replies.{reply_text};
+ghost use Rattle.daig_server.specs.Domains.{meaning_of};
 ghost use Rattle.daig_server.specs.Reply as of_reply;
 ghost use Rattle.daig_server.specs.Reply.{long_reply};
 ghost use Rattle.daig_server.specs.Jobs.{engine_of};
 ghost use Rattle.daig_server.specs.Output.{batch_bytes};
 
 use crate::answers::{line_reply, report_reply};
+use crate::domains::Named;
 use crate::replies::listing;
 use command_words::Settings;
-use dom_interval::Interval;
 use imp_check::Checked;
 use plain_values::Memory;
 use request_json::{Refusal, Reply, reply_line};
@@ -21,14 +21,15 @@ use std::marker::Model;
 use std::sync::ledger::Ledger;
 use step_counter::Steps;
 
-/// The server of one program: it answers each line by intervals, interpreting the program from nothing.
+/// The server of one program: it answers each line by the domain, interpreting the program from nothing.
 #[derive(Drop)]
-pub struct Server {
+pub struct Server<D: Named> {
+    domain: D,
     program: Checked,
     settings: Settings,
 }
 
-impl Model for Server {
+impl<D: Named> Model for Server<D> {
     ghost use Rattle.daig_server.specs.Held.{Held, held_code};
     ghost use Rattle.daig_server.specs.Jobs.{engine_of};
 
@@ -39,12 +40,16 @@ impl Model for Server {
     ghost view = { λ s. record { engine = engine_of s.settings; program = s.program } };
 }
 
-impl Server {
+impl<D: Named> Server<D> {
     /// The server of this program.
-    pub fn new(program: Checked, settings: Settings) -> Server
+    pub fn new(domain: D, program: Checked, settings: Settings) -> Server<D>
         ensures held { result ≡ record { engine = engine_of settings; program = program } }
     {
-        Server { program, settings }
+        Server {
+            domain,
+            program,
+            settings,
+        }
     }
 
     /// The reply to a line, as text.
@@ -54,9 +59,9 @@ impl Server {
         line: &[u8],
         steps: &mut Steps<L>,
     ) -> Result<Vec<u8>, Memory>
-        ensures reply { IfOk result (λ v. v.items ≡ reply_text (of_reply.line_reply intervals self.now line.now)) }
+        ensures reply { IfOk result (λ v. v.items ≡ reply_text (of_reply.line_reply (meaning_of D.name).operations self.now line.now)) }
     {
-        let reply = line_reply(alloc, &Interval, &self.program, &self.settings, line, steps)?;
+        let reply = line_reply(alloc, &self.domain, &self.program, &self.settings, line, steps)?;
         reply_line(alloc, &reply)
     }
 
@@ -67,10 +72,10 @@ impl Server {
         alloc: Global,
         steps: &mut Steps<L>,
     ) -> Result<Vec<u8>, Memory>
-        ensures bytes { IfOk result (λ v. v.items ≡ batch_bytes self.now) }
+        ensures bytes { IfOk result (λ v. v.items ≡ batch_bytes D.name self.now) }
     {
         let listing = listing(alloc, &self.program)?;
-        let reply = report_reply(alloc, &Interval, &self.program, &self.settings, steps)?;
+        let reply = report_reply(alloc, &self.domain, &self.program, &self.settings, steps)?;
         let line = reply_line(alloc, &reply)?;
         let mut bytes = Vec::from_slice(alloc, listing.as_slice())?;
         bytes.extend_from_slice(line.as_slice())?;
@@ -86,11 +91,11 @@ fn long_line(alloc: Global) -> Result<Vec<u8>, Memory>
     reply_line(alloc, &Reply::Refused(Refusal::LongLine))
 }
 
-impl Answerer for Server {
-    ghost use Rattle.interval_meaning.specs.Domain.{intervals};
+impl<D: Named> Answerer for Server<D> {
+    ghost use Rattle.daig_server.specs.Domains.{meaning_of};
     ghost use Rattle.daig_server.specs.Reply.{server};
 
-    ghost machine = { server intervals };
+    ghost machine = { server (meaning_of D.name).operations };
 
     fn answer<L: Ledger>(
         &mut self,

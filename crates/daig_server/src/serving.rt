@@ -4,19 +4,16 @@ ghost use Rattle.std.specs.String.{string_bytes};
 ghost use Rattle.io_edge.specs.Outside.{Rose};
 ghost use Rattle.imp_syntax.specs.Plain.{Procedure};
 ghost use Rattle.script_loop.specs.Replies.{ReadBytes, WrotePrefix};
-ghost use Rattle.interval_meaning.specs.Domain.{intervals};
-ghost use Rattle.interval_meaning.specs.Covers.{covers};
 ghost use Rattle.daig_server.specs.Sources.{Reading};
-ghost use Rattle.daig_server.specs.Jobs.{Asks, engine_in};
+ghost use Rattle.daig_server.specs.Jobs.{Asks, domain_in, engine_in};
 ghost use Rattle.command_words.specs.Jobs.{job_of};
 ghost use Rattle.daig_server.specs.Output.{IsAccepted, LacksFile, held_by, output, usage};
 ghost use Rattle.daig_server.specs.Ends.{WroteRead, WroteWholeLines};
-ghost use Rattle.daig_server.specs.Sound.{IsReportSound, IsSound};
+ghost use Rattle.daig_server.specs.Sound.{IsReportSoundBy, IsSoundBy};
 
+use crate::domains::named_domains_are_sound;
 use crate::run::run;
 use crate::task::Task;
-use batch_sound::{answers_are_sound, reports_are_sound};
-use dom_interval::Interval;
 use io_edge::{Files, Sink, Source};
 use std::alloc::Global;
 use std::sync::ledger::Ledger;
@@ -89,13 +86,12 @@ pub fn serve<F: Files, I: Source, O: Sink, L: Ledger>(
     // Each line that is answered by a state: the state describes every configuration that a run reaches there.
     ensures sound { (reading : Reading) (folder : List ℕ → Option (List ℕ)) (program : List Procedure) → F.told files.old ≡ Some folder
         → IsAccepted reading (job_of (map string_bytes words.now)) folder program → result ≢ 6 → result ≢ 7
-        → (line : List ℕ) → IsSound intervals covers (held_by (engine_in (job_of (map string_bytes words.now))) program) line }
+        → (line : List ℕ) → IsSoundBy (domain_in (job_of (map string_bytes words.now))) (held_by (engine_in (job_of (map string_bytes words.now))) program) line }
     // The line of a report, of `serve` and of `batch`: no run fails a check that is safe, none comes to a statement that is dead.
     ensures reports_sound { (reading : Reading) (folder : List ℕ → Option (List ℕ)) (program : List Procedure) → F.told files.old ≡ Some folder
         → IsAccepted reading (job_of (map string_bytes words.now)) folder program → result ≢ 6 → result ≢ 7
-        → IsReportSound intervals (held_by (engine_in (job_of (map string_bytes words.now))) program) }
+        → IsReportSoundBy (domain_in (job_of (map string_bytes words.now))) (held_by (engine_in (job_of (map string_bytes words.now))) program) }
 {
-    answers_are_sound::<Interval>();
-    reports_are_sound::<Interval>();
+    named_domains_are_sound();
     run(alloc, words, files, script, out, steps).code()
 }

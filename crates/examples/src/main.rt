@@ -1,7 +1,5 @@
-//! Runs the examples: each program of `data/` by the script beside it, and the batch of one. What is written is
-//! compared with the file that says so, and a line is printed for each.
-//!
-//! The repository's `examples/` is this crate's `data/`.
+//! Runs the examples: each program of `data/` by the script beside it. What is written is compared with the file that
+//! says so, and a line is printed for each.
 #![tactic(auto)]
 
 ghost use Rattle.std.specs.Prelude.{◌≡◌, ◌<◌};
@@ -15,15 +13,16 @@ use std::marker::Brand;
 use std::sync::ledger::{Blank, Ledger};
 use step_counter::Steps;
 
-/// The examples, each a program with a script and what comes out.
-const SERVED: [&str; 7] = [
-    "first",
-    "three",
-    "counting",
-    "calls",
-    "searching",
-    "arrays",
-    "lists",
+/// The examples, each a program with a script and what comes out, and the domain that answers.
+const SERVED: [(&str, &str); 8] = [
+    ("first", "interval"),
+    ("three", "interval"),
+    ("counting", "interval"),
+    ("calls", "interval"),
+    ("searching", "interval"),
+    ("arrays", "interval"),
+    ("lists", "interval"),
+    ("filling", "octagon"),
 ];
 
 /// The most bytes of a file.
@@ -53,29 +52,30 @@ fn status_of(rt: &HostRuntime, words: &[String], script: &mut MemSource, out: &m
 
 /// Runs an example, and tells whether it ends with 0 and writes exactly what it is to write. A file that is not
 /// there is an error.
-fn is_as_expected(rt: &HostRuntime, name: &str) -> Result<bool, Error> {
+fn is_as_expected(rt: &HostRuntime, name: &str, domain: &str) -> Result<bool, Error> {
     let alloc = rt.alloc();
     let script = fs::read(rt, &format!(in alloc; "{name}.jsonl")?)?;
     let wanted = fs::read(rt, &format!(in alloc; "{name}.expected")?)?;
-    let words = words_for(alloc, name)?;
+    let words = words_for(alloc, name, domain)?;
     let mut script = MemSource::new(script, MOST, FaultPlan::none(alloc));
     let mut out = MemSink::new(alloc, MOST, FaultPlan::none(alloc));
     let status = status_of(rt, words.as_slice(), &mut script, &mut out);
     Ok(status == 0 && out.bytes() == wanted.as_slice())
 }
 
-/// The words `daig serve NAME.imp`.
-fn words_for(alloc: Global, name: &str) -> Result<Vec<String>, Error> {
+/// The words `daig serve --domain DOMAIN NAME.imp`.
+fn words_for(alloc: Global, name: &str, domain: &str) -> Result<Vec<String>, Error> {
     let mut words = Vec::new(alloc);
-    words.push(String::from_str(alloc, "daig")?)?;
-    words.push(String::from_str(alloc, "serve")?)?;
+    for word in ["daig", "serve", "--domain", domain] {
+        words.push(String::from_str(alloc, word)?)?;
+    }
     words.push(format!(in alloc; "{name}.imp")?)?;
     Ok(words)
 }
 
 fn main(rt: HostRuntime) -> Result<(), Error> {
-    for name in SERVED {
-        let verdict = if is_as_expected(&rt, name)? {
+    for (name, domain) in SERVED {
+        let verdict = if is_as_expected(&rt, name, domain)? {
             "as expected"
         } else {
             "differs"

@@ -1,5 +1,5 @@
 //! Checked programs.
-ghost use Rattle.std.specs.Prelude.{◌≡◌, ◌<◌, ◌≤◌, [], length, IfOk, IfErr, None};
+ghost use Rattle.std.specs.Prelude.{◌≡◌, ◌<◌, ◌≤◌, [], length, IfOk, IfErr, None, true};
 ghost use Rattle.std.specs.Option.{option_copied};
 ghost use Rattle.imp_slots.specs.Fits.{IsChecked};
 ghost use Rattle.imp_check.specs.Programs.{AreNumbered, check_fault, program_count};
@@ -8,11 +8,11 @@ ghost use Rattle.imp_check.specs.Entries.{entries_of, entry_of, sites_in};
 ghost use Rattle.imp_check.specs.Fine.{IsFine};
 ghost use Rattle.imp_check.specs.Names.{named_in};
 ghost use Rattle.imp_check.specs.Refused.{IsRefused};
+ghost use Rattle.imp_check.specs.Small.{small_program};
 
 use crate::CheckError;
 use crate::building::table_of;
 use crate::entry::Entry;
-use crate::literals::small_program;
 use crate::programs::check_fault;
 use crate::routines::routines_of;
 use crate::table::Table;
@@ -85,7 +85,6 @@ pub fn check_table(alloc: Global, program: &Program) -> Result<Table, CheckError
     if let Some(found) = check_fault(alloc, program.procs())? {
         return Err(CheckError::Fault(found));
     }
-    small_program(program.procs());
     Ok(table_of(alloc, program.procs())?)
 }
 
@@ -93,9 +92,9 @@ pub fn check_table(alloc: Global, program: &Program) -> Result<Table, CheckError
 fn accept(alloc: Global, program: Program) -> Result<Checked, Memory>
     requires numbered { AreNumbered program }
     requires faultless { check_fault program ≡ None }
+    requires small { small_program program ≡ true }
     ensures is { IfOk result (λ c. c ≡ program) }
 {
-    small_program(program.procs());
     let table = table_of(alloc, program.procs())?;
     let routines = routines_of(alloc, program.procs())?;
     let parts = Parts {

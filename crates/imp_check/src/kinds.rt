@@ -1,7 +1,9 @@
-//! Whether names are known, and kinds agree.
-ghost use Rattle.std.specs.Prelude.{◌≡◌};
+//! Whether names are known, and kinds agree. Where names are looked for, it is seen of the literals that they are below
+//! 2^63, as their type says: that is a fact of the plain program too.
+ghost use Rattle.std.specs.Prelude.{◌≡◌, true};
 ghost use Rattle.imp_syntax.specs.Views.{operand_of};
 ghost use Rattle.imp_syntax.specs.ActionViews.{action_of, operands_of};
+ghost use Rattle.imp_check.specs.Small.{small_expression, small_operand, small_operands, small_condition, small_action};
 ghost use Rattle.imp_check.specs.Kinds.{knows, knows_expression, knows_operand, knows_operands, knows_condition, knows_action, int, array, link, int_expression, int_operand, array_expression, link_expression, array_operand, link_operand, is_equality, fits_condition, fits_assign, fits_action};
 
 use crate::names::{is_array, is_int, is_link, kind_of};
@@ -16,9 +18,13 @@ pub(crate) fn knows(variables: &[Declaration], name: &Text) -> bool
 
 fn knows_expression(variables: &[Declaration], expr: &Expr) -> bool
     ensures is { result ≡ knows_expression variables.now expr.now }
+    ensures small { result ≡ true → small_expression expr.now ≡ true }
 {
     match expr.node() {
-        ExprNode::Literal(_) => true,
+        ExprNode::Literal(n) => {
+            let _value = n.value();
+            true
+        }
         ExprNode::Variable(x) => knows(variables, x),
         ExprNode::Length(a) => knows(variables, a),
         ExprNode::Negative(e) => knows_expression(variables, e),
@@ -30,6 +36,7 @@ fn knows_expression(variables: &[Declaration], expr: &Expr) -> bool
 
 fn knows_operand(variables: &[Declaration], side: &Side) -> bool
     ensures is { result ≡ knows_operand variables.now (operand_of side.now) }
+    ensures small { result ≡ true → small_operand (operand_of side.now) ≡ true }
 {
     match side {
         Side::Null => true,
@@ -37,8 +44,10 @@ fn knows_operand(variables: &[Declaration], side: &Side) -> bool
     }
 }
 
+#[tactic(auto, using(crate::proofs::SmallLemmas::operands_step))]
 pub(crate) fn knows_operands(variables: &[Declaration], sides: &[Side]) -> bool
     ensures is { result ≡ knows_operands variables.now (operands_of sides.now) }
+    ensures small { result ≡ true → small_operands (operands_of sides.now) ≡ true }
 {
     for side in sides {
         if !knows_operand(variables, side) {
@@ -50,6 +59,7 @@ pub(crate) fn knows_operands(variables: &[Declaration], sides: &[Side]) -> bool
 
 pub(crate) fn knows_condition(variables: &[Declaration], cond: &Cond) -> bool
     ensures is { result ≡ knows_condition variables.now cond.now }
+    ensures small { result ≡ true → small_condition cond.now ≡ true }
 {
     match cond.node() {
         CondNode::Compare(_, a, b) => knows_operand(variables, a) && knows_operand(variables, b),
@@ -61,6 +71,7 @@ pub(crate) fn knows_condition(variables: &[Declaration], cond: &Cond) -> bool
 
 pub(crate) fn knows_action(variables: &[Declaration], action: &Action) -> bool
     ensures is { result ≡ knows_action variables.now (action_of action.now) }
+    ensures small { result ≡ true → small_action (action_of action.now) ≡ true }
 {
     match action {
         Action::Skip => true,

@@ -37,7 +37,6 @@ mod entry;
 mod fault;
 mod heads;
 mod kinds;
-mod literals;
 mod names;
 mod numbered;
 mod place;

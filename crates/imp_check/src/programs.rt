@@ -1,8 +1,9 @@
 //! The first fault of a program.
-ghost use Rattle.std.specs.Prelude.{◌≡◌, ◌<◌, ◌≤◌, ◌∷◌, ◌++◌, [], length, IfOk, OnOk};
+ghost use Rattle.std.specs.Prelude.{◌≡◌, ◌<◌, ◌≤◌, ◌∷◌, ◌++◌, [], length, IfOk, OnOk, None, true};
 ghost use Rattle.std.specs.Option.{option_copied};
 ghost use Rattle.imp_check.specs.Faults.{at, in_procedure};
 ghost use Rattle.imp_check.specs.Names.{variables};
+ghost use Rattle.imp_check.specs.Small.{small_block, small_program};
 ghost use Rattle.imp_check.specs.Programs.{size_fault, count_numeric, count_links, one_numeric, one_link, variable_fault, variables_fault, procedure_fault, procedures_fault, last_of, name_of, takes_nothing, chains_fault, ending_fault, check_fault};
 
 use crate::chains::all_chains;
@@ -143,6 +144,7 @@ fn procedure_fault(
     proc: &Proc,
 ) -> Result<Option<Spot>, Memory>
     ensures is { IfOk result (λ fault. fault ≡ procedure_fault earlier.now others.now proc.now) }
+    ensures small { IfOk result (λ fault. fault ≡ None → small_block proc.now.body ≡ true) }
 {
     if is_named(earlier, proc.name()) {
         return Ok(Some(Spot {
@@ -171,9 +173,10 @@ fn found_in(name: &Text, spot: Spot) -> Result<Found, Memory>
 }
 
 /// The first fault of the procedures, one by one.
-#[tactic(auto, using(crate::proofs::Going::procedures_step))]
+#[tactic(auto, using(crate::proofs::Going::procedures_step, crate::proofs::SmallLemmas::programs_step))]
 pub(crate) fn procedures_fault(alloc: Global, procs: &[Proc]) -> Result<Option<Found>, Memory>
     ensures is { IfOk result (λ found. found ≡ procedures_fault [] procs.now) }
+    ensures small { IfOk result (λ found. found ≡ None → small_program procs.now ≡ true) }
 {
     for (i, proc) in procs.iter().enumerate() {
         if let Some(spot) = procedure_fault(alloc, &procs[..i], &procs[i..], proc)? {
@@ -239,6 +242,7 @@ fn found_last(alloc: Global, procs: &[Proc], fault: Fault) -> Result<Found, Memo
 /// The first fault of a program.
 pub(crate) fn check_fault(alloc: Global, procs: &[Proc]) -> Result<Option<Found>, Memory>
     ensures is { IfOk result (λ found. found ≡ check_fault procs.now) }
+    ensures small { IfOk result (λ found. found ≡ None → small_program procs.now ≡ true) }
 {
     if let Some(fault) = size_fault(procs) {
         return Ok(Some(found_last(alloc, procs, fault)?));

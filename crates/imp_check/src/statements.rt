@@ -1,10 +1,11 @@
 //! The first fault of statements.
-ghost use Rattle.std.specs.Prelude.{◌≡◌};
+ghost use Rattle.std.specs.Prelude.{◌≡◌, None, true};
 ghost use Rattle.std.specs.Option.{option_copied};
 ghost use Rattle.imp_syntax.specs.Plain.{number_of};
 ghost use Rattle.imp_syntax.specs.ActionViews.{action_of, operands_of};
 ghost use Rattle.imp_syntax.specs.Views.{operand_of};
 ghost use Rattle.imp_check.specs.Faults.{at};
+ghost use Rattle.imp_check.specs.Small.{small_operands, small_condition, small_action, small_statement, small_block};
 ghost use Rattle.imp_check.specs.Statements.{action_fault, condition_fault, callee_fault, knows_target, same_length, gives_result, fits_parameter, fit_parameters, alike, fits_result, arguments_fault, call_fault, statement_fault, block_fault};
 
 use crate::Fault;
@@ -64,6 +65,7 @@ fn at(number: u32, fault: Option<Fault>) -> Option<Spot>
 
 fn action_fault(variables: &[Declaration], action: &Action) -> Option<Fault>
     ensures is { result ≡ action_fault variables.now (action_of action.now) }
+    ensures small { result ≡ None → small_action (action_of action.now) ≡ true }
 {
     if !knows_action(variables, action) {
         Some(Fault::UnknownName)
@@ -76,6 +78,7 @@ fn action_fault(variables: &[Declaration], action: &Action) -> Option<Fault>
 
 fn condition_fault(variables: &[Declaration], cond: &Cond) -> Option<Fault>
     ensures is { result ≡ condition_fault variables.now cond.now }
+    ensures small { result ≡ None → small_condition cond.now ≡ true }
 {
     if !knows_condition(variables, cond) {
         Some(Fault::UnknownName)
@@ -183,6 +186,7 @@ fn arguments_fault(variables: &[Declaration], call: &Call, callee: &Proc) -> Opt
 
 fn call_fault(scope: &Scope, call: &Call) -> Option<Fault>
     ensures is { result ≡ call_fault scope.now call.now.target call.now.callee (operands_of call.now.arguments) }
+    ensures small { result ≡ None → small_operands (operands_of call.now.arguments) ≡ true }
 {
     if !knows_target(scope.variables, &call.target) {
         return Some(Fault::UnknownName);
@@ -204,6 +208,7 @@ fn call_fault(scope: &Scope, call: &Call) -> Option<Fault>
 #[tactic(auto, using(imp_syntax::specs::Blocks::member_smaller, imp_syntax::specs::Blocks::block_rest))]
 pub(crate) fn block_fault(scope: &Scope, inside: bool, block: &Block) -> Option<Spot>
     ensures is { result ≡ block_fault scope.now inside block.now }
+    ensures small { result ≡ None → small_block block.now ≡ true }
 {
     for stmt in block.as_slice() {
         if let Some(spot) = statement_fault(scope, inside, stmt) {
@@ -214,8 +219,10 @@ pub(crate) fn block_fault(scope: &Scope, inside: bool, block: &Block) -> Option<
 }
 
 #[cycle(faults)]
+#[tactic(auto, using(crate::proofs::FewLemmas::at_none))]
 fn statement_fault(scope: &Scope, inside: bool, stmt: &Stmt) -> Option<Spot>
     ensures is { result ≡ statement_fault scope.now inside stmt.now }
+    ensures small { result ≡ None → small_statement stmt.now ≡ true }
 {
     let number = stmt.id().number();
     match stmt.node() {

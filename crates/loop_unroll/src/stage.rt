@@ -48,7 +48,7 @@ pub(crate) fn stage_of<V: Eq>(graph: &Graph<V>, budget: u32, cells: &[usize]) ->
 
 /// The budget is used up at its own number.
 fn spent_at(budget: u32, last: usize) -> Stage
-    ensures { result ≡ spent_or_open budget last }
+    ensures is { result ≡ spent_or_open budget last }
 {
     if last == budget as usize {
         Stage::Spent
@@ -62,7 +62,7 @@ fn repeats<V: Eq>(graph: &Graph<V>, cells: &[usize], last: usize, state: &V) -> 
     requires equality { IsDecided V.eq }
     requires within { last < length cells.now }
     requires state { iterate_of graph.now.cells cells.now last ≡ Some (State state.now) }
-    ensures { IsTrue result ↔ IsEqual (iterate_of graph.now.cells cells.now) last }
+    ensures is { IsTrue result ↔ IsEqual (iterate_of graph.now.cells cells.now) last }
 {
     if last == 0 {
         return false;
@@ -75,7 +75,7 @@ fn repeats<V: Eq>(graph: &Graph<V>, cells: &[usize], last: usize, state: &V) -> 
 
 /// The state that a cell holds, if it holds one.
 fn state_at<V>(graph: &Graph<V>, cell: usize) -> Option<&V>
-    ensures { option_copied result ≡ state_in (value_at graph.now.cells cell) }
+    ensures is { option_copied result ≡ state_in (value_at graph.now.cells cell) }
 {
     match graph.value(cell) {
         Some(Value::State(state)) => Some(state),

@@ -26,7 +26,7 @@ pub fn converged<V: Eq>(graph: &Graph<V>, budget: u32, cells: &[usize]) -> bool
     requires equality { IsDecided V.eq }
     requires cells { AreCells graph.now.cells cells.now }
     requires earlier { GoesOnTo budget (iterate_of graph.now.cells cells.now) (length cells.now) }
-    ensures { IsTrue result ↔ ConvergesWithin (iterate_of graph.now.cells cells.now) (length cells.now) }
+    ensures is { IsTrue result ↔ ConvergesWithin (iterate_of graph.now.cells cells.now) (length cells.now) }
 {
     matches!(stage_of(graph, budget, cells), Stage::Equal)
 }
@@ -36,7 +36,7 @@ pub fn over<V: Eq>(graph: &Graph<V>, budget: u32, cells: &[usize]) -> bool
     requires equality { IsDecided V.eq }
     requires cells { AreCells graph.now.cells cells.now }
     requires earlier { GoesOnTo budget (iterate_of graph.now.cells cells.now) (length cells.now) }
-    ensures { IsTrue result ↔ OverrunsWithin budget (iterate_of graph.now.cells cells.now) (length cells.now) }
+    ensures is { IsTrue result ↔ OverrunsWithin budget (iterate_of graph.now.cells cells.now) (length cells.now) }
 {
     matches!(stage_of(graph, budget, cells), Stage::Over | Stage::Spent)
 }

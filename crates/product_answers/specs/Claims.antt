@@ -1,5 +1,5 @@
 -- What a product answers, and how often its states change.
-use Rattle.std.specs.Prelude.{◌≡◌, ℕ, ◌+◌, List}
+use Rattle.std.specs.Prelude.{◌≡◌, ℕ, ◌+◌, max, List}
 use Rattle.imp_syntax.specs.declared.edit.Location.{Location}
 use Rattle.imp_slots.specs.Plain.{Routine}
 use Rattle.domain_laws.specs.Operations.{Operations}
@@ -14,6 +14,10 @@ AnswersPairs {S} {T} a b =
     (engine : Engine) (program : List Routine) (l : Location) (string : List ℕ) (s : S) (t : T) → engine.widening.delay ≡ 0 →
     answer a engine program l string ≡ Answers (State s) → answer b engine program l string ≡ Answers (State t) →
     answer (product a b) engine program l string ≡ Answers (State (s, t))
+
+-- Changes of a pair are counted once those of both parts are.
+abbrev pub later_of_both : (first second : ℕ → ℕ) → (delay : ℕ) → ℕ
+later_of_both first second delay = max (first delay) (second delay)
 
 -- A pair changes as often as its parts together. That a state changes at most once more than so often is said of each
 -- part, so it is said of the pair with one for the second part's.

@@ -2,7 +2,7 @@
 ghost use Rattle.std.specs.Prelude.{ℕ};
 ghost use Rattle.product_meaning.specs.Product.{product};
 ghost use Rattle.batch_converges.specs.Converges.{Converge, Ending, Grows};
-ghost use Rattle.product_answers.specs.Claims.{AnswersPairs, changes_of_both};
+ghost use Rattle.product_answers.specs.Claims.{AnswersPairs, later_of_both, changes_of_both};
 
 use domain_laws::Domain;
 use program_chains::marks_rise;
@@ -13,12 +13,12 @@ pub fn products_answer_pairs<A: Domain, B: Domain>()
     ensures pair { (a : A) (b : B) → AnswersPairs (A.operations a) (B.operations b) }
 {}
 
-/// Where the states of each domain change a stated number of times under widening, a pair changes at
-/// most as often as both together, and from the budget on that this states no answer of a checked
-/// program is an Over.
+/// Where the states of each domain change a stated number of times in the rounds of a loop, from a stated
+/// round on, a pair changes from the later of the two rounds on at most as often as both together, and from
+/// the budget on that this states no answer of a checked program is an Over.
 pub fn products_converge<A: Domain, B: Domain>()
-    ensures changes { (a : A) (b : B) (f g : ℕ → ℕ → ℕ) → Ending (A.operations a) f → Ending (B.operations b) g → Ending (product (A.operations a) (B.operations b)) (changes_of_both f g) }
-    ensures end { (a : A) (b : B) (f g : ℕ → ℕ → ℕ) → Ending (A.operations a) f → Ending (B.operations b) g → Grows f → Grows g → Converge (product (A.operations a) (B.operations b)) (changes_of_both f g) }
+    ensures changes { (a : A) (b : B) (u v : ℕ → ℕ) (f g : ℕ → ℕ → ℕ) → Ending (A.operations a) u f → Ending (B.operations b) v g → Ending (product (A.operations a) (B.operations b)) (later_of_both u v) (changes_of_both f g) }
+    ensures end { (a : A) (b : B) (u v : ℕ → ℕ) (f g : ℕ → ℕ → ℕ) → Ending (A.operations a) u f → Ending (B.operations b) v g → Grows f → Grows g → Converge (product (A.operations a) (B.operations b)) (later_of_both u v) (changes_of_both f g) }
 {
     marks_rise();
 }

@@ -7,6 +7,8 @@ mod batches;
 #[cfg(test)]
 mod devices;
 #[cfg(test)]
+mod domains;
+#[cfg(test)]
 mod lines;
 #[cfg(test)]
 mod runs;

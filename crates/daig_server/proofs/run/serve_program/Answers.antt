@@ -1,10 +1,10 @@
 use Rattle.std.proofs.Common.{Err, ap}
-use Rattle.interval_meaning.specs.Domain.{intervals}
 use Rattle.script_loop.specs.Lines.{all_lines}
+use Rattle.daig_server.specs.Domains.{meaning_of}
 use Rattle.daig_server.proofs.LineLemmas.{wrote_whole}
 use Rattle.daig_server.proofs.run.serve_program.Goals as goal
 
 pub returns-in-Err-Memory-clause-wrote : goal.returns-in-Err-Memory-clause-wrote
 returns-in-Err-Memory-clause-wrote g c = λ text taken told_text told_taken.
-    wrote_whole intervals c.args.server (all_lines text) taken _
+    wrote_whole (meaning_of g.D.Named.name).operations c.args.server (all_lines text) taken _
     ((c.in-Err-Memory.ensures {u = tt}).memory_lines (ap Err c.in-Err-Memory.field-0-is) text taken told_text told_taken)

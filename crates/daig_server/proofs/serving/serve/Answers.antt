@@ -1,9 +1,8 @@
 use Rattle.std.proofs.Common.{◌∙◌, map, string_bytes, sym, ap}
 use Rattle.command_words.specs.Jobs.{job_of}
-use Rattle.interval_meaning.specs.Domain.{intervals}
-use Rattle.interval_meaning.specs.Covers.{covers}
+use Rattle.daig_server.specs.Domains.{meaning_of}
 use Rattle.daig_server.specs.Ends.{code_of}
-use Rattle.daig_server.specs.Jobs.{engine_in}
+use Rattle.daig_server.specs.Jobs.{domain_in, engine_in}
 use Rattle.daig_server.specs.Output.{held_by}
 use Rattle.daig_server.proofs.ServeLemmas.{is_done, is_script, is_sink, is_memory, is_long_script, wrote_done, wrote_complete, long_file_ends}
 use Rattle.daig_server.proofs.SoundLemmas.{sound_line, sound_report}
@@ -45,10 +44,12 @@ returns-clause-long_file_exactly g c = λ reading folder text told_folder nine.
 
 pub returns-clause-sound : goal.returns-clause-sound
 returns-clause-sound g c = λ reading folder program told_folder accepted no_memory no_files line.
-    sound_line intervals covers (c.answers_are_sound.ensures.sound (record {})) (held_by (engine_in (job_of (map string_bytes c.args.words.now))) program) line
+    let domain = domain_in (job_of (map string_bytes c.args.words.now)) in
+    sound_line (meaning_of domain).operations (meaning_of domain).covers (c.named_domains_are_sound.ensures.answers domain) (held_by (engine_in (job_of (map string_bytes c.args.words.now))) program) line
     (c.run.ensures.checked reading folder program told_folder accepted (λ is. no_memory (c.code.ensures.code ∙ ap code_of is)) (λ is. no_files (c.code.ensures.code ∙ ap code_of is)))
 
 pub returns-clause-reports_sound : goal.returns-clause-reports_sound
 returns-clause-reports_sound g c = λ reading folder program told_folder accepted no_memory no_files.
-    sound_report intervals (c.reports_are_sound.ensures.sound (record {})) (held_by (engine_in (job_of (map string_bytes c.args.words.now))) program)
+    let domain = domain_in (job_of (map string_bytes c.args.words.now)) in
+    sound_report (meaning_of domain).operations (c.named_domains_are_sound.ensures.reports domain) (held_by (engine_in (job_of (map string_bytes c.args.words.now))) program)
     (c.run.ensures.checked reading folder program told_folder accepted (λ is. no_memory (c.code.ensures.code ∙ ap code_of is)) (λ is. no_files (c.code.ensures.code ∙ ap code_of is)))

@@ -28,7 +28,7 @@ returns-then-repeats g c =
     let it = iterate_of c.args.graph.now.cells c.args.cells.now in
     record {
       stage = counted c.args.budget it (length c.args.cells.now) last _ e c.requires.earlier
-          (λ earlier. stage-equal c.args.budget it last earlier (c.repeats.ensures.0 c.if-repeats.true));
+          (λ earlier. stage-equal c.args.budget it last earlier (c.repeats.ensures.is.0 c.if-repeats.true));
     }
 
 pub returns-else-repeats : goal.returns-else-repeats
@@ -40,6 +40,6 @@ returns-else-repeats g c =
     let is = last-value c.args.graph.now.cells c.args.cells.now last (omega (arith, e)) ∙ sym c.in-Some-State.ensures.value ∙ ap Some c.in-Some-State.field-0-is in
     record {
       stage = counted c.args.budget it (length c.args.cells.now) last _ e c.requires.earlier
-          (λ earlier. subst P (sym c.spent_at.ensures)
-          (stage-rest c.args.budget it last earlier c.in-Some-State.state is (λ equal. let t = c.repeats.ensures.1 equal in let f = c.if-repeats.false in absurd (cc))));
+          (λ earlier. subst P (sym c.spent_at.ensures.is)
+          (stage-rest c.args.budget it last earlier c.in-Some-State.state is (λ equal. let t = c.repeats.ensures.is.1 equal in let f = c.if-repeats.false in absurd (cc))));
     }

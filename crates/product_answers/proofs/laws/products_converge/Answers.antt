@@ -1,16 +1,16 @@
 use Rattle.product_meaning.specs.Product.{product, covered_by_both}
 use Rattle.product_meaning.proofs.Laws.{product_laws}
 use Rattle.batch_converges.proofs.Whole.{converges}
-use Rattle.product_answers.specs.Claims.{changes_of_both}
+use Rattle.product_answers.specs.Claims.{later_of_both, changes_of_both}
 use Rattle.product_answers.proofs.Changes.{pair_ending, pair_grows}
 use Rattle.product_answers.proofs.laws.products_converge.Goals as goal
 
 pub returns-clause-changes : goal.returns-clause-changes
-returns-clause-changes g c = λ a b f h p q. pair_ending (g.A.Domain.operations a) (g.B.Domain.operations b) f h p q
+returns-clause-changes g c = λ a b u v f h p q. pair_ending (g.A.Domain.operations a) (g.B.Domain.operations b) u v f h p q
 
 pub returns-clause-end : goal.returns-clause-end
-returns-clause-end g c = λ a b f h p q i j.
+returns-clause-end g c = λ a b u v f h p q i j.
     converges (product (g.A.Domain.operations a) (g.B.Domain.operations b)) (covered_by_both (g.A.Domain.covers a) (g.B.Domain.covers b))
     (product_laws (g.A.Domain.operations a) (g.B.Domain.operations b) (g.A.Domain.covers a) (g.B.Domain.covers b) (g.met.A.Domain.laws a) (g.met.B.Domain.laws b))
-    c.marks_rise.ensures.rising (changes_of_both f h)
-    (pair_ending (g.A.Domain.operations a) (g.B.Domain.operations b) f h p q) (pair_grows (g.A.Domain.operations a) (g.B.Domain.operations b) f h i j)
+    c.marks_rise.ensures.rising (later_of_both u v) (changes_of_both f h)
+    (pair_ending (g.A.Domain.operations a) (g.B.Domain.operations b) u v f h p q) (pair_grows (g.A.Domain.operations a) (g.B.Domain.operations b) u v f h i j)

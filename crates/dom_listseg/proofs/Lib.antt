@@ -1,0 +1,6 @@
+pub mod Collected
+pub mod Assumed
+pub mod Findings
+pub mod Left
+pub mod Written
+pub mod Started

@@ -1,0 +1,7 @@
+use Rattle.std.proofs.Common.{◌≡◌, map, take}
+use Rattle.shape_graph.proofs.Function.{fold_of}
+use Rattle.listseg_meaning.specs.Sets.{union}
+use Rattle.dom_listseg.proofs.sets.put_all.Given as goal
+
+abbrev pub invariant-loop-other : goal.invariant-loop-other
+invariant-loop-other l = l.graphs.items ≡ union l.fn.graphs.items (map fold_of (take l.other-index l.others))

@@ -1,0 +1,138 @@
+//! States.
+ghost use Rattle.std.specs.Prelude.{◌≡◌, IfOk, [], List};
+ghost use Rattle.listseg_meaning.specs.State.{Segments, Top, Graphs, segments_same, segments_fed};
+ghost use Rattle.listseg_meaning.proofs.StateLaws.{segments_equiv, segments_per, segments_fed-same};
+ghost use Rattle.listseg_meaning.specs.Operations as operations;
+
+use plain_values::Memory;
+use shape_graph::Graph;
+use std::alloc::Global;
+use std::hash::{Hash, Hasher};
+use std::marker::Model;
+use std::rc::Rc;
+
+/// A state of list segments: all, or what one of its graphs covers. Copies share the graphs.
+#[derive(Drop)]
+pub struct SegmentState {
+    pub(crate) kept: Kept,
+}
+
+#[derive(Drop)]
+pub(crate) enum Kept {
+    Top,
+    Graphs(Rc<Vec<Graph>>),
+}
+
+impl Model for SegmentState {
+    ghost use Rattle.listseg_meaning.specs.State.{Segments, segments_code};
+
+    ghost Value = { Segments };
+
+    ghost coded = { segments_code };
+
+    ghost use Rattle.dom_listseg.specs.View.{segments_of};
+
+    ghost view = { λ a. segments_of a.kept };
+}
+
+impl PartialEq for SegmentState {
+    ghost eq = { segments_same };
+
+    ghost laws = { segments_per };
+
+    fn eq(&self, other: &SegmentState) -> bool {
+        match (&self.kept, &other.kept) {
+            (Kept::Top, Kept::Top) => true,
+            (Kept::Graphs(a), Kept::Graphs(b)) => *listed(a) == *listed(b),
+            _ => false,
+        }
+    }
+}
+
+impl Eq for SegmentState {
+    ghost laws = { segments_equiv };
+}
+
+impl Hash for SegmentState {
+    ghost hash_input = { segments_fed };
+
+    ghost respects_eq = { segments_fed-same };
+
+    fn hash<H: Hasher>(&self, state: &mut H) {
+        match &self.kept {
+            Kept::Top => state.write_u8(0),
+            Kept::Graphs(shared) => {
+                state.write_u8(1);
+                listed(shared).hash(state);
+            }
+        }
+    }
+}
+
+/// All.
+pub fn top() -> SegmentState
+    ensures top { result ≡ Top }
+{
+    SegmentState { kept: Kept::Top }
+}
+
+/// What one of these graphs covers.
+pub fn within(alloc: Global, graphs: Vec<Graph>) -> Result<SegmentState, Memory>
+    ensures graphs { IfOk result (λ s. s ≡ Graphs graphs.items) }
+{
+    let shared = Rc::new(alloc, graphs)?;
+    Ok(SegmentState {
+        kept: Kept::Graphs(shared),
+    })
+}
+
+/// Nothing.
+pub fn empty(alloc: Global) -> Result<SegmentState, Memory>
+    ensures empty { IfOk result (λ s. s ≡ Graphs []) }
+{
+    within(alloc, Vec::new(alloc))
+}
+
+/// The graphs that a state shares.
+pub fn listed(shared: &Rc<Vec<Graph>>) -> &[Graph]
+    ensures listed { result.now ≡ shared.now.value.items }
+{
+    shared.as_ref().as_slice()
+}
+
+/// Whether nothing is described.
+#[tactic(auto, unfolding(listseg_meaning::specs::Operations::dead))]
+pub fn is_empty(s: &SegmentState) -> bool
+    ensures exact { result ≡ operations.dead s.now }
+{
+    match &s.kept {
+        Kept::Top => false,
+        Kept::Graphs(shared) => listed(shared).is_empty(),
+    }
+}
+
+/// The graphs once more.
+pub fn copied(alloc: Global, graphs: &[Graph]) -> Result<Vec<Graph>, Memory>
+    ensures same { IfOk result (λ v. v.items ≡ graphs.now) }
+{
+    let mut copies = Vec::with_capacity(alloc, graphs.len())?;
+    for graph in graphs {
+        copies.push(graph.copy(alloc)?)?;
+    }
+    Ok(copies)
+}
+
+/// The state once more, which shares its graphs.
+pub fn copy_of(s: &SegmentState) -> Result<SegmentState, Memory>
+    ensures same { IfOk result (λ t. t ≡ s.now) }
+{
+    match &s.kept {
+        Kept::Top => Ok(top()),
+        Kept::Graphs(shared) => {
+            let shared = shared.clone()?;
+            Ok(SegmentState {
+                kept: Kept::Graphs(shared),
+            })
+        }
+    }
+}
