@@ -1,5 +1,5 @@
 -- Whole lines.
-use Rattle.std.proofs.Common.{◌≡◌, ℕ, ◌++◌, ◌⊎◌, inl, inr, List, [], ◌∷◌, Option, Some, None, append_assoc, append-nil, refl, sym, ap, ◌∙◌}
+use Rattle.std.proofs.Common.{◌≡◌, ℕ, ◌++◌, inl, inr, List, [], ◌∷◌, Option, Some, None, append_assoc, append-nil, refl, sym, ap, ◌∙◌}
 use Rattle.domain_laws.specs.Operations.{Operations}
 use Rattle.script_loop.specs.Lines.{kept}
 use Rattle.script_loop.specs.Replies.{Machine, reply_to, next_to, replies, after, WroteLines}

@@ -1,10 +1,10 @@
 -- The statements of a text are numbered: their numbers rise from 1.
-use Rattle.std.proofs.Common.{◌≡◌, ◌≢◌, ℕ, ◌+◌, ◌<◌, ◌≤◌, List, [], ◌∷◌, ◌++◌, arith}
+use Rattle.std.proofs.Common.{◌≢◌, ℕ, ◌+◌, ◌<◌, ◌≤◌, List, [], ◌∷◌, ◌++◌, arith}
 use Rattle.imp_lex.specs.declared.token.Kind.{Kind}
-use Rattle.imp_syntax.specs.Plain.{Statement, Statements, Ends, Procedure, numbers_in, numbers, program_numbers, block_of}
+use Rattle.imp_syntax.specs.Plain.{Statement, Statements, Procedure, numbers_in, numbers, program_numbers, block_of}
 use Rattle.imp_slots.specs.Fits.{Absent, Distinct}
 use Rattle.imp_check.specs.Programs.{AreNumbered}
-use Rattle.imp_parse.specs.Statements.{IsInvoke, IsAssigned, input, array, null, new, outcome, next, item, element, value, IsSimple, skip, break, assert, call, assign, write_element, write_next, write_item, IsStatement, simple, if_, if_else, while, IsBlock, block, IsStatements, none, onward}
+use Rattle.imp_parse.specs.Statements.{IsAssigned, input, array, null, new, outcome, next, item, element, value, IsSimple, skip, break, assert, call, assign, write_element, write_next, write_item, IsStatement, simple, if_, if_else, while, IsBlock, block, IsStatements, none, onward}
 use Rattle.imp_parse.specs.Answer.{HasTree}
 use Rattle.imp_parse.specs.Languages.{ProgramText}
 use Rattle.imp_parse.specs.Limits.{outside}

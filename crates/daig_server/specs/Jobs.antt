@@ -1,5 +1,5 @@
 -- What the words ask for.
-use Rattle.std.specs.Prelude.{◌≡◌, ℕ, List, [], Option, Some, None, false}
+use Rattle.std.specs.Prelude.{◌≡◌, ℕ, List, Option, Some, None, false}
 use Rattle.command_words.specs.declared.job.DomainName.{DomainName}
 use Rattle.command_words.specs.declared.job.DomainName.TheVariants.{Interval}
 use Rattle.command_words.specs.declared.job.Job.{Job}

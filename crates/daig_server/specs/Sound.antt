@@ -1,5 +1,5 @@
 -- Sound answers and reports: what is claimed of the lines of a program.
-use Rattle.std.specs.Prelude.{◌≡◌, ℕ, List, Result, Ok, Contains}
+use Rattle.std.specs.Prelude.{◌≡◌, ℕ, List, Ok, Contains}
 use Rattle.imp_syntax.specs.declared.edit.Location.{Location}
 use Rattle.imp_check.specs.Slots.{routines_of}
 use Rattle.concrete_sem.specs.Values.{Variables, Heap}
