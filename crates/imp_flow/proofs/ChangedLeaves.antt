@@ -22,9 +22,6 @@ pub last_behind : (xs : List Leave) (l : Leave) → last_leave (xs ++ l ∷ []) 
 last_behind [] l = refl
 last_behind (y ∷ xs) l = ap Some (last_of_behind y xs l)
 
-pub last_is : (ls xs : List Leave) (l : Leave) → ls ≡ xs ++ l ∷ [] → last_leave ls ≡ Some (l, xs)
-last_is ls xs l e = ap last_leave e ∙ last_behind xs l
-
 -- No breaks, or a last one.
 pub data Split : List Leave → Type 0 where
   none : Split []

@@ -17,9 +17,8 @@ use Rattle.cell_rows.specs.Flat.{flat_row}
 use Rattle.cell_rows.proofs.Checked.{distinct_part, break_part, once_nested}
 use Rattle.imp_slots.proofs.Distinct.{left_once, right_once}
 use Rattle.cell_rows.proofs.FlatOnce.{once_reversed}
-use Rattle.imp_flow.specs.declared.node.Node.{Node}
-use Rattle.imp_flow.specs.declared.node.Shape.{Shape}
-use Rattle.imp_flow.specs.declared.node.Shape.TheVariants as shape
+use Rattle.imp_flow.specs.Shapes.{Node, Shape}
+use Rattle.imp_flow.specs.Shapes as shape
 use Rattle.imp_flow.specs.Nodes.{shape_of, node_in, block_nodes, nodes_of, node_of}
 use Rattle.imp_flow.specs.Plans.{Plan, marks_at, plan_nodes, node_row}
 use Rattle.imp_flow.specs.Owners.{owner}

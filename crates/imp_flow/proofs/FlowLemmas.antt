@@ -1,19 +1,15 @@
 -- The row of an iterate by its statement's node.
-use Rattle.std.proofs.Common.{◌≡◌, ◌≢◌, ℕ, zero, suc, ◌-◌, ◌<◌, ◌≤◌, get_or, List, [], ◌∷◌, length, reverse, slice_get, if◌then◌else◌, Option, Some, None, refl, sym, ap, subst, ◌∙◌, arith}
-use Rattle.std.proofs.lemmas.List.{reverse-reverse}
-use Rattle.std.proofs.lemmas.Option.{slice_get_past, slice_get-get_or}
-use Rattle.imp_slots.specs.Plain.{Routine}
-use Rattle.batch_meaning.specs.Places.{if_some, from, main_layout}
-use Rattle.plain_values.proofs.Cases.{by_test, some_inj}
-use Rattle.batch_meaning.proofs.Procedures.{look, look_get, from_look}
+use Rattle.std.proofs.Common.{◌≡◌, ◌≢◌, ℕ, zero, suc, ◌-◌, List, [], ◌∷◌, reverse, Option, Some, None, refl, sym, ap, subst, arith}
+use Rattle.batch_meaning.specs.Places.{if_some, main_layout}
+use Rattle.plain_values.proofs.Cases.{some_inj}
 use Rattle.std.specs.Option.{option_map}
 use Rattle.cell_names.specs.declared.frame.Frame.{Frame}
 use Rattle.cell_names.specs.declared.frame.Frame.TheVariants.{InCall, InLoop}
 use Rattle.cell_names.specs.declared.frame.Point.{Point}
 use Rattle.cell_names.specs.declared.frame.Point.TheVariants.{Entry, Body, Iterate}
-use Rattle.cell_rows.specs.Rows.{Row, Init, last_point}
-use Rattle.imp_flow.specs.declared.node.Node.{Node}
-use Rattle.imp_flow.specs.Nodes.{body_end, callee_end, node_of}
+use Rattle.cell_rows.specs.Rows.{Row, Init}
+use Rattle.imp_flow.specs.Shapes.{Node}
+use Rattle.imp_flow.specs.Nodes.{node_of}
 use Rattle.imp_flow.specs.NodeRows.{enter_at, turn_at, next_at}
 use Rattle.imp_flow.specs.declared.row.Row as declared
 use Rattle.imp_flow.specs.Near.{last_frame, row_in}
@@ -32,23 +28,6 @@ nowhere = None
 pub iterate_gone : (plan : Plan) (w : List Frame) (n k : ℕ) → node_of (plan_nodes plan) n ≡ None → nowhere ≡ node_row plan w (Iterate n k)
 iterate_gone plan w n zero e = refl
 iterate_gone plan w n (suc k) e = sym (ap (λ o. if_some o (next_of plan w k)) e)
-
--- The callee of a place.
-look_none : (ps : List Routine) (q : ℕ) → look ps q ≡ None → from ps q ≡ []
-look_none [] q e = refl
-look_none (r ∷ ps) q e =
-    (by_test q (length ps) (λ c. (if c then Some r else look ps q) ≡ None → (if c then r ∷ ps else from ps q) ≡ [])
-    (λ k e. cc)
-    (λ k e. look_none ps q e)) e
-
-seen : (ps : List Routine) (q : ℕ) → look (reverse ps) q ≡ slice_get ps q
-seen ps q = look_get (reverse ps) q ∙ ap (λ xs. slice_get xs q) (reverse-reverse ps)
-
-pub callee_there : (ps : List Routine) (q : ℕ) (r : Routine) → q < length ps → r ≡ get_or ps q r → Some (last_point r.code Entry) ≡ callee_end (reverse ps) q
-callee_there ps q r h e = sym (ap body_end (from_look (reverse ps) q r (seen ps q ∙ slice_get-get_or ps q r h ∙ ap Some (sym e))).1)
-
-pub callee_past : (ps : List Routine) (q : ℕ) → length ps ≤ q → callee_end (reverse ps) q ≡ None
-callee_past ps q h = ap body_end (look_none (reverse ps) q (seen ps q ∙ slice_get_past ps q h))
 
 -- The start of a body, by the last frame of its path.
 pub entry_found : (plan : Plan) (w : List Frame) (f : Frame) (n : ℕ) (x : Node) → f ≡ InCall n → node_of (plan_nodes plan) n ≡ Some x → enter_at w x ≡ node_row plan (f ∷ w) Entry

@@ -1,32 +1,55 @@
--- Breaks by their places, and the end of a block.
-use Rattle.std.proofs.Common.{◌≡◌, ◌≢◌, ℕ, zero, suc, ◌+◌, ◌-◌, ◌<◌, ◌≤◌, List, [], ◌∷◌, length, drop, get_or, slice_get, Option, Some, None, if◌then◌else◌, refl, sym, ap, ◌∙◌, arith, add-one, drop-cons}
+-- Breaks by their places.
+use Rattle.std.proofs.Common.{◌≡◌, ◌≢◌, ℕ, zero, suc, ◌+◌, ◌-◌, ◌<◌, ◌≤◌, List, [], ◌∷◌, Bool, length, map, drop, get_or, slice_get, Option, Some, None, if◌then◌else◌, refl, sym, ap, ◌∙◌, arith, add-one}
 use Rattle.std.specs.Option.{option_map}
+use Rattle.batch_meaning.specs.Places.{if_some}
+use Rattle.cell_names.specs.declared.frame.Frame.{Frame}
 use Rattle.plain_values.proofs.Cases.{by_test, some_inj}
-use Rattle.imp_slots.specs.BlockViews.{code_of, number_of}
-use Rattle.imp_slots.specs.declared.blocks.SlotNode.{SlotNode}
-use Rattle.imp_slots.specs.declared.blocks.SlotNode.TheVariants.{Simple, If, While, Call, Break}
 use Rattle.cell_names.specs.declared.frame.Point.{Point}
-use Rattle.cell_names.specs.declared.frame.Point.TheVariants.{Post, Leap}
-use Rattle.cell_rows.specs.Names.{next_place, place_of, item}
-use Rattle.cell_rows.specs.Rows.{last_point}
+use Rattle.cell_names.specs.declared.frame.Point.TheVariants.{Leap}
+use Rattle.cell_rows.specs.Names.{name, next_place, place_of, item}
+use Rattle.cell_rows.specs.Rows.{Joins}
 use Rattle.imp_flow.specs.declared.node.Leave.{Leave}
-use Rattle.imp_flow.specs.NodeRows.{breaks_of, joined_at}
+use Rattle.imp_flow.specs.Entered.{Table, leave_at}
+use Rattle.imp_flow.specs.NodeRows.{breaks_of, fronts_of, joined_at, joins_at}
+use Rattle.imp_flow.proofs.ChangedLeaves.{break_at, front_at}
 
-item_is : (ls : List Leave) (k : ℕ) (x : Leave) → k < length ls → x ≡ get_or ls k x → x.stmt ≡ item (breaks_of ls) k
-item_is [] k x h e = absurd (omega arith)
-item_is (l ∷ ls) zero x h e = ap (λ (y : Leave). y.stmt) e
-item_is (l ∷ ls) (suc k) x h e = item_is ls k x (omega arith) e
+-- Breaks by their numbers.
+pub leaves_long : (at : Table) (bs : List ℕ) → length (map (leave_at at) bs) ≡ length bs
+leaves_long at [] = refl
+leaves_long at (b ∷ bs) = ap suc (leaves_long at bs)
+
+pub leave_there : (at : Table) (bs : List ℕ) (i b : ℕ) → i < length bs → b ≡ get_or bs i b → slice_get (map (leave_at at) bs) i ≡ Some (leave_at at b)
+leave_there at [] i b h e = absurd (omega arith)
+leave_there at (c ∷ bs) zero b h e = ap (λ n. Some (leave_at at n)) (sym e)
+leave_there at (c ∷ bs) (suc i) b h e = leave_there at bs i b (omega arith) e
+
+-- The row of a break.
+pub joins_some : (w : List Frame) (stays : Bool) (n : ℕ) (ls : List Leave) (i : ℕ) (l : Leave) → slice_get ls i ≡ Some l → joins_at w stays n ls i ≡ Some (Joins stays (name w (joined_at n (breaks_of ls) i)) n w l.front)
+joins_some w stays n ls i l e = ap (λ o. if_some o (λ p. Some (Joins stays (name w (joined_at n (breaks_of ls) i)) n w p))) (front_at ls i l e)
+
+pub joins_none : (w : List Frame) (stays : Bool) (n : ℕ) (ls : List Leave) (i : ℕ) → length ls ≤ i → joins_at w stays n ls i ≡ None
+joins_none w stays n ls i h = ap (λ o. if_some o (λ p. Some (Joins stays (name w (joined_at n (breaks_of ls) i)) n w p))) (none ls i h)
+  where
+    none : (ls : List Leave) (i : ℕ) → length ls ≤ i → slice_get (fronts_of ls) i ≡ None
+    none [] i h = refl
+    none (l ∷ ls) zero h = absurd (omega arith)
+    none (l ∷ ls) (suc i) h = none ls i (omega arith)
 
 -- with so many breaks, the last of which is x
-pub joined_last : (n : ℕ) (ls : List Leave) (k : ℕ) (x : Leave) → k ≢ 0 → k ≤ length ls → x ≡ get_or ls (k - 1) x → Leap n x.stmt ≡ joined_at n (breaks_of ls) k
-joined_last n ls zero x z h e = absurd (z refl)
-joined_last n ls (suc k) x z h e =
+pub joined_last : (n : ℕ) (ls : List Leave) (k : ℕ) (x : Leave) → k ≢ 0 → slice_get ls (k - 1) ≡ Some x → Leap n x.stmt ≡ joined_at n (breaks_of ls) k
+joined_last n ls zero x z e = absurd (z refl)
+joined_last n ls (suc k) x z e =
     let one : suc k - 1 ≡ k = omega arith in
-    ap (Leap n) (item_is ls k x (omega arith) (e ∙ ap (λ j. get_or ls j x) one))
+    ap (Leap n) (sym (break_at ls k x (ap (slice_get ls) (sym one) ∙ e)))
 
 -- The search for a break.
-drop_item : (xs : List Leave) (i : ℕ) (x : Leave) → i < length xs → x ≡ get_or xs i x → drop i xs ≡ x ∷ drop (i + 1) xs
-drop_item xs i x h e = drop-cons xs i x h ∙ rw (add-one, ← e) refl
+drop_next : (xs : List Leave) (i : ℕ) (x : Leave) → slice_get xs i ≡ Some x → drop i xs ≡ x ∷ drop (suc i) xs
+drop_next [] i x e = absurd cc
+drop_next (y ∷ ys) zero x e = ap (λ z. z ∷ ys) (some_inj y x e)
+drop_next (y ∷ ys) (suc i) x e = drop_next ys i x e
+
+pub drop_item : (xs : List Leave) (i : ℕ) (x : Leave) → slice_get xs i ≡ Some x → drop i xs ≡ x ∷ drop (i + 1) xs
+drop_item xs i x e = rw add-one (drop_next xs i x e)
 
 abbrev counted : ℕ → ℕ → List Leave → Option ℕ
 counted i n ls = option_map (λ j. i + j) (place_of n (breaks_of ls))
@@ -41,17 +64,17 @@ further : (i : ℕ) (o : Option ℕ) → option_map (λ j. i + j) (next_place o)
 further i None = refl
 further i (Some j) = ap Some (plus_next i j)
 
-pub place_found : (ls : List Leave) (i n : ℕ) (x : Leave) → i < length ls → x ≡ get_or ls i x → x.stmt ≡ n → counted i n (drop i ls) ≡ Some i
-place_found ls i n x h e k =
-    ap (counted i n) (drop_item ls i x h e)
+pub place_found : (ls : List Leave) (i n : ℕ) (x : Leave) → slice_get ls i ≡ Some x → x.stmt ≡ n → counted i n (drop i ls) ≡ Some i
+place_found ls i n x e k =
+    ap (counted i n) (drop_item ls i x e)
     ∙ by_test n x.stmt (λ c. option_map (λ j. i + j) (if c then Some 0 else next_place (place_of n (breaks_of (drop (i + 1) ls)))) ≡ Some i) (λ q. ap Some (plus_none i)) (λ q. absurd (q (sym k)))
 
-pub place_passed : (ls : List Leave) (i n : ℕ) (x : Leave) → i < length ls → x ≡ get_or ls i x → x.stmt ≢ n → counted i n (drop i ls) ≡ counted (i + 1) n (drop (i + 1) ls)
-place_passed ls i n x h e k =
-    ap (counted i n) (drop_item ls i x h e)
+pub place_passed : (ls : List Leave) (i n : ℕ) (x : Leave) → slice_get ls i ≡ Some x → x.stmt ≢ n → counted i n (drop i ls) ≡ counted (i + 1) n (drop (i + 1) ls)
+place_passed ls i n x e k =
+    ap (counted i n) (drop_item ls i x e)
     ∙ by_test n x.stmt (λ c. option_map (λ j. i + j) (if c then Some 0 else next_place (place_of n (breaks_of (drop (i + 1) ls)))) ≡ counted (i + 1) n (drop (i + 1) ls)) (λ q. absurd (k (sym q))) (λ q. further i (place_of n (breaks_of (drop (i + 1) ls))))
 
-drop_none : (ls : List Leave) (i : ℕ) → length ls ≤ i → drop i ls ≡ []
+pub drop_none : (ls : List Leave) (i : ℕ) → length ls ≤ i → drop i ls ≡ []
 drop_none [] zero h = refl
 drop_none [] (suc i) h = refl
 drop_none (l ∷ ls) zero h = absurd (omega arith)
@@ -59,54 +82,3 @@ drop_none (l ∷ ls) (suc i) h = drop_none ls i (omega arith)
 
 pub place_none : (ls : List Leave) (i n : ℕ) → length ls ≤ i → counted i n (drop i ls) ≡ None
 place_none ls i n h = ap (counted i n) (drop_none ls i h)
-
--- The end of a block.
-last_next : (ss : List SlotNode) (s t : SlotNode) (p q : Point) → last_point (code_of (s ∷ t ∷ ss)) p ≡ last_point (code_of (t ∷ ss)) q
-last_next ss s t p q = first_of s (Post (number_of s))
-  where
-    by_next : (t : SlotNode) (p q : Point) → last_point (code_of (t ∷ ss)) p ≡ last_point (code_of (t ∷ ss)) q
-    by_next (Simple n a) p q = refl
-    by_next (If n c x y) p q = refl
-    by_next (While n c b) p q = refl
-    by_next (Call n i k) p q = refl
-    by_next (Break n) p q = refl
-
-    first_of : (s : SlotNode) (r : Point) → last_point (code_of (s ∷ t ∷ ss)) p ≡ last_point (code_of (t ∷ ss)) q
-    first_of (Simple n a) r = by_next t (Post n) q
-    first_of (If n c x y) r = by_next t (Post n) q
-    first_of (While n c b) r = by_next t (Post n) q
-    first_of (Call n i k) r = by_next t (Post n) q
-    first_of (Break n) r = by_next t (Post n) q
-
-last_alone : (s : SlotNode) (p : Point) → last_point (code_of (s ∷ [])) p ≡ Post (number_of s)
-last_alone (Simple n a) p = refl
-last_alone (If n c x y) p = refl
-last_alone (While n c b) p = refl
-last_alone (Call n i k) p = refl
-last_alone (Break n) p = refl
-
-last_item : (ss : List SlotNode) (s x : SlotNode) (k : ℕ) (p : Point) → length (s ∷ ss) ≡ suc k → slice_get (s ∷ ss) k ≡ Some x → Post (number_of x) ≡ last_point (code_of (s ∷ ss)) p
-last_item [] s x zero p h e = ap (λ (y : SlotNode). Post (number_of y)) (sym (some_inj s x e)) ∙ sym (last_alone s p)
-last_item [] s x (suc k) p h e = absurd (omega arith)
-last_item (t ∷ ss) s x zero p h e = absurd (omega arith)
-last_item (t ∷ ss) s x (suc k) p h e = last_item ss t x k p (omega arith) e ∙ sym (last_next ss s t p p)
-
--- the last of these statements
-pub last_is : (ss : List SlotNode) (x : SlotNode) (p : Point) → Some x ≡ slice_get ss (length ss - 1) → Post (number_of x) ≡ last_point (code_of ss) p
-last_is [] x p e = absurd cc
-last_is (s ∷ ss) x p e =
-    let one : length (s ∷ ss) - 1 ≡ length ss = omega arith in
-    last_item ss s x (length ss) p refl (sym (e ∙ ap (slice_get (s ∷ ss)) one))
-
-abbrev gone : Option SlotNode
-gone = None
-
-pub last_none : (ss : List SlotNode) (p : Point) → gone ≡ slice_get ss (length ss - 1) → p ≡ last_point (code_of ss) p
-last_none [] p e = refl
-last_none (s ∷ ss) p e =
-    let one : length (s ∷ ss) - 1 ≡ length ss = omega arith in
-    absurd (some_there ss s (sym (e ∙ ap (slice_get (s ∷ ss)) one)))
-  where
-    some_there : (ss : List SlotNode) (s : SlotNode) → slice_get (s ∷ ss) (length ss) ≡ None → ⊥
-    some_there [] s e = cc
-    some_there (t ∷ ss) s e = some_there ss t e

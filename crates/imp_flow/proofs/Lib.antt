@@ -1,4 +1,3 @@
-pub mod IndexLemmas
 pub mod Ties
 pub mod FlowLemmas
 pub mod LeaveLemmas
@@ -14,3 +13,6 @@ pub mod ChangedBreaks
 pub mod ChangedShapes
 pub mod ChangedStays
 pub mod ChangedSet
+pub mod NumberLemmas
+pub mod EnteredLemmas
+pub mod SameLeaves

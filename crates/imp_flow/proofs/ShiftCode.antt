@@ -13,8 +13,8 @@ use Rattle.cell_rows.specs.Names.{number}
 use Rattle.cell_rows.specs.Rows.{last_point}
 use Rattle.cell_rows.specs.Targets.{Text, text, deeper, texts}
 use Rattle.imp_flow.specs.declared.node.Leave.{Leave}
-use Rattle.imp_flow.specs.declared.node.Shape.{Shape}
-use Rattle.imp_flow.specs.declared.node.Shape.TheVariants as shape
+use Rattle.imp_flow.specs.Shapes.{Shape}
+use Rattle.imp_flow.specs.Shapes as shape
 use Rattle.imp_flow.specs.Nodes.{leaving, body_end, callee_end, shape_of}
 use Rattle.imp_flow.specs.Shifts.{shift, shift_code, shift_routine}
 

@@ -21,10 +21,11 @@ use Rattle.cell_rows.specs.Rows.{Row, One, Two, Fixed as FixedRow, Assumes, Ente
 use Rattle.cell_rows.specs.Targets.{Text, text, deeper, texts}
 use Rattle.cell_rows.specs.Flat.{Flat, flat_of, flat, stand_in, by_text, flat_row}
 use Rattle.imp_flow.specs.declared.node.Leave.{Leave}
-use Rattle.imp_flow.specs.declared.node.Node.{Node}
+use Rattle.call_contexts.specs.Settings.{or_no_marks}
+use Rattle.imp_flow.specs.Shapes.{Node}
 use Rattle.imp_flow.specs.Nodes.{leaving, body_end, shape_of, node_in, block_nodes, nodes_of, node_of}
 use Rattle.imp_flow.specs.NodeRows.{breaks_of, fronts_of, iterate_at, joined_at, where_so, joins_at, behind_loop, post_at, enter_at, branch_at, turn_at, next_at, fix_at, exit_at, leap_at}
-use Rattle.imp_flow.specs.Plans.{Plan, or_none, marks_at, by_node, next_of, node_row}
+use Rattle.imp_flow.specs.Plans.{Plan, marks_at, by_node, next_of, node_row}
 
 map_both : {A B : Type 0} (f : A → B) (xs ys : List A) → map f (xs ++ ys) ≡ map f xs ++ map f ys
 map_both f [] ys = refl
@@ -316,7 +317,7 @@ module _ (plan : Plan) where
 
   marks_are : (x : ℕ × Flat) → Stands back x → marks_at plan (length x.1.earlier) ≡ marks plan.engine.widening x.1.routine
   marks_are x h =
-      ap or_none (get_marks (marks plan.engine.widening) plan.program (length x.1.earlier) x.1.routine
+      ap or_no_marks (get_marks (marks plan.engine.widening) plan.program (length x.1.earlier) x.1.routine
       (ap (λ ps. slice_get ps (length x.1.earlier)) (sym (reverse-reverse plan.program)) ∙ sym (look_get back (length x.1.earlier)) ∙ h.routine))
 
   -- Rows that agree at each statement of the table agree at its number.

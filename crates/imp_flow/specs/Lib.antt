@@ -1,5 +1,7 @@
 pub mod Near
+pub mod Shapes
 pub mod Nodes
+pub mod Entered
 pub mod NodeRows
 pub mod Plans
 pub mod Inputs

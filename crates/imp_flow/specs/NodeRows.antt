@@ -2,7 +2,6 @@
 use Rattle.std.specs.Prelude.{ℕ, zero, suc, ℤ, List, ◌∷◌, length, map, Option, Some, None, Bool, true, false, if◌then◌else◌, nat_lt, slice_get}
 use Rattle.imp_slots.specs.Plain.{Guard}
 use Rattle.imp_slots.specs.ActionViews.{act_of}
-use Rattle.program_chains.specs.declared.widening.Widening.{Widening}
 use Rattle.batch_meaning.specs.Batch.{Engine}
 use Rattle.batch_meaning.specs.Places.{if_some}
 use Rattle.cell_names.specs.declared.frame.Frame.{Frame}
@@ -12,12 +11,7 @@ use Rattle.cell_names.specs.declared.frame.Point.TheVariants.{Iterate, Fix, Exit
 use Rattle.cell_rows.specs.Names.{name, place_of, item}
 use Rattle.cell_rows.specs.Rows.{Posts, Assumes, Enters, Exits, JoinsBoth, Leaves, Row, One, Two, Fixed, Joins, next_operation, sites_of}
 use Rattle.imp_flow.specs.declared.node.Leave.{Leave}
-use Rattle.imp_flow.specs.declared.node.Node.{Node}
-use Rattle.imp_flow.specs.declared.node.Shape.{Shape}
-use Rattle.imp_flow.specs.declared.node.Shape.TheVariants.{Act, If, While, Call}
-
-abbrev pub engine_of : (budget : ℕ) → Widening → Engine
-engine_of budget widening = record { budget = budget; widening = widening }
+use Rattle.imp_flow.specs.Shapes.{Node, Shape, Act, If, While, Call}
 
 abbrev pub breaks_of : List Leave → List ℕ
 breaks_of ls = map (λ (l : Leave). l.stmt) ls

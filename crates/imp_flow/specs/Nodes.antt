@@ -8,9 +8,8 @@ use Rattle.cell_names.specs.declared.frame.Point.{Point}
 use Rattle.cell_names.specs.declared.frame.Point.TheVariants.{Entry, Then, Else, Body, Post}
 use Rattle.cell_rows.specs.Rows.{last_point}
 use Rattle.imp_flow.specs.declared.node.Leave.{Leave}
-use Rattle.imp_flow.specs.declared.node.Node.{Node}
-use Rattle.imp_flow.specs.declared.node.Shape.{Shape}
-use Rattle.imp_flow.specs.declared.node.Shape.TheVariants as shape
+use Rattle.imp_flow.specs.Shapes.{Node, Shape}
+use Rattle.imp_flow.specs.Shapes as shape
 
 -- The breaks that leave the loop around a block, in the order of the text, each with the point in front of it.
 abbrev pub leaving : Code → Point → List Leave
@@ -63,11 +62,7 @@ abbrev pub nodes_of : List Routine → List Node
 nodes_of [] = []
 nodes_of (r ∷ earlier) = block_nodes earlier [] Entry r.code ++ nodes_of earlier
 
--- the statement of a number, and its place among them, which begin at a place
+-- the statement of a number
 abbrev pub node_of : List Node → ℕ → Option Node
 node_of [] n = None
 node_of (x ∷ xs) n = cond (x.stmt == n) (Some x) (node_of xs n)
-
-abbrev pub place_of : ℕ → List Node → ℕ → Option ℕ
-place_of k [] n = None
-place_of k (x ∷ xs) n = cond (x.stmt == n) (Some k) (place_of (suc k) xs n)

@@ -1,17 +1,17 @@
 -- A program's rows by its nodes.
-use Rattle.std.specs.Prelude.{◌≡◌, ℕ, zero, suc, ℤ, List, [], ◌∷◌, map, reverse, Option, Some, None, true, false, slice_get}
+use Rattle.std.specs.Prelude.{ℕ, zero, suc, ℤ, List, [], ◌∷◌, reverse, Option, Some, None, true, false}
 use Rattle.imp_slots.specs.Plain.{Routine}
-use Rattle.program_chains.specs.declared.widening.Widening.{Widening}
-use Rattle.program_chains.specs.Marks.{marks}
 use Rattle.batch_meaning.specs.Batch.{Engine}
 use Rattle.batch_meaning.specs.Places.{if_some, main_layout}
+use Rattle.call_contexts.specs.Settings.{setting_of}
+use Rattle.call_contexts.specs.Settings as settings
 use Rattle.cell_names.specs.declared.frame.Frame.{Frame}
 use Rattle.cell_names.specs.declared.frame.Frame.TheVariants.{InCall, InLoop}
 use Rattle.cell_names.specs.declared.frame.Point.{Point}
 use Rattle.cell_names.specs.declared.frame.Point.TheVariants.{Entry, Then, Else, Body, Post, Iterate, Fix, Exit, Leap}
 use Rattle.cell_rows.specs.Rows.{Row, Init}
-use Rattle.imp_flow.specs.declared.node.Node.{Node}
-use Rattle.imp_flow.specs.Nodes.{nodes_of, node_of, place_of}
+use Rattle.imp_flow.specs.Shapes.{Node}
+use Rattle.imp_flow.specs.Nodes.{nodes_of, node_of}
 use Rattle.imp_flow.specs.NodeRows.{post_at, enter_at, branch_at, turn_at, next_at, fix_at, exit_at, leap_at}
 
 -- A program, in the order of the text, and how its loops are interpreted.
@@ -22,25 +22,24 @@ pub record Plan : Type 0 where
 abbrev pub plan_of : List Routine → Engine → Plan
 plan_of program engine = record { program = program; engine = engine }
 
-abbrev pub all_marks : Widening → List Routine → List (List ℤ)
-all_marks w program = map (marks w) program
-
-abbrev pub or_none : Option (List ℤ) → List ℤ
-or_none None = []
-or_none (Some marks) = marks
-
 -- the marks of the procedure at a place
 abbrev pub marks_at : Plan → ℕ → List ℤ
-marks_at plan place = or_none (slice_get (all_marks plan.engine.widening plan.program) place)
+marks_at plan place = settings.marks_at (setting_of plan.engine plan.program) place
 
 abbrev pub plan_nodes : Plan → List Node
 plan_nodes plan = nodes_of (reverse plan.program)
 
--- what is kept of a program
-pub record AreRight (plan : Plan) (ns : List Node) (find : ℕ → Option ℕ) (all : List (List ℤ)) : Type 0 where
-  pub nodes : ns ≡ plan_nodes plan
-  pub index : (n : ℕ) → find n ≡ place_of 0 ns n
-  pub marks : all ≡ all_marks plan.engine.widening plan.program
+-- the row of a point of a statement, but for its iterates
+abbrev pub point_at : List Frame → Point → Node → Option Row
+point_at w Entry x = None
+point_at w Body x = None
+point_at w (Then n) x = branch_at w true x
+point_at w (Else n) x = branch_at w false x
+point_at w (Post n) x = post_at w x
+point_at w (Iterate n k) x = None
+point_at w (Fix n) x = fix_at w x
+point_at w (Exit n) x = exit_at w x
+point_at w (Leap n k) x = leap_at w k x
 
 module _ (plan : Plan) where
   abbrev pub by_node : (n : ℕ) → (Node → Option Row) → Option Row

@@ -9,9 +9,9 @@ use Rattle.cell_names.specs.declared.frame.Point.TheVariants.{Entry, Post, Fix}
 use Rattle.cell_rows.specs.Rows.{last_point}
 use Rattle.cell_rows.specs.Targets.{to_point}
 use Rattle.cell_rows.specs.Targets as plain
-use Rattle.imp_flow.specs.declared.node.Node.{Node}
-use Rattle.imp_flow.specs.declared.node.Shape.{Shape}
-use Rattle.imp_flow.specs.declared.node.Shape.TheVariants.{Act, If, While, Call}
+use Rattle.imp_flow.specs.Shapes.{Node, Shape, Act, If, While, Call}
+use Rattle.imp_flow.specs.declared.node.Node as whole
+use Rattle.imp_flow.specs.Entered.{loops_around}
 use Rattle.imp_flow.specs.declared.steps.Step.{Step}
 use Rattle.imp_flow.specs.declared.steps.Step.TheVariants.{Take, Go}
 use Rattle.imp_flow.specs.declared.steps.Target.{Target}
@@ -59,8 +59,12 @@ is_while (While g end ls) = true
 is_while (Call i q end) = false
 
 -- the loops around a location in its procedure, outermost first, and its point
+abbrev pub loops_of : Option whole.Node → List ℕ
+loops_of None = []
+loops_of (Some x) = loops_around x
+
 abbrev pub ending_of : Ending → List ℕ × Point
-ending_of e = (e.loops.now, e.point)
+ending_of e = (loops_of e.around, e.point)
 
 abbrev pub reached : List Step → ℕ → Reached
 reached ss place = record { steps = ss; place = place }

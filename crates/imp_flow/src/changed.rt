@@ -1,48 +1,71 @@
 //! The statements that a change of a program touches.
-ghost use Rattle.std.specs.Prelude.{◌≡◌, ℕ, ◌<◌, ◌==◌, ◌||◌, ◌&&◌, not, MatchBool, IfOk, IfSome, OnOk, length, reverse};
+ghost use Rattle.std.specs.Prelude.{◌≡◌, ℕ, ◌+◌, ◌<◌, drop, length, ◌==◌, ◌||◌, ◌&&◌, not, MatchBool, IfOk, OnOk, Some, reverse};
 ghost use Rattle.std.specs.BTreeSet.{contains};
 ghost use Rattle.std.specs.Ordering.{nat_cmp};
 ghost use Rattle.batch_meaning.specs.Places.{main_layout};
 ghost use Rattle.plain_values.specs.Equal.{same};
 ghost use Rattle.imp_slots.specs.Fits.{IsChecked};
 ghost use Rattle.imp_slots.specs.PartCodes.{layout_code};
+ghost use Rattle.imp_check.specs.Slots.{routines_of};
+ghost use Rattle.imp_flow.specs.Entered.{leaves_now, shape_now};
+ghost use Rattle.imp_flow.specs.Shapes as plain;
 ghost use Rattle.imp_flow.specs.Changed.{AreChanged, IsTold, IsChanged, Stays, is_bare, same_leaves, same_marks, same_rounds, same_shapes};
 ghost use Rattle.imp_flow.specs.Nodes.{node_of};
 ghost use Rattle.imp_flow.specs.Plans.{marks_at, plan_nodes};
 
-use crate::flow::Flow;
-use crate::node::{Leave, Node, Shape};
+use crate::flow::{Flow, main_layout};
+use crate::node::{Leaves, Node, Shape};
+use crate::numbers::numbers_of;
 use cell_names::Point;
-use imp_slots::Routine;
-use imp_syntax::StmtId;
+use imp_check::Checked;
+use imp_syntax::{ProcId, StmtId};
 use plain_values::Memory;
 use std::alloc::Global;
 use std::collections::BTreeSet;
 
-/// A procedure of the old program and one of the new, by their places, and whether they have the same marks.
+/// A procedure of the old program and one of the new, and whether they have the same marks.
 #[derive(Clone, Copy)]
 struct Pair {
-    place: usize,
-    other: usize,
+    place: ProcId,
+    other: ProcId,
     is_same: bool,
 }
 
-/// Whether two loops' breaks give the same rows behind the loops. Of the last break only the point in front of it counts.
-#[tactic(auto, using(crate::proofs::ChangedLeaves::last_is))]
-fn same_leaves(leaves: &[Leave], others: &[Leave]) -> bool
-    ensures is { result ≡ same_leaves leaves.now others.now }
+/// Whether the breaks of two loops at a place give the same rows. Of the last break only the point in front of it counts.
+#[tactic(auto, using(crate::proofs::SameLeaves::last_same, crate::proofs::SameLeaves::more_same))]
+fn same_at(leaves: &Leaves<'_>, others: &Leaves<'_>, place: usize) -> bool
+    requires there { place < length (leaves_now leaves.now) }
+    requires as_many { length (leaves_now others.now) ≡ length (leaves_now leaves.now) }
+    ensures is { same_leaves (drop place (leaves_now leaves.now)) (drop place (leaves_now others.now)) ≡ (result && same_leaves (drop (place + 1) (leaves_now leaves.now)) (drop (place + 1) (leaves_now others.now))) }
 {
-    match (leaves.split_last(), others.split_last()) {
-        (None, None) => true,
-        (Some((last, before)), Some((other, others))) => {
-            last.front == other.front && before == others
-        }
-        _ => false,
+    let leave = leaves.at(place);
+    let other = others.at(place);
+    if place + 1 == leaves.len() {
+        leave.front == other.front
+    } else {
+        leave == other
     }
 }
 
+/// Whether two loops' breaks give the same rows behind the loops.
+#[tactic(auto, using(crate::proofs::SameLeaves::leaves_apart, crate::proofs::SameLeaves::leaves_end))]
+fn same_leaves(leaves: &Leaves<'_>, others: &Leaves<'_>) -> bool
+    ensures is { result ≡ same_leaves (leaves_now leaves.now) (leaves_now others.now) }
+{
+    let count = leaves.len();
+    if others.len() != count {
+        return false;
+    }
+    for i in 0..count {
+        if !same_at(leaves, others, i) {
+            return false;
+        }
+    }
+    true
+}
+
 /// Compares the marks of two procedures.
-fn pair_of(old: &Flow, new: &Flow, place: usize, other: usize) -> Pair
+fn pair_of(old: &Flow, new: &Flow, place: ProcId, other: ProcId) -> Pair
     ensures told { IsTold old.now new.now result }
     ensures place { result.place ≡ place }
     ensures other { result.other ≡ other }
@@ -55,15 +78,17 @@ fn pair_of(old: &Flow, new: &Flow, place: usize, other: usize) -> Pair
     }
 }
 
-/// The procedures of a statement, where the new program has it, and this pair where it has not. So marks are compared
-/// once while statements of one procedure follow each other.
-fn pair_at(old: &Flow, new: &Flow, pair: Pair, node: &Node) -> Pair
+/// The procedures of a statement, where both programs have it, and else this pair. So marks are compared once while
+/// statements of one procedure follow each other.
+fn pair_at(old: &Flow, new: &Flow, pair: Pair, stmt: StmtId) -> Pair
     requires told { IsTold old.now new.now pair }
     ensures told { IsTold old.now new.now result }
-    ensures place { IfSome (node_of (plan_nodes new.now) node.now.stmt) (λ x. result.place ≡ node.now.place) }
-    ensures other { IfSome (node_of (plan_nodes new.now) node.now.stmt) (λ x. result.other ≡ x.place) }
+    ensures places { (x y : plain.Node) → node_of (plan_nodes old.now) stmt ≡ Some x → node_of (plan_nodes new.now) stmt ≡ Some y → (result.place ≡ x.place) × (result.other ≡ y.place) }
 {
-    match new.node(node.stmt) {
+    let Some(node) = old.node(stmt) else {
+        return pair;
+    };
+    match new.node(stmt) {
         None => pair,
         Some(other) if pair.place == node.place && pair.other == other.place => pair,
         Some(other) => pair_of(old, new, node.place, other.place),
@@ -71,7 +96,7 @@ fn pair_at(old: &Flow, new: &Flow, pair: Pair, node: &Node) -> Pair
 }
 
 /// Whether the procedures of two statements have the same marks.
-fn same_marks(old: &Flow, new: &Flow, pair: Pair, node: &Node, other: &Node) -> bool
+fn same_marks(old: &Flow, new: &Flow, pair: Pair, node: &Node<'_>, other: &Node<'_>) -> bool
     requires told { IsTold old.now new.now pair }
     ensures is { result ≡ same_marks old.now new.now node.now.place other.now.place }
 {
@@ -91,18 +116,18 @@ fn same_rounds(flow: &Flow, same_marks: bool, end: Point, other: Point) -> bool
 }
 
 /// Whether two statements have the same rows, where the points in front of them are the same.
-fn same_shapes(old: &Flow, new: &Flow, pair: Pair, node: &Node, other: &Node) -> bool
+fn same_shapes(old: &Flow, new: &Flow, pair: Pair, node: &Node<'_>, other: &Node<'_>) -> bool
     requires told { IsTold old.now new.now pair }
-    ensures is { result ≡ same_shapes old.now.engine (marks_at old.now node.now.place) (marks_at new.now other.now.place) node.now.shape other.now.shape }
+    ensures is { result ≡ same_shapes old.now.engine (marks_at old.now node.now.place) (marks_at new.now other.now.place) (shape_now node.now.shape) (shape_now other.now.shape) }
 {
     match (&node.shape, &other.shape) {
-        (Shape::Act(a), Shape::Act(b)) => a == b,
+        (Shape::Act(a), Shape::Act(b)) => *a == *b,
         (Shape::If(a, then, els), Shape::If(b, other_then, other_els)) => {
-            a == b && *then == *other_then && *els == *other_els
+            *a == *b && *then == *other_then && *els == *other_els
         }
         (Shape::While(a, end, leaves), Shape::While(b, other_end, others)) => {
-            a == b
-                && same_leaves(leaves.as_slice(), others.as_slice())
+            *a == *b
+                && same_leaves(leaves, others)
                 && same_rounds(
                     old,
                     same_marks(old, new, pair, node, other),
@@ -111,15 +136,15 @@ fn same_shapes(old: &Flow, new: &Flow, pair: Pair, node: &Node, other: &Node) ->
                 )
         }
         (Shape::Call(a, _, Some(end)), Shape::Call(b, _, Some(other_end))) => {
-            a == b && *end == *other_end
+            *a == *b && *end == *other_end
         }
         _ => false,
     }
 }
 
 /// Whether no point of a statement with this shape has a row.
-fn is_bare(shape: &Shape) -> bool
-    ensures is { result ≡ is_bare shape.now }
+fn is_bare(shape: &Shape<'_>) -> bool
+    ensures is { result ≡ is_bare (shape_now shape.now) }
 {
     matches!(shape, Shape::Call(_, _, None))
 }
@@ -140,20 +165,15 @@ fn stays(old: &Flow, new: &Flow, pair: Pair, stmt: StmtId) -> bool
     }
     match new.node(stmt) {
         None => false,
-        Some(other) => node.front == other.front && same_shapes(old, new, pair, node, other),
+        Some(other) => node.front == other.front && same_shapes(old, new, pair, &node, &other),
     }
 }
 
 /// Whether the start of main keeps its row: main, the last procedure, has the same variables.
-fn same_start(old: &[Routine], new: &[Routine]) -> bool
-    requires old { 0 < length old.now }
-    requires new { 0 < length new.now }
-    ensures is { result ≡ same layout_code (main_layout (reverse old.now)) (main_layout (reverse new.now)) }
+fn same_start(old: &Checked, new: &Checked) -> bool
+    ensures is { result ≡ same layout_code (main_layout (reverse (routines_of old.now))) (main_layout (reverse (routines_of new.now))) }
 {
-    match (old.last(), new.last()) {
-        (Some(main), Some(other)) => main.layout() == other.layout(),
-        _ => unreachable!(),
-    }
+    main_layout(old) == main_layout(new)
 }
 
 /// Adds a number, unless what it stands for is kept.
@@ -181,15 +201,14 @@ pub fn points_changed(alloc: Global, old: &Flow, new: &Flow) -> Result<Vec<u32>,
     requires one { old.now.engine ≡ new.now.engine }
     ensures are { IfOk result (λ ns. AreChanged old.now new.now ns.items) }
 {
-    let routines = old.program().routines();
-    let others = new.program().routines();
-    let mut pair = pair_of(old, new, 0, 0);
+    let stmts = numbers_of(alloc, old.program().routines())?;
+    new.program().routines();
+    let mut pair = pair_of(old, new, ProcId::new(0), ProcId::new(0));
     let mut changed = BTreeSet::new(alloc);
-    add_changed(&mut changed, 0, same_start(routines, others))?;
-    for node in old.nodes() {
-        let stmt = node.stmt;
-        pair = pair_at(old, new, pair, node);
-        add_changed(&mut changed, stmt.number(), stays(old, new, pair, stmt))?;
+    add_changed(&mut changed, 0, same_start(old.program(), new.program()))?;
+    for stmt in stmts.as_slice() {
+        pair = pair_at(old, new, pair, *stmt);
+        add_changed(&mut changed, stmt.number(), stays(old, new, pair, *stmt))?;
     }
     Ok(changed.into_iter().collect(alloc)?)
 }

@@ -1,54 +1,44 @@
 //! The flow of a program.
-ghost use Rattle.std.specs.Prelude.{ℕ, ◌≡◌, ◌<◌, option_map, IfOk, Some, List, ◌∷◌, nat_eq, length, reverse};
-ghost use Rattle.std.specs.HashMap.{get};
-ghost use Rattle.std.specs.Option.{option_copied};
-ghost use Rattle.imp_flow.specs.Near.{PathFrame};
+ghost use Rattle.std.specs.Prelude.{ℕ, ◌≡◌, ◌+◌, option_map, IfOk, Some, List, ◌∷◌, length, reverse};
 ghost use Rattle.imp_slots.specs.Fits.{IsChecked};
 ghost use Rattle.imp_check.specs.Slots.{routines_of};
-ghost use Rattle.imp_flow.specs.Near.{last_frame, row_in};
-ghost use Rattle.imp_flow.specs.NodeRows.{engine_of};
-ghost use Rattle.imp_flow.specs.Nodes.{node_of};
-ghost use Rattle.imp_flow.specs.Plans.{all_marks, marks_at, plan_nodes, plan_of, node_row};
-ghost use Rattle.cell_names.specs.declared.frame.Point.TheVariants.{Entry, Body, Iterate};
 ghost use Rattle.batch_meaning.specs.Places.{main_layout};
+ghost use Rattle.call_contexts.specs.Settings.{engine_of};
+ghost use Rattle.cell_names.specs.declared.frame.Point.TheVariants.{Entry, Body, Iterate};
 ghost use Rattle.cell_rows.specs.Rows.{Init};
 ghost use Rattle.cell_rows.specs.Flat.{flat_row};
+ghost use Rattle.imp_flow.specs.Entered.{node_now};
+ghost use Rattle.imp_flow.specs.Near.{PathFrame, last_frame, row_in};
+ghost use Rattle.imp_flow.specs.Nodes.{node_of};
+ghost use Rattle.imp_flow.specs.Plans.{marks_at, plan_nodes, plan_of, by_node, point_at, node_row};
 
-use crate::index::{index_of, node_of};
-use crate::node::Node;
-use crate::nodes::nodes_of;
+use crate::node::{Node, node_of};
 use crate::row::Row;
 use crate::rows::{
     branch_row, enter_row, exit_row, fix_row, leap_row, next_row, post_row, turn_row,
 };
-use call_contexts::marks;
+use call_contexts::{Setting, main_place};
 use cell_names::{Frame, Point};
 use imp_check::Checked;
-use imp_slots::Routine;
-use imp_syntax::StmtId;
-use plain_values::{Items, Memory};
+use imp_slots::Layout;
+use imp_syntax::{ProcId, StmtId};
+use plain_values::Memory;
 use program_chains::Widening;
 use std::alloc::Global;
-use std::collections::HashMap;
 use std::marker::Model;
 
-/// A checked program, with a table of the rows of its statements' points.
+/// A checked program, and how its loops are interpreted.
 #[derive(Drop)]
 pub struct Flow {
     prog: Checked,
-    budget: u32,
-    widening: Widening,
-    nodes: Items<Node>,
-    index: HashMap<u32, usize>,
-    marks: Items<Items<i64>>,
+    setting: Setting,
 }
 
 impl Model for Flow {
-    ghost use Rattle.std.specs.Prelude.{nat_eq};
-    ghost use Rattle.std.specs.HashMap.{get};
+    ghost use Rattle.std.specs.Prelude.{◌≡◌};
     ghost use Rattle.imp_check.specs.Slots.{routines_of};
-    ghost use Rattle.imp_flow.specs.NodeRows.{engine_of};
-    ghost use Rattle.imp_flow.specs.Plans.{Plan, plan_of, AreRight};
+    ghost use Rattle.call_contexts.specs.Settings.{setting_of};
+    ghost use Rattle.imp_flow.specs.Plans.{Plan, plan_of};
 
     ghost Value = { Plan };
 
@@ -56,29 +46,25 @@ impl Model for Flow {
 
     ghost coded = { plan_code };
 
-    ghost view = { λ a. plan_of (routines_of a.prog) (engine_of a.budget a.widening) };
+    ghost view = { λ a. plan_of (routines_of a.prog) a.setting.engine };
 
-    ghost invariant = { λ a. AreRight (plan_of (routines_of a.prog) (engine_of a.budget a.widening)) a.nodes (get nat_eq a.index) a.marks };
+    ghost invariant = { λ a. a.setting ≡ setting_of a.setting.engine (routines_of a.prog) };
 }
 
-/// The marks of each procedure.
-fn all_marks(
-    alloc: Global,
-    widening: Widening,
-    routines: &[Routine],
-) -> Result<Items<Items<i64>>, Memory>
-    ensures is { IfOk result (λ all. all ≡ all_marks widening routines.now) }
+/// The variables of main.
+#[tactic(auto, using(crate::proofs::EnteredLemmas::main_there, crate::proofs::EnteredLemmas::main_gone))]
+pub(crate) fn main_layout(prog: &Checked) -> &Layout
+    ensures is { result.now ≡ main_layout (reverse (routines_of prog.now)) }
 {
-    let mut all = Items::new(alloc);
-    for routine in routines {
-        all.push(marks(alloc, widening, routine)?)?;
+    match prog.table().layout(ProcId::new(main_place(prog))) {
+        Some(layout) => layout,
+        None => unreachable!(),
     }
-    Ok(all)
 }
 
 impl Flow {
-    /// The flow of a program whose loops take at most `budget` rounds. It takes time linear in the program, times the
-    /// nesting of its loops, and the time of [`marks`].
+    /// The flow of a program whose loops take at most `budget` rounds. It takes the time of the marks of its procedures,
+    /// and fails for want of memory alone.
     pub fn new(
         alloc: Global,
         prog: &Checked,
@@ -88,17 +74,8 @@ impl Flow {
         ensures is { IfOk result (λ flow. flow ≡ plan_of (routines_of prog.now) (engine_of budget widening)) }
     {
         let prog = prog.clone()?;
-        let nodes = nodes_of(alloc, prog.routines())?;
-        let index = index_of(alloc, nodes.as_slice())?;
-        let marks = all_marks(alloc, widening, prog.routines())?;
-        Ok(Flow {
-            prog,
-            budget,
-            widening,
-            nodes,
-            index,
-            marks,
-        })
+        let setting = Setting::new(alloc, prog.routines(), budget, widening)?;
+        Ok(Flow { prog, setting })
     }
 
     /// The program.
@@ -112,48 +89,35 @@ impl Flow {
     pub fn budget(&self) -> u32
         ensures is { result ≡ self.now.engine.budget }
     {
-        self.budget
+        self.setting.budget()
     }
 
     /// How loops are widened.
     pub fn widening(&self) -> Widening
         ensures is { result ≡ self.now.engine.widening }
     {
-        self.widening
+        self.setting.widening()
     }
 
-    /// All statements, those of the last procedure first.
-    pub(crate) fn nodes(&self) -> &[Node]
-        ensures is { result.now ≡ plan_nodes self.now }
+    /// The statement of a number. It takes constant time.
+    pub(crate) fn node(&self, stmt: StmtId) -> Option<Node<'_>>
+        ensures is { option_map node_now result ≡ node_of (plan_nodes self.now) stmt }
     {
-        self.nodes.as_slice()
+        node_of(&self.prog, stmt)
     }
 
-    /// The statement of a number.
-    pub(crate) fn node(&self, stmt: StmtId) -> Option<&Node>
-        ensures is { option_copied result ≡ node_of (plan_nodes self.now) stmt }
+    /// The marks of a procedure.
+    pub(crate) fn marks(&self, proc: ProcId) -> &[i64]
+        ensures is { result.now ≡ marks_at self.now proc }
     {
-        node_of(&self.index, &self.nodes, stmt.number())
-    }
-
-    /// The marks of the procedure at a place.
-    pub(crate) fn marks(&self, place: usize) -> &[i64]
-        ensures is { result.now ≡ marks_at self.now place }
-    {
-        match self.marks.get(place) {
-            Some(marks) => marks.as_slice(),
-            None => &[],
-        }
+        self.setting.marks(proc.place() as usize)
     }
 
     /// The start of main.
     fn main_row(&self) -> Option<Row<'_>>
         ensures is { (w : List PathFrame) → option_map (row_in w) result ≡ Some (Init (main_layout (reverse self.now.program))) }
     {
-        match self.prog.routines().last() {
-            None => unreachable!(),
-            Some(main) => Some(Row::Init(main.layout())),
-        }
+        Some(Row::Init(main_layout(&self.prog)))
     }
 
     /// The start of a procedure's body.
@@ -161,7 +125,10 @@ impl Flow {
         ensures is { (w : List PathFrame) → option_map (row_in (frame ∷ w)) result ≡ node_row self.now (frame ∷ w) Entry }
     {
         match frame {
-            Frame::InCall(stmt) => enter_row(self.node(stmt)?),
+            Frame::InCall(stmt) => match self.node(stmt) {
+                None => None,
+                Some(node) => enter_row(&node),
+            },
             Frame::InLoop(_, _) => None,
         }
     }
@@ -172,9 +139,10 @@ impl Flow {
     {
         match frame {
             Frame::InCall(_) => None,
-            Frame::InLoop(stmt, index) => {
-                turn_row(self.node(stmt)?, self.budget, self.widening, index)
-            }
+            Frame::InLoop(stmt, index) => match self.node(stmt) {
+                None => None,
+                Some(node) => turn_row(&node, self.budget(), self.widening(), index),
+            },
         }
     }
 
@@ -205,9 +173,31 @@ impl Flow {
         if index == 0 {
             return None;
         }
-        let node = self.node(stmt)?;
-        let marks = self.marks(node.place);
-        next_row(node, marks, self.budget, self.widening, index - 1)
+        match self.node(stmt) {
+            None => None,
+            Some(node) => {
+                let marks = self.marks(node.place);
+                next_row(&node, marks, self.budget(), self.widening(), index - 1)
+            }
+        }
+    }
+
+    /// The row of a statement's point, but for an iterate.
+    fn stmt_row(&self, point: Point, stmt: StmtId) -> Option<Row<'_>>
+        ensures is { (w : List PathFrame) → option_map (row_in w) result ≡ by_node self.now stmt (point_at w point) }
+    {
+        let Some(node) = self.node(stmt) else {
+            return None;
+        };
+        match point {
+            Point::Then(_) => branch_row(&node, true),
+            Point::Else(_) => branch_row(&node, false),
+            Point::Post(_) => post_row(&node),
+            Point::Fix(_) => fix_row(&node),
+            Point::Exit(_) => exit_row(&node),
+            Point::Leap(_, last) => leap_row(&node, last),
+            _ => None,
+        }
     }
 
     fn node_row(&self, frame: Option<Frame>, point: Point) -> Option<Row<'_>>
@@ -216,20 +206,20 @@ impl Flow {
         match point {
             Point::Entry => self.first_row(frame),
             Point::Body => self.turn_row(frame),
-            Point::Then(stmt) => branch_row(self.node(stmt)?, true),
-            Point::Else(stmt) => branch_row(self.node(stmt)?, false),
-            Point::Post(stmt) => post_row(self.node(stmt)?),
             Point::Iterate(stmt, index) => self.iterate_row(stmt, index),
-            Point::Fix(stmt) => fix_row(self.node(stmt)?),
-            Point::Exit(stmt) => exit_row(self.node(stmt)?),
-            Point::Leap(stmt, last) => leap_row(self.node(stmt)?, last),
+            Point::Then(stmt) => self.stmt_row(point, stmt),
+            Point::Else(stmt) => self.stmt_row(point, stmt),
+            Point::Post(stmt) => self.stmt_row(point, stmt),
+            Point::Fix(stmt) => self.stmt_row(point, stmt),
+            Point::Exit(stmt) => self.stmt_row(point, stmt),
+            Point::Leap(stmt, _) => self.stmt_row(point, stmt),
         }
     }
 
     /// The row of a name, by the last frame of its path and its point: for a name that the program has, exactly its
     /// row. Only the statement of the point is looked up, so a name whose path the program lacks may have a row too;
-    /// there is `None` where the program has no such point. It takes constant time, by a hash, but for a
-    /// [`Point::Leap`], which takes time linear in the breaks of its loop.
+    /// there is `None` where the program has no such point. It takes constant time, but for a [`Point::Leap`], which
+    /// takes time linear in the breaks of its loop.
     #[tactic(auto, using(crate::proofs::Ties::rows_tie))]
     pub fn row(&self, frame: Option<Frame>, point: Point) -> Option<Row<'_>>
         ensures is { (w : List PathFrame) → last_frame w ≡ frame → option_map (row_in w) result ≡ flat_row self.now.engine (reverse self.now.program) w point }

@@ -1,11 +1,11 @@
 //! The flow of a checked program: from what each cell is computed, looked up by the number of one statement.
 //!
 //! A cell has a name, a path and a point of the block that the path leads to (`cell_names`). Its *row* is its
-//! operation and its inputs, left to right. [`Flow`] keeps a table of the program's statements: of each its
-//! procedure, the loops around it, the point in front of it, and what its points' rows need of the blocks inside
-//! it. [`Flow::row`] reads the row of a name off the table by the last frame of its path and its point, and follows
-//! no path; `flat_row` of crate `cell_rows` is what it answers, exactly. A row's inputs are relative to the path of
-//! its name ([`Input`]), and [`Input::name`] gives them their numbers.
+//! operation and its inputs, left to right. [`Flow::row`] reads the row of a name off the program's table of statements
+//! (`imp_check`), by the last frame of its path and its point, and follows no path: what the points' rows need of a
+//! statement, its *node*, is told by what is known of the statement, of the breaks that leave it, and of the last statement
+//! of its callee (`specs/Entered.antt`). `flat_row` of crate `cell_rows` is what it answers, exactly. A row's inputs are
+//! relative to the path of its name ([`Input`]), and [`Input::name`] gives them their numbers.
 //!
 //! Inputs that are known only by values found before are asked of the row one by one: [`Row::iterate`] for a fixed
 //! point, [`Row::before_break`] for a join behind a loop with breaks, in the loop's last round.
@@ -18,19 +18,15 @@
 //! row it has another one for. A procedure more or less is no change to the others
 //! ([`procedures_shift_no_rows`]).
 //!
-//! A [`Flow`] is made in time linear in the program, times the nesting of loops. A row takes constant time, by a
-//! hash, and no memory.
+//! A [`Flow`] keeps no table of its own: it is made in the time of its marks. A row takes constant time and no memory.
 #![tactic(auto)]
 
 mod changed;
 mod flow;
-mod index;
 mod input;
 mod laws;
-mod leaves;
-mod loops;
 mod node;
-mod nodes;
+mod numbers;
 mod row;
 mod rows;
 mod shifts;

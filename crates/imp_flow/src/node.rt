@@ -1,9 +1,16 @@
-//! Statements as nodes of the flow.
-use crate::loops::Loops;
+//! Statements as nodes of the flow, read off the table of statements.
+ghost use Rattle.std.specs.Prelude.{◌≡◌, ◌<◌, ◌++◌, length, reverse, slice_get, option_map, Some, OnOk};
+ghost use Rattle.imp_check.specs.Slots.{routines_of};
+ghost use Rattle.imp_flow.specs.Nodes.{nodes_of, node_of};
+ghost use Rattle.imp_flow.specs.Entered.{known_in, start_of, behind_or, front_point, front_in, end_in, branching, shape_from, head_of, loops_up, node_by, leaves_now, loops_around, shape_now, node_now};
+ghost use Rattle.imp_flow.specs.Reached.{into_loops};
+
+use crate::steps::Step;
 use cell_names::Point;
+use imp_check::{Around, Checked, Entry, SlotForm, Which};
 use imp_slots::{SlotCall, SlotCond, SlotStmt};
-use imp_syntax::StmtId;
-use plain_values::Items;
+use imp_syntax::{ProcId, StmtId, StmtNode};
+use plain_values::{Items, Memory};
 
 /// A break that leaves a loop, and the point in front of it.
 #[derive(Clone, Copy, Debug, PartialEq, Eq, Drop)]
@@ -12,29 +19,210 @@ pub(crate) struct Leave {
     pub(crate) front: Point,
 }
 
-/// What a statement does to the flow.
-#[derive(Drop)]
-pub(crate) enum Shape {
-    /// A simple statement but a call.
-    Act(SlotStmt),
-    /// An if: its condition, and the last points of its blocks.
-    If(SlotCond, Point, Point),
-    /// A while: its condition, the last point of its body, and the breaks that leave it, in the order of the text.
-    While(SlotCond, Point, Items<Leave>),
-    /// A call, its callee's place, and the last point of the callee's body, `None` where no such procedure stands
-    /// in front.
-    Call(SlotCall, u32, Option<Point>),
+/// The breaks that leave a loop, in the order of the text.
+#[derive(Clone, Copy, Drop)]
+pub(crate) struct Leaves<'a> {
+    prog: &'a Checked,
+    breaks: &'a [StmtId],
 }
 
-/// A statement, and where it stands.
-#[derive(Drop)]
-pub(crate) struct Node {
+/// What a statement does to the flow.
+#[derive(Clone, Copy, Drop)]
+pub(crate) enum Shape<'a> {
+    /// A simple statement but a call.
+    Act(&'a SlotStmt),
+    /// An if: its condition, and the last points of its blocks.
+    If(&'a SlotCond, Point, Point),
+    /// A while: its condition, the last point of its body, and the breaks that leave it.
+    While(&'a SlotCond, Point, Leaves<'a>),
+    /// A call, its callee, and the last point of the callee's body, `None` where no such procedure stands in front.
+    Call(&'a SlotCall, ProcId, Option<Point>),
+}
+
+/// A statement, and where it stands. It is read off the table when it is asked for, in constant time, and takes no
+/// memory.
+#[derive(Clone, Copy, Drop)]
+pub(crate) struct Node<'a> {
+    prog: &'a Checked,
+    known: &'a Entry,
     pub(crate) stmt: StmtId,
-    /// How many procedures stand in front of its own.
-    pub(crate) place: usize,
-    /// The loops of its procedure around it, outermost first.
-    pub(crate) loops: Loops,
+    /// Its procedure.
+    pub(crate) place: ProcId,
     /// The point in front of it.
     pub(crate) front: Point,
-    pub(crate) shape: Shape,
+    pub(crate) shape: Shape<'a>,
+}
+
+/// The point at which a block begins.
+fn start_of(around: Option<Around>) -> Point
+    ensures is { result ≡ start_of around }
+{
+    match around {
+        None => Point::Entry,
+        Some(Around { stmt, which }) => match which {
+            Which::Then => Point::Then(stmt),
+            Which::Else => Point::Else(stmt),
+            Which::Body => Point::Body,
+        },
+    }
+}
+
+/// Behind a statement, or else this point.
+pub(crate) fn behind_or(first: Point, stmt: Option<StmtId>) -> Point
+    ensures is { result ≡ behind_or first stmt }
+{
+    match stmt {
+        None => first,
+        Some(stmt) => Point::Post(stmt),
+    }
+}
+
+/// The point in front of a statement.
+fn front_of(entry: &Entry) -> Point
+    ensures is { result ≡ front_point entry.now }
+{
+    behind_or(start_of(entry.context.around), entry.front)
+}
+
+/// The point in front of the statement of a number.
+fn front_in(prog: &Checked, stmt: StmtId) -> Point
+    ensures is { result ≡ front_in (known_in prog.now stmt) }
+{
+    match prog.entry(stmt) {
+        None => Point::Entry,
+        Some(entry) => front_of(entry),
+    }
+}
+
+impl<'a> Leaves<'a> {
+    /// How many there are.
+    #[tactic(auto, using(crate::proofs::LeaveLemmas::leaves_long))]
+    pub(crate) fn len(&self) -> usize
+        ensures is { result ≡ length (leaves_now self.now) }
+    {
+        self.breaks.len()
+    }
+
+    /// The break at a place.
+    #[tactic(auto, using(crate::proofs::LeaveLemmas::leaves_long, crate::proofs::LeaveLemmas::leave_there))]
+    pub(crate) fn at(&self, place: usize) -> Leave
+        requires there { place < length (leaves_now self.now) }
+        ensures is { slice_get (leaves_now self.now) place ≡ Some result }
+    {
+        let stmt = self.breaks[place];
+        let front = front_in(self.prog, stmt);
+        Leave { stmt, front }
+    }
+}
+
+/// The last point of the body of a procedure that stands in front of another one.
+fn end_in(prog: &Checked, place: ProcId, callee: ProcId) -> Option<Point>
+    ensures is { result ≡ end_in prog.now place callee }
+{
+    if callee.place() >= place.place() {
+        return None;
+    }
+    match prog.table().body(callee) {
+        None => None,
+        Some(ends) => Some(behind_or(Point::Entry, ends.last)),
+    }
+}
+
+/// What a statement with a condition does to the flow.
+fn branching<'a>(prog: &'a Checked, entry: &'a Entry, cond: &'a SlotCond) -> Shape<'a>
+    ensures is { shape_now result ≡ branching (known_in prog.now) entry.now cond.now entry.now.part }
+{
+    let last = entry.inner.last;
+    match entry.part.node() {
+        StmtNode::While(_, _) => {
+            let breaks = entry.breaks.as_slice();
+            Shape::While(cond, behind_or(Point::Body, last), Leaves { prog, breaks })
+        }
+        _ => {
+            let then = behind_or(Point::Then(entry.number), last);
+            let els = behind_or(Point::Else(entry.number), entry.other.last);
+            Shape::If(cond, then, els)
+        }
+    }
+}
+
+fn shape_of<'a>(prog: &'a Checked, entry: &'a Entry) -> Shape<'a>
+    ensures is { shape_now result ≡ shape_from (known_in prog.now) (end_in prog.now entry.now.context.proc) entry.now entry.now.form }
+{
+    match &entry.form {
+        SlotForm::Stmt(stmt) => Shape::Act(stmt),
+        SlotForm::Cond(cond) => branching(prog, entry, cond),
+        SlotForm::Call(call, callee) => {
+            Shape::Call(call, *callee, end_in(prog, entry.context.proc, *callee))
+        }
+    }
+}
+
+impl<'a> Node<'a> {
+    /// A statement of which this is known.
+    pub(crate) fn of(prog: &'a Checked, entry: &'a Entry) -> Node<'a>
+        ensures is { node_now result ≡ node_by prog.now entry.now }
+    {
+        Node {
+            prog,
+            known: entry,
+            stmt: entry.number,
+            place: entry.context.proc,
+            front: front_of(entry),
+            shape: shape_of(prog, entry),
+        }
+    }
+
+    /// Adds the steps into the loops around it, outermost first. It takes time linear in the blocks around it.
+    pub(crate) fn enter_loops(&self, steps: &mut Items<Step>) -> Result<(), Memory>
+        ensures added { OnOk result (steps.new ≡ steps.old ++ into_loops (loops_around self.now)) }
+    {
+        let context = self.known.context;
+        enter_loops(self.prog, context.depth, context.head, steps)
+    }
+}
+
+/// The innermost loop around a loop.
+fn head_of(prog: &Checked, stmt: StmtId) -> Option<StmtId>
+    ensures is { result ≡ head_of (known_in prog.now stmt) }
+{
+    match prog.entry(stmt) {
+        None => None,
+        Some(entry) => entry.context.head,
+    }
+}
+
+/// Adds the steps into a loop and those around it, at most so many.
+#[tactic(auto, using(crate::proofs::EnteredLemmas::into_more, crate::proofs::EnteredLemmas::into_none, crate::proofs::EnteredLemmas::into_zero))]
+fn enter_loops(
+    prog: &Checked,
+    most: u32,
+    head: Option<StmtId>,
+    steps: &mut Items<Step>,
+) -> Result<(), Memory>
+    ensures added { OnOk result (steps.new ≡ steps.old ++ into_loops (loops_up (known_in prog.now) most head)) }
+{
+    if most == 0 {
+        return Ok(());
+    }
+    match head {
+        None => Ok(()),
+        Some(stmt) => {
+            enter_loops(prog, most - 1, head_of(prog, stmt), steps)?;
+            steps.push(Step::Take(stmt))
+        }
+    }
+}
+
+/// The statement of a number.
+#[tactic(auto, using(crate::proofs::EnteredLemmas::node_found, crate::proofs::EnteredLemmas::node_gone))]
+pub(crate) fn node_of(prog: &Checked, stmt: StmtId) -> Option<Node<'_>>
+    ensures is { option_map node_now result ≡ node_of (nodes_of (reverse (routines_of prog.now))) stmt }
+{
+    prog.program();
+    prog.routines();
+    match prog.entry(stmt) {
+        None => None,
+        Some(entry) => Some(Node::of(prog, entry)),
+    }
 }

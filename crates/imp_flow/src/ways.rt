@@ -1,18 +1,21 @@
 //! The targets of a location, one for each chain of calls.
-ghost use Rattle.std.specs.Prelude.{ℕ, ◌≡◌, ◌++◌, [], map, reverse, option_map, Some, IfOk, OnOk};
 ghost use Rattle.std.specs.Option.{option_copied};
+ghost use Rattle.imp_check.specs.Entries.{heads_of};
+ghost use Rattle.std.specs.Prelude.{slice_get, ℕ, ◌≡◌, ◌++◌, [], map, reverse, option_map, Some, IfOk, OnOk};
 ghost use Rattle.imp_slots.specs.Fits.{IsChecked};
 ghost use Rattle.analysis_words.specs.declared.refusal.Refusal.{Refusal};
 ghost use Rattle.batch_meaning.specs.Answers.{In, Misses, procedure_of};
 ghost use Rattle.cell_rows.specs.Targets.{target, targets};
-ghost use Rattle.imp_flow.specs.Reached.{target_of, those_there, into_loops, ending_of, reached, node_in_place, way_into, way_along, ending_at, target_from};
+ghost use Rattle.imp_flow.specs.Entered.{node_now, shape_now};
+ghost use Rattle.imp_flow.specs.Reached.{target_of, those_there, is_while, into_loops, loops_of, ending_of, reached, node_in_place, way_into, way_along, ending_at, target_from};
 
 use crate::flow::Flow;
-use crate::leaves::last_point;
-use crate::node::{Node, Shape};
+use crate::node::{Node, Shape, behind_or};
 use crate::steps::{Step, Target};
+use call_contexts::main_place;
 use cell_names::Point;
-use imp_syntax::{Chain, Location, StmtId};
+use imp_check::{Checked, Head};
+use imp_syntax::{Chain, Location, ProcId, StmtId};
 use plain_values::{Items, Memory, Text};
 use std::alloc::Global;
 
@@ -20,35 +23,34 @@ use std::alloc::Global;
 #[derive(Drop)]
 struct Reached {
     steps: Items<Step>,
-    place: usize,
+    place: ProcId,
 }
 
-/// Where a location is in its procedure: the loops around it, outermost first, and its point.
+/// Where a location is in its procedure: the statement whose loops are around it, if any are, and its point.
 #[derive(Clone, Copy, Drop)]
 struct Ending<'a> {
-    loops: &'a [StmtId],
+    around: Option<Node<'a>>,
     point: Point,
 }
 
-/// Adds the steps into these loops.
-fn enter_loops(loops: &[StmtId], steps: &mut Items<Step>) -> Result<(), Memory>
-    ensures added { OnOk result (steps.new ≡ steps.old ++ into_loops loops.now) }
+/// Adds the steps into the loops around an ending.
+#[tactic(auto, using(crate::proofs::EnteredLemmas::into_nothing))]
+fn enter_loops(around: &Option<Node<'_>>, steps: &mut Items<Step>) -> Result<(), Memory>
+    ensures added { OnOk result (steps.new ≡ steps.old ++ into_loops (loops_of around.now)) }
 {
-    for head in loops {
-        steps.push(Step::Take(*head))?;
+    match around {
+        None => Ok(()),
+        Some(node) => node.enter_loops(steps),
     }
-    Ok(())
 }
 
 /// The statement of a number, if it stands in the procedure at a place.
-fn node_in_place(flow: &Flow, place: usize, stmt: StmtId) -> Option<&Node>
-    ensures is { option_copied result ≡ node_in_place flow.now place stmt }
+fn node_in_place(flow: &Flow, place: ProcId, stmt: StmtId) -> Option<Node<'_>>
+    ensures is { option_map node_now result ≡ node_in_place flow.now place stmt }
 {
-    let node = flow.node(stmt)?;
-    if node.place == place {
-        Some(node)
-    } else {
-        None
+    match flow.node(stmt) {
+        Some(node) if node.place == place => Some(node),
+        _ => None,
     }
 }
 
@@ -59,7 +61,7 @@ fn enter_main(alloc: Global, flow: &Flow) -> Reached
 {
     Reached {
         steps: Items::new(alloc),
-        place: flow.program().routines().len() - 1,
+        place: ProcId::new(main_place(flow.program())),
     }
 }
 
@@ -73,11 +75,11 @@ fn enter_call(flow: &Flow, caller: Reached, site: StmtId) -> Result<Option<Reach
     };
     match &node.shape {
         Shape::Call(_, callee, Some(_)) => {
-            enter_loops(node.loops.heads(), &mut steps)?;
+            node.enter_loops(&mut steps)?;
             steps.push(Step::Go(site))?;
             Ok(Some(Reached {
                 steps,
-                place: *callee as usize,
+                place: *callee,
             }))
         }
         _ => Ok(None),
@@ -100,50 +102,71 @@ fn enter_chain(alloc: Global, flow: &Flow, chain: &[StmtId]) -> Result<Option<Re
 }
 
 /// In front of a statement, if it stands in the procedure at a place.
-fn before(flow: &Flow, place: usize, stmt: StmtId) -> Option<Ending<'_>>
+fn before(flow: &Flow, place: ProcId, stmt: StmtId) -> Option<Ending<'_>>
     ensures is { option_map ending_of result ≡ ending_at flow.now (Location.Before stmt) place }
 {
-    let node = node_in_place(flow, place, stmt)?;
-    Some(Ending {
-        loops: node.loops.heads(),
-        point: node.front,
-    })
+    match node_in_place(flow, place, stmt) {
+        None => None,
+        Some(node) => {
+            let point = node.front;
+            let around = Some(node);
+            Some(Ending { around, point })
+        }
+    }
 }
 
 /// Behind a statement.
-fn after(flow: &Flow, place: usize, stmt: StmtId) -> Option<Ending<'_>>
+fn after(flow: &Flow, place: ProcId, stmt: StmtId) -> Option<Ending<'_>>
     ensures is { option_map ending_of result ≡ ending_at flow.now (Location.After stmt) place }
 {
-    let node = node_in_place(flow, place, stmt)?;
-    Some(Ending {
-        loops: node.loops.heads(),
-        point: Point::Post(stmt),
-    })
+    match node_in_place(flow, place, stmt) {
+        None => None,
+        Some(node) => Some(Ending {
+            around: Some(node),
+            point: Point::Post(stmt),
+        }),
+    }
+}
+
+/// Whether a statement is a loop.
+fn is_loop(shape: &Shape<'_>) -> bool
+    ensures is { result ≡ is_while (shape_now shape.now) }
+{
+    matches!(shape, Shape::While(_, _, _))
 }
 
 /// At the head of a loop: the fixed point of its iterates.
-fn head(flow: &Flow, place: usize, stmt: StmtId) -> Option<Ending<'_>>
+fn head(flow: &Flow, place: ProcId, stmt: StmtId) -> Option<Ending<'_>>
     ensures is { option_map ending_of result ≡ ending_at flow.now (Location.Head stmt) place }
 {
-    let node = node_in_place(flow, place, stmt)?;
-    match &node.shape {
-        Shape::While(_, _, _) => Some(Ending {
-            loops: node.loops.heads(),
+    match node_in_place(flow, place, stmt) {
+        Some(node) if is_loop(&node.shape) => Some(Ending {
+            around: Some(node),
             point: Point::Fix(stmt),
         }),
         _ => None,
     }
 }
 
+/// The procedure at a place.
+fn head_at(prog: &Checked, place: ProcId) -> Option<&Head>
+    ensures is { option_copied result ≡ slice_get (heads_of prog.now) place }
+{
+    prog.table().procs().get(place.place() as usize)
+}
+
 /// Behind the body of the procedure at a place, if this is its name.
-fn end<'a>(flow: &'a Flow, place: usize, name: &Text) -> Option<Ending<'a>>
+fn end<'a>(flow: &'a Flow, place: ProcId, name: &Text) -> Option<Ending<'a>>
     ensures is { option_map ending_of result ≡ ending_at flow.now (Location.End name.now) place }
 {
-    let routine = flow.program().routines().get(place)?;
-    if name == routine.name() {
+    let prog = flow.program();
+    let Some(head) = head_at(prog, place) else {
+        return None;
+    };
+    if name == head.bare.name() {
         Some(Ending {
-            loops: &[],
-            point: last_point(routine.body(), Point::Entry),
+            around: None,
+            point: behind_or(Point::Entry, head.body.last),
         })
     } else {
         None
@@ -151,7 +174,7 @@ fn end<'a>(flow: &'a Flow, place: usize, name: &Text) -> Option<Ending<'a>>
 }
 
 /// A location in the procedure at a place, if it is there.
-fn ending_at<'a>(flow: &'a Flow, place: usize, at: &Location) -> Option<Ending<'a>>
+fn ending_at<'a>(flow: &'a Flow, place: ProcId, at: &Location) -> Option<Ending<'a>>
     ensures is { option_map ending_of result ≡ ending_at flow.now at.now place }
 {
     match at {
@@ -169,15 +192,15 @@ fn arrive(flow: &Flow, from: Reached, at: &Location) -> Result<Option<Target>, M
     let Reached { mut steps, place } = from;
     match ending_at(flow, place, at) {
         None => Ok(None),
-        Some(Ending { loops, point }) => {
-            enter_loops(loops, &mut steps)?;
+        Some(Ending { around, point }) => {
+            enter_loops(&around, &mut steps)?;
             Ok(Some(Target { steps, last: point }))
         }
     }
 }
 
 /// The target of a location under a chain of calls, or `None` where the program has no such chain, or its last
-/// procedure no such location. It takes time linear in the chain and the loops around its calls and the location.
+/// procedure no such location. It takes time linear in the chain and the blocks around its calls and the location.
 ///
 /// # Errors
 ///

@@ -1,5 +1,6 @@
 use Rattle.std.proofs.Common.{◌&&◌, MatchBool, sym, ap, subst, ◌∙◌}
-use Rattle.std.specs.Option.{option_copied}
+use Rattle.std.specs.Option.{option_map}
+use Rattle.imp_flow.specs.Entered.{node_now}
 use Rattle.imp_flow.specs.Plans.{marks_at}
 use Rattle.imp_flow.specs.Changed.{Stays, IsChanged, same_shapes}
 use Rattle.imp_flow.proofs.ChangedRows.{by_verdict}
@@ -7,22 +8,22 @@ use Rattle.imp_flow.proofs.ChangedStays.{found_fine, none_stays, bare_stays, gon
 use Rattle.imp_flow.proofs.changed.stays.Goals as goal
 
 pub returns-in_default : goal.returns-in_default
-returns-in_default c = record { is = none_stays c.args.old.now c.args.new.now c.requires.one c.args.stmt (sym c.node.ensures.is ∙ ap option_copied c.in_default.is) }
+returns-in_default c = record { is = none_stays c.args.old.now c.args.new.now c.requires.one c.args.stmt (sym c.node.ensures.is ∙ ap (option_map node_now) c.in_default.is) }
 
 pub returns-then-is_bare : goal.returns-then-is_bare
 returns-then-is_bare c = record {
-  is = bare_stays c.args.old.now c.args.new.now c.requires.one c.args.stmt c.in-Some.node.now (sym c.in-Some.ensures.is) (sym c.is_bare.ensures.is ∙ c.if-is_bare.true);
+  is = bare_stays c.args.old.now c.args.new.now c.requires.one c.args.stmt (node_now c.in-Some.node) (sym c.in-Some.ensures.is) (sym c.is_bare.ensures.is ∙ c.if-is_bare.true);
 }
 
 pub returns-in-None : goal.returns-in-None
 returns-in-None c = record {
-  is = gone_changed c.args.old.now c.args.new.now c.requires.one c.args.stmt c.in-Some.node.now (sym c.in-Some.ensures.is) (sym c.is_bare.ensures.is ∙ c.if-is_bare.false) (sym c.in-None.ensures.is);
+  is = gone_changed c.args.old.now c.args.new.now c.requires.one c.args.stmt (node_now c.in-Some.node) (sym c.in-Some.ensures.is) (sym c.is_bare.ensures.is ∙ c.if-is_bare.false) (sym c.in-None.ensures.is);
 }
 
 pub returns-then-eq : goal.returns-then-eq
 returns-then-eq c =
-    let x = c.in-Some.node.now in
-    let y = c.in-Some-node.other.now in
+    let x = (node_now c.in-Some.node) in
+    let y = (node_now c.in-Some-node.other) in
     let old = c.args.old.now in
     let new = c.args.new.now in
     let n = c.args.stmt in
@@ -38,8 +39,8 @@ returns-then-eq c =
 
 pub returns-else-eq : goal.returns-else-eq
 returns-else-eq c =
-    let x = c.in-Some.node.now in
-    let y = c.in-Some-node.other.now in
+    let x = (node_now c.in-Some.node) in
+    let y = (node_now c.in-Some-node.other) in
     let old = c.args.old.now in
     let new = c.args.new.now in
     let n = c.args.stmt in

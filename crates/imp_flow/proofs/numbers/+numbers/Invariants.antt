@@ -1,8 +1,8 @@
-use Rattle.std.proofs.Common.{◌≡◌, ◌+◌, ◌++◌, drop, reverse}
+use Rattle.std.proofs.Common.{◌≡◌, ◌+◌, ◌++◌, drop}
+use Rattle.imp_slots.specs.Plain.{code_numbers}
 use Rattle.imp_slots.specs.Sizes.{code_size}
 use Rattle.imp_slots.specs.BlockViews.{code_of, node_size}
-use Rattle.imp_flow.specs.Nodes.{block_nodes}
-use Rattle.imp_flow.proofs.nodes.+nodes.Given as goal
+use Rattle.imp_flow.proofs.numbers.+numbers.Given as goal
 
 abbrev pub decreases-add_block : goal.decreases-add_block
 decreases-add_block l = code_size l.block.now + 1
@@ -10,9 +10,9 @@ decreases-add_block l = code_size l.block.now + 1
 abbrev pub decreases-add_node : goal.decreases-add_node
 decreases-add_node l = node_size l.node.now
 
--- the statements so far, and those to come
+-- the numbers so far, and those to come
 abbrev pub invariant-add_block-loop-node : goal.invariant-add_block-loop-node
 invariant-add_block-loop-node l = record {
   is : code_of l.node-items ≡ l.block;
-  told : l.nodes ++ block_nodes (reverse l.earlier) l.loops l.front (code_of (drop l.node-index l.node-items)) ≡ l.initial.nodes ++ block_nodes (reverse l.earlier) l.loops l.fn.first l.block;
+  told : l.found ++ code_numbers (code_of (drop l.node-index l.node-items)) ≡ l.initial.found ++ code_numbers l.block;
 }
