@@ -1,10 +1,8 @@
-//! Tests of edits of programs read from texts: what an edit makes, undone and done again, and which refusal is given. The
-//! expected answers are worked out by hand.
+//! Tests of edits of programs read from texts: which refusal is given, or the next number. The expected answers are worked
+//! out by hand.
 #![tactic(auto)]
 
 #[cfg(test)]
 mod reading;
 #[cfg(test)]
 mod refused;
-#[cfg(test)]
-mod undone;
