@@ -8,6 +8,8 @@ mod batches;
 #[cfg(test)]
 mod checked;
 #[cfg(test)]
+mod demands;
+#[cfg(test)]
 mod faults;
 #[cfg(test)]
 mod limits;

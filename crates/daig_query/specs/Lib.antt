@@ -1,0 +1,9 @@
+pub mod Same
+pub mod Kept
+pub mod Right
+pub mod Asked
+pub mod Made
+pub mod Overs
+pub mod Opened
+pub mod Walked
+pub mod Filled

@@ -1,0 +1,68 @@
+-- How far a demand has come.
+use Rattle.std.specs.Prelude.{◌≡◌, ℕ, suc, ◌<◌, Bool, true, false, List, [], ◌∷◌, ◌++◌, map, drop, reverse, length, Option, Some, None, slice_get}
+use Rattle.imp_syntax.specs.declared.edit.Location.{Location}
+use Rattle.domain_laws.specs.Operations.{Operations}
+use Rattle.demand_order.specs.Order.{member}
+use Rattle.cell_names.specs.Paths.{CellName, path_at}
+use Rattle.cell_rows.specs.Cells.{Cell}
+use Rattle.cell_rows.specs.Targets.{Target, to_point, demanded, targets, value_of_target}
+use Rattle.demand_laws.specs.Walks.{asks, names_left, values_left}
+use Rattle.demand_laws.specs.Walks as law
+use Rattle.imp_flow.specs.Plans.{Plan}
+use Rattle.daig_graph.specs.Cells.{AreCells}
+use Rattle.daig_query.specs.declared.opening.Open.{Open}
+use Rattle.daig_query.specs.declared.store.Store.{Store}
+use Rattle.daig_query.specs.declared.walk.Walk.{Walk}
+use Rattle.daig_query.specs.Same.{same_name}
+use Rattle.daig_query.specs.Kept.{kept, AreNumbers}
+use Rattle.daig_query.specs.Right.{found}
+use Rattle.daig_query.specs.Opened.{name_of, IsOpen, next_of}
+
+-- the targets of a location under a call string
+pub record AreTargets (plan : Plan) (ts : List Target) : Type 0 where
+  pub location : Location
+  pub string : List ℕ
+  pub place : ℕ
+  pub are : targets plan.program place location string ≡ Some ts
+
+-- targets without so many steps of the first
+abbrev pub behind_steps : ℕ → List Target → List Target
+behind_steps k [] = []
+behind_steps k (t ∷ ts) = to_point (drop k t.steps) t.last ∷ ts
+
+-- a path and what is left of the targets
+abbrev pub place_of : {S : Type 0} → List Target → Store S → Walk → law.Walk
+place_of ts store w = law.walk (path_at store.names.paths w.path) (behind_steps w.step (drop w.target ts))
+
+module _ {S : Type 0} (dom : Operations S) (plan : Plan) (ts : List Target) where
+  -- The names that were asked for have cells; of each target that was left behind the cell of the last name is found.
+  pub record IsPlaced (store : Store S) (w : Walk) : Type 0 where
+    pub path : w.path < length store.names.paths
+    pub asked : List CellName
+    pub names : demanded (found dom plan) ts ≡ asked ++ names_left (found dom plan) (place_of ts store w)
+    pub kept : (x : CellName) → member same_name asked x ≡ true → kept store x ≡ true
+    pub lasts : List CellName
+    pub values : map (value_of_target (found dom plan)) ts ≡ map (λ x. (found dom plan x).value) lasts ++ values_left (found dom plan) (place_of ts store w)
+    pub numbers : AreNumbers store.names.names w.found.items lasts
+    pub cells : AreCells store.graph.cells w.found.items
+
+  -- The names that are being filled: the name that is asked for, and of each the next input.
+  pub record IsStacked (store : Store S) (w : Walk) : Type 0 where
+    pub opens : (i : ℕ) (o : Open) → slice_get w.stack.items i ≡ Some o → IsOpen dom plan store o
+    pub bottom : (o : Open) → slice_get w.stack.items 0 ≡ Some o → asks (place_of ts store w) ≡ Some (name_of store o)
+    pub chained : (i : ℕ) (o u : Open) → slice_get w.stack.items i ≡ Some o → slice_get w.stack.items (suc i) ≡ Some u → next_of dom plan store o ≡ Some (name_of store u)
+
+  -- a walk that is good for these targets
+  pub record IsGood (store : Store S) (w : Walk) : Type 0 where
+    pub placed : IsPlaced store w
+    pub stacked : IsStacked store w
+
+  -- what is asked for next: nothing, or a name that has no cell
+  abbrev pub IsAsked : Store S → Walk → Option Open → Type 0
+  IsAsked store w None = asks (place_of ts store w) ≡ None
+  IsAsked store w (Some u) = (asks (place_of ts store w) ≡ Some (name_of store u)) × IsOpen dom plan store u × (kept store (name_of store u) ≡ false)
+
+  -- all that was asked for has cells
+  pub record IsDone (store : Store S) (w : Walk) : Type 0 where
+    pub placed : IsPlaced store w
+    pub asks_none : asks (place_of ts store w) ≡ None
