@@ -61,14 +61,14 @@ pub if_true : {A : Type 0} (b : Bool) (a x : A) → (if b then Some a else None)
 if_true true a x e = refl
 if_true false a x e = absurd cc
 
+next_length : {T V : Type 0} (value : T → V) (rest : List V → List T) (n : ℕ) (vs : List V) (o : Option T) → ((us : List V) → length (rest us) ≤ n) → length (gather_next value rest vs o) ≤ suc n
+next_length value rest n vs None h = omega arith
+next_length value rest n vs (Some y) h = let l : length (rest (vs ++ value y ∷ [])) ≤ n = h (vs ++ value y ∷ []) in omega arith
+
 pub gather_length : {T V : Type 0} (value : T → V) (asks : List V → Option T) (n : ℕ) (vs : List V) → length (gather value asks n vs) ≤ n
 unfolding gather
 gather_length value asks zero vs = omega arith
-gather_length value asks (suc n) vs = go (asks vs)
-  where
-    go : (o : Option _) → length (gather_next value (gather value asks n) vs o) ≤ suc n
-    go None = omega arith
-    go (Some y) = let h : length (gather value asks n (vs ++ value y ∷ [])) ≤ n = gather_length value asks n (vs ++ value y ∷ []) in omega arith
+gather_length {T} {V} value asks (suc n) vs = next_length value (gather value asks n) n vs (asks vs) (λ us. gather_length value asks n us)
 
 pub same_iterate : (engine : Engine) (n : ℕ) (p : Point) (k : ℕ) → iterate_at n p k ≡ iterate_point engine bare n p k
 same_iterate engine n p zero = refl
@@ -133,7 +133,7 @@ module _ {S : Type 0} (dom : Operations S) (plan : Plan) (store : Store S) (row 
   front j = map F (take j I)
 
   pub law : Answered dom plan.engine plan.program same_name X r
-  law = answered dom plan.engine plan.program same_name same_is at.right.checked X r at.row
+  law = answered dom plan.engine plan.program same_name same_is at.right.checked X r at.its_row
 
   pub asks : (j : ℕ) → j ≤ length I → asks_row dom plan.engine r (front j) ≡ slice_get I j
   unfolding inputs found
@@ -144,13 +144,13 @@ module _ {S : Type 0} (dom : Operations S) (plan : Plan) (store : Store S) (row 
 
   pub asked_operation : ((n : ℕ) (p : Point) → row ≢ Fixed n p) → ((s : Bool) (l : Point) (n : ℕ) (p : Point) → row ≢ Joins s l n p) → by_count (length o.inputs) r ≡ next_of dom plan store o
   asked_operation f j =
-      ap (λ n. by_count n r) (sym (front_length (length o.inputs) at.open.within))
+      ap (λ n. by_count n r) (sym (front_length (length o.inputs) at.entry.within))
       ∙ count_asks dom plan.engine row f j X.path (front (length o.inputs))
-      ∙ asks (length o.inputs) at.open.within
+      ∙ asks (length o.inputs) at.entry.within
 
   pub asked_joined : (s : Bool) (l : Point) (n : ℕ) (p : Point) → row ≡ Joins s l n p → joined_next plan.engine.budget store.graph.cells o.inputs r ≡ next_of dom plan store o
   asked_joined s l n p e =
       ap (λ q. joined_next plan.engine.budget store.graph.cells o.inputs (row_in X.path q)) e
-      ∙ joined_asks dom plan store at.right o.inputs (take (length o.inputs) I) at.open.numbers at.open.cells s (name X.path l) n X.path p
+      ∙ joined_asks dom plan store at.right o.inputs (take (length o.inputs) I) at.entry.numbers at.entry.cells s (name X.path l) n X.path p
       ∙ ap (λ q. asks_row dom plan.engine (row_in X.path q) (front (length o.inputs))) (sym e)
-      ∙ asks (length o.inputs) at.open.within
+      ∙ asks (length o.inputs) at.entry.within

@@ -29,7 +29,7 @@ module _ {S : Type 0} (dom : Operations S) (plan : Plan) (store : Store S) (righ
   is_there n s = go (get store.graph.cells n) refl s
     where
       go : (o : Option (Filled Held)) → get store.graph.cells n ≡ o → IsSome o → (f : Filled Held) × (get store.graph.cells n ≡ Some f)
-      go None e s = elim s [ ]
+      go None e s = absurd cc
       go (Some f) e s = (f, e)
 
   -- An input that is found: its number, its name, and what its cell stores.
@@ -45,10 +45,10 @@ module _ {S : Type 0} (dom : Operations S) (plan : Plan) (store : Store S) (righ
   input_value o i x p = rw (p.at, p.there) refl
 
   pub input_found : (o : Open) → IsOpen dom plan store o → (i : ℕ) → i < length o.inputs → (x : CellName) × (slice_get (inputs dom plan (name_of store o)) i ≡ Some x) × Input o i x
-  input_found o open i h =
+  input_found o opened i h =
       let n = get_some o.inputs i h in
-      let p = numbers_get store.names.names o.inputs (take (length o.inputs) (inputs dom plan (name_of store o))) open.numbers i n.0 n.1 in
-      let c = is_there n.0 (open.cells i n.0 n.1) in (
+      let p = numbers_get store.names.names o.inputs (take (length o.inputs) (inputs dom plan (name_of store o))) opened.numbers i n.0 n.1 in
+      let c = is_there n.0 (opened.cells i n.0 n.1) in (
         p.0,
         sym (get_take (inputs dom plan (name_of store o)) (length o.inputs) i h) ∙ p.1,
         record { number = n.0; at = n.1; cell = c.0; there = c.1; value = (stored n.0 p.0 c.0 p.2 c.1).value },

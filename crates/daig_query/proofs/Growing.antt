@@ -137,26 +137,26 @@ module _ {S : Type 0} (dom : Operations S) (plan : Plan) where
           )
 
   some_there : (old new : Store S) → Grows old new → (n : ℕ) (o : Option (Filled Held)) → get old.graph.cells n ≡ o → IsSome o → IsSome (get new.graph.cells n)
-  some_there old new grows n None e h = elim h [ ]
-  some_there old new grows n (Some f) e h = subst IsSome (sym (grows.cells n f e)) tt
+  some_there old new grows n None e h = absurd cc
+  some_there old new grows n (Some f) e h = subst IsSome (sym (grows.cells n f e)) refl
 
   pub cells_grow : (old new : Store S) → Grows old new → (ns : List ℕ) → graph.AreCells old.graph.cells ns → graph.AreCells new.graph.cells ns
   cells_grow old new grows ns h i n e = some_there old new grows n (get old.graph.cells n) refl (h i n e)
 
   -- what is open stays open
   pub open_grows : (old new : Store S) → Grows old new → (o : Open) → IsOpen dom plan old o → IsOpen dom plan new o
-  open_grows old new grows o open =
-      let same : name_of new o ≡ name_of old o = name_stays old new grows.paths o open.path in
+  open_grows old new grows o opened =
+      let same : name_of new o ≡ name_of old o = name_stays old new grows.paths o opened.path in
       record {
-        path = keeps_within old.names.paths new.names.paths grows.paths o.name.path open.path;
-        number = grows.names o.cell (name_of old o) open.number ∙ ap Some (sym same);
-        named = subst (λ x. HasName plan.engine plan.program x) (sym same) open.named;
-        within = subst (λ x. length o.inputs ≤ length (inputs dom plan x)) (sym same) open.within;
+        path = keeps_within old.names.paths new.names.paths grows.paths o.name.path opened.path;
+        number = grows.names o.cell (name_of old o) opened.number ∙ ap Some (sym same);
+        named = subst (λ x. HasName plan.engine plan.program x) (sym same) opened.named;
+        within = subst (λ x. length o.inputs ≤ length (inputs dom plan x)) (sym same) opened.within;
         numbers = subst (λ x. AreNumbers new.names.names o.inputs (take (length o.inputs) (inputs dom plan x))) (sym same) (
-          numbers_grow old.names.names new.names.names grows.names o.inputs (take (length o.inputs) (inputs dom plan (name_of old o))) open.numbers
+          numbers_grow old.names.names new.names.names grows.names o.inputs (take (length o.inputs) (inputs dom plan (name_of old o))) opened.numbers
         );
-        cells = cells_grow old new grows o.inputs open.cells;
+        cells = cells_grow old new grows o.inputs opened.cells;
       }
 
   pub next_grows : (old new : Store S) → Grows old new → (o : Open) → IsOpen dom plan old o → next_of dom plan new o ≡ next_of dom plan old o
-  next_grows old new grows o open = ap (λ x. slice_get (inputs dom plan x) (length o.inputs)) (name_stays old new grows.paths o open.path)
+  next_grows old new grows o opened = ap (λ x. slice_get (inputs dom plan x) (length o.inputs)) (name_stays old new grows.paths o opened.path)

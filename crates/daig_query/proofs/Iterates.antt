@@ -40,41 +40,41 @@ use Rattle.daig_query.proofs.Asked.{member_at, if_true, gather_length, same_iter
 
 module _ {S : Type 0} (dom : Operations S) (plan : Plan) (store : Store S) (row : Row) (o : Open) (at : IsAt dom plan store row o) (same : (s t : S) → (dom.same s t ≡ true) ↔ (s ≡ t))
     (n : ℕ) (p : Point) (fixed : row ≡ Fixed n p) where
-  abbrev N : CellName
+  abbrev pub N : CellName
   N = X dom plan store row o at
 
-  abbrev J : List CellName
+  abbrev pub J : List CellName
   J = I dom plan store row o at
 
-  abbrev G : CellName → Cell S
+  abbrev pub G : CellName → Cell S
   G = F dom plan store row o at
 
-  abbrev first : ℕ → List (Cell S)
+  abbrev pub first : ℕ → List (Cell S)
   first j = front dom plan store row o at j
 
-  abbrev iterate : ℕ → Option (Value Held)
+  abbrev pub iterate : ℕ → Option (Value Held)
   iterate = iterate_of store.graph.cells o.inputs
 
-  abbrev k : ℕ
+  abbrev pub k : ℕ
   k = length o.inputs
 
-  abbrev fix : plain.Row
+  abbrev pub fix : plain.Row
   fix = plain.Fixed n (sites_of N.path) N.path p
 
-  row_is : r dom plan store row o at ≡ fix
+  pub row_is : r dom plan store row o at ≡ fix
   row_is = ap (λ q. row_in N.path q) fixed
 
   -- the name is that of the fixed point
   point_is : N.point ≡ Fix n
-  point_is = let h : Shaped N.path N.point (Some fix) = subst (λ q. Shaped N.path N.point q) (at.row ∙ ap Some row_is) (flat_shaped plan.engine (reverse plan.program) N.path N.point) in h.0
+  point_is = let h : Shaped N.path N.point (Some fix) = subst (λ q. Shaped N.path N.point q) (at.its_row ∙ ap Some row_is) (flat_shaped plan.engine (reverse plan.program) N.path N.point) in h.0
 
   pub asks_fix : (j : ℕ) → j ≤ length J → asks_row dom plan.engine fix (first j) ≡ slice_get J j
   asks_fix j h = ap (λ q. asks_row dom plan.engine q (first j)) (sym row_is) ∙ asks dom plan store row o at j h
 
   pub wants_before : (j : ℕ) → j < k → wants_first dom plan.engine (first j) ≡ true
   wants_before j h =
-      let within : k ≤ length J = at.open.within in
-      let q = input_found dom plan store at.right o at.open j h in
+      let within : k ≤ length J = at.entry.within in
+      let q = input_found dom plan store at.right o at.entry j h in
       if_true (wants_first dom plan.engine (first j)) (name N.path (iterate_point plan.engine bare n p (length (first j)))) q.0 (asks_fix j (omega arith) ∙ q.1)
 
   most : length J ≤ suc plan.engine.budget
@@ -82,31 +82,31 @@ module _ {S : Type 0} (dom : Operations S) (plan : Plan) (store : Store S) (row 
   most =
       let t = rows_of dom plan.engine plan.program same_name in
       let h : length J ≤ t.most N = gather_length (value_of t) (t.asks N) (t.most N) [] in
-      let e : t.most N ≡ suc plan.engine.budget = ap (λ q. by_row dom plan.engine q 0 (most_row dom plan.engine)) (at.row ∙ ap Some row_is) in
+      let e : t.most N ≡ suc plan.engine.budget = ap (λ q. by_row dom plan.engine q 0 (most_row dom plan.engine)) (at.its_row ∙ ap Some row_is) in
       omega arith
 
   pub within_budget : (j : ℕ) → j < k → j ≤ plan.engine.budget
   within_budget j h =
-      let a : k ≤ length J = at.open.within in
+      let a : k ≤ length J = at.entry.within in
       let b : length J ≤ suc plan.engine.budget = most in
       omega arith
 
   -- inputs have no index
-  index_none : (j : ℕ) (y : CellName) → slice_get J j ≡ Some y → (G y).index ≡ 0
+  pub index_none : (j : ℕ) (y : CellName) → slice_get J j ≡ Some y → (G y).index ≡ 0
   unfolding inputs found
   index_none j y e =
       let named : N ≡ name N.path (Fix n) = ap (λ q. name N.path q) point_is in
       let m = member_at (inputs dom plan (name N.path (Fix n))) j y (subst (λ x. slice_get (inputs dom plan x) j ≡ Some y) named e) in
       iterates_none dom plan.engine plan.program same_name same_is at.right.checked N.path n y m
 
-  abbrev B : ℕ → Option S → Type 0
+  abbrev pub B : ℕ → Option S → Type 0
   B j q = Before dom store.states at.right.single (λ s t. (same s t).0) (λ s. (same s s).1 refl) plan.engine.budget iterate j q
 
   -- what is in front of an iterate
-  before : (j : ℕ) → j < k → B j (last_state None (first j))
+  pub before : (j : ℕ) → j < k → B j (last_state None (first j))
   before zero h = nothing (λ i g e q. absurd (omega arith))
   before (suc i) h =
-      let q = input_found dom plan store at.right o at.open i (omega arith) in
+      let q = input_found dom plan store at.right o at.entry i (omega arith) in
       subst (λ v. B (suc i) v) (sym (ap (last_state None) (map_next G J i q.0 q.1) ∙ last_snoc None (first i) (G q.0))) (by q.0 q.1 q.2 q.2.cell.value refl q.2.value)
     where
       by : (y : CellName) (e : slice_get J i ≡ Some y) (q : Input dom plan store at.right o i y) (u : Value Held) → q.cell.value ≡ u → IsValue store.states u (G y) → B (suc i) (state_of (G y).value)
@@ -126,10 +126,10 @@ module _ {S : Type 0} (dom : Operations S) (plan : Plan) (store : Store S) (row 
     stops : wants_first dom plan.engine (first (suc j)) ≡ false → Stops plan.engine.budget iterate j
 
   told : (j : ℕ) → j < k → Told j
-  told j h = by (input_found dom plan store at.right o at.open j h)
+  told j h = by (input_found dom plan store at.right o at.entry j h)
     where
       long : length (first j) ≡ j
-      long = front_length dom plan store row o at j (let w : k ≤ length J = at.open.within in omega arith)
+      long = front_length dom plan store row o at j (let w : k ≤ length J = at.entry.within in omega arith)
 
       step : (y : CellName) → slice_get J j ≡ Some y → wants_first dom plan.engine (first (suc j)) ≡ goes_on dom plan.engine.budget j (last_state None (first j)) (G y).value
       step y e =
@@ -169,7 +169,7 @@ module _ {S : Type 0} (dom : Operations S) (plan : Plan) (store : Store S) (row 
   pub stops_next : StopsWithin plan.engine.budget iterate k → next_of dom plan store o ≡ None
   stops_next (j, h, s) =
       let e = (stopped j h s).1 in
-      sym (asks_fix k at.open.within) ∙ ap (λ b. if b then Some (name N.path (iterate_point plan.engine bare n p (length (first k)))) else None) e
+      sym (asks_fix k at.entry.within) ∙ ap (λ b. if b then Some (name N.path (iterate_point plan.engine bare n p (length (first k)))) else None) e
 
   wanted : (StopsWithin plan.engine.budget iterate k → ⊥) → (j : ℕ) → k ≡ j → wants_first dom plan.engine (first j) ≡ true
   wanted none zero e = refl
@@ -181,6 +181,6 @@ module _ {S : Type 0} (dom : Operations S) (plan : Plan) (store : Store S) (row 
   goes_next none =
       ap (iterate_in k) row_is
       ∙ ap (λ q. Some (name N.path q)) (same_iterate plan.engine n p k)
-      ∙ ap (λ m. Some (name N.path (iterate_point plan.engine bare n p m))) (sym (front_length dom plan store row o at k at.open.within))
+      ∙ ap (λ m. Some (name N.path (iterate_point plan.engine bare n p m))) (sym (front_length dom plan store row o at k at.entry.within))
       ∙ sym (ap (λ b. if b then Some (name N.path (iterate_point plan.engine bare n p (length (first k)))) else None) (wanted none k refl))
-      ∙ asks_fix k at.open.within
+      ∙ asks_fix k at.entry.within

@@ -6,3 +6,5 @@ pub mod Found
 pub mod Stopping
 pub mod Asked
 pub mod Iterates
+pub mod Fixes
+pub mod Computed

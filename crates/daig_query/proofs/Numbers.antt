@@ -17,18 +17,20 @@ use Rattle.daig_query.proofs.Same.{same_is}
 pub number_there : (names : List CellName) (x : CellName) (n : ℕ) → number_of names x ≡ Some n → slice_get names n ≡ Some x
 unfolding number_of
 number_there [] x n e = absurd cc
-number_there (y ∷ ys) x n e = go (same_name x y) refl e
+number_there (y ∷ ys) x n e = go (number_there ys x) (same_name x y) refl e
   where
-    more : (o : Option ℕ) → number_of ys x ≡ o → option_map suc o ≡ Some n → slice_get (y ∷ ys) n ≡ Some x
-    more None h k = absurd cc
-    more (Some m) h k =
+    Rest : Type 0
+    Rest = (m : ℕ) → number_of ys x ≡ Some m → slice_get ys m ≡ Some x
+    more : Rest → (o : Option ℕ) → number_of ys x ≡ o → option_map suc o ≡ Some n → slice_get (y ∷ ys) n ≡ Some x
+    more rest None h k = absurd cc
+    more rest (Some m) h k =
         let q : suc m ≡ n = cc in
-        subst (λ i. slice_get (y ∷ ys) i ≡ Some x) q (number_there ys x m h)
-    go : (b : Bool) → same_name x y ≡ b → (if b then Some 0 else option_map suc (number_of ys x)) ≡ Some n → slice_get (y ∷ ys) n ≡ Some x
-    go true h k =
+        subst (λ i. slice_get (y ∷ ys) i ≡ Some x) q (rest m h)
+    go : Rest → (b : Bool) → same_name x y ≡ b → (if b then Some 0 else option_map suc (number_of ys x)) ≡ Some n → slice_get (y ∷ ys) n ≡ Some x
+    go rest true h k =
         let q : 0 ≡ n = cc in
         subst (λ i. slice_get (y ∷ ys) i ≡ Some x) q (ap Some (sym (same_is.same_true x y h)))
-    go false h k = more (number_of ys x) refl k
+    go rest false h k = more rest (number_of ys x) refl k
 
 -- a name that stands somewhere has a number
 pub number_found : (names : List CellName) (x : CellName) (n : ℕ) → slice_get names n ≡ Some x → (m : ℕ) × (number_of names x ≡ Some m)
@@ -37,11 +39,11 @@ number_found [] x n e = absurd cc
 number_found (y ∷ ys) x zero e =
     let h : same_name x y ≡ true = subst (λ z. same_name x z ≡ true) (sym (some_inj y x e)) (same_is.same_refl x) in
     (0, ap (λ b. if b then Some 0 else option_map suc (number_of ys x)) h)
-number_found (y ∷ ys) x (suc n) e = go (same_name x y) refl
+number_found (y ∷ ys) x (suc n) e = go (number_found ys x n e) (same_name x y) refl
   where
-    go : (b : Bool) → same_name x y ≡ b → (m : ℕ) × ((if b then Some 0 else option_map suc (number_of ys x)) ≡ Some m)
-    go true h = (0, refl)
-    go false h = let p = number_found ys x n e in (suc p.0, ap (option_map suc) p.1)
+    go : (m : ℕ) × (number_of ys x ≡ Some m) → (b : Bool) → same_name x y ≡ b → (m : ℕ) × ((if b then Some 0 else option_map suc (number_of ys x)) ≡ Some m)
+    go p true h = (0, refl)
+    go p false h = (suc p.0, ap (option_map suc) p.1)
 
 pub number_is : (names : List CellName) → IsOnce names → (x : CellName) (n : ℕ) → slice_get names n ≡ Some x → number_of names x ≡ Some n
 number_is names once x n e =

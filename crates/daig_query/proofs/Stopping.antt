@@ -1,5 +1,5 @@
 -- Where iterates stop, by the numbers of their states.
-use Rattle.std.proofs.Common.{◌≡◌, ◌≢◌, ℕ, zero, suc, ◌<◌, ◌≤◌, ◌⊎◌, List, [], ◌∷◌, ◌++◌, length, Option, Some, None, Bool, true, false, if◌then◌else◌, nat_lt, slice_get, refl, sym, ap, subst, ◌∙◌, inl, inr, arith}
+use Rattle.std.proofs.Common.{◌≡◌, ◌≢◌, ℕ, zero, suc, ◌<◌, ◌≤◌, ◌⊎◌, List, [], ◌∷◌, ◌++◌, length, Option, Some, None, Bool, true, false, if◌then◌else◌, nat_lt, slice_get, refl, sym, ap, ap₂, subst, ◌∙◌, inl, inr, arith}
 use Rattle.std.proofs.lemmas.Bool.Decides.{nat_tests}
 use Rattle.plain_values.proofs.Cases.{by_bool, some_inj}
 use Rattle.domain_laws.specs.Operations.{Operations}
@@ -26,11 +26,11 @@ pub last_snoc : {S : Type 0} (before : Option S) (us : List (Cell S)) (u : Cell 
 last_snoc before [] u = refl
 last_snoc before (c ∷ us) u = last_snoc (state_of c.value) us u
 
-held_state : (a b : Held) → State a ≡ State b → a ≡ b
+pub held_state : (a b : Held) → State a ≡ State b → a ≡ b
 held_state a b e = cc
 
-held_same : (a b : Held) → a.state ≡ b.state → a.index ≡ 0 → b.index ≡ 0 → a ≡ b
-held_same a b e h k = cc
+pub held_same : (a b : Held) → a.state ≡ b.state → a.index ≡ 0 → b.index ≡ 0 → a ≡ b
+held_same a b e h k = let make : ℕ → ℕ → Held = λ s i. record { state = s; index = i } in ap₂ make e (h ∙ sym k)
 
 over_state : (n : ℕ) (chain : List ℕ) (h : Held) → Some (Over n chain) ≡ Some (State h) → ⊥
 over_state n chain h e = cc

@@ -1,5 +1,5 @@
 -- What rows make of states.
-use Rattle.std.specs.Prelude.{◌≡◌, ℕ, List, Option, Some, None, option_map, Bool, true, false}
+use Rattle.std.specs.Prelude.{◌≡◌, ℕ, List, Option, Some, None, option_map, Bool, true, false, slice_get}
 use Rattle.imp_slots.specs.ActionViews.{act_of}
 use Rattle.imp_slots.specs.CallViews.{taken_of}
 use Rattle.imp_slots.specs.declared.calls.Returning.{Returning}
@@ -33,6 +33,11 @@ IsOperationOf (One op a) o = IsUnaryOf op o
 IsOperationOf (Two op a b) o = IsBinaryOf op o
 IsOperationOf (Fixed n p) o = o ≡ owned.Join
 IsOperationOf (Joins stays left n right) o = o ≡ owned.Join
+
+-- the state that has a number, if one is given
+abbrev pub state_at : {S : Type 0} → List S → Option ℕ → Option S
+state_at states None = None
+state_at states (Some n) = slice_get states n
 
 module _ {S : Type 0} (dom : Operations S) where
   abbrev pub unary_state : Unary → S → S

@@ -45,8 +45,8 @@ module _ {S : Type 0} (dom : Operations S) (plan : Plan) where
   -- in a right store a name is being filled, which has this row
   pub record IsAt (store : Store S) (row : Row) (o : Open) : Type 0 where
     pub right : IsRight dom plan store
-    pub open : IsOpen store o
-    pub row : IsRowOf plan (name_of store o) row
+    pub entry : IsOpen store o
+    pub its_row : IsRowOf plan (name_of store o) row
 
   -- all its inputs are found
   pub record IsReady (store : Store S) (row : Row) (o : Open) : Type 0 where

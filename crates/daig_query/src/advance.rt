@@ -40,8 +40,8 @@ fn turn_walk<D: Domain>(
 ) -> Result<Turn, Memory> {
     match next_demanded(alloc, dom, flow, store, targets, walk)? {
         None => Ok(Turn::Done),
-        Some(open) => {
-            walk.stack.push(open)?;
+        Some(entry) => {
+            walk.stack.push(entry)?;
             Ok(Turn::Pushed)
         }
     }
@@ -58,24 +58,24 @@ fn turn_open<D: Domain, L: Ledger>(
     spent: bool,
     steps: &mut Steps<L>,
 ) -> Result<Turn, Memory> {
-    let mut open = top;
-    let Some(row) = row_of(flow, &store.names, &open.name) else {
+    let mut entry = top;
+    let Some(row) = row_of(flow, &store.names, &entry.name) else {
         unreachable!()
     };
-    if let Some(input) = next_absent(alloc, dom, flow, store, &row, &mut open)? {
-        walk.stack.push(open)?;
+    if let Some(input) = next_absent(alloc, dom, flow, store, &row, &mut entry)? {
+        walk.stack.push(entry)?;
         walk.stack.push(input)?;
         return Ok(Turn::Pushed);
     }
     if spent {
-        walk.stack.push(open)?;
+        walk.stack.push(entry)?;
         return Ok(Turn::Spent);
     }
-    fill(alloc, dom, flow, store, &row, open, steps)?;
+    fill(alloc, dom, flow, store, &row, entry, steps)?;
     Ok(Turn::Filled)
 }
 
-fn turn<D: Domain, L: Ledger>(
+fn take_turn<D: Domain, L: Ledger>(
     alloc: Global,
     dom: &D,
     flow: &Flow,
@@ -87,7 +87,7 @@ fn turn<D: Domain, L: Ledger>(
 ) -> Result<Turn, Memory> {
     match walk.stack.pop() {
         None => turn_walk(alloc, dom, flow, store, targets, walk),
-        Some(open) => turn_open(alloc, dom, flow, store, walk, open, spent, steps),
+        Some(entry) => turn_open(alloc, dom, flow, store, walk, entry, spent, steps),
     }
 }
 
@@ -105,7 +105,7 @@ fn fill_missing<D: Domain, L: Ledger>(
     walk.drop_filled(&store.graph);
     let mut filled: u32 = 0;
     'work: loop {
-        match turn(alloc, dom, flow, store, targets, walk, filled == most, steps)? {
+        match take_turn(alloc, dom, flow, store, targets, walk, filled == most, steps)? {
             Turn::Pushed => {}
             Turn::Filled => filled += 1,
             Turn::Spent => {

@@ -2,10 +2,9 @@
 ghost use Rattle.std.specs.Prelude.{◌≡◌, ◌≢◌, ◌+◌, ◌-◌, ◌<◌, ◌≤◌, ◌^◌, ℕ, IfOk, IfSome, IsSome, MatchOption, Some, None, length, reverse, option_map, option_copied};
 ghost use Rattle.cell_names.specs.Paths.{path_at, sites_of};
 ghost use Rattle.loop_unroll.specs.Iterates.{iterate_of, state_in, IsEqual};
-ghost use Rattle.memo_table.specs.Results.{operand};
 ghost use Rattle.daig_query.specs.Kept.{IsValue};
 ghost use Rattle.daig_query.specs.Right.{found, IsRight};
-ghost use Rattle.daig_query.specs.Made.{index_in, row_result};
+ghost use Rattle.daig_query.specs.Made.{index_in, row_result, state_at};
 ghost use Rattle.daig_query.specs.Opened.{name_of, IsReady, Computes};
 ghost use Rattle.daig_query.specs.Overs.{HasNoOver, IsFirstOver};
 ghost use Rattle.imp_flow.specs.declared.row.Row.TheVariants.{Fixed};
@@ -87,21 +86,21 @@ fn fixed<D: Domain>(
     store: &Store<D::State>,
     row: &Row<'_>,
     head: StmtId,
-    open: &Open,
+    entry: &Open,
 ) -> Result<Value<Held>, Memory>
-    requires ready { IsReady (D.operations dom.now) flow.now store.now row.now open.now }
-    requires states { HasNoOver store.now.graph.cells open.now.inputs (length open.now.inputs) }
+    requires ready { IsReady (D.operations dom.now) flow.now store.now row.now entry.now }
+    requires states { HasNoOver store.now.graph.cells entry.now.inputs (length entry.now.inputs) }
     requires fixed { (p : _) × (row.now ≡ Fixed head p) }
-    ensures value { IfOk result (λ v. IsValue store.now.states v (found (D.operations dom.now) flow.now (name_of store.now open.now))) }
+    ensures value { IfOk result (λ v. IsValue store.now.states v (found (D.operations dom.now) flow.now (name_of store.now entry.now))) }
 {
     rows_are_a_machine::<D>();
     iterates_stop::<D>();
     indices_stay::<D>();
-    let cells = open.inputs.as_slice();
+    let cells = entry.inputs.as_slice();
     if converged(&store.graph, flow.budget(), cells) {
         Ok(Value::State(settled(&store.graph, cells)))
     } else {
-        let chain = chain_of(alloc, &store.names, open.name.path)?;
+        let chain = chain_of(alloc, &store.names, entry.name.path)?;
         Ok(Value::Over { head, chain })
     }
 }
@@ -120,7 +119,7 @@ fn index_of(row: &Row<'_>, left: Option<Held>) -> u32
 /// The state that has a number.
 fn operand<S: Eq + Hash + Drop>(states: &Table<S>, number: Option<usize>) -> Option<&S>
     requires known { IfSome number (λ n. n < length states.now) }
-    ensures is { option_copied result ≡ operand states.now number }
+    ensures is { option_copied result ≡ state_at states.now number }
 {
     match number {
         None => None,
@@ -140,10 +139,10 @@ fn result_of<D: Domain, L: Ledger>(
     steps: &mut Steps<L>,
 ) -> Result<usize, Memory>
     requires right { IsRight (D.operations dom.now) flow.now store.old }
-    requires there { IsSome (row_result (D.operations dom.now) row.now (operand store.old.states left) (operand store.old.states right)) }
+    requires there { IsSome (row_result (D.operations dom.now) row.now (state_at store.old.states left) (state_at store.old.states right)) }
     requires left { IfSome left (λ n. n < length store.old.states) }
     requires known { IfSome right (λ n. n < length store.old.states) }
-    ensures is { IfOk result (λ n. operand store.new.states (Some n) ≡ row_result (D.operations dom.now) row.now (operand store.old.states left) (operand store.old.states right)) }
+    ensures is { IfOk result (λ n. state_at store.new.states (Some n) ≡ row_result (D.operations dom.now) row.now (state_at store.old.states left) (state_at store.old.states right)) }
     ensures computes { Computes (D.operations dom.now) flow.now store.old store.new }
     ensures least { steps.old ≤ steps.new }
     ensures most { steps.new ≤ steps.old + D.counted dom.now }
@@ -178,19 +177,19 @@ fn applied<D: Domain, L: Ledger>(
     flow: &Flow,
     store: &mut Store<D::State>,
     row: &Row<'_>,
-    open: &Open,
+    entry: &Open,
     steps: &mut Steps<L>,
 ) -> Result<Value<Held>, Memory>
-    requires ready { IsReady (D.operations dom.now) flow.now store.old row.now open.now }
-    requires states { HasNoOver store.old.graph.cells open.now.inputs (length open.now.inputs) }
+    requires ready { IsReady (D.operations dom.now) flow.now store.old row.now entry.now }
+    requires states { HasNoOver store.old.graph.cells entry.now.inputs (length entry.now.inputs) }
     requires plain { (n : ℕ) (p : _) → row.now ≢ Fixed n p }
-    ensures value { IfOk result (λ v. IsValue store.new.states v (found (D.operations dom.now) flow.now (name_of store.old open.now))) }
+    ensures value { IfOk result (λ v. IsValue store.new.states v (found (D.operations dom.now) flow.now (name_of store.old entry.now))) }
     ensures computes { Computes (D.operations dom.now) flow.now store.old store.new }
     ensures least { steps.old ≤ steps.new }
     ensures most { steps.new ≤ steps.old + D.counted dom.now }
 {
     rows_are_a_machine::<D>();
-    let cells = open.inputs.as_slice();
+    let cells = entry.inputs.as_slice();
     let left = held_at(&store.graph, cells, 0);
     let right = held_at(&store.graph, cells, 1);
     let index = index_of(row, left);
@@ -213,23 +212,23 @@ pub(crate) fn compute<D: Domain, L: Ledger>(
     flow: &Flow,
     store: &mut Store<D::State>,
     row: &Row<'_>,
-    open: &Open,
+    entry: &Open,
     steps: &mut Steps<L>,
 ) -> Result<Value<Held>, Memory>
-    requires ready { IsReady (D.operations dom.now) flow.now store.old row.now open.now }
-    ensures value { IfOk result (λ v. IsValue store.new.states v (found (D.operations dom.now) flow.now (name_of store.old open.now))) }
+    requires ready { IsReady (D.operations dom.now) flow.now store.old row.now entry.now }
+    ensures value { IfOk result (λ v. IsValue store.new.states v (found (D.operations dom.now) flow.now (name_of store.old entry.now))) }
     ensures computes { Computes (D.operations dom.now) flow.now store.old store.new }
     ensures least { steps.old ≤ steps.new }
     ensures most { steps.new ≤ steps.old + D.counted dom.now }
 {
     rows_are_a_machine::<D>();
     iterates_stop::<D>();
-    if let Some((head, chain)) = first_over(&store.graph, open.inputs.as_slice()) {
+    if let Some((head, chain)) = first_over(&store.graph, entry.inputs.as_slice()) {
         let chain = chain.clone()?;
         return Ok(Value::Over { head, chain });
     }
     match row {
-        Row::Fixed(head, _) => fixed(alloc, dom, flow, store, row, *head, open),
-        _ => applied(alloc, dom, flow, store, row, open, steps),
+        Row::Fixed(head, _) => fixed(alloc, dom, flow, store, row, *head, entry),
+        _ => applied(alloc, dom, flow, store, row, entry, steps),
     }
 }

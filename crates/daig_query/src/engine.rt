@@ -16,7 +16,7 @@ pub struct Engine<D: Domain> {
     pub(crate) store: Store<D::State>,
 }
 
-impl<D: Domain> Engine<D> {
+impl<D: Domain + Drop> Engine<D> {
     /// An engine that keeps nothing, and remembers at most so many results of operations.
     pub fn new(alloc: Global, domain: D, memo: usize) -> Result<Engine<D>, Memory>
         requires some { 0 < memo }
@@ -30,7 +30,9 @@ impl<D: Domain> Engine<D> {
         };
         Ok(Engine { domain, store })
     }
+}
 
+impl<D: Domain> Engine<D> {
     /// The domain.
     pub fn domain(&self) -> &D {
         &self.domain

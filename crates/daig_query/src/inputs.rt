@@ -70,15 +70,15 @@ pub(crate) fn next_input<D: Domain>(
     flow: &Flow,
     store: &Store<D::State>,
     row: &Row<'_>,
-    open: &Open,
+    entry: &Open,
 ) -> Option<Input>
-    requires at { IsAt (D.operations dom.now) flow.now store.now row.now open.now }
-    ensures next { option_map (input_name (name_of store.now open.now).path) result ≡ next_of (D.operations dom.now) flow.now store.now open.now }
+    requires at { IsAt (D.operations dom.now) flow.now store.now row.now entry.now }
+    ensures next { option_map (input_name (name_of store.now entry.now).path) result ≡ next_of (D.operations dom.now) flow.now store.now entry.now }
 {
     rows_are_a_machine::<D>();
     iterates_stop::<D>();
     indices_stay::<D>();
-    let found = open.inputs.as_slice();
+    let found = entry.inputs.as_slice();
     match row {
         Row::Fixed(_, _) => next_iterate(&store.graph, flow.budget(), row, found),
         Row::Joins(_, _, _, _) => next_joined(&store.graph, flow.budget(), row, found),

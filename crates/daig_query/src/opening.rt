@@ -55,20 +55,20 @@ pub(crate) fn next_absent<D: Domain>(
     flow: &Flow,
     store: &mut Store<D::State>,
     row: &Row<'_>,
-    open: &mut Open,
+    entry: &mut Open,
 ) -> Result<Option<Open>, Memory>
-    requires at { IsAt (D.operations dom.now) flow.now store.old row.now open.old }
+    requires at { IsAt (D.operations dom.now) flow.now store.old row.now entry.old }
     ensures names { OnlyNames store.old store.new }
     ensures right { IsRight (D.operations dom.now) flow.now store.new }
-    ensures looks { IfOk result (Looks (D.operations dom.now) flow.now store.new row.now open.old open.new) }
+    ensures looks { IfOk result (Looks (D.operations dom.now) flow.now store.new row.now entry.old entry.new) }
 {
-    'inputs: while let Some(input) = next_input(dom, flow, store, row, open) {
-        let name = input.name(&mut store.names, open.name.path)?;
+    'inputs: while let Some(input) = next_input(dom, flow, store, row, entry) {
+        let name = input.name(&mut store.names, entry.name.path)?;
         let cell = store.names.add(name)?;
         if store.graph.value(cell).is_none() {
             return Ok(Some(opened(alloc, cell, name)));
         }
-        open.inputs.push(cell)?;
+        entry.inputs.push(cell)?;
     }
     Ok(None)
 }
@@ -80,22 +80,22 @@ pub(crate) fn fill<D: Domain, L: Ledger>(
     flow: &Flow,
     store: &mut Store<D::State>,
     row: &Row<'_>,
-    open: Open,
+    entry: Open,
     steps: &mut Steps<L>,
 ) -> Result<(), Memory>
-    requires ready { IsReady (D.operations dom.now) flow.now store.old row.now open }
-    requires absent { kept store.old (name_of store.old open) ≡ false }
-    ensures puts { OnOk result (Puts (D.operations dom.now) flow.now store.old store.new (name_of store.old open)) }
+    requires ready { IsReady (D.operations dom.now) flow.now store.old row.now entry }
+    requires absent { kept store.old (name_of store.old entry) ≡ false }
+    ensures puts { OnOk result (Puts (D.operations dom.now) flow.now store.old store.new (name_of store.old entry)) }
     ensures err { OnErr result (Computes (D.operations dom.now) flow.now store.old store.new) }
     ensures least { steps.old ≤ steps.new }
     ensures most { steps.new ≤ steps.old + D.counted dom.now }
 {
-    let value = compute(alloc, dom, flow, store, row, &open, steps)?;
-    let owner = store.names.owner(&open.name);
+    let value = compute(alloc, dom, flow, store, row, &entry, steps)?;
+    let owner = store.names.owner(&entry.name);
     let Open {
         cell,
         name: _,
         inputs,
-    } = open;
+    } = entry;
     store.graph.fill(cell, owner, value, inputs)
 }

@@ -37,7 +37,7 @@ pub(crate) fn operation_of(alloc: Global, row: &Row<'_>) -> Result<Operation, Me
     ensures is { IfOk result (IsOperationOf row.now) }
 {
     match row {
-        Row::Init(layout) => Ok(Operation::Init(layout.clone()?)),
+        Row::Init(layout) => Ok(Operation::Init((*layout).clone()?)),
         Row::One(op, _) => of_unary(op),
         Row::Two(op, _, _) => of_binary(alloc, op),
         Row::Joins(_, _, _, _) => Ok(Operation::Join),

@@ -47,8 +47,8 @@ impl Walk {
     /// Takes the names off the stack that were filled in the meantime.
     pub(crate) fn drop_filled(&mut self, graph: &Graph<Held>)
     {
-        while let Some(open) = self.stack.last() {
-            if graph.value(open.cell).is_none() {
+        while let Some(entry) = self.stack.last() {
+            if graph.value(entry.cell).is_none() {
                 return;
             }
             let _ = self.stack.pop();
@@ -156,8 +156,8 @@ pub(crate) fn next_demanded<D: Domain>(
 ) -> Result<Option<Open>, Memory>
 {
     while let Some(target) = targets.get(walk.target) {
-        if let Some(open) = step(alloc, dom, flow, store, targets, walk, target)? {
-            return Ok(Some(open));
+        if let Some(entry) = step(alloc, dom, flow, store, targets, walk, target)? {
+            return Ok(Some(entry));
         }
     }
     Ok(None)

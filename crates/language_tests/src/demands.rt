@@ -190,15 +190,15 @@ fn breaks_and_branches(rt: HostRuntime) -> Result<(), Fail> {
     let alloc = rt.alloc();
     assert_eq!(rt;
         told(alloc, BREAKS, 100, &[("after", 1, &[]), ("before", 4, &[])])?.as_str(),
-        "15 i=[5,5]; 0 i=[5,5]; "
+        "18 i=[5,5]; 0 i=[5,5]; "
     );
     assert_eq!(rt;
         told(alloc, BREAKS, 1, &[("after", 1, &[])])?.as_str(),
-        "10 over 1; "
+        "11 over 1; "
     );
     assert_eq!(rt;
         told(alloc, BRANCHES, 1, &[("after", 2, &[]), ("after", 5, &[])])?.as_str(),
-        "16 over 3; 0 over 5; "
+        "15 over 3; 0 over 5; "
     );
     Ok(())
 }
