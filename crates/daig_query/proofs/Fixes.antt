@@ -1,6 +1,6 @@
 -- What a fixed point stores, by what the cells of all its iterates store.
 use Rattle.std.proofs.Common.{◌≡◌, ◌≢◌, ℕ, zero, suc, ◌+◌, ◌-◌, ◌<◌, ◌≤◌, List, [], ◌∷◌, ◌++◌, map, take, length, Option, Some, None, Bool, true, false, if◌then◌else◌, slice_get, refl, sym, ap, subst, ◌∙◌, inl, inr, arith}
-use Rattle.std.specs.Prelude.{◌↔◌, reverse, pred, IsSome}
+use Rattle.std.specs.Prelude.{◌↔◌, reverse, pred, IsSome, IfSome}
 use Rattle.std.specs.FinMap.{get}
 use Rattle.std.proofs.Math.Seq.{take-length}
 use Rattle.std.proofs.lemmas.List.{reverse-reverse}
@@ -218,3 +218,15 @@ module _ {S : Type 0} (dom : Operations S) (plan : Plan) (store : Store S) (row 
                 (let z : (H y).index ≡ 0 = index_none dom plan store row o ready.at same n p fixed j y at in sym (ap (λ (c : Cell S). c.index) v) ∙ z)
           of_value : (u : Value Held) → q.cell.value ≡ u → IsValue store.states u (H y) → IsValue store.states (Over n (reverse (sites_of M.path))) (H M)
           of_value u e v = ap (λ (c : Cell S). c.value) (done u e v) ∙ ap (batch.Over n) (sym (reverse-reverse (sites_of M.path)))
+
+  with_some : {A : Type 0} (o : Option A) (P : A → Type 0) (a : A) → o ≡ Some a → IfSome o P → P a
+  with_some None P a e h = absurd cc
+  with_some (Some b) P a e h = subst P (some_inj b a e) h
+
+  pub settled_is : IsEqual at_place (count - 1) → (h : Held) → IfSome (state_in (at_place (count - 2))) (λ s. h ≡ record { state = s.state; index = count - 2 }) → IsValue store.states (State h) (H M)
+  settled_is equal h told =
+      let f : Held = equal.1 in
+      let down : count - 2 ≡ equal.0 = let e : count - 1 ≡ suc equal.0 = equal.2 in omega arith in
+      let here : state_in (at_place (count - 2)) ≡ Some f = ap state_in (ap at_place down ∙ equal.3) in
+      let is : h ≡ record { state = f.state; index = count - 2 } = with_some (state_in (at_place (count - 2))) (λ (s : Held). h ≡ record { state = s.state; index = count - 2 }) f here told in
+      subst (λ x. IsValue store.states (State x) (H M)) (sym is) (settles equal f here)

@@ -1,5 +1,5 @@
 -- Stores with more names, and with more cells.
-use Rattle.std.proofs.Common.{◌≡◌, ℕ, ◌<◌, ◌≤◌, List, map, take, length, Option, Some, None, Bool, true, false, IsSome, slice_get, refl, sym, ap, subst, ◌∙◌, arith}
+use Rattle.std.proofs.Common.{◌≡◌, ℕ, ◌<◌, ◌≤◌, List, [], map, take, length, Option, Some, None, Bool, true, false, IsSome, slice_get, refl, sym, ap, subst, ◌∙◌, arith}
 use Rattle.std.specs.Prelude.{is_some}
 use Rattle.std.specs.FinMap.{get}
 use Rattle.std.proofs.lemmas.Option.{slice_get_within}
@@ -111,6 +111,7 @@ module _ {S : Type 0} (dom : Operations S) (plan : Plan) where
   pub right_named : (old new : Store S) → IsRight dom plan old → Names old new → IsOnce new.names.names → IsRight dom plan new
   right_named old new right more once = record {
     checked = right.checked;
+    root = more.paths 0 [] right.root;
     once = once;
     single = subst IsOnce (sym more.states) right.single;
     kept = record { named = λ x h. right.kept.named x (sym (same x) ∙ h); closed = λ x y h m. same y ∙ right.kept.closed x y (sym (same x) ∙ h) m };

@@ -1,5 +1,5 @@
 -- The iterates that a fixed point asks for, by what the cells of those so far store.
-use Rattle.std.proofs.Common.{◌≡◌, ◌≢◌, ℕ, zero, suc, ◌+◌, ◌<◌, ◌≤◌, List, [], ◌∷◌, ◌++◌, map, take, length, Option, Some, None, Bool, true, false, if◌then◌else◌, slice_get, refl, sym, ap, subst, ◌∙◌, inl, inr, arith}
+use Rattle.std.proofs.Common.{◌≡◌, ◌≢◌, ℕ, zero, suc, ◌+◌, ◌<◌, ◌≤◌, List, [], ◌∷◌, ◌++◌, map, take, length, Option, Some, None, Bool, true, false, if◌then◌else◌, option_map, slice_get, refl, sym, ap, subst, ◌∙◌, inl, inr, arith}
 use Rattle.std.specs.Prelude.{◌↔◌, reverse}
 use Rattle.plain_values.proofs.Cases.{by_bool, some_inj}
 use Rattle.domain_laws.specs.Operations.{Operations}
@@ -17,7 +17,8 @@ use Rattle.cell_rows.proofs.FlatShapes.{Shaped, flat_shaped}
 use Rattle.demand_laws.specs.Stops.{state_of, last_state, goes_on}
 use Rattle.demand_laws.proofs.Indexing.{iterates_none}
 use Rattle.demand_laws.proofs.Stopping.{wants_by_last}
-use Rattle.imp_flow.specs.Near.{row_in}
+use Rattle.imp_flow.specs.Near.{row_in, input_name}
+use Rattle.imp_flow.specs.declared.input.Input.{Input}
 use Rattle.imp_flow.specs.Inputs.{iterate_of as iterate_in}
 use Rattle.imp_flow.specs.Plans.{Plan}
 use Rattle.imp_flow.specs.declared.row.Row.{Row}
@@ -34,7 +35,7 @@ use Rattle.daig_query.specs.Right.{inputs, found, IsRight}
 use Rattle.daig_query.specs.Opened.{name_of, row_at, IsAt, next_of}
 use Rattle.daig_query.proofs.Same.{same_is}
 use Rattle.daig_query.proofs.Lists.{map_next, get_some}
-use Rattle.daig_query.proofs.Found.{Input, input_found, input_value}
+use Rattle.daig_query.proofs.Found.{Input as Found, input_found, input_value}
 use Rattle.daig_query.proofs.Stopping.{Before, nothing, some, last_snoc, goes_state, stops_state}
 use Rattle.daig_query.proofs.Asked.{member_at, if_true, gather_length, same_iterate, X, I, F, r, front, asks, front_length}
 
@@ -109,7 +110,7 @@ module _ {S : Type 0} (dom : Operations S) (plan : Plan) (store : Store S) (row 
       let q = input_found dom plan store at.right o at.entry i (omega arith) in
       subst (λ v. B (suc i) v) (sym (ap (last_state None) (map_next G J i q.0 q.1) ∙ last_snoc None (first i) (G q.0))) (by q.0 q.1 q.2 q.2.cell.value refl q.2.value)
     where
-      by : (y : CellName) (e : slice_get J i ≡ Some y) (q : Input dom plan store at.right o i y) (u : Value Held) → q.cell.value ≡ u → IsValue store.states u (G y) → B (suc i) (state_of (G y).value)
+      by : (y : CellName) (e : slice_get J i ≡ Some y) (q : Found dom plan store at.right o i y) (u : Value Held) → q.cell.value ≡ u → IsValue store.states u (G y) → B (suc i) (state_of (G y).value)
       by y e q (Over m chain) w v = subst (λ c. B (suc i) (state_of c)) (sym v) (nothing (λ j g a b.
           let c : j ≡ i = omega arith in
           let d : Some (Over m chain) ≡ Some (State g) = sym (input_value dom plan store at.right o i y q ∙ ap Some w) ∙ subst (λ x. iterate x ≡ Some (State g)) c b in
@@ -137,7 +138,7 @@ module _ {S : Type 0} (dom : Operations S) (plan : Plan) (store : Store S) (row 
           ∙ wants_by_last dom plan.engine (first j) (G y) (wants_before j h)
           ∙ ap (λ m. goes_on dom plan.engine.budget m (last_state None (first j)) (G y).value) long
 
-      of_value : (y : CellName) (e : slice_get J j ≡ Some y) (q : Input dom plan store at.right o j y) (u : Value Held) → q.cell.value ≡ u → IsValue store.states u (G y) → Told j
+      of_value : (y : CellName) (e : slice_get J j ≡ Some y) (q : Found dom plan store at.right o j y) (u : Value Held) → q.cell.value ≡ u → IsValue store.states u (G y) → Told j
       of_value y e q (Over m chain) w v =
           let none : wants_first dom plan.engine (first (suc j)) ≡ false = step y e ∙ ap (λ c. goes_on dom plan.engine.budget j (last_state None (first j)) c) v in
           record {
@@ -153,7 +154,7 @@ module _ {S : Type 0} (dom : Operations S) (plan : Plan) (store : Store S) (row 
             stops = λ b. stops_state dom store.states at.right.single (λ s t. (same s t).0) (λ s. (same s s).1 refl) plan.engine.budget iterate j (last_state None (first j)) (before j h) (within_budget j h) g s here a zeroed (sym next ∙ b);
           }
 
-      by : (y : CellName) × (slice_get J j ≡ Some y) × Input dom plan store at.right o j y → Told j
+      by : (y : CellName) × (slice_get J j ≡ Some y) × Found dom plan store at.right o j y → Told j
       by (y, e, q) = of_value y e q q.cell.value refl q.value
 
   -- none of the iterates so far but the last is where they stop
@@ -184,3 +185,19 @@ module _ {S : Type 0} (dom : Operations S) (plan : Plan) (store : Store S) (row 
       ∙ ap (λ m. Some (name N.path (iterate_point plan.engine bare n p m))) (sym (front_length dom plan store row o at k at.entry.within))
       ∙ sym (ap (λ b. if b then Some (name N.path (iterate_point plan.engine bare n p (length (first k)))) else None) (wanted none k refl))
       ∙ asks_fix k at.entry.within
+
+  stops_where : (j : ℕ) → k ≡ j → wants_first dom plan.engine (first j) ≡ false → StopsWithin plan.engine.budget iterate k
+  stops_where zero e h = absurd cc
+  stops_where (suc j) e h = let w : j < k = omega arith in (j, w, (told j w).stops h)
+
+  -- what the next one is, by whether they stop
+  pub next_is : (answer : Option Input) → (StopsWithin plan.engine.budget iterate k → answer ≡ None) → ((StopsWithin plan.engine.budget iterate k → ⊥) → option_map (input_name N.path) answer ≡ iterate_in k (r dom plan store row o at)) →
+      option_map (input_name N.path) answer ≡ next_of dom plan store o
+  next_is answer f g = by_bool (wants_first dom plan.engine (first k)) more none
+    where
+      more : wants_first dom plan.engine (first k) ≡ true → option_map (input_name N.path) answer ≡ next_of dom plan store o
+      more h =
+          let apart : StopsWithin plan.engine.budget iterate k → ⊥ = λ (q : StopsWithin plan.engine.budget iterate k). (let c : true ≡ false = sym h ∙ (stopped q.0 q.1 q.2).1 in cc) in
+          g apart ∙ goes_next apart
+      none : wants_first dom plan.engine (first k) ≡ false → option_map (input_name N.path) answer ≡ next_of dom plan store o
+      none h = let s = stops_where k refl h in ap (option_map (input_name N.path)) (f s) ∙ sym (stops_next s)

@@ -8,3 +8,6 @@ pub mod Asked
 pub mod Iterates
 pub mod Fixes
 pub mod Computed
+pub mod Filling
+pub mod Walks
+pub mod Held

@@ -1,5 +1,5 @@
 -- That what an engine keeps is right for a program.
-use Rattle.std.specs.Prelude.{◌≡◌, ℕ, List, Some, slice_get}
+use Rattle.std.specs.Prelude.{◌≡◌, ℕ, List, [], Some, slice_get}
 use Rattle.std.specs.FinMap.{get}
 use Rattle.imp_slots.specs.Fits.{IsChecked}
 use Rattle.domain_laws.specs.Operations.{Operations}
@@ -33,10 +33,11 @@ module _ {S : Type 0} (dom : Operations S) (plan : Plan) where
     pub inputs : AreNumbers store.names.names f.inputs (inputs x)
     pub owned : f.owner ≡ owner x.path x.point
 
-  -- The program is checked; names and states have one number; the names that have cells are names of the program, and
+  -- The program is checked; the first path is empty; names and states have one number; the names that have cells are names of the program, and
   -- closed under inputs; each cell is that of its number's name; and what is remembered are results of operations.
   pub record IsRight (store : Store S) : Type 0 where
     pub checked : IsChecked plan.program
+    pub root : slice_get store.names.paths 0 ≡ Some []
     pub once : IsOnce store.names.names
     pub single : IsOnce store.states
     pub kept : AreCells dom plan.engine plan.program same_name (kept store)

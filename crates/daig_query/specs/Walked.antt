@@ -35,16 +35,20 @@ abbrev pub place_of : {S : Type 0} → List Target → Store S → Walk → law.
 place_of ts store w = law.walk (path_at store.names.paths w.path) (behind_steps w.step (drop w.target ts))
 
 module _ {S : Type 0} (dom : Operations S) (plan : Plan) (ts : List Target) where
-  -- The names that were asked for have cells; of each target that was left behind the cell of the last name is found.
+  -- A walk stands here: the names that were asked for have cells, and of each target that was left behind the cell of the
+  -- last name is found.
+  pub record Stands (store : Store S) (k : law.Walk) (cells : List ℕ) : Type 0 where
+    pub asked : List CellName
+    pub names : demanded (found dom plan) ts ≡ asked ++ names_left (found dom plan) k
+    pub asked_kept : (x : CellName) → member same_name asked x ≡ true → kept store x ≡ true
+    pub lasts : List CellName
+    pub values : map (value_of_target (found dom plan)) ts ≡ map (λ x. (found dom plan x).value) lasts ++ values_left (found dom plan) k
+    pub numbers : AreNumbers store.names.names cells lasts
+    pub there : AreCells store.graph.cells cells
+
   pub record IsPlaced (store : Store S) (w : Walk) : Type 0 where
     pub path : w.path < length store.names.paths
-    pub asked : List CellName
-    pub names : demanded (found dom plan) ts ≡ asked ++ names_left (found dom plan) (place_of ts store w)
-    pub kept : (x : CellName) → member same_name asked x ≡ true → kept store x ≡ true
-    pub lasts : List CellName
-    pub values : map (value_of_target (found dom plan)) ts ≡ map (λ x. (found dom plan x).value) lasts ++ values_left (found dom plan) (place_of ts store w)
-    pub numbers : AreNumbers store.names.names w.found.items lasts
-    pub cells : AreCells store.graph.cells w.found.items
+    pub stands : Stands store (place_of ts store w) w.found.items
 
   -- The names that are being filled: the name that is asked for, and of each the next input.
   pub record IsStacked (store : Store S) (w : Walk) : Type 0 where

@@ -15,12 +15,11 @@ use crate::operations::{apply, operation_of};
 use crate::store::Store;
 use cell_names::{Names, PathId};
 use daig_graph::{Graph, SharedChain, Value};
-use demand_laws::{indices_stay, iterates_stop, rows_are_a_machine};
 use domain_laws::{Domain, Steps};
 use imp_flow::{Flow, Row, Unary};
 use imp_syntax::{Chain, StmtId};
 use loop_unroll::converged;
-use memo_table::{Key, results_stay};
+use memo_table::Key;
 use plain_values::{Items, Memory};
 use state_table::Table;
 use std::alloc::Global;
@@ -52,7 +51,7 @@ fn held_at(graph: &Graph<Held>, cells: &[usize], place: usize) -> Option<Held>
 /// Of iterates that stop at one that is the state of the iterate before it: that state, with that one's index.
 fn settled(graph: &Graph<Held>, cells: &[usize]) -> Held
     requires equal { IsEqual (iterate_of graph.now.cells cells.now) (length cells.now - 1) }
-    requires small { length cells.now < 2 ^ 32 }
+    requires small { length cells.now ≤ 2 ^ 32 }
     ensures is { IfSome (state_in (iterate_of graph.now.cells cells.now (length cells.now - 2))) (λ s. result ≡ record { state = s.state; index = length cells.now - 2 }) }
 {
     let index = cells.len() - 2;
@@ -93,9 +92,6 @@ fn fixed<D: Domain>(
     requires fixed { (p : _) × (row.now ≡ Fixed head p) }
     ensures value { IfOk result (λ v. IsValue store.now.states v (found (D.operations dom.now) flow.now (name_of store.now entry.now))) }
 {
-    rows_are_a_machine::<D>();
-    iterates_stop::<D>();
-    indices_stay::<D>();
     let cells = entry.inputs.as_slice();
     if converged(&store.graph, flow.budget(), cells) {
         Ok(Value::State(settled(&store.graph, cells)))
@@ -147,7 +143,6 @@ fn result_of<D: Domain, L: Ledger>(
     ensures least { steps.old ≤ steps.new }
     ensures most { steps.new ≤ steps.old + D.counted dom.now }
 {
-    results_stay::<D::State>();
     let operation = store.operations.intern(operation_of(alloc, row)?)?;
     let key = Key {
         operation,
@@ -188,7 +183,6 @@ fn applied<D: Domain, L: Ledger>(
     ensures least { steps.old ≤ steps.new }
     ensures most { steps.new ≤ steps.old + D.counted dom.now }
 {
-    rows_are_a_machine::<D>();
     let cells = entry.inputs.as_slice();
     let left = held_at(&store.graph, cells, 0);
     let right = held_at(&store.graph, cells, 1);
@@ -221,8 +215,6 @@ pub(crate) fn compute<D: Domain, L: Ledger>(
     ensures least { steps.old ≤ steps.new }
     ensures most { steps.new ≤ steps.old + D.counted dom.now }
 {
-    rows_are_a_machine::<D>();
-    iterates_stop::<D>();
     if let Some((head, chain)) = first_over(&store.graph, entry.inputs.as_slice()) {
         let chain = chain.clone()?;
         return Ok(Value::Over { head, chain });

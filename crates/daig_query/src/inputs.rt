@@ -1,5 +1,5 @@
 //! What a row asks for next.
-ghost use Rattle.std.specs.Prelude.{◌≡◌, ◌<◌, length, None, option_map};
+ghost use Rattle.std.specs.Prelude.{◌≡◌, List, length, None, option_map};
 ghost use Rattle.daig_graph.specs.Cells.{AreCells};
 ghost use Rattle.loop_unroll.specs.Iterates.{iterate_of, value_at, GoesOnTo, StopsWithin};
 ghost use Rattle.imp_flow.specs.Near.{PathFrame, input_name, row_in};
@@ -11,7 +11,6 @@ use crate::held::Held;
 use crate::opening::Open;
 use crate::store::Store;
 use daig_graph::{Graph, Value};
-use demand_laws::{indices_stay, iterates_stop, rows_are_a_machine};
 use domain_laws::Domain;
 use imp_flow::{Flow, Input, Row};
 use loop_unroll::next_wanted;
@@ -75,9 +74,6 @@ pub(crate) fn next_input<D: Domain>(
     requires at { IsAt (D.operations dom.now) flow.now store.now row.now entry.now }
     ensures next { option_map (input_name (name_of store.now entry.now).path) result ≡ next_of (D.operations dom.now) flow.now store.now entry.now }
 {
-    rows_are_a_machine::<D>();
-    iterates_stop::<D>();
-    indices_stay::<D>();
     let found = entry.inputs.as_slice();
     match row {
         Row::Fixed(_, _) => next_iterate(&store.graph, flow.budget(), row, found),

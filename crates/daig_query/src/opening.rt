@@ -26,12 +26,12 @@ pub(crate) struct Open {
 }
 
 /// A name none of whose inputs is found yet.
-pub(crate) fn opened(alloc: Global, cell: usize, name: Name) -> Open
-    ensures is { result ≡ record { cell = cell; name = name; inputs = [] } }
+pub(crate) fn opened(alloc: Global, cell: usize, name: &Name) -> Open
+    ensures is { result ≡ record { cell = cell; name = name.now; inputs = [] } }
 {
     Open {
         cell,
-        name,
+        name: *name,
         inputs: Inputs::new(alloc),
     }
 }
@@ -66,7 +66,7 @@ pub(crate) fn next_absent<D: Domain>(
         let name = input.name(&mut store.names, entry.name.path)?;
         let cell = store.names.add(name)?;
         if store.graph.value(cell).is_none() {
-            return Ok(Some(opened(alloc, cell, name)));
+            return Ok(Some(opened(alloc, cell, &name)));
         }
         entry.inputs.push(cell)?;
     }

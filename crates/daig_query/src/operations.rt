@@ -93,7 +93,7 @@ pub(crate) fn apply<D: Domain, L: Ledger>(
     steps: &mut Steps<L>,
 ) -> Result<D::State, Memory>
     requires there { IsSome (row_result (D.operations dom.now) row.now (option_copied left) (option_copied right)) }
-    ensures is { IfOk result (λ t. row_result (D.operations dom.now) row.now (option_copied left) (option_copied right) ≡ Some t) }
+    ensures is { IfOk result (λ t. row_result (D.operations dom.now) row.now (option_copied left.entry) (option_copied right.entry) ≡ Some t) }
     ensures ticked { steps.new ≡ steps.old + D.counted dom.now }
 {
     match (row, left, right) {

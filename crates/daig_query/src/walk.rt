@@ -4,14 +4,13 @@ ghost use Rattle.cell_names.specs.Paths.{path_at};
 ghost use Rattle.imp_flow.specs.Reached.{target_of};
 ghost use Rattle.daig_query.specs.Kept.{Names as OnlyNames};
 ghost use Rattle.daig_query.specs.Right.{IsRight};
-ghost use Rattle.daig_query.specs.Walked.{IsPlaced, IsStacked, IsAsked, AreTargets, AreAbsent};
+ghost use Rattle.daig_query.specs.Walked.{IsPlaced, IsStacked, IsAsked, AreTargets};
 
 use crate::held::Held;
 use crate::opening::{Open, opened};
 use crate::store::Store;
 use cell_names::{Frame, Name, Names, PathId, Point};
 use daig_graph::{Graph, Value};
-use demand_laws::{demands_are_walked, rows_are_a_machine};
 use domain_laws::Domain;
 use imp_flow::{Flow, Step, Target};
 use imp_syntax::StmtId;
@@ -92,7 +91,7 @@ fn take<D: Domain>(
     };
     let cell = store.names.add(name)?;
     match store.graph.value(cell) {
-        None => return Ok(Some(opened(alloc, cell, name))),
+        None => return Ok(Some(opened(alloc, cell, &name))),
         Some(Value::State(held)) => {
             walk.enter(&mut store.names, Frame::InLoop(head, held.index))?;
         }
@@ -118,7 +117,7 @@ fn last<D: Domain>(
     };
     let cell = store.names.add(name)?;
     if store.graph.value(cell).is_none() {
-        return Ok(Some(opened(alloc, cell, name)));
+        return Ok(Some(opened(alloc, cell, &name)));
     }
     walk.next_target(cell)?;
     Ok(None)
