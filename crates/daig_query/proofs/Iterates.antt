@@ -86,6 +86,12 @@ module _ {S : Type 0} (dom : Operations S) (plan : Plan) (store : Store S) (row 
       let e : t.most N ≡ suc plan.engine.budget = ap (λ q. by_row dom plan.engine q 0 (most_row dom plan.engine)) (at.its_row ∙ ap Some row_is) in
       omega arith
 
+  pub many_inputs : k ≤ suc plan.engine.budget
+  many_inputs =
+      let a : k ≤ length J = at.entry.within in
+      let b : length J ≤ suc plan.engine.budget = most in
+      omega arith
+
   pub within_budget : (j : ℕ) → j < k → j ≤ plan.engine.budget
   within_budget j h =
       let a : k ≤ length J = at.entry.within in

@@ -10,4 +10,3 @@ pub mod Fixes
 pub mod Computed
 pub mod Filling
 pub mod Walks
-pub mod Held

@@ -1,6 +1,9 @@
-use Rattle.std.proofs.Common.{◌≡◌, length, sym, subst, ap, ◌∙◌, option_map}
+use Rattle.std.proofs.Common.{◌≡◌, None, length, sym, subst, ap, ◌∙◌, option_map}
 use Rattle.loop_unroll.specs.Iterates.{iterate_of, GoesOnTo, StopsWithin}
+use Rattle.imp_flow.specs.Near.{input_name}
+use Rattle.imp_flow.specs.Inputs.{iterate_of as iterate_in}
 use Rattle.daig_query.specs.Asked.{by_count, joined_next}
+use Rattle.daig_query.specs.Opened.{name_of}
 use Rattle.daig_query.proofs.Asked.{asked_operation, asked_joined, X, r}
 use Rattle.daig_query.proofs.Iterates.{going, next_is}
 use Rattle.daig_query.proofs.inputs.next_input.Goals as goal
@@ -17,7 +20,26 @@ next_iterate-requires-clause-earlier g c =
     )
 
 pub returns-in-Fixed : goal.returns-in-Fixed
-returns-in-Fixed g c = ?
+returns-in-Fixed g c =
+    let dom = g.D.Domain.operations c.args.dom.now in
+    let plan = c.args.flow.now in
+    let store = c.args.store.now in
+    let cells = store.graph.cells in
+    let xs = c.as_slice-found.result.now in
+    let path = (name_of store c.args.entry.now).path in
+    let row = r dom plan store c.args.row.now c.args.entry.now c.requires.at in
+    let answer = c.next_iterate.result in
+    let stops : StopsWithin plan.engine.budget (iterate_of cells c.args.entry.now.inputs) (length c.args.entry.now.inputs) → answer ≡ None =
+        subst (λ ys. StopsWithin plan.engine.budget (iterate_of cells ys) (length ys) → answer ≡ None) c.as_slice-found.ensures.same (
+          subst (λ b. StopsWithin b (iterate_of cells xs) (length xs) → answer ≡ None) c.budget.ensures.is c.next_iterate.ensures.stops
+        )
+    in
+    let goes : (StopsWithin plan.engine.budget (iterate_of cells c.args.entry.now.inputs) (length c.args.entry.now.inputs) → ⊥) → option_map (input_name path) answer ≡ iterate_in (length c.args.entry.now.inputs) row =
+        subst (λ ys. (StopsWithin plan.engine.budget (iterate_of cells ys) (length ys) → ⊥) → option_map (input_name path) answer ≡ iterate_in (length ys) row) c.as_slice-found.ensures.same (
+          subst (λ b. (StopsWithin b (iterate_of cells xs) (length xs) → ⊥) → option_map (input_name path) answer ≡ iterate_in (length xs) row) c.budget.ensures.is (λ h. c.next_iterate.ensures.goes h path)
+        )
+    in
+    record { next = next_is dom plan store c.args.row.now c.args.entry.now c.requires.at (g.met.D.Domain.laws c.args.dom.now).same c.in-Fixed.field-0 c.in-Fixed.field-1 c.in-Fixed.is answer stops goes }
 
 pub returns-in-Joins : goal.returns-in-Joins
 returns-in-Joins g c =
@@ -33,4 +55,14 @@ returns-in-Joins g c =
     }
 
 pub returns-in_default : goal.returns-in_default
-returns-in_default g c = ?
+returns-in_default g c =
+    let dom = g.D.Domain.operations c.args.dom.now in
+    let plan = c.args.flow.now in
+    let store = c.args.store.now in
+    let row = r dom plan store c.args.row.now c.args.entry.now c.requires.at in
+    record {
+      next =
+        c.next_of_operation.ensures.is (name_of store c.args.entry.now).path
+        ∙ ap (λ xs. by_count (length xs) row) c.as_slice-found.ensures.same
+        ∙ asked_operation dom plan store c.args.row.now c.args.entry.now c.requires.at c.in_default.not-Fixed c.in_default.not-Joins;
+    }
