@@ -8,7 +8,7 @@ use Rattle.domain_laws.specs.Operations.{Operations}
 use Rattle.batch_meaning.specs.Values as batch
 use Rattle.batch_meaning.specs.Batch.{Engine}
 use Rattle.demand_order.specs.Order.{member}
-use Rattle.demand_order.specs.Asking.{gather, gather_next, inputs_of}
+use Rattle.demand_order.specs.Asking.{gather, gather_next, inputs_of, value_of}
 use Rattle.cell_names.specs.declared.frame.Frame.{Frame}
 use Rattle.cell_names.specs.declared.frame.Frame.TheVariants.{InLoop}
 use Rattle.cell_names.specs.declared.frame.Point.{Point}
@@ -154,3 +154,12 @@ module _ {S : Type 0} (dom : Operations S) (plan : Plan) (store : Store S) (row 
       ∙ joined_asks dom plan store at.right o.inputs (take (length o.inputs) I) at.entry.numbers at.entry.cells s (name X.path l) n X.path p
       ∙ ap (λ q. asks_row dom plan.engine (row_in X.path q) (front (length o.inputs))) (sym e)
       ∙ asks (length o.inputs) at.entry.within
+
+  -- at most as many inputs as the row may have
+  pub most_inputs : length I ≤ most_row dom plan.engine r
+  unfolding inputs inputs_of
+  most_inputs =
+      let t = rows_of dom plan.engine plan.program same_name in
+      let h : length I ≤ t.most X = gather_length (value_of t) (t.asks X) (t.most X) [] in
+      let e : t.most X ≡ most_row dom plan.engine r = ap (λ q. by_row dom plan.engine q 0 (most_row dom plan.engine)) at.its_row in
+      subst (λ m. length I ≤ m) e h

@@ -31,7 +31,7 @@ use Rattle.loop_unroll.specs.Iterates.{iterate_of, state_in}
 use Rattle.daig_query.specs.declared.held.Held.{Held}
 use Rattle.daig_query.specs.declared.store.Store.{Store}
 use Rattle.daig_query.specs.Kept.{Cells, IsValue, AreNumbers}
-use Rattle.daig_query.specs.Made.{IsOperationOf, unary_state, binary_state, row_result, index_in, state_at}
+use Rattle.daig_query.specs.Made.{IsOperationOf, unary_state, binary_state, row_result, index_in, alone_in, number, state_at}
 use Rattle.daig_query.specs.Overs.{HasNoOver}
 use Rattle.daig_query.specs.Right.{found, IsRight}
 use Rattle.daig_query.proofs.Found.{stored, is_there}
@@ -54,9 +54,6 @@ pub operand_is : {S : Type 0} (dom : Operations S) (states : List S) (n : Option
 operand_is dom states None = refl
 operand_is dom states (Some n) = refl
 
-abbrev pub number : Option Held → Option ℕ
-number h = option_map (λ (x : Held). x.state) h
-
 module _ {S : Type 0} (states : List S) where
   -- these are states, each under its number
   pub data AreHeld : List Held → List (Cell S) → Type 0 where
@@ -78,8 +75,8 @@ module _ {S : Type 0} (states : List S) where
 
     -- where all inputs are found, there is a result, but of a join with its left input alone
     pub data Made (row : Row) (w : List Frame) (hs : List Held) (vs : List (Cell S)) : Type 0 where
-      result : (t : S) → row_result dom row (left hs) (right hs) ≡ Some t → operation_row dom engine (row_in w row) vs ≡ cell (batch.State t) (index_in row (slice_get hs 0)) → Made row w hs vs
-      alone : (h : Held) (s : S) (b : Bool) (p q : Point) (n : ℕ) → row ≡ Joins b p n q → hs ≡ h ∷ [] → slice_get states h.state ≡ Some s → operation_row dom engine (row_in w row) vs ≡ cell (batch.State s) (index_in row (Some h)) → Made row w hs vs
+      result : (t : S) → row_result dom row (left hs) (right hs) ≡ Some t → operation_row dom engine (row_in w row) vs ≡ cell (batch.State t) (index_in row (slice_get hs 0)) → alone_in row (slice_get hs 0) (slice_get hs 1) ≡ None → Made row w hs vs
+      alone : (h : Held) (s : S) → alone_in row (slice_get hs 0) (slice_get hs 1) ≡ Some h → slice_get states h.state ≡ Some s → operation_row dom engine (row_in w row) vs ≡ cell (batch.State s) (index_in row (slice_get hs 0)) → Made row w hs vs
 
     one_row : (op : Unary) (a : Input) (w : List Frame) (h : Held) (s : S) (vs : List (Cell S)) → operation_row dom engine (row_in w (One op a)) (cell (batch.State s) h.index ∷ vs) ≡ cell (batch.State (unary_state dom op s)) (index_in (One op a) (Some h))
     one_row (one.Post x) a w h s vs = refl
@@ -105,22 +102,22 @@ module _ {S : Type 0} (states : List S) where
     both_there f m k s t e g = rw (e, g) refl
 
     pub row_made : (row : Row) → ((n : ℕ) (p : Point) → row ≢ Fixed n p) → (w : List Frame) (hs : List Held) (vs : List (Cell S)) → AreHeld hs vs → asks_row dom engine (row_in w row) vs ≡ None → Made row w hs vs
-    row_made (Init layout) f w hs vs held e = result (dom.init layout.now) refl refl
+    row_made (Init layout) f w hs vs held e = result (dom.init layout.now) refl refl refl
     row_made (One op x) f w _ _ none e = absurd cc
     row_made (One op x) f w _ _ (more {hs = hs} {vs = vs} h v s at is rest) e =
-        result (unary_state dom op s) (ap (option_map (unary_state dom op)) at) (ap (λ c. operation_row dom engine (row_in w (One op x)) (c ∷ vs)) is ∙ one_row op x w h s vs)
+        result (unary_state dom op s) (ap (option_map (unary_state dom op)) at) (ap (λ c. operation_row dom engine (row_in w (One op x)) (c ∷ vs)) is ∙ one_row op x w h s vs) refl
     row_made (Two op x y) f w _ _ none e = absurd cc
     row_made (Two op x y) f w _ _ (more h v s at is none) e = absurd cc
     row_made (Two op x y) f w _ _ (more h v s at is (more {hs = hs} {vs = vs} g u t bt was rest)) e =
         result (binary_state dom op s t) (both_there (binary_state dom op) h.state g.state s t at bt)
-        (ap (λ c. operation_row dom engine (row_in w (Two op x y)) (c ∷ u ∷ vs)) is ∙ ap (λ c. operation_row dom engine (row_in w (Two op x y)) (cell (batch.State s) h.index ∷ c ∷ vs)) was ∙ two_row op x y w s t h.index g.index vs)
+        (ap (λ c. operation_row dom engine (row_in w (Two op x y)) (c ∷ u ∷ vs)) is ∙ ap (λ c. operation_row dom engine (row_in w (Two op x y)) (cell (batch.State s) h.index ∷ c ∷ vs)) was ∙ two_row op x y w s t h.index g.index vs) refl
     row_made (Fixed n p) f w hs vs held e = absurd (f n p refl)
     row_made (Joins b l n q) f w _ _ none e = absurd cc
     row_made (Joins b l n q) f w _ _ (more h v s at is none) e =
-        alone h s b l q n refl refl at (ap (λ c. operation_row dom engine (row_in w (Joins b l n q)) (c ∷ [])) is ∙ alone_row b l n q w h s)
+        alone h s refl at (ap (λ c. operation_row dom engine (row_in w (Joins b l n q)) (c ∷ [])) is ∙ alone_row b l n q w h s)
     row_made (Joins b l n q) f w _ _ (more h v s at is (more {hs = hs} {vs = vs} g u t bt was rest)) e =
         result (dom.join s t) (both_there dom.join h.state g.state s t at bt)
-        (ap (λ c. operation_row dom engine (row_in w (Joins b l n q)) (c ∷ u ∷ vs)) is ∙ ap (λ c. operation_row dom engine (row_in w (Joins b l n q)) (cell (batch.State s) h.index ∷ c ∷ vs)) was ∙ join_row b l n q w h s t g.index vs)
+        (ap (λ c. operation_row dom engine (row_in w (Joins b l n q)) (c ∷ u ∷ vs)) is ∙ ap (λ c. operation_row dom engine (row_in w (Joins b l n q)) (cell (batch.State s) h.index ∷ c ∷ vs)) was ∙ join_row b l n q w h s t g.index vs) refl
 
 -- what the cells of inputs hold, where none is an Over
 pub record Holds {S : Type 0} (states : List S) (cells : Cells) (ns : List ℕ) (vs : List (Cell S)) : Type 0 where

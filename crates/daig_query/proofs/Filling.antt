@@ -45,16 +45,27 @@ or_right true b h = refl
 or_right false b h = h
 
 module _ {S : Type 0} (dom : Operations S) (plan : Plan) where
+  -- a name that has no cell has none under its number
+  pub absent_get : (store : Store S) → IsRight dom plan store → (n : ℕ) (x : CellName) → slice_get store.names.names n ≡ Some x → kept store x ≡ false → get store.graph.cells n ≡ None
+  absent_get store right n x e h = go (get store.graph.cells n) refl
+    where
+      go : (o : Option (Filled Held)) → get store.graph.cells n ≡ o → o ≡ None
+      go None k = refl
+      go (Some f) k =
+          let a : kept store x ≡ true = ap is_some (filled_number store.graph.cells store.names.names right.once x n e ∙ k) in
+          let c : true ≡ false = sym a ∙ h in
+          absurd cc
+
   pub computes_grow : (old new : Store S) → Computes dom plan old new → Grows old new
   computes_grow old new h = record {
     paths = keeps_same old.names.paths new.names.paths (ap (λ k. k.paths) h.names);
     names = keeps_same old.names.names new.names.names (ap (λ k. k.names) h.names);
     states = h.states;
-    cells = λ n f e. subst (λ g. get g.cells n ≡ Some f) (sym h.graph) e;
+    cells = λ n f e. subst (λ m. get m n ≡ Some f) (sym h.cells) e;
   }
 
   pub computes_kept : (old new : Store S) → Computes dom plan old new → (y : CellName) → kept new y ≡ kept old y
-  computes_kept old new h y = ap (λ g. is_some (filled_at g.cells new.names.names y)) h.graph ∙ ap (λ k. is_some (filled_at old.graph.cells k.names y)) h.names
+  computes_kept old new h y = ap (λ m. is_some (filled_at m new.names.names y)) h.cells ∙ ap (λ k. is_some (filled_at old.graph.cells k.names y)) h.names
 
   module _ (mid new : Store S) (right : IsRight dom plan mid) (n : ℕ) (x : CellName) (f : Filled Held)
       (number : slice_get mid.names.names n ≡ Some x) (absent : get mid.graph.cells n ≡ None) (has : HasName plan.engine plan.program x) (is : IsCellOf dom plan mid x f) (there : AreCells mid.graph.cells f.inputs)
@@ -174,5 +185,5 @@ module _ {S : Type 0} (dom : Operations S) (plan : Plan) where
       right = right_new;
       grows = grows_trans old mid new (computes_grow old mid c) grows;
       adds = λ y. adds y ∙ ap (λ b. b || same_name y x) (computes_kept old mid c y);
-      count = one_more ∙ ap (λ g. suc (len g.cells)) c.graph;
+      count = one_more ∙ ap (λ m. suc (len m)) c.cells;
     }

@@ -68,7 +68,7 @@ pub held_of_states : (h : Held) → state_in (Some (State h)) ≡ Some h
 held_of_states h = refl
 
 module _ {S : Type 0} (dom : Operations S) (plan : Plan) (store : Store S) (row : Row) (o : Open) (ready : IsReady dom plan store row o) (same : (s t : S) → (dom.same s t ≡ true) ↔ (s ≡ t))
-    (n : ℕ) (p : Point) (fixed : row ≡ Fixed n p) (states : HasNoOver store.graph.cells o.inputs (length o.inputs)) where
+    (n : ℕ) (p : Point) (fixed : row ≡ Fixed n p) where
   abbrev M : CellName
   M = N dom plan store row o ready.at same n p fixed
 
@@ -143,6 +143,16 @@ module _ {S : Type 0} (dom : Operations S) (plan : Plan) (store : Store S) (row 
       let go = going dom plan store row o ready.at same n p fixed in
       grind (arith, λ (l : suc m < count). go m l (inr (inl q)))
 
+  -- an Over among them is the last, and the fixed point's
+  pub overs : (i : ℕ) → i < count → (m : ℕ) (chain : List ℕ) → at_place i ≡ Some (Over m chain) → (H M).value ≡ batch.Over m (reverse chain)
+  overs i h m chain e =
+      let go = going dom plan store row o ready.at same n p fixed in
+      let last : suc i ≡ count = grind (arith, λ (l : suc i < count). go i l (inl (Over m chain, e, tt))) in
+      let q = input_found dom plan store ready.at.right o ready.at.entry i h in
+      let value : q.2.cell.value ≡ Over m chain = some_inj q.2.cell.value (Over m chain) (sym (input_value dom plan store ready.at.right o i q.0 q.2) ∙ e) in
+      let v : (H q.0).value ≡ batch.Over m (reverse chain) = subst (λ u. IsValue store.states u (H q.0)) value q.2.value in
+      ap (λ (c : Cell S). c.value) (by_last i (sym last) q.0 q.1 ∙ ap (λ c. stops_with dom over i (last_state None (begin i)) c) v)
+
   -- of iterates that converge: the one before the last
   pub converges : ConvergesWithin at_place count → IsEqual at_place (count - 1)
   converges (m, h, q) =
@@ -200,8 +210,8 @@ module _ {S : Type 0} (dom : Operations S) (plan : Plan) (store : Store S) (row 
           absurd (apart (m, g, d, c, a ∙ ap (λ x. Some (State x)) fg))
       by false e = ap (λ b. if b then cell (batch.State t) (pred j) else plain over) e
 
-  pub spends : (ConvergesWithin at_place count → ⊥) → IsValue store.states (Over n (reverse (sites_of M.path))) (H M)
-  spends apart =
+  pub spends : HasNoOver store.graph.cells o.inputs (length o.inputs) → (ConvergesWithin at_place count → ⊥) → IsValue store.states (Over n (reverse (sites_of M.path))) (H M)
+  spends states apart =
       let l = some_iterate count refl in
       by l.0 l.1 (input_found dom plan store ready.at.right o ready.at.entry l.0 (omega arith))
     where

@@ -10,3 +10,6 @@ pub mod Fixes
 pub mod Computed
 pub mod Filling
 pub mod Walks
+pub mod Remembered
+pub mod Applied
+pub mod Overs

@@ -80,3 +80,18 @@ index_in (One op a) h = index_if_exit op h
 index_in (Two op a b) h = 0
 index_in (Fixed n p) h = 0
 index_in (Joins stays left n right) h = index_if_stays stays h
+
+-- the left input of a join behind a loop with breaks, where it is alone
+abbrev pub alone_in : Row → Option Held → Option Held → Option Held
+alone_in (Init layout) l r = None
+alone_in (One op a) l r = None
+alone_in (Two op a b) l r = None
+alone_in (Fixed n p) l r = None
+alone_in (Joins stays left n right) None r = None
+alone_in (Joins stays left n right) (Some h) None = Some h
+alone_in (Joins stays left n right) (Some h) (Some g) = None
+
+-- the number of the state that is held
+abbrev pub number : Option Held → Option ℕ
+number None = None
+number (Some h) = Some h.state

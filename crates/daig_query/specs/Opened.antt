@@ -55,7 +55,7 @@ module _ {S : Type 0} (dom : Operations S) (plan : Plan) where
 
   -- a store once more, right again, with more states, operations and results
   pub record Computes (old new : Store S) : Type 0 where
-    pub graph : new.graph ≡ old.graph
+    pub cells : new.graph.cells ≡ old.graph.cells
     pub names : new.names ≡ old.names
     pub states : KeepsNumbers old.states new.states
     pub right : IsRight dom plan new

@@ -4,7 +4,7 @@ ghost use Rattle.cell_names.specs.Paths.{path_at, sites_of};
 ghost use Rattle.loop_unroll.specs.Iterates.{iterate_of, state_in, IsEqual};
 ghost use Rattle.daig_query.specs.Kept.{IsValue};
 ghost use Rattle.daig_query.specs.Right.{found, IsRight};
-ghost use Rattle.daig_query.specs.Made.{index_in, row_result, state_at};
+ghost use Rattle.daig_query.specs.Made.{alone_in, index_in, number, row_result, state_at};
 ghost use Rattle.daig_query.specs.Opened.{name_of, IsReady, Computes};
 ghost use Rattle.daig_query.specs.Overs.{HasNoOver, IsFirstOver};
 ghost use Rattle.imp_flow.specs.declared.row.Row.TheVariants.{Fixed};
@@ -112,6 +112,26 @@ fn index_of(row: &Row<'_>, left: Option<Held>) -> u32
     }
 }
 
+/// The left input of a join behind a loop with breaks, where it is alone.
+fn alone(row: &Row<'_>, left: Option<Held>, right: Option<Held>) -> Option<Held>
+    ensures is { result ≡ alone_in row.now left right }
+{
+    match (row, left, right) {
+        (Row::Joins(_, _, _, _), Some(held), None) => Some(held),
+        _ => None,
+    }
+}
+
+/// The number of the state that is held.
+fn number(held: Option<Held>) -> Option<usize>
+    ensures is { result ≡ number held }
+{
+    match held {
+        None => None,
+        Some(held) => Some(held.state),
+    }
+}
+
 /// The state that has a number.
 fn operand<S: Eq + Hash + Drop>(states: &Table<S>, number: Option<usize>) -> Option<&S>
     requires known { IfSome number (λ n. n < length states.now) }
@@ -187,14 +207,20 @@ fn applied<D: Domain, L: Ledger>(
     let left = held_at(&store.graph, cells, 0);
     let right = held_at(&store.graph, cells, 1);
     let index = index_of(row, left);
-    let state = match (row, left, right) {
-        (Row::Joins(_, _, _, _), Some(left), None) => left.state,
-        _ => {
-            let left = left.map(|held| held.state);
-            let right = right.map(|held| held.state);
-            result_of(alloc, dom, flow, store, row, left, right, steps)?
-        }
-    };
+    if let Some(held) = alone(row, left, right) {
+        let state = held.state;
+        return Ok(Value::State(Held { state, index }));
+    }
+    let state = result_of(
+        alloc,
+        dom,
+        flow,
+        store,
+        row,
+        number(left),
+        number(right),
+        steps,
+    )?;
     Ok(Value::State(Held { state, index }))
 }
 

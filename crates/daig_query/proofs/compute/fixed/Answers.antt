@@ -27,7 +27,7 @@ settled-requires-clause-equal g c =
     let cells = store.graph.cells in
     let done : ConvergesWithin (iterate_of cells c.as_slice-cells.result.now) (length c.as_slice-cells.result.now) = c.converged.ensures.0 c.if-converged.true in
     subst (λ xs. IsEqual (iterate_of cells xs) (length xs - 1)) (sym c.as_slice-cells.ensures.same) (
-      converges dom plan store c.args.row.now c.args.entry.now c.requires.ready (g.met.D.Domain.laws c.args.dom.now).same c.args.head c.requires.fixed.0 c.requires.fixed.1 c.requires.states (
+      converges dom plan store c.args.row.now c.args.entry.now c.requires.ready (g.met.D.Domain.laws c.args.dom.now).same c.args.head c.requires.fixed.0 c.requires.fixed.1 (
         subst (λ xs. ConvergesWithin (iterate_of cells xs) (length xs)) c.as_slice-cells.ensures.same done
       )
     )
@@ -51,11 +51,11 @@ returns-then-converged g c =
     let cells = store.graph.cells in
     let xs = c.args.entry.now.inputs in
     let done : ConvergesWithin (iterate_of cells c.as_slice-cells.result.now) (length c.as_slice-cells.result.now) = c.converged.ensures.0 c.if-converged.true in
-    let equal = converges dom plan store c.args.row.now c.args.entry.now c.requires.ready (g.met.D.Domain.laws c.args.dom.now).same c.args.head c.requires.fixed.0 c.requires.fixed.1 c.requires.states (
+    let equal = converges dom plan store c.args.row.now c.args.entry.now c.requires.ready (g.met.D.Domain.laws c.args.dom.now).same c.args.head c.requires.fixed.0 c.requires.fixed.1 (
       subst (λ ys. ConvergesWithin (iterate_of cells ys) (length ys)) c.as_slice-cells.ensures.same done
     ) in
     record {
-      value = settled_is dom plan store c.args.row.now c.args.entry.now c.requires.ready (g.met.D.Domain.laws c.args.dom.now).same c.args.head c.requires.fixed.0 c.requires.fixed.1 c.requires.states equal c.settled.result (
+      value = settled_is dom plan store c.args.row.now c.args.entry.now c.requires.ready (g.met.D.Domain.laws c.args.dom.now).same c.args.head c.requires.fixed.0 c.requires.fixed.1 equal c.settled.result (
         subst (λ ys. IfSome (state_in (iterate_of cells ys (length ys - 2))) (λ s. c.settled.result ≡ record { state = s.state; index = length ys - 2 })) c.as_slice-cells.ensures.same c.settled.ensures.is
       );
     }
