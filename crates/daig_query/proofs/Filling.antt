@@ -1,6 +1,7 @@
 -- One cell more.
-use Rattle.std.proofs.Common.{◌≡◌, ◌≢◌, ℕ, zero, suc, ◌+◌, ◌<◌, ◌⊎◌, ◌||◌, List, [], ◌∷◌, length, Option, Some, None, Bool, true, false, cond, slice_get, refl, sym, ap, subst, ◌∙◌, inl, inr, arith, add-one}
-use Rattle.std.specs.Prelude.{is_some, IsSome}
+use Rattle.std.proofs.Common.{◌≡◌, ◌≢◌, ℕ, zero, suc, ◌+◌, ◌<◌, ◌≤◌, ◌⊎◌, ◌||◌, List, [], ◌∷◌, take, length, Option, Some, None, Bool, true, false, cond, slice_get, refl, sym, ap, subst, ◌∙◌, inl, inr, arith, add-one}
+use Rattle.std.specs.Prelude.{is_some, IsSome, Result, Ok, Err, OnOk, OnErr}
+use Rattle.std.proofs.Math.Seq.{take-length}
 use Rattle.std.specs.Option.{option_and_then}
 use Rattle.std.specs.Cmp.{nat_cmp_total}
 use Rattle.std.specs.FinMap.{get, insert, len, len-insert, contains_key}
@@ -20,12 +21,15 @@ use Rattle.daig_graph.specs.Cells.{AreCells, Filled}
 use Rattle.daig_graph.proofs.Maps.{get-insert-here, get-insert-other}
 use Rattle.daig_graph.proofs.Cases.{same_number}
 use Rattle.daig_query.specs.declared.held.Held.{Held}
+use Rattle.imp_flow.specs.declared.row.Row.{Row}
+use Rattle.daig_query.specs.declared.opening.Open.{Open}
 use Rattle.daig_query.specs.declared.store.Store.{Store}
 use Rattle.daig_query.specs.Same.{same_name}
 use Rattle.daig_query.specs.Kept.{filled_at, number_of, kept, IsValue, AreNumbers, Grows}
 use Rattle.daig_query.specs.Right.{inputs, found, IsCellOf, IsRight}
-use Rattle.daig_query.specs.Opened.{Puts, Computes}
+use Rattle.daig_query.specs.Opened.{name_of, IsReady, next_of, Puts, Computes}
 use Rattle.daig_query.proofs.Same.{same_is}
+use Rattle.daig_query.proofs.Lists.{get_some}
 use Rattle.daig_query.proofs.Growing.{keeps_refl, keeps_same, grows_trans}
 use Rattle.daig_query.proofs.Numbers.{number_there, filled_number, filled_named, numbers_of}
 
@@ -44,7 +48,31 @@ or_right : (a b : Bool) → b ≡ true → (a || b) ≡ true
 or_right true b h = refl
 or_right false b h = h
 
+pub on_ok : {A E P Q : Type 0} (r : Result A E) → OnOk r P → (P → Q) → OnOk r Q
+on_ok (Ok a) h f = f h
+on_ok (Err e) h f = tt
+
+pub on_err : {A E P Q : Type 0} (r : Result A E) → OnErr r P → (P → Q) → OnErr r Q
+on_err (Ok a) h f = tt
+on_err (Err e) h f = f h
+
 module _ {S : Type 0} (dom : Operations S) (plan : Plan) where
+  -- all inputs are found, so these are their numbers
+  pub ready_numbers : (store : Store S) (row : Row) (o : Open) → IsReady dom plan store row o → AreNumbers store.names.names o.inputs (inputs dom plan (name_of store o))
+  ready_numbers store row o ready = subst (λ xs. AreNumbers store.names.names o.inputs xs) (ap (λ m. take m all) complete ∙ take-length all) ready.at.entry.numbers
+    where
+      all : List CellName
+      all = inputs dom plan (name_of store o)
+
+      beyond : length o.inputs < length all → ⊥
+      beyond l =
+          let q = get_some all (length o.inputs) l in
+          let c : Some q.0 ≡ None = sym q.1 ∙ ready.complete in
+          cc
+
+      complete : length o.inputs ≡ length all
+      complete = let w : length o.inputs ≤ length all = ready.at.entry.within in grind (arith, beyond)
+
   -- a name that has no cell has none under its number
   pub absent_get : (store : Store S) → IsRight dom plan store → (n : ℕ) (x : CellName) → slice_get store.names.names n ≡ Some x → kept store x ≡ false → get store.graph.cells n ≡ None
   absent_get store right n x e h = go (get store.graph.cells n) refl

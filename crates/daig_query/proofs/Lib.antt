@@ -10,6 +10,7 @@ pub mod Fixes
 pub mod Computed
 pub mod Filling
 pub mod Walks
+pub mod Looking
 pub mod Remembered
 pub mod Applied
 pub mod Overs

@@ -142,7 +142,7 @@ module _ {S : Type 0} (dom : Operations S) (plan : Plan) (store : Store S) (row 
           let few : length all ≤ most_row dom plan.engine (r dom plan store row o ready.at) = most_inputs dom plan store row o ready.at in
           let same_length : length o.inputs ≡ length all = complete in
           ap (λ (c : Cell S). c.value) value_is
-          ∙ over_row dom plan.engine n (reverse chain) row f named.path (map value all) i (value q.0) (slice_get-map value all i ∙ ap (option_map value) q.1) v before (omega arith) asks_none
+          ∙ over_row dom plan.engine n (reverse chain) row f named.path (map value all) i (value q.0) (slice_get-map value all i ∙ ap (option_map value) q.1) v before (let t : i < length o.inputs = there in omega arith) asks_none
         where
           before : (j : ℕ) (u : Cell S) → j < i → slice_get (map value all) j ≡ Some u → IsState u
           before j u l e = of_value p.2.cell.value refl p.2.value
@@ -163,3 +163,9 @@ module _ {S : Type 0} (dom : Operations S) (plan : Plan) (store : Store S) (row 
       by (One op a) e = plain (λ m p k. let c : One op a ≡ Fixed m p = sym e ∙ k in absurd cc)
       by (Two op a b) e = plain (λ m p k. let c : Two op a b ≡ Fixed m p = sym e ∙ k in absurd cc)
       by (Joins s l m p) e = plain (λ k q t. let c : Joins s l m p ≡ Fixed k q = sym e ∙ t in absurd cc)
+
+pub first_along : {cells : Cells} {xs ys : List ℕ} {n : ℕ} {chain : List ℕ} → xs ≡ ys → IsFirstOver cells xs n chain → IsFirstOver cells ys n chain
+first_along {cells} {xs} {ys} {n} {chain} e h = subst (λ zs. IsFirstOver cells zs n chain) e h
+
+pub over_copied : {S : Type 0} {v : batch.Value S} {n : ℕ} {chain copy : List ℕ} → copy ≡ chain → v ≡ batch.Over n (reverse chain) → v ≡ batch.Over n (reverse copy)
+over_copied {S} {v} {n} {chain} {copy} e h = h ∙ ap (λ z. batch.Over n (reverse z)) (sym e)

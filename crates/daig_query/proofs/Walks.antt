@@ -87,7 +87,7 @@ module _ {S : Type 0} (dom : Operations S) (plan : Plan) (ts : List Target) wher
     there = h.there;
   }
 
-  pushed_there : (store : Store S) (cells : List ℕ) (n : ℕ) → AreCells store.graph.cells cells → IsSome (get store.graph.cells n) → AreCells store.graph.cells (cells ++ n ∷ [])
+  pub pushed_there : (store : Store S) (cells : List ℕ) (n : ℕ) → AreCells store.graph.cells cells → IsSome (get store.graph.cells n) → AreCells store.graph.cells (cells ++ n ∷ [])
   pushed_there store [] n h s zero x e = subst (λ m. IsSome (get store.graph.cells m)) (some_inj n x e) s
   pushed_there store [] n h s (suc i) x e = absurd cc
   pushed_there store (c ∷ cells) n h s zero x e = h zero x e

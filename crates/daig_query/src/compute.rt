@@ -241,9 +241,12 @@ pub(crate) fn compute<D: Domain, L: Ledger>(
     ensures least { steps.old ≤ steps.new }
     ensures most { steps.new ≤ steps.old + D.counted dom.now }
 {
-    if let Some((head, chain)) = first_over(&store.graph, entry.inputs.as_slice()) {
-        let chain = chain.clone()?;
-        return Ok(Value::Over { head, chain });
+    if let Some(over) = first_over(&store.graph, entry.inputs.as_slice()) {
+        let chain = over.1.clone()?;
+        return Ok(Value::Over {
+            head: over.0,
+            chain,
+        });
     }
     match row {
         Row::Fixed(head, _) => fixed(alloc, dom, flow, store, row, *head, entry),
