@@ -11,6 +11,7 @@ pub mod Computed
 pub mod Filling
 pub mod Walks
 pub mod Looking
+pub mod Stepping
 pub mod Remembered
 pub mod Applied
 pub mod Overs

@@ -59,6 +59,10 @@ named_by old new mid x cell y once keeps same is path adds paths states operatio
   number = adds_here mid.names new.names.names (name_in mid.paths x) cell adds ∙ ap Some is;
 }
 
+pub none_of : {A : Type 0} (o : Option A) → is_some o ≡ false → o ≡ None
+none_of None e = refl
+none_of (Some a) e = absurd cc
+
 module _ {S : Type 0} (dom : Operations S) (plan : Plan) where
   -- the inputs of a name of the program are names of it
   pub input_named : (store : Store S) → IsRight dom plan store → (x y : CellName) → HasName plan.engine plan.program x → member same_name (inputs dom plan x) y ≡ true → HasName plan.engine plan.program y

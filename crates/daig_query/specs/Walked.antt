@@ -1,8 +1,11 @@
 -- How far a demand has come.
-use Rattle.std.specs.Prelude.{◌≡◌, ℕ, suc, ◌<◌, Bool, true, false, List, [], ◌∷◌, ◌++◌, map, drop, reverse, length, Option, Some, None, slice_get}
+use Rattle.std.specs.Prelude.{◌≡◌, ℕ, suc, ◌+◌, ◌-◌, ◌<◌, Bool, true, false, List, [], ◌∷◌, ◌++◌, map, take, drop, reverse, length, Option, Some, None, slice_get}
 use Rattle.imp_syntax.specs.declared.edit.Location.{Location}
 use Rattle.domain_laws.specs.Operations.{Operations}
 use Rattle.demand_order.specs.Order.{member}
+use Rattle.std.specs.FinMap.{get}
+use Rattle.cell_names.specs.declared.frame.Frame.{Frame}
+use Rattle.cell_names.specs.Known.{Known, KeepsNumbers}
 use Rattle.cell_names.specs.Paths.{CellName, path_at}
 use Rattle.cell_rows.specs.Cells.{Cell}
 use Rattle.cell_rows.specs.Targets.{Target, to_point, demanded, targets, value_of_target}
@@ -14,7 +17,7 @@ use Rattle.daig_query.specs.declared.opening.Open.{Open}
 use Rattle.daig_query.specs.declared.store.Store.{Store}
 use Rattle.daig_query.specs.declared.walk.Walk.{Walk}
 use Rattle.daig_query.specs.Same.{same_name}
-use Rattle.daig_query.specs.Kept.{kept, AreNumbers}
+use Rattle.daig_query.specs.Kept.{Cells, kept, AreNumbers}
 use Rattle.daig_query.specs.Right.{found}
 use Rattle.daig_query.specs.Opened.{name_of, IsOpen, next_of}
 
@@ -33,6 +36,58 @@ behind_steps k (t ∷ ts) = to_point (drop k t.steps) t.last ∷ ts
 -- a path and what is left of the targets
 abbrev pub place_of : {S : Type 0} → List Target → Store S → Walk → law.Walk
 place_of ts store w = law.walk (path_at store.names.paths w.path) (behind_steps w.step (drop w.target ts))
+
+-- how many steps are to be taken: those that are left of each target, and one past it
+abbrev pub steps_from : ℕ → List Target → ℕ
+steps_from k [] = 0
+steps_from k (t ∷ ts) = suc ((length t.steps - k) + steps_from 0 ts)
+
+abbrev pub steps_left : List Target → Walk → ℕ
+steps_left ts w = steps_from w.step (drop w.target ts)
+
+-- a walk that is to begin
+pub record IsNew (w : Walk) : Type 0 where
+  pub target : w.target ≡ 0
+  pub step : w.step ≡ 0
+  pub path : w.path ≡ 0
+  pub found : w.found.items ≡ []
+  pub stack : w.stack.items ≡ []
+
+-- one step further, into a frame
+pub record Enters (frame : Frame) (names later : Known) (old new : Walk) : Type 0 where
+  pub target : new.target ≡ old.target
+  pub step : new.step ≡ suc old.step
+  pub path : path_at later.paths new.path ≡ frame ∷ path_at names.paths old.path
+  pub within : new.path < length later.paths
+  pub found : new.found.items ≡ old.found.items
+  pub stack : new.stack.items ≡ old.stack.items
+  pub kept : KeepsNumbers names.paths later.paths
+  pub same : later.names ≡ names.names
+
+-- where it was
+pub record Stays (old new : Walk) : Type 0 where
+  pub target : new.target ≡ old.target
+  pub step : new.step ≡ old.step
+  pub path : new.path ≡ old.path
+  pub found : new.found.items ≡ old.found.items
+  pub stack : new.stack.items ≡ old.stack.items
+
+-- at the next target, with a cell more that is found
+pub record Leaves (cell : ℕ) (old new : Walk) : Type 0 where
+  pub target : new.target ≡ suc old.target
+  pub step : new.step ≡ 0
+  pub path : new.path ≡ 0
+  pub found : new.found.items ≡ old.found.items ++ cell ∷ []
+  pub stack : new.stack.items ≡ old.stack.items
+
+-- where it was, with the first names of its stack alone
+pub record Drops (cells : Cells) (old new : Walk) : Type 0 where
+  pub target : new.target ≡ old.target
+  pub step : new.step ≡ old.step
+  pub path : new.path ≡ old.path
+  pub found : new.found.items ≡ old.found.items
+  pub front : new.stack.items ≡ take (length new.stack.items) old.stack.items
+  pub top : (rest : List Open) (o : Open) → new.stack.items ≡ rest ++ o ∷ [] → get cells o.cell ≡ None
 
 module _ {S : Type 0} (dom : Operations S) (plan : Plan) (ts : List Target) where
   -- A walk stands here: the names that were asked for have cells, and of each target that was left behind the cell of the
@@ -65,6 +120,11 @@ module _ {S : Type 0} (dom : Operations S) (plan : Plan) (ts : List Target) wher
   abbrev pub IsAsked : Store S → Walk → Option Open → Type 0
   IsAsked store w None = asks (place_of ts store w) ≡ None
   IsAsked store w (Some u) = (asks (place_of ts store w) ≡ Some (name_of store u)) × IsOpen dom plan store u × (kept store (name_of store u) ≡ false)
+
+  -- A step of a walk: the name that is asked for, or one step less to be taken.
+  abbrev pub Steps : Store S → (old new : Walk) → Option Open → Type 0
+  Steps store old new None = steps_left ts new < steps_left ts old
+  Steps store old new (Some u) = IsAsked store new (Some u)
 
   -- all that was asked for has cells
   pub record IsDone (store : Store S) (w : Walk) : Type 0 where

@@ -1,5 +1,6 @@
 //! Names that are being filled.
-ghost use Rattle.std.specs.Prelude.{◌≡◌, ◌+◌, ◌≤◌, ◌<◌, [], false, length, option_map, IfOk, OnOk, OnErr};
+ghost use Rattle.std.specs.Prelude.{◌≡◌, ◌+◌, ◌≤◌, ◌<◌, [], false, length, option_map, is_some, IfOk, OnOk, OnErr};
+ghost use Rattle.std.specs.FinMap as map;
 ghost use Rattle.cell_names.specs.Paths.{path_at, name_in};
 ghost use Rattle.imp_flow.specs.Near.{row_in};
 ghost use Rattle.daig_query.specs.Kept.{kept, Names as OnlyNames};
@@ -7,10 +8,11 @@ ghost use Rattle.daig_query.specs.Opened.{name_of, row_at, IsAt, IsReady, Looks,
 ghost use Rattle.daig_query.specs.Right.{IsRight};
 
 use crate::compute::compute;
+use crate::held::Held;
 use crate::inputs::next_input;
 use crate::store::Store;
 use cell_names::{Name, Names};
-use daig_graph::Inputs;
+use daig_graph::{Graph, Inputs};
 use domain_laws::{Domain, Steps};
 use imp_flow::{Flow, Row};
 use plain_values::Memory;
@@ -33,6 +35,16 @@ pub(crate) fn opened(alloc: Global, cell: usize, name: &Name) -> Open
         cell,
         name: *name,
         inputs: Inputs::new(alloc),
+    }
+}
+
+/// Whether there is a cell of this number.
+pub(crate) fn has_cell(graph: &Graph<Held>, cell: usize) -> bool
+    ensures is { result ≡ is_some (map.get graph.now.cells cell) }
+{
+    match graph.value(cell) {
+        Some(_) => true,
+        None => false,
     }
 }
 
@@ -65,7 +77,8 @@ pub(crate) fn next_absent<D: Domain>(
     'inputs: while let Some(input) = next_input(dom, flow, store, row, entry) {
         let name = input.name(&mut store.names, entry.name.path)?;
         let cell = store.names.add(name)?;
-        if store.graph.value(cell).is_none() {
+        let there = has_cell(&store.graph, cell);
+        if !there {
             return Ok(Some(opened(alloc, cell, &name)));
         }
         entry.inputs.push(cell)?;

@@ -1,13 +1,12 @@
 //! How far a demand has come.
-ghost use Rattle.std.specs.Prelude.{◌≡◌, ◌+◌, ◌<◌, ◌++◌, ◌∷◌, [], List, length, map, Some, IfOk, OnOk, OnErr, option_copied, None};
-ghost use Rattle.cell_names.specs.Paths.{path_at};
+ghost use Rattle.std.specs.Prelude.{◌≡◌, ◌+◌, ◌<◌, ◌≤◌, ◌^◌, List, length, map, Some, slice_get, IfOk, OnOk, OnErr};
 ghost use Rattle.imp_flow.specs.Reached.{target_of};
 ghost use Rattle.daig_query.specs.Kept.{Names as OnlyNames};
 ghost use Rattle.daig_query.specs.Right.{IsRight};
-ghost use Rattle.daig_query.specs.Walked.{IsPlaced, IsStacked, IsAsked, AreTargets};
+ghost use Rattle.daig_query.specs.Walked.{IsNew, Enters, Leaves, Stays, Drops, IsPlaced, IsAsked, Steps, AreTargets};
 
 use crate::held::Held;
-use crate::opening::{Open, opened};
+use crate::opening::{Open, has_cell, opened};
 use crate::store::Store;
 use cell_names::{Frame, Name, Names, PathId, Point};
 use daig_graph::{Graph, Value};
@@ -33,6 +32,7 @@ pub struct Walk {
 impl Walk {
     /// A demand that is to begin.
     pub fn new(alloc: Global) -> Walk
+        ensures is { IsNew result }
     {
         Walk {
             target: 0,
@@ -45,9 +45,11 @@ impl Walk {
 
     /// Takes the names off the stack that were filled in the meantime.
     pub(crate) fn drop_filled(&mut self, graph: &Graph<Held>)
+        ensures is { Drops graph.now.cells self.old self.new }
     {
-        while let Some(entry) = self.stack.last() {
-            if graph.value(entry.cell).is_none() {
+        'stack: while let Some(top) = self.stack.last() {
+            let there = has_cell(graph, top.cell);
+            if !there {
                 return;
             }
             let _ = self.stack.pop();
@@ -56,6 +58,11 @@ impl Walk {
 
     /// A step on, into a frame.
     fn enter(&mut self, names: &mut Names, frame: Frame) -> Result<(), Memory>
+        requires there { self.old.path < length names.old.paths }
+        requires room { self.old.step + 1 < 2 ^ 64 }
+        ensures enters { OnOk result (Enters frame names.old names.new self.old self.new) }
+        ensures walk { OnErr result (Stays self.old self.new) }
+        ensures names { OnErr result (names.new ≡ names.old) }
     {
         self.path = names.add_path(self.path, frame)?;
         self.step += 1;
@@ -64,6 +71,9 @@ impl Walk {
 
     /// On to the next target, behind one whose last name has this cell.
     fn next_target(&mut self, cell: usize) -> Result<(), Memory>
+        requires room { self.old.target + 1 < 2 ^ 64 }
+        ensures leaves { OnOk result (Leaves cell self.old self.new) }
+        ensures err { OnErr result (Stays self.old self.new) }
     {
         self.found.push(cell)?;
         self.target += 1;
@@ -82,8 +92,19 @@ fn take<D: Domain>(
     store: &mut Store<D::State>,
     targets: &[Target],
     walk: &mut Walk,
+    target: &Target,
     head: StmtId,
 ) -> Result<Option<Open>, Memory>
+    requires right { IsRight (D.operations dom.now) flow.now store.old }
+    requires targets { AreTargets flow.now (map target_of targets.now) }
+    requires placed { IsPlaced (D.operations dom.now) flow.now (map target_of targets.now) store.old walk.old }
+    requires here { slice_get targets.now walk.old.target ≡ Some target.now }
+    requires takes { slice_get target.now.steps walk.old.step ≡ Some (Step.Take head) }
+    ensures names { OnlyNames store.old store.new }
+    ensures right { IsRight (D.operations dom.now) flow.now store.new }
+    ensures placed { IsPlaced (D.operations dom.now) flow.now (map target_of targets.now) store.new walk.new }
+    ensures stack { walk.new.stack.items ≡ walk.old.stack.items }
+    ensures steps { IfOk result (Steps (D.operations dom.now) flow.now (map target_of targets.now) store.new walk.old walk.new) }
 {
     let name = Name {
         path: walk.path,
@@ -108,15 +129,26 @@ fn last<D: Domain>(
     store: &mut Store<D::State>,
     targets: &[Target],
     walk: &mut Walk,
-    point: Point,
+    target: &Target,
 ) -> Result<Option<Open>, Memory>
+    requires right { IsRight (D.operations dom.now) flow.now store.old }
+    requires targets { AreTargets flow.now (map target_of targets.now) }
+    requires placed { IsPlaced (D.operations dom.now) flow.now (map target_of targets.now) store.old walk.old }
+    requires here { slice_get targets.now walk.old.target ≡ Some target.now }
+    requires behind { length target.now.steps ≤ walk.old.step }
+    ensures names { OnlyNames store.old store.new }
+    ensures right { IsRight (D.operations dom.now) flow.now store.new }
+    ensures placed { IsPlaced (D.operations dom.now) flow.now (map target_of targets.now) store.new walk.new }
+    ensures stack { walk.new.stack.items ≡ walk.old.stack.items }
+    ensures steps { IfOk result (Steps (D.operations dom.now) flow.now (map target_of targets.now) store.new walk.old walk.new) }
 {
     let name = Name {
         path: walk.path,
-        point,
+        point: target.last,
     };
     let cell = store.names.add(name)?;
-    if store.graph.value(cell).is_none() {
+    let there = has_cell(&store.graph, cell);
+    if !there {
         return Ok(Some(opened(alloc, cell, &name)));
     }
     walk.next_target(cell)?;
@@ -133,14 +165,23 @@ fn step<D: Domain>(
     walk: &mut Walk,
     target: &Target,
 ) -> Result<Option<Open>, Memory>
+    requires right { IsRight (D.operations dom.now) flow.now store.old }
+    requires targets { AreTargets flow.now (map target_of targets.now) }
+    requires placed { IsPlaced (D.operations dom.now) flow.now (map target_of targets.now) store.old walk.old }
+    requires here { slice_get targets.now walk.old.target ≡ Some target.now }
+    ensures names { OnlyNames store.old store.new }
+    ensures right { IsRight (D.operations dom.now) flow.now store.new }
+    ensures placed { IsPlaced (D.operations dom.now) flow.now (map target_of targets.now) store.new walk.new }
+    ensures stack { walk.new.stack.items ≡ walk.old.stack.items }
+    ensures steps { IfOk result (Steps (D.operations dom.now) flow.now (map target_of targets.now) store.new walk.old walk.new) }
 {
     match target.steps.get(walk.step) {
         Some(Step::Go(site)) => {
             walk.enter(&mut store.names, Frame::InCall(*site))?;
             Ok(None)
         }
-        Some(Step::Take(head)) => take(alloc, dom, flow, store, targets, walk, *head),
-        None => last(alloc, dom, flow, store, targets, walk, target.last),
+        Some(Step::Take(head)) => take(alloc, dom, flow, store, targets, walk, target, *head),
+        None => last(alloc, dom, flow, store, targets, walk, target),
     }
 }
 
@@ -153,8 +194,16 @@ pub(crate) fn next_demanded<D: Domain>(
     targets: &[Target],
     walk: &mut Walk,
 ) -> Result<Option<Open>, Memory>
+    requires right { IsRight (D.operations dom.now) flow.now store.old }
+    requires targets { AreTargets flow.now (map target_of targets.now) }
+    requires placed { IsPlaced (D.operations dom.now) flow.now (map target_of targets.now) store.old walk.old }
+    ensures names { OnlyNames store.old store.new }
+    ensures right { IsRight (D.operations dom.now) flow.now store.new }
+    ensures placed { IsPlaced (D.operations dom.now) flow.now (map target_of targets.now) store.new walk.new }
+    ensures stack { walk.new.stack.items ≡ walk.old.stack.items }
+    ensures asked { IfOk result (IsAsked (D.operations dom.now) flow.now (map target_of targets.now) store.new walk.new) }
 {
-    while let Some(target) = targets.get(walk.target) {
+    'targets: while let Some(target) = targets.get(walk.target) {
         if let Some(entry) = step(alloc, dom, flow, store, targets, walk, target)? {
             return Ok(Some(entry));
         }
