@@ -12,6 +12,7 @@ pub mod Filling
 pub mod Walks
 pub mod Looking
 pub mod Stepping
+pub mod Asking
 pub mod Remembered
 pub mod Applied
 pub mod Overs

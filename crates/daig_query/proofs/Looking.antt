@@ -20,6 +20,7 @@ use Rattle.cell_rows.proofs.TotalRows.{total_inputs}
 use Rattle.imp_flow.specs.Plans.{Plan}
 use Rattle.imp_flow.specs.declared.row.Row.{Row}
 use Rattle.daig_graph.specs.Cells.{AreCells, Filled}
+use Rattle.daig_graph.specs.declared.value.Value.{Value}
 use Rattle.daig_query.specs.declared.held.Held.{Held}
 use Rattle.daig_query.specs.declared.opening.Open.{Open}
 use Rattle.daig_query.specs.declared.store.Store.{Store}
@@ -62,6 +63,15 @@ named_by old new mid x cell y once keeps same is path adds paths states operatio
 pub none_of : {A : Type 0} (o : Option A) → is_some o ≡ false → o ≡ None
 none_of None e = refl
 none_of (Some a) e = absurd cc
+
+-- what is read of a cell
+pub none_read : (o : Option (Filled Held)) → None ≡ option_map (λ f. f.value) o → o ≡ None
+none_read None e = refl
+none_read (Some f) e = absurd cc
+
+pub some_read : (o : Option (Filled Held)) (v : Value Held) → Some v ≡ option_map (λ f. f.value) o → (f : Filled Held) × (o ≡ Some f) × (f.value ≡ v)
+some_read None v e = absurd cc
+some_read (Some f) v e = (f, refl, sym (some_inj v f.value e))
 
 module _ {S : Type 0} (dom : Operations S) (plan : Plan) where
   -- the inputs of a name of the program are names of it

@@ -1,5 +1,6 @@
 -- How walks go on, one step at a time.
 use Rattle.std.proofs.Common.{◌≡◌, ℕ, zero, suc, ◌+◌, ◌-◌, ◌<◌, ◌≤◌, List, [], ◌∷◌, ◌++◌, map, drop, length, Option, Some, None, Bool, true, false, IsSome, option_map, slice_get, refl, sym, ap, ap₂, subst, ◌∙◌, arith}
+use Rattle.std.specs.Prelude.{is_some, reverse}
 use Rattle.std.specs.FinMap.{get}
 use Rattle.std.proofs.lemmas.List.{length-map}
 use Rattle.std.proofs.lemmas.Option.{slice_get_within, slice_get-map}
@@ -16,12 +17,17 @@ use Rattle.cell_rows.specs.Targets.{Step, Take, Go, Target, to_point, unless_ove
 use Rattle.demand_laws.specs.Walks.{asks, goes}
 use Rattle.demand_laws.specs.Walks as law
 use Rattle.imp_flow.specs.Plans.{Plan}
+use Rattle.daig_graph.specs.Cells.{Filled}
+use Rattle.daig_graph.specs.declared.value.Value.TheVariants.{State, Over}
+use Rattle.daig_query.specs.declared.held.Held.{Held}
 use Rattle.daig_query.specs.declared.store.Store.{Store}
 use Rattle.daig_query.specs.declared.walk.Walk.{Walk}
-use Rattle.daig_query.specs.Kept.{kept, Names}
+use Rattle.daig_query.specs.Kept.{kept, IsValue, Names}
 use Rattle.daig_query.specs.Right.{found, IsRight}
 use Rattle.daig_query.specs.Walked.{behind_steps, place_of, Stands, IsPlaced, Leaves, Enters, Stays, steps_from, steps_left}
 use Rattle.daig_query.proofs.Growing.{names_grow}
+use Rattle.daig_query.proofs.Numbers.{filled_number}
+use Rattle.daig_query.proofs.Found.{stored}
 use Rattle.daig_query.proofs.Walks.{stands_go, stands_on, stands_next, stands_grow}
 
 pub drop_next : {A : Type 0} (xs : List A) (i : ℕ) (x : A) → slice_get xs i ≡ Some x → drop i xs ≡ x ∷ drop (suc i) xs
@@ -166,3 +172,28 @@ module _ {S : Type 0} (dom : Operations S) (plan : Plan) (ts : List Target) wher
 
       on : goes c at ≡ law.walk (InLoop n c.index ∷ path_at store.names.paths old.path) (to_point (drop (suc old.step) t.steps) t.last ∷ drop (suc old.target) ts)
       on = ap (λ (v : batch.Value S). unless_over v (law.start (drop (suc old.target) ts)) (law.walk (InLoop n c.index ∷ path_at store.names.paths old.path) (to_point (drop (suc old.step) t.steps) t.last ∷ drop (suc old.target) ts))) state
+
+  -- the same, by what the fixed point's cell stores
+  pub placed_held : (store later : Store S) → IsRight dom plan store → IsRight dom plan later → Names store later → (old new : Walk) (n cell : ℕ) (t : Target) (h : Held) (f : Filled Held) → slice_get ts old.target ≡ Some t → slice_get t.steps old.step ≡ Some (Take n) →
+      slice_get store.names.names cell ≡ Some (name (path_at store.names.paths old.path) (Fix n)) → get store.graph.cells cell ≡ Some f → f.value ≡ State h → Enters (InLoop n h.index) store.names later.names old new → IsPlaced dom plan ts store old → IsPlaced dom plan ts later new
+  placed_held store later right then names old new n cell t h f here step number there value enters p =
+      let y = name (path_at store.names.paths old.path) (Fix n) in
+      let v : IsValue store.states (State h) (found dom plan y) = subst (λ u. IsValue store.states u (found dom plan y)) value (stored dom plan store right cell y f number there).value in
+      let index : (found dom plan y).index ≡ h.index = ap (λ (c : Cell S). c.index) v.2 in
+      placed_round store later then names old new n t v.0 here step (ap (λ (c : Cell S). c.value) v.2)
+      (ap is_some (filled_number store.graph.cells store.names.names right.once y cell number ∙ there))
+      (subst (λ i. Enters (InLoop n i) store.names later.names old new) (sym index) enters) p
+
+  -- past a loop that is an Over
+  pub placed_over : (store : Store S) → IsRight dom plan store → (old new : Walk) (n cell m : ℕ) (chain : List ℕ) (t : Target) (f : Filled Held) → slice_get ts old.target ≡ Some t → slice_get t.steps old.step ≡ Some (Take n) →
+      slice_get store.names.names cell ≡ Some (name (path_at store.names.paths old.path) (Fix n)) → get store.graph.cells cell ≡ Some f → f.value ≡ Over m chain → Leaves cell old new → IsPlaced dom plan ts store old → IsPlaced dom plan ts store new
+  placed_over store right old new n cell m chain t f here step number there value leaves p =
+      let y = name (path_at store.names.paths old.path) (Fix n) in
+      let v : (found dom plan y).value ≡ batch.Over m (reverse chain) = subst (λ u. IsValue store.states u (found dom plan y)) value (stored dom plan store right cell y f number there).value in
+      let place = place_step ts store old t here (Take n) step in
+      let round = law.walk (InLoop n (found dom plan y).index ∷ path_at store.names.paths old.path) (to_point (drop (suc old.step) t.steps) t.last ∷ drop (suc old.target) ts) in
+      placed_left store right old new cell y leaves p (ap asks place)
+      (ap is_some (filled_number store.graph.cells store.names.names right.once y cell number ∙ there))
+      (ap (law.found (found dom plan y)) place ∙ ap (λ (u : batch.Value S). unless_over u ((found dom plan y).value ∷ []) []) v)
+      (ap (goes (found dom plan y)) place ∙ ap (λ (u : batch.Value S). unless_over u (law.start (drop (suc old.target) ts)) round) v)
+      number (ap is_some there)

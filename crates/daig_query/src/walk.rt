@@ -83,6 +83,13 @@ impl Walk {
     }
 }
 
+/// How many targets there are.
+fn count(targets: &[Target]) -> usize
+    ensures is { result ≡ length targets.now }
+{
+    targets.len()
+}
+
 /// At a loop: its fixed point is asked for; where that has a cell the walk goes on, into the loop's last round, or to the
 /// next target where the loop is an Over.
 fn take<D: Domain>(
@@ -106,19 +113,24 @@ fn take<D: Domain>(
     ensures stack { walk.new.stack.items ≡ walk.old.stack.items }
     ensures steps { IfOk result (Steps (D.operations dom.now) flow.now (map target_of targets.now) store.new walk.old walk.new) }
 {
+    let _count = count(targets);
+    let _steps = target.steps.len();
     let name = Name {
         path: walk.path,
         point: Point::Fix(head),
     };
     let cell = store.names.add(name)?;
     match store.graph.value(cell) {
-        None => return Ok(Some(opened(alloc, cell, &name))),
+        None => Ok(Some(opened(alloc, cell, &name))),
         Some(Value::State(held)) => {
             walk.enter(&mut store.names, Frame::InLoop(head, held.index))?;
+            Ok(None)
         }
-        Some(Value::Over { head: _, chain: _ }) => walk.next_target(cell)?,
+        Some(Value::Over { head: _, chain: _ }) => {
+            walk.next_target(cell)?;
+            Ok(None)
+        }
     }
-    Ok(None)
 }
 
 /// Behind all steps of a target: its last point is asked for; where that has a cell the walk goes on to the next target.
@@ -142,6 +154,7 @@ fn last<D: Domain>(
     ensures stack { walk.new.stack.items ≡ walk.old.stack.items }
     ensures steps { IfOk result (Steps (D.operations dom.now) flow.now (map target_of targets.now) store.new walk.old walk.new) }
 {
+    let _count = count(targets);
     let name = Name {
         path: walk.path,
         point: target.last,
@@ -175,6 +188,7 @@ fn step<D: Domain>(
     ensures stack { walk.new.stack.items ≡ walk.old.stack.items }
     ensures steps { IfOk result (Steps (D.operations dom.now) flow.now (map target_of targets.now) store.new walk.old walk.new) }
 {
+    let _steps = target.steps.len();
     match target.steps.get(walk.step) {
         Some(Step::Go(site)) => {
             walk.enter(&mut store.names, Frame::InCall(*site))?;
