@@ -22,6 +22,23 @@ use Rattle.daig_query.proofs.Asking.{named_here, right_later, placed_later, aske
 use Rattle.daig_query.proofs.Stepping.{place_step, fewer_left, fewer_steps, placed_stays, placed_held, placed_over}
 use Rattle.daig_query.proofs.walk.take.Goals as goal
 
+pub returns-in-None-clause-names : goal.returns-in-None-clause-names
+returns-in-None-clause-names g c =
+    let dom = g.D.Domain.operations c.args.dom.now in
+    let plan = c.args.flow.now in
+    let ts = map target_of c.args.targets.now in
+    let old = c.args.store.now in
+    let new : Store g.row.D-State.Denot = record { graph = old.graph; names = c.add.new.self; states = old.states; operations = old.operations; memo = old.memo } in
+    let w = c.args.walk.now in
+    let x : Name = record { path = w.path; point = Fix c.args.head } in
+    let y = name_in old.names.paths x in
+    let t = target_of c.args.target.now in
+    let here : slice_get ts w.target ≡ Some t = slice_get-map target_of c.args.targets.now w.target ∙ ap (option_map target_of) c.requires.here in
+    let takes : slice_get t.steps w.step ≡ Some (plain.Take c.args.head) = slice_get-map step_of c.args.target.now.steps w.step ∙ ap (option_map step_of) c.requires.takes in
+    let asked : asks (place_of ts old w) ≡ Some y = ap asks (place_step ts old w t here (plain.Take c.args.head) takes) in
+    let named = named_here old new x c.in_ok-cell.cell c.requires.right.once c.requires.placed.path c.in_ok-cell.ensures.name c.add.ensures.paths refl refl refl refl in
+    named.names
+
 pub returns-in-None-clause-right : goal.returns-in-None-clause-right
 returns-in-None-clause-right g c =
     let dom = g.D.Domain.operations c.args.dom.now in
@@ -87,8 +104,8 @@ next_target-requires g c =
     let low : c.count-count.result < 18446744073709551616 = c.count-count.type_inv in
     record { room = omega arith }
 
-pub returns-in_ok-enter-clause-names : goal.returns-in_ok-enter-clause-names
-returns-in_ok-enter-clause-names g c =
+pub returns-in_ok-enter-in-Some-State-clause-names : goal.returns-in_ok-enter-in-Some-State-clause-names
+returns-in_ok-enter-in-Some-State-clause-names g c =
     let dom = g.D.Domain.operations c.args.dom.now in
     let plan = c.args.flow.now in
     let ts = map target_of c.args.targets.now in
@@ -104,13 +121,13 @@ returns-in_ok-enter-clause-names g c =
     let named = named_here old new x c.in_ok-cell.cell c.requires.right.once c.requires.placed.path c.in_ok-cell.ensures.name c.add.ensures.paths refl refl refl refl in
     let mid : Store g.row.D-State.Denot = record { graph = old.graph; names = c.enter.new.names; states = old.states; operations = old.operations; memo = old.memo } in
     let right = right_later dom plan ts old new c.requires.right y x c.in_ok-cell.cell named w c.requires.placed asked in
-    let e = c.in_ok-enter.ensures.enters in
+    let e = c.in_ok-enter-in-Some-State.ensures.enters in
     let more : Names new mid = record { paths = e.kept; names = keeps_same new.names.names mid.names.names e.same; states = refl; operations = refl; memo = refl; graph = refl } in
     let then = right_named dom plan new mid right more (subst (λ xs. IsOnce xs) (sym e.same) named.once) in
     names_trans old new mid named.names more
 
-pub returns-in_ok-enter-clause-right : goal.returns-in_ok-enter-clause-right
-returns-in_ok-enter-clause-right g c =
+pub returns-in_ok-enter-in-Some-State-clause-right : goal.returns-in_ok-enter-in-Some-State-clause-right
+returns-in_ok-enter-in-Some-State-clause-right g c =
     let dom = g.D.Domain.operations c.args.dom.now in
     let plan = c.args.flow.now in
     let ts = map target_of c.args.targets.now in
@@ -126,13 +143,13 @@ returns-in_ok-enter-clause-right g c =
     let named = named_here old new x c.in_ok-cell.cell c.requires.right.once c.requires.placed.path c.in_ok-cell.ensures.name c.add.ensures.paths refl refl refl refl in
     let mid : Store g.row.D-State.Denot = record { graph = old.graph; names = c.enter.new.names; states = old.states; operations = old.operations; memo = old.memo } in
     let right = right_later dom plan ts old new c.requires.right y x c.in_ok-cell.cell named w c.requires.placed asked in
-    let e = c.in_ok-enter.ensures.enters in
+    let e = c.in_ok-enter-in-Some-State.ensures.enters in
     let more : Names new mid = record { paths = e.kept; names = keeps_same new.names.names mid.names.names e.same; states = refl; operations = refl; memo = refl; graph = refl } in
     let then = right_named dom plan new mid right more (subst (λ xs. IsOnce xs) (sym e.same) named.once) in
     then
 
-pub returns-in_ok-enter-clause-placed : goal.returns-in_ok-enter-clause-placed
-returns-in_ok-enter-clause-placed g c =
+pub returns-in_ok-enter-in-Some-State-clause-placed : goal.returns-in_ok-enter-in-Some-State-clause-placed
+returns-in_ok-enter-in-Some-State-clause-placed g c =
     let dom = g.D.Domain.operations c.args.dom.now in
     let plan = c.args.flow.now in
     let ts = map target_of c.args.targets.now in
@@ -148,14 +165,14 @@ returns-in_ok-enter-clause-placed g c =
     let named = named_here old new x c.in_ok-cell.cell c.requires.right.once c.requires.placed.path c.in_ok-cell.ensures.name c.add.ensures.paths refl refl refl refl in
     let mid : Store g.row.D-State.Denot = record { graph = old.graph; names = c.enter.new.names; states = old.states; operations = old.operations; memo = old.memo } in
     let right = right_later dom plan ts old new c.requires.right y x c.in_ok-cell.cell named w c.requires.placed asked in
-    let e = c.in_ok-enter.ensures.enters in
+    let e = c.in_ok-enter-in-Some-State.ensures.enters in
     let more : Names new mid = record { paths = e.kept; names = keeps_same new.names.names mid.names.names e.same; states = refl; operations = refl; memo = refl; graph = refl } in
     let then = right_named dom plan new mid right more (subst (λ xs. IsOnce xs) (sym e.same) named.once) in
     let s = some_read (get old.graph.cells c.in_ok-cell.cell) _ c.in-Some-State.ensures.value in
     placed_held dom plan ts new mid right then more w c.enter.new.self c.args.head c.in_ok-cell.cell t c.in-Some-State.held s.0 here takes (named.number ∙ ap Some (sym named.is)) s.1 s.2 e (placed_later dom plan ts old new c.requires.right y x c.in_ok-cell.cell named w c.requires.placed asked)
 
-pub returns-in_ok-enter-clause-steps : goal.returns-in_ok-enter-clause-steps
-returns-in_ok-enter-clause-steps g c =
+pub returns-in_ok-enter-in-Some-State-clause-steps : goal.returns-in_ok-enter-in-Some-State-clause-steps
+returns-in_ok-enter-in-Some-State-clause-steps g c =
     let dom = g.D.Domain.operations c.args.dom.now in
     let plan = c.args.flow.now in
     let ts = map target_of c.args.targets.now in
@@ -169,11 +186,11 @@ returns-in_ok-enter-clause-steps g c =
     let takes : slice_get t.steps w.step ≡ Some (plain.Take c.args.head) = slice_get-map step_of c.args.target.now.steps w.step ∙ ap (option_map step_of) c.requires.takes in
     let asked : asks (place_of ts old w) ≡ Some y = ap asks (place_step ts old w t here (plain.Take c.args.head) takes) in
     let named = named_here old new x c.in_ok-cell.cell c.requires.right.once c.requires.placed.path c.in_ok-cell.ensures.name c.add.ensures.paths refl refl refl refl in
-    let e = c.in_ok-enter.ensures.enters in
+    let e = c.in_ok-enter-in-Some-State.ensures.enters in
     fewer_steps ts old w t here c.enter.new.self e.target e.step (slice_get_within t.steps w.step _ takes)
 
-pub returns-in_ok-next_target-clause-names : goal.returns-in_ok-next_target-clause-names
-returns-in_ok-next_target-clause-names g c =
+pub returns-in_ok-next_target-in-Some-Over-clause-names : goal.returns-in_ok-next_target-in-Some-Over-clause-names
+returns-in_ok-next_target-in-Some-Over-clause-names g c =
     let dom = g.D.Domain.operations c.args.dom.now in
     let plan = c.args.flow.now in
     let ts = map target_of c.args.targets.now in
@@ -189,8 +206,8 @@ returns-in_ok-next_target-clause-names g c =
     let named = named_here old new x c.in_ok-cell.cell c.requires.right.once c.requires.placed.path c.in_ok-cell.ensures.name c.add.ensures.paths refl refl refl refl in
     named.names
 
-pub returns-in_ok-next_target-clause-right : goal.returns-in_ok-next_target-clause-right
-returns-in_ok-next_target-clause-right g c =
+pub returns-in_ok-next_target-in-Some-Over-clause-right : goal.returns-in_ok-next_target-in-Some-Over-clause-right
+returns-in_ok-next_target-in-Some-Over-clause-right g c =
     let dom = g.D.Domain.operations c.args.dom.now in
     let plan = c.args.flow.now in
     let ts = map target_of c.args.targets.now in
@@ -206,8 +223,8 @@ returns-in_ok-next_target-clause-right g c =
     let named = named_here old new x c.in_ok-cell.cell c.requires.right.once c.requires.placed.path c.in_ok-cell.ensures.name c.add.ensures.paths refl refl refl refl in
     right_later dom plan ts old new c.requires.right y x c.in_ok-cell.cell named w c.requires.placed asked
 
-pub returns-in_ok-next_target-clause-placed : goal.returns-in_ok-next_target-clause-placed
-returns-in_ok-next_target-clause-placed g c =
+pub returns-in_ok-next_target-in-Some-Over-clause-placed : goal.returns-in_ok-next_target-in-Some-Over-clause-placed
+returns-in_ok-next_target-in-Some-Over-clause-placed g c =
     let dom = g.D.Domain.operations c.args.dom.now in
     let plan = c.args.flow.now in
     let ts = map target_of c.args.targets.now in
@@ -222,10 +239,10 @@ returns-in_ok-next_target-clause-placed g c =
     let asked : asks (place_of ts old w) ≡ Some y = ap asks (place_step ts old w t here (plain.Take c.args.head) takes) in
     let named = named_here old new x c.in_ok-cell.cell c.requires.right.once c.requires.placed.path c.in_ok-cell.ensures.name c.add.ensures.paths refl refl refl refl in
     let s = some_read (get old.graph.cells c.in_ok-cell.cell) _ c.in-Some-Over.ensures.value in
-    placed_over dom plan ts new (right_later dom plan ts old new c.requires.right y x c.in_ok-cell.cell named w c.requires.placed asked) w _ c.args.head c.in_ok-cell.cell _ _ t s.0 here takes (named.number ∙ ap Some (sym named.is)) s.1 s.2 c.in_ok-next_target.ensures.leaves (placed_later dom plan ts old new c.requires.right y x c.in_ok-cell.cell named w c.requires.placed asked)
+    placed_over dom plan ts new (right_later dom plan ts old new c.requires.right y x c.in_ok-cell.cell named w c.requires.placed asked) w _ c.args.head c.in_ok-cell.cell _ _ t s.0 here takes (named.number ∙ ap Some (sym named.is)) s.1 s.2 c.in_ok-next_target-in-Some-Over.ensures.leaves (placed_later dom plan ts old new c.requires.right y x c.in_ok-cell.cell named w c.requires.placed asked)
 
-pub returns-in_ok-next_target-clause-steps : goal.returns-in_ok-next_target-clause-steps
-returns-in_ok-next_target-clause-steps g c =
+pub returns-in_ok-next_target-in-Some-Over-clause-steps : goal.returns-in_ok-next_target-in-Some-Over-clause-steps
+returns-in_ok-next_target-in-Some-Over-clause-steps g c =
     let dom = g.D.Domain.operations c.args.dom.now in
     let plan = c.args.flow.now in
     let ts = map target_of c.args.targets.now in
@@ -239,10 +256,10 @@ returns-in_ok-next_target-clause-steps g c =
     let takes : slice_get t.steps w.step ≡ Some (plain.Take c.args.head) = slice_get-map step_of c.args.target.now.steps w.step ∙ ap (option_map step_of) c.requires.takes in
     let asked : asks (place_of ts old w) ≡ Some y = ap asks (place_step ts old w t here (plain.Take c.args.head) takes) in
     let named = named_here old new x c.in_ok-cell.cell c.requires.right.once c.requires.placed.path c.in_ok-cell.ensures.name c.add.ensures.paths refl refl refl refl in
-    fewer_left ts old w t here c.in_ok-cell.cell _ c.in_ok-next_target.ensures.leaves
+    fewer_left ts old w t here c.in_ok-cell.cell _ c.in_ok-next_target-in-Some-Over.ensures.leaves
 
-pub returns-in_err-enter-clause-names : goal.returns-in_err-enter-clause-names
-returns-in_err-enter-clause-names g c =
+pub returns-in_err-enter-in-Some-State-clause-names : goal.returns-in_err-enter-in-Some-State-clause-names
+returns-in_err-enter-in-Some-State-clause-names g c =
     let dom = g.D.Domain.operations c.args.dom.now in
     let plan = c.args.flow.now in
     let ts = map target_of c.args.targets.now in
@@ -256,11 +273,11 @@ returns-in_err-enter-clause-names g c =
     let takes : slice_get t.steps w.step ≡ Some (plain.Take c.args.head) = slice_get-map step_of c.args.target.now.steps w.step ∙ ap (option_map step_of) c.requires.takes in
     let asked : asks (place_of ts old w) ≡ Some y = ap asks (place_step ts old w t here (plain.Take c.args.head) takes) in
     let named = named_here old new x c.in_ok-cell.cell c.requires.right.once c.requires.placed.path c.in_ok-cell.ensures.name c.add.ensures.paths refl refl refl refl in
-    let same : c.enter.new.names ≡ c.add.new.self = c.in_err-enter.ensures.names in
+    let same : c.enter.new.names ≡ c.add.new.self = c.in_err-enter-in-Some-State.ensures.names in
     subst (λ k. Names old (record { graph = old.graph; names = k; states = old.states; operations = old.operations; memo = old.memo })) (sym same) named.names
 
-pub returns-in_err-enter-clause-right : goal.returns-in_err-enter-clause-right
-returns-in_err-enter-clause-right g c =
+pub returns-in_err-enter-in-Some-State-clause-right : goal.returns-in_err-enter-in-Some-State-clause-right
+returns-in_err-enter-in-Some-State-clause-right g c =
     let dom = g.D.Domain.operations c.args.dom.now in
     let plan = c.args.flow.now in
     let ts = map target_of c.args.targets.now in
@@ -274,11 +291,11 @@ returns-in_err-enter-clause-right g c =
     let takes : slice_get t.steps w.step ≡ Some (plain.Take c.args.head) = slice_get-map step_of c.args.target.now.steps w.step ∙ ap (option_map step_of) c.requires.takes in
     let asked : asks (place_of ts old w) ≡ Some y = ap asks (place_step ts old w t here (plain.Take c.args.head) takes) in
     let named = named_here old new x c.in_ok-cell.cell c.requires.right.once c.requires.placed.path c.in_ok-cell.ensures.name c.add.ensures.paths refl refl refl refl in
-    let same : c.enter.new.names ≡ c.add.new.self = c.in_err-enter.ensures.names in
+    let same : c.enter.new.names ≡ c.add.new.self = c.in_err-enter-in-Some-State.ensures.names in
     subst (λ k. IsRight dom plan (record { graph = old.graph; names = k; states = old.states; operations = old.operations; memo = old.memo })) (sym same) (right_later dom plan ts old new c.requires.right y x c.in_ok-cell.cell named w c.requires.placed asked)
 
-pub returns-in_err-enter-clause-placed : goal.returns-in_err-enter-clause-placed
-returns-in_err-enter-clause-placed g c =
+pub returns-in_err-enter-in-Some-State-clause-placed : goal.returns-in_err-enter-in-Some-State-clause-placed
+returns-in_err-enter-in-Some-State-clause-placed g c =
     let dom = g.D.Domain.operations c.args.dom.now in
     let plan = c.args.flow.now in
     let ts = map target_of c.args.targets.now in
@@ -292,11 +309,11 @@ returns-in_err-enter-clause-placed g c =
     let takes : slice_get t.steps w.step ≡ Some (plain.Take c.args.head) = slice_get-map step_of c.args.target.now.steps w.step ∙ ap (option_map step_of) c.requires.takes in
     let asked : asks (place_of ts old w) ≡ Some y = ap asks (place_step ts old w t here (plain.Take c.args.head) takes) in
     let named = named_here old new x c.in_ok-cell.cell c.requires.right.once c.requires.placed.path c.in_ok-cell.ensures.name c.add.ensures.paths refl refl refl refl in
-    let same : c.enter.new.names ≡ c.add.new.self = c.in_err-enter.ensures.names in
-    subst (λ k. IsPlaced dom plan ts (record { graph = old.graph; names = k; states = old.states; operations = old.operations; memo = old.memo }) c.enter.new.self) (sym same) (placed_stays dom plan ts new w c.enter.new.self c.in_err-enter.ensures.walk (placed_later dom plan ts old new c.requires.right y x c.in_ok-cell.cell named w c.requires.placed asked))
+    let same : c.enter.new.names ≡ c.add.new.self = c.in_err-enter-in-Some-State.ensures.names in
+    subst (λ k. IsPlaced dom plan ts (record { graph = old.graph; names = k; states = old.states; operations = old.operations; memo = old.memo }) c.enter.new.self) (sym same) (placed_stays dom plan ts new w c.enter.new.self c.in_err-enter-in-Some-State.ensures.walk (placed_later dom plan ts old new c.requires.right y x c.in_ok-cell.cell named w c.requires.placed asked))
 
-pub returns-in_err-next_target-clause-names : goal.returns-in_err-next_target-clause-names
-returns-in_err-next_target-clause-names g c =
+pub returns-in_err-next_target-in-Some-Over-clause-names : goal.returns-in_err-next_target-in-Some-Over-clause-names
+returns-in_err-next_target-in-Some-Over-clause-names g c =
     let dom = g.D.Domain.operations c.args.dom.now in
     let plan = c.args.flow.now in
     let ts = map target_of c.args.targets.now in
@@ -312,8 +329,8 @@ returns-in_err-next_target-clause-names g c =
     let named = named_here old new x c.in_ok-cell.cell c.requires.right.once c.requires.placed.path c.in_ok-cell.ensures.name c.add.ensures.paths refl refl refl refl in
     named.names
 
-pub returns-in_err-next_target-clause-right : goal.returns-in_err-next_target-clause-right
-returns-in_err-next_target-clause-right g c =
+pub returns-in_err-next_target-in-Some-Over-clause-right : goal.returns-in_err-next_target-in-Some-Over-clause-right
+returns-in_err-next_target-in-Some-Over-clause-right g c =
     let dom = g.D.Domain.operations c.args.dom.now in
     let plan = c.args.flow.now in
     let ts = map target_of c.args.targets.now in
@@ -329,8 +346,8 @@ returns-in_err-next_target-clause-right g c =
     let named = named_here old new x c.in_ok-cell.cell c.requires.right.once c.requires.placed.path c.in_ok-cell.ensures.name c.add.ensures.paths refl refl refl refl in
     right_later dom plan ts old new c.requires.right y x c.in_ok-cell.cell named w c.requires.placed asked
 
-pub returns-in_err-next_target-clause-placed : goal.returns-in_err-next_target-clause-placed
-returns-in_err-next_target-clause-placed g c =
+pub returns-in_err-next_target-in-Some-Over-clause-placed : goal.returns-in_err-next_target-in-Some-Over-clause-placed
+returns-in_err-next_target-in-Some-Over-clause-placed g c =
     let dom = g.D.Domain.operations c.args.dom.now in
     let plan = c.args.flow.now in
     let ts = map target_of c.args.targets.now in
@@ -344,4 +361,4 @@ returns-in_err-next_target-clause-placed g c =
     let takes : slice_get t.steps w.step ≡ Some (plain.Take c.args.head) = slice_get-map step_of c.args.target.now.steps w.step ∙ ap (option_map step_of) c.requires.takes in
     let asked : asks (place_of ts old w) ≡ Some y = ap asks (place_step ts old w t here (plain.Take c.args.head) takes) in
     let named = named_here old new x c.in_ok-cell.cell c.requires.right.once c.requires.placed.path c.in_ok-cell.ensures.name c.add.ensures.paths refl refl refl refl in
-    placed_stays dom plan ts new w _ c.in_err-next_target.ensures.err (placed_later dom plan ts old new c.requires.right y x c.in_ok-cell.cell named w c.requires.placed asked)
+    placed_stays dom plan ts new w _ c.in_err-next_target-in-Some-Over.ensures.err (placed_later dom plan ts old new c.requires.right y x c.in_ok-cell.cell named w c.requires.placed asked)
