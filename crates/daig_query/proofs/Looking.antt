@@ -21,11 +21,13 @@ use Rattle.imp_flow.specs.Plans.{Plan}
 use Rattle.imp_flow.specs.declared.row.Row.{Row}
 use Rattle.daig_graph.specs.Cells.{AreCells, Filled}
 use Rattle.daig_graph.specs.declared.value.Value.{Value}
+use Rattle.daig_graph.specs.declared.value.Value.TheVariants.{State, Over}
+use Rattle.loop_unroll.specs.Iterates.{state_in, value_at}
 use Rattle.daig_query.specs.declared.held.Held.{Held}
 use Rattle.daig_query.specs.declared.opening.Open.{Open}
 use Rattle.daig_query.specs.declared.store.Store.{Store}
 use Rattle.daig_query.specs.Same.{same_name}
-use Rattle.daig_query.specs.Kept.{kept, AreNumbers, Names}
+use Rattle.daig_query.specs.Kept.{Cells, kept, AreNumbers, Names}
 use Rattle.daig_query.specs.Right.{inputs, found, IsRight}
 use Rattle.daig_query.specs.Opened.{name_of, IsRowOf, IsOpen, next_of, IsAt, IsNext, Looks}
 use Rattle.daig_query.proofs.Same.{same_is}
@@ -65,13 +67,45 @@ none_of None e = refl
 none_of (Some a) e = absurd cc
 
 -- what is read of a cell
-pub none_read : (o : Option (Filled Held)) → None ≡ option_map (λ f. f.value) o → o ≡ None
-none_read None e = refl
-none_read (Some f) e = absurd cc
+pub record IsHeld (cells : Cells) (cell : ℕ) (h : Held) : Type 0 where
+  pub filled : Filled Held
+  pub there : get cells cell ≡ Some filled
+  pub value : filled.value ≡ State h
 
-pub some_read : (o : Option (Filled Held)) (v : Value Held) → Some v ≡ option_map (λ f. f.value) o → (f : Filled Held) × (o ≡ Some f) × (f.value ≡ v)
-some_read None v e = absurd cc
-some_read (Some f) v e = (f, refl, sym (some_inj v f.value e))
+pub record IsOverAt (cells : Cells) (cell : ℕ) : Type 0 where
+  pub filled : Filled Held
+  pub number : ℕ
+  pub chain : List ℕ
+  pub there : get cells cell ≡ Some filled
+  pub value : filled.value ≡ Over number chain
+
+pub held_read : (cells : Cells) (cell : ℕ) (h : Held) → state_in (value_at cells cell) ≡ Some h → IsHeld cells cell h
+held_read cells cell h e = go (get cells cell) refl e
+  where
+    go : (o : Option (Filled Held)) → get cells cell ≡ o → state_in (option_map (λ f. f.value) o) ≡ Some h → IsHeld cells cell h
+    go None k q = absurd cc
+    go (Some f) k q = by f.value refl
+      where
+        by : (v : Value Held) → f.value ≡ v → IsHeld cells cell h
+        by (State g) w =
+            let r : Some g ≡ Some h = sym (ap (λ v. state_in (Some v)) w) ∙ q in
+            record { filled = f; there = k; value = w ∙ ap State (some_inj g h r) }
+        by (Over m chain) w =
+            let r : None ≡ Some h = sym (ap (λ v. state_in (Some v)) w) ∙ q in
+            absurd cc
+
+pub over_read : (cells : Cells) (cell : ℕ) → IsSome (get cells cell) → state_in (value_at cells cell) ≡ None → IsOverAt cells cell
+over_read cells cell s e = go (get cells cell) refl s e
+  where
+    go : (o : Option (Filled Held)) → get cells cell ≡ o → IsSome o → state_in (option_map (λ f. f.value) o) ≡ None → IsOverAt cells cell
+    go None k s q = absurd cc
+    go (Some f) k s q = by f.value refl
+      where
+        by : (v : Value Held) → f.value ≡ v → IsOverAt cells cell
+        by (State g) w =
+            let r : Some g ≡ None = sym (ap (λ v. state_in (Some v)) w) ∙ q in
+            absurd cc
+        by (Over m chain) w = record { filled = f; number = m; chain = chain; there = k; value = w }
 
 module _ {S : Type 0} (dom : Operations S) (plan : Plan) where
   -- the inputs of a name of the program are names of it

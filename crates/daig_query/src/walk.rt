@@ -1,6 +1,7 @@
 //! How far a demand has come.
 ghost use Rattle.std.specs.Prelude.{◌≡◌, ◌+◌, ◌<◌, ◌≤◌, ◌^◌, List, length, map, Some, slice_get, IfOk, OnOk, OnErr};
 ghost use Rattle.imp_flow.specs.Reached.{target_of};
+ghost use Rattle.loop_unroll.specs.Iterates.{state_in, value_at};
 ghost use Rattle.daig_query.specs.Kept.{Names as OnlyNames};
 ghost use Rattle.daig_query.specs.Right.{IsRight};
 ghost use Rattle.daig_query.specs.Walked.{IsNew, Enters, Leaves, Stays, Drops, IsPlaced, IsAsked, Steps, AreTargets};
@@ -83,6 +84,16 @@ impl Walk {
     }
 }
 
+/// What a cell holds, where that is a state.
+fn held_in(graph: &Graph<Held>, cell: usize) -> Option<Held>
+    ensures is { result ≡ state_in (value_at graph.now.cells cell) }
+{
+    match graph.value(cell) {
+        Some(Value::State(held)) => Some(*held),
+        _ => None,
+    }
+}
+
 /// How many targets there are.
 fn count(targets: &[Target]) -> usize
     ensures is { result ≡ length targets.now }
@@ -120,17 +131,16 @@ fn take<D: Domain>(
         point: Point::Fix(head),
     };
     let cell = store.names.add(name)?;
-    match store.graph.value(cell) {
-        None => Ok(Some(opened(alloc, cell, &name))),
-        Some(Value::State(held)) => {
-            walk.enter(&mut store.names, Frame::InLoop(head, held.index))?;
-            Ok(None)
-        }
-        Some(Value::Over { head: _, chain: _ }) => {
-            walk.next_target(cell)?;
-            Ok(None)
-        }
+    let there = has_cell(&store.graph, cell);
+    if !there {
+        return Ok(Some(opened(alloc, cell, &name)));
     }
+    if let Some(held) = held_in(&store.graph, cell) {
+        walk.enter(&mut store.names, Frame::InLoop(head, held.index))?;
+        return Ok(None);
+    }
+    walk.next_target(cell)?;
+    Ok(None)
 }
 
 /// Behind all steps of a target: its last point is asked for; where that has a cell the walk goes on to the next target.

@@ -21,7 +21,7 @@ returns-in_ok-enter-in-Some-Go-clause-placed g c =
     let new : Store g.row.D-State.Denot = record { graph = old.graph; names = c.enter.new.names; states = old.states; operations = old.operations; memo = old.memo } in
     let more : Names old new = record { paths = e.kept; names = keeps_same old.names.names new.names.names e.same; states = refl; operations = refl; memo = refl; graph = refl } in
     placed_call dom plan ts old new (right_named dom plan old new c.requires.right more (subst (λ xs. IsOnce xs) (sym e.same) c.requires.right.once)) more w c.enter.new.self _ t here
-    (slice_get-map step_of c.args.target.now.steps w.step ∙ ap (option_map step_of) (sym c.in-Some-Go.ensures.item)) e c.requires.placed
+    (slice_get-map step_of c.args.target.now.steps w.step ∙ ap (option_map step_of) (sym c.in-Some-Go.ensures.item) ∙ ap (λ z. Some (step_of z)) c.in-Some-Go.field-0-is) e c.requires.placed
 
 pub returns-in_ok-enter-in-Some-Go-clause-steps : goal.returns-in_ok-enter-in-Some-Go-clause-steps
 returns-in_ok-enter-in-Some-Go-clause-steps g c =

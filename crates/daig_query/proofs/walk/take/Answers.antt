@@ -15,15 +15,17 @@ use Rattle.cell_names.specs.Known.{IsOnce}
 use Rattle.daig_graph.specs.declared.value.Value.TheVariants.{State, Over}
 use Rattle.daig_query.specs.Kept.{Names}
 use Rattle.daig_query.specs.Right.{IsRight}
-use Rattle.daig_query.specs.Walked.{IsPlaced}
+use Rattle.cell_names.specs.declared.frame.Frame.TheVariants.{InLoop}
+use Rattle.daig_query.specs.declared.held.Held.{Held}
+use Rattle.daig_query.specs.Walked.{IsPlaced, Enters}
 use Rattle.daig_query.proofs.Growing.{keeps_same, names_trans, right_named}
-use Rattle.daig_query.proofs.Looking.{none_read, some_read}
+use Rattle.daig_query.proofs.Looking.{none_of, held_read, over_read}
 use Rattle.daig_query.proofs.Asking.{named_here, right_later, placed_later, asked_later, asked_absent, asked_kept}
 use Rattle.daig_query.proofs.Stepping.{place_step, fewer_left, fewer_steps, placed_stays, placed_held, placed_over}
 use Rattle.daig_query.proofs.walk.take.Goals as goal
 
-pub returns-in-None-clause-names : goal.returns-in-None-clause-names
-returns-in-None-clause-names g c =
+pub returns-then-not-there-clause-names : goal.returns-then-not-there-clause-names
+returns-then-not-there-clause-names g c =
     let dom = g.D.Domain.operations c.args.dom.now in
     let plan = c.args.flow.now in
     let ts = map target_of c.args.targets.now in
@@ -39,8 +41,8 @@ returns-in-None-clause-names g c =
     let named = named_here old new x c.in_ok-cell.cell c.requires.right.once c.requires.placed.path c.in_ok-cell.ensures.name c.add.ensures.paths refl refl refl refl in
     named.names
 
-pub returns-in-None-clause-right : goal.returns-in-None-clause-right
-returns-in-None-clause-right g c =
+pub returns-then-not-there-clause-right : goal.returns-then-not-there-clause-right
+returns-then-not-there-clause-right g c =
     let dom = g.D.Domain.operations c.args.dom.now in
     let plan = c.args.flow.now in
     let ts = map target_of c.args.targets.now in
@@ -56,8 +58,8 @@ returns-in-None-clause-right g c =
     let named = named_here old new x c.in_ok-cell.cell c.requires.right.once c.requires.placed.path c.in_ok-cell.ensures.name c.add.ensures.paths refl refl refl refl in
     right_later dom plan ts old new c.requires.right y x c.in_ok-cell.cell named w c.requires.placed asked
 
-pub returns-in-None-clause-placed : goal.returns-in-None-clause-placed
-returns-in-None-clause-placed g c =
+pub returns-then-not-there-clause-placed : goal.returns-then-not-there-clause-placed
+returns-then-not-there-clause-placed g c =
     let dom = g.D.Domain.operations c.args.dom.now in
     let plan = c.args.flow.now in
     let ts = map target_of c.args.targets.now in
@@ -73,8 +75,8 @@ returns-in-None-clause-placed g c =
     let named = named_here old new x c.in_ok-cell.cell c.requires.right.once c.requires.placed.path c.in_ok-cell.ensures.name c.add.ensures.paths refl refl refl refl in
     placed_later dom plan ts old new c.requires.right y x c.in_ok-cell.cell named w c.requires.placed asked
 
-pub returns-in-None-clause-steps : goal.returns-in-None-clause-steps
-returns-in-None-clause-steps g c =
+pub returns-then-not-there-clause-steps : goal.returns-then-not-there-clause-steps
+returns-then-not-there-clause-steps g c =
     let dom = g.D.Domain.operations c.args.dom.now in
     let plan = c.args.flow.now in
     let ts = map target_of c.args.targets.now in
@@ -88,7 +90,7 @@ returns-in-None-clause-steps g c =
     let takes : slice_get t.steps w.step ≡ Some (plain.Take c.args.head) = slice_get-map step_of c.args.target.now.steps w.step ∙ ap (option_map step_of) c.requires.takes in
     let asked : asks (place_of ts old w) ≡ Some y = ap asks (place_step ts old w t here (plain.Take c.args.head) takes) in
     let named = named_here old new x c.in_ok-cell.cell c.requires.right.once c.requires.placed.path c.in_ok-cell.ensures.name c.add.ensures.paths refl refl refl refl in
-    asked_absent dom plan ts old new c.requires.right y x c.in_ok-cell.cell named w c.requires.placed asked c.requires.targets c.opened.result c.opened.ensures.is (none_read (get old.graph.cells c.in_ok-cell.cell) c.in-None.ensures.value)
+    asked_absent dom plan ts old new c.requires.right y x c.in_ok-cell.cell named w c.requires.placed asked c.requires.targets c.opened.result c.opened.ensures.is (none_of (get old.graph.cells c.in_ok-cell.cell) (sym c.has_cell-there.ensures.is ∙ c.if-not-there.true))
 
 pub enter-requires-clause-room : goal.enter-requires-clause-room
 enter-requires-clause-room g c =
@@ -104,8 +106,8 @@ next_target-requires g c =
     let low : c.count-count.result < 18446744073709551616 = c.count-count.type_inv in
     record { room = omega arith }
 
-pub returns-in_ok-enter-in-Some-State-clause-names : goal.returns-in_ok-enter-in-Some-State-clause-names
-returns-in_ok-enter-in-Some-State-clause-names g c =
+pub returns-in-Some-clause-names : goal.returns-in-Some-clause-names
+returns-in-Some-clause-names g c =
     let dom = g.D.Domain.operations c.args.dom.now in
     let plan = c.args.flow.now in
     let ts = map target_of c.args.targets.now in
@@ -121,13 +123,13 @@ returns-in_ok-enter-in-Some-State-clause-names g c =
     let named = named_here old new x c.in_ok-cell.cell c.requires.right.once c.requires.placed.path c.in_ok-cell.ensures.name c.add.ensures.paths refl refl refl refl in
     let mid : Store g.row.D-State.Denot = record { graph = old.graph; names = c.enter.new.names; states = old.states; operations = old.operations; memo = old.memo } in
     let right = right_later dom plan ts old new c.requires.right y x c.in_ok-cell.cell named w c.requires.placed asked in
-    let e = c.in_ok-enter-in-Some-State.ensures.enters in
+    let e = c.in_ok-enter.ensures.enters in
     let more : Names new mid = record { paths = e.kept; names = keeps_same new.names.names mid.names.names e.same; states = refl; operations = refl; memo = refl; graph = refl } in
     let then = right_named dom plan new mid right more (subst (λ xs. IsOnce xs) (sym e.same) named.once) in
     names_trans old new mid named.names more
 
-pub returns-in_ok-enter-in-Some-State-clause-right : goal.returns-in_ok-enter-in-Some-State-clause-right
-returns-in_ok-enter-in-Some-State-clause-right g c =
+pub returns-in-Some-clause-right : goal.returns-in-Some-clause-right
+returns-in-Some-clause-right g c =
     let dom = g.D.Domain.operations c.args.dom.now in
     let plan = c.args.flow.now in
     let ts = map target_of c.args.targets.now in
@@ -143,13 +145,13 @@ returns-in_ok-enter-in-Some-State-clause-right g c =
     let named = named_here old new x c.in_ok-cell.cell c.requires.right.once c.requires.placed.path c.in_ok-cell.ensures.name c.add.ensures.paths refl refl refl refl in
     let mid : Store g.row.D-State.Denot = record { graph = old.graph; names = c.enter.new.names; states = old.states; operations = old.operations; memo = old.memo } in
     let right = right_later dom plan ts old new c.requires.right y x c.in_ok-cell.cell named w c.requires.placed asked in
-    let e = c.in_ok-enter-in-Some-State.ensures.enters in
+    let e = c.in_ok-enter.ensures.enters in
     let more : Names new mid = record { paths = e.kept; names = keeps_same new.names.names mid.names.names e.same; states = refl; operations = refl; memo = refl; graph = refl } in
     let then = right_named dom plan new mid right more (subst (λ xs. IsOnce xs) (sym e.same) named.once) in
     then
 
-pub returns-in_ok-enter-in-Some-State-clause-placed : goal.returns-in_ok-enter-in-Some-State-clause-placed
-returns-in_ok-enter-in-Some-State-clause-placed g c =
+pub returns-in-Some-clause-placed : goal.returns-in-Some-clause-placed
+returns-in-Some-clause-placed g c =
     let dom = g.D.Domain.operations c.args.dom.now in
     let plan = c.args.flow.now in
     let ts = map target_of c.args.targets.now in
@@ -165,14 +167,14 @@ returns-in_ok-enter-in-Some-State-clause-placed g c =
     let named = named_here old new x c.in_ok-cell.cell c.requires.right.once c.requires.placed.path c.in_ok-cell.ensures.name c.add.ensures.paths refl refl refl refl in
     let mid : Store g.row.D-State.Denot = record { graph = old.graph; names = c.enter.new.names; states = old.states; operations = old.operations; memo = old.memo } in
     let right = right_later dom plan ts old new c.requires.right y x c.in_ok-cell.cell named w c.requires.placed asked in
-    let e = c.in_ok-enter-in-Some-State.ensures.enters in
+    let e = c.in_ok-enter.ensures.enters in
     let more : Names new mid = record { paths = e.kept; names = keeps_same new.names.names mid.names.names e.same; states = refl; operations = refl; memo = refl; graph = refl } in
     let then = right_named dom plan new mid right more (subst (λ xs. IsOnce xs) (sym e.same) named.once) in
-    let s = some_read (get old.graph.cells c.in_ok-cell.cell) _ c.in-Some-State.ensures.value in
-    placed_held dom plan ts new mid right then more w c.enter.new.self c.args.head c.in_ok-cell.cell t c.in-Some-State.held s.0 here takes (named.number ∙ ap Some (sym named.is)) s.1 s.2 e (placed_later dom plan ts old new c.requires.right y x c.in_ok-cell.cell named w c.requires.placed asked)
+    let s = held_read old.graph.cells c.in_ok-cell.cell c.in-Some.held (sym c.held_in.ensures.is ∙ c.in-Some.is) in
+    placed_held dom plan ts new mid right then more w c.enter.new.self c.args.head c.in_ok-cell.cell t c.in-Some.held s.filled here takes (named.number ∙ ap Some (sym named.is)) s.there s.value e (placed_later dom plan ts old new c.requires.right y x c.in_ok-cell.cell named w c.requires.placed asked)
 
-pub returns-in_ok-enter-in-Some-State-clause-steps : goal.returns-in_ok-enter-in-Some-State-clause-steps
-returns-in_ok-enter-in-Some-State-clause-steps g c =
+pub returns-in-Some-clause-steps : goal.returns-in-Some-clause-steps
+returns-in-Some-clause-steps g c =
     let dom = g.D.Domain.operations c.args.dom.now in
     let plan = c.args.flow.now in
     let ts = map target_of c.args.targets.now in
@@ -186,11 +188,11 @@ returns-in_ok-enter-in-Some-State-clause-steps g c =
     let takes : slice_get t.steps w.step ≡ Some (plain.Take c.args.head) = slice_get-map step_of c.args.target.now.steps w.step ∙ ap (option_map step_of) c.requires.takes in
     let asked : asks (place_of ts old w) ≡ Some y = ap asks (place_step ts old w t here (plain.Take c.args.head) takes) in
     let named = named_here old new x c.in_ok-cell.cell c.requires.right.once c.requires.placed.path c.in_ok-cell.ensures.name c.add.ensures.paths refl refl refl refl in
-    let e = c.in_ok-enter-in-Some-State.ensures.enters in
+    let e = c.in_ok-enter.ensures.enters in
     fewer_steps ts old w t here c.enter.new.self e.target e.step (slice_get_within t.steps w.step _ takes)
 
-pub returns-in_ok-next_target-in-Some-Over-clause-names : goal.returns-in_ok-next_target-in-Some-Over-clause-names
-returns-in_ok-next_target-in-Some-Over-clause-names g c =
+pub returns-clause-names : goal.returns-clause-names
+returns-clause-names g c =
     let dom = g.D.Domain.operations c.args.dom.now in
     let plan = c.args.flow.now in
     let ts = map target_of c.args.targets.now in
@@ -206,8 +208,8 @@ returns-in_ok-next_target-in-Some-Over-clause-names g c =
     let named = named_here old new x c.in_ok-cell.cell c.requires.right.once c.requires.placed.path c.in_ok-cell.ensures.name c.add.ensures.paths refl refl refl refl in
     named.names
 
-pub returns-in_ok-next_target-in-Some-Over-clause-right : goal.returns-in_ok-next_target-in-Some-Over-clause-right
-returns-in_ok-next_target-in-Some-Over-clause-right g c =
+pub returns-clause-right : goal.returns-clause-right
+returns-clause-right g c =
     let dom = g.D.Domain.operations c.args.dom.now in
     let plan = c.args.flow.now in
     let ts = map target_of c.args.targets.now in
@@ -223,8 +225,8 @@ returns-in_ok-next_target-in-Some-Over-clause-right g c =
     let named = named_here old new x c.in_ok-cell.cell c.requires.right.once c.requires.placed.path c.in_ok-cell.ensures.name c.add.ensures.paths refl refl refl refl in
     right_later dom plan ts old new c.requires.right y x c.in_ok-cell.cell named w c.requires.placed asked
 
-pub returns-in_ok-next_target-in-Some-Over-clause-placed : goal.returns-in_ok-next_target-in-Some-Over-clause-placed
-returns-in_ok-next_target-in-Some-Over-clause-placed g c =
+pub returns-clause-placed : goal.returns-clause-placed
+returns-clause-placed g c =
     let dom = g.D.Domain.operations c.args.dom.now in
     let plan = c.args.flow.now in
     let ts = map target_of c.args.targets.now in
@@ -238,11 +240,11 @@ returns-in_ok-next_target-in-Some-Over-clause-placed g c =
     let takes : slice_get t.steps w.step ≡ Some (plain.Take c.args.head) = slice_get-map step_of c.args.target.now.steps w.step ∙ ap (option_map step_of) c.requires.takes in
     let asked : asks (place_of ts old w) ≡ Some y = ap asks (place_step ts old w t here (plain.Take c.args.head) takes) in
     let named = named_here old new x c.in_ok-cell.cell c.requires.right.once c.requires.placed.path c.in_ok-cell.ensures.name c.add.ensures.paths refl refl refl refl in
-    let s = some_read (get old.graph.cells c.in_ok-cell.cell) _ c.in-Some-Over.ensures.value in
-    placed_over dom plan ts new (right_later dom plan ts old new c.requires.right y x c.in_ok-cell.cell named w c.requires.placed asked) w _ c.args.head c.in_ok-cell.cell _ _ t s.0 here takes (named.number ∙ ap Some (sym named.is)) s.1 s.2 c.in_ok-next_target-in-Some-Over.ensures.leaves (placed_later dom plan ts old new c.requires.right y x c.in_ok-cell.cell named w c.requires.placed asked)
+    let s = over_read old.graph.cells c.in_ok-cell.cell (sym c.has_cell-there.ensures.is ∙ c.if-not-there.false) (sym c.held_in.ensures.is ∙ c.in_default.is) in
+    placed_over dom plan ts new (right_later dom plan ts old new c.requires.right y x c.in_ok-cell.cell named w c.requires.placed asked) w _ c.args.head c.in_ok-cell.cell s.number s.chain t s.filled here takes (named.number ∙ ap Some (sym named.is)) s.there s.value c.in_ok-next_target.ensures.leaves (placed_later dom plan ts old new c.requires.right y x c.in_ok-cell.cell named w c.requires.placed asked)
 
-pub returns-in_ok-next_target-in-Some-Over-clause-steps : goal.returns-in_ok-next_target-in-Some-Over-clause-steps
-returns-in_ok-next_target-in-Some-Over-clause-steps g c =
+pub returns-clause-steps : goal.returns-clause-steps
+returns-clause-steps g c =
     let dom = g.D.Domain.operations c.args.dom.now in
     let plan = c.args.flow.now in
     let ts = map target_of c.args.targets.now in
@@ -256,10 +258,10 @@ returns-in_ok-next_target-in-Some-Over-clause-steps g c =
     let takes : slice_get t.steps w.step ≡ Some (plain.Take c.args.head) = slice_get-map step_of c.args.target.now.steps w.step ∙ ap (option_map step_of) c.requires.takes in
     let asked : asks (place_of ts old w) ≡ Some y = ap asks (place_step ts old w t here (plain.Take c.args.head) takes) in
     let named = named_here old new x c.in_ok-cell.cell c.requires.right.once c.requires.placed.path c.in_ok-cell.ensures.name c.add.ensures.paths refl refl refl refl in
-    fewer_left ts old w t here c.in_ok-cell.cell _ c.in_ok-next_target-in-Some-Over.ensures.leaves
+    fewer_left ts old w t here c.in_ok-cell.cell _ c.in_ok-next_target.ensures.leaves
 
-pub returns-in_err-enter-in-Some-State-clause-names : goal.returns-in_err-enter-in-Some-State-clause-names
-returns-in_err-enter-in-Some-State-clause-names g c =
+pub returns-in_err-enter-clause-names : goal.returns-in_err-enter-clause-names
+returns-in_err-enter-clause-names g c =
     let dom = g.D.Domain.operations c.args.dom.now in
     let plan = c.args.flow.now in
     let ts = map target_of c.args.targets.now in
@@ -273,11 +275,11 @@ returns-in_err-enter-in-Some-State-clause-names g c =
     let takes : slice_get t.steps w.step ≡ Some (plain.Take c.args.head) = slice_get-map step_of c.args.target.now.steps w.step ∙ ap (option_map step_of) c.requires.takes in
     let asked : asks (place_of ts old w) ≡ Some y = ap asks (place_step ts old w t here (plain.Take c.args.head) takes) in
     let named = named_here old new x c.in_ok-cell.cell c.requires.right.once c.requires.placed.path c.in_ok-cell.ensures.name c.add.ensures.paths refl refl refl refl in
-    let same : c.enter.new.names ≡ c.add.new.self = c.in_err-enter-in-Some-State.ensures.names in
+    let same : c.enter.new.names ≡ c.add.new.self = c.in_err-enter.ensures.names in
     subst (λ k. Names old (record { graph = old.graph; names = k; states = old.states; operations = old.operations; memo = old.memo })) (sym same) named.names
 
-pub returns-in_err-enter-in-Some-State-clause-right : goal.returns-in_err-enter-in-Some-State-clause-right
-returns-in_err-enter-in-Some-State-clause-right g c =
+pub returns-in_err-enter-clause-right : goal.returns-in_err-enter-clause-right
+returns-in_err-enter-clause-right g c =
     let dom = g.D.Domain.operations c.args.dom.now in
     let plan = c.args.flow.now in
     let ts = map target_of c.args.targets.now in
@@ -291,11 +293,11 @@ returns-in_err-enter-in-Some-State-clause-right g c =
     let takes : slice_get t.steps w.step ≡ Some (plain.Take c.args.head) = slice_get-map step_of c.args.target.now.steps w.step ∙ ap (option_map step_of) c.requires.takes in
     let asked : asks (place_of ts old w) ≡ Some y = ap asks (place_step ts old w t here (plain.Take c.args.head) takes) in
     let named = named_here old new x c.in_ok-cell.cell c.requires.right.once c.requires.placed.path c.in_ok-cell.ensures.name c.add.ensures.paths refl refl refl refl in
-    let same : c.enter.new.names ≡ c.add.new.self = c.in_err-enter-in-Some-State.ensures.names in
+    let same : c.enter.new.names ≡ c.add.new.self = c.in_err-enter.ensures.names in
     subst (λ k. IsRight dom plan (record { graph = old.graph; names = k; states = old.states; operations = old.operations; memo = old.memo })) (sym same) (right_later dom plan ts old new c.requires.right y x c.in_ok-cell.cell named w c.requires.placed asked)
 
-pub returns-in_err-enter-in-Some-State-clause-placed : goal.returns-in_err-enter-in-Some-State-clause-placed
-returns-in_err-enter-in-Some-State-clause-placed g c =
+pub returns-in_err-enter-clause-placed : goal.returns-in_err-enter-clause-placed
+returns-in_err-enter-clause-placed g c =
     let dom = g.D.Domain.operations c.args.dom.now in
     let plan = c.args.flow.now in
     let ts = map target_of c.args.targets.now in
@@ -309,11 +311,11 @@ returns-in_err-enter-in-Some-State-clause-placed g c =
     let takes : slice_get t.steps w.step ≡ Some (plain.Take c.args.head) = slice_get-map step_of c.args.target.now.steps w.step ∙ ap (option_map step_of) c.requires.takes in
     let asked : asks (place_of ts old w) ≡ Some y = ap asks (place_step ts old w t here (plain.Take c.args.head) takes) in
     let named = named_here old new x c.in_ok-cell.cell c.requires.right.once c.requires.placed.path c.in_ok-cell.ensures.name c.add.ensures.paths refl refl refl refl in
-    let same : c.enter.new.names ≡ c.add.new.self = c.in_err-enter-in-Some-State.ensures.names in
-    subst (λ k. IsPlaced dom plan ts (record { graph = old.graph; names = k; states = old.states; operations = old.operations; memo = old.memo }) c.enter.new.self) (sym same) (placed_stays dom plan ts new w c.enter.new.self c.in_err-enter-in-Some-State.ensures.walk (placed_later dom plan ts old new c.requires.right y x c.in_ok-cell.cell named w c.requires.placed asked))
+    let same : c.enter.new.names ≡ c.add.new.self = c.in_err-enter.ensures.names in
+    subst (λ k. IsPlaced dom plan ts (record { graph = old.graph; names = k; states = old.states; operations = old.operations; memo = old.memo }) c.enter.new.self) (sym same) (placed_stays dom plan ts new w c.enter.new.self c.in_err-enter.ensures.walk (placed_later dom plan ts old new c.requires.right y x c.in_ok-cell.cell named w c.requires.placed asked))
 
-pub returns-in_err-next_target-in-Some-Over-clause-names : goal.returns-in_err-next_target-in-Some-Over-clause-names
-returns-in_err-next_target-in-Some-Over-clause-names g c =
+pub returns-in_err-next_target-clause-names : goal.returns-in_err-next_target-clause-names
+returns-in_err-next_target-clause-names g c =
     let dom = g.D.Domain.operations c.args.dom.now in
     let plan = c.args.flow.now in
     let ts = map target_of c.args.targets.now in
@@ -329,8 +331,8 @@ returns-in_err-next_target-in-Some-Over-clause-names g c =
     let named = named_here old new x c.in_ok-cell.cell c.requires.right.once c.requires.placed.path c.in_ok-cell.ensures.name c.add.ensures.paths refl refl refl refl in
     named.names
 
-pub returns-in_err-next_target-in-Some-Over-clause-right : goal.returns-in_err-next_target-in-Some-Over-clause-right
-returns-in_err-next_target-in-Some-Over-clause-right g c =
+pub returns-in_err-next_target-clause-right : goal.returns-in_err-next_target-clause-right
+returns-in_err-next_target-clause-right g c =
     let dom = g.D.Domain.operations c.args.dom.now in
     let plan = c.args.flow.now in
     let ts = map target_of c.args.targets.now in
@@ -346,8 +348,8 @@ returns-in_err-next_target-in-Some-Over-clause-right g c =
     let named = named_here old new x c.in_ok-cell.cell c.requires.right.once c.requires.placed.path c.in_ok-cell.ensures.name c.add.ensures.paths refl refl refl refl in
     right_later dom plan ts old new c.requires.right y x c.in_ok-cell.cell named w c.requires.placed asked
 
-pub returns-in_err-next_target-in-Some-Over-clause-placed : goal.returns-in_err-next_target-in-Some-Over-clause-placed
-returns-in_err-next_target-in-Some-Over-clause-placed g c =
+pub returns-in_err-next_target-clause-placed : goal.returns-in_err-next_target-clause-placed
+returns-in_err-next_target-clause-placed g c =
     let dom = g.D.Domain.operations c.args.dom.now in
     let plan = c.args.flow.now in
     let ts = map target_of c.args.targets.now in
@@ -361,4 +363,4 @@ returns-in_err-next_target-in-Some-Over-clause-placed g c =
     let takes : slice_get t.steps w.step ≡ Some (plain.Take c.args.head) = slice_get-map step_of c.args.target.now.steps w.step ∙ ap (option_map step_of) c.requires.takes in
     let asked : asks (place_of ts old w) ≡ Some y = ap asks (place_step ts old w t here (plain.Take c.args.head) takes) in
     let named = named_here old new x c.in_ok-cell.cell c.requires.right.once c.requires.placed.path c.in_ok-cell.ensures.name c.add.ensures.paths refl refl refl refl in
-    placed_stays dom plan ts new w _ c.in_err-next_target-in-Some-Over.ensures.err (placed_later dom plan ts old new c.requires.right y x c.in_ok-cell.cell named w c.requires.placed asked)
+    placed_stays dom plan ts new w _ c.in_err-next_target.ensures.err (placed_later dom plan ts old new c.requires.right y x c.in_ok-cell.cell named w c.requires.placed asked)
