@@ -51,8 +51,8 @@ module _ {S : Type 0} (dom : Operations S) (plan : Plan) (store : Store S) (row 
 
   made : Made store.states dom plan.engine row (X dom plan store row o ready.at).path here.held (map value all)
   made = row_made store.states dom plan.engine row plain (X dom plan store row o ready.at).path here.held (map value all) here.are (
-    ap (λ xs. asks_row dom plan.engine (r dom plan store row o ready.at) (map value xs)) (sym fronted) ∙ asks dom plan store row o ready.at (length o.inputs) ready.at.entry.within ∙ ready.complete
-  )
+      ap (λ xs. asks_row dom plan.engine (r dom plan store row o ready.at) (map value xs)) (sym fronted) ∙ asks dom plan store row o ready.at (length o.inputs) ready.at.entry.within ∙ ready.complete
+      )
 
   value_is : value (X dom plan store row o ready.at) ≡ operation_row dom plan.engine (r dom plan store row o ready.at) (map value all)
   unfolding inputs found

@@ -139,6 +139,7 @@ module _ {S : Type 0} (dom : Operations S) (plan : Plan) (store : Store S) (is :
     where
       first_is : (f : Filled Held) → get store.graph.cells m ≡ Some f → iterate_of store.graph.cells (m ∷ ns) 0 ≡ Some f.value
       first_is f e = rw e refl
+
       of_value : (f : Filled Held) → get store.graph.cells m ≡ Some f → Holds store.states store.graph.cells ns (map (found dom plan) xs) → (u : Value Held) → f.value ≡ u → IsValue store.states u (found dom plan x) →
           Holds store.states store.graph.cells (m ∷ ns) (map (found dom plan) (x ∷ xs))
       of_value f e tail (Over n chain) w v = absurd (o 0 n chain (omega arith) (first_is f e ∙ ap Some w))

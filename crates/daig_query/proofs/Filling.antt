@@ -112,11 +112,13 @@ module _ {S : Type 0} (dom : Operations S) (plan : Plan) where
       where
         P : Type 0
         P = is_some (filled_at new.graph.cells mid.names.names y) ≡ (kept mid y || same_name y x)
+
         is_it : same_name y x ≡ true → P
         is_it h =
             let e : y ≡ x = same_is.same_true y x h in
             let a : filled_at new.graph.cells mid.names.names y ≡ Some f = filled_number new.graph.cells mid.names.names right.once y n (number ∙ ap Some (sym e)) ∙ here in
             ap is_some a ∙ sym (or_right (kept mid y) (same_name y x) h)
+
         is_not : same_name y x ≡ false → P
         is_not h = ap is_some (by (number_of mid.names.names y) refl) ∙ sym (ap (λ b. kept mid y || b) h ∙ or_false_right (kept mid y))
           where
@@ -174,11 +176,11 @@ module _ {S : Type 0} (dom : Operations S) (plan : Plan) where
     at_cell : (q : ℕ) (g : Filled Held) → get new.graph.cells q ≡ Some g → (y : CellName) × (slice_get new.names.names q ≡ Some y) × IsCellOf dom plan new y g
     at_cell q g e = elim (same_number q n) [
       | inl h ↦ (
-        let k : f ≡ g = some_inj f g (sym here ∙ (ap (get new.graph.cells) (sym h) ∙ e)) in
-        (x, ap (λ k. slice_get k.names q) names ∙ (ap (slice_get mid.names.names) h ∙ number), cell_of x g (subst (IsCellOf dom plan mid x) k is)))
+          let k : f ≡ g = some_inj f g (sym here ∙ (ap (get new.graph.cells) (sym h) ∙ e)) in
+          (x, ap (λ k. slice_get k.names q) names ∙ (ap (slice_get mid.names.names) h ∙ number), cell_of x g (subst (IsCellOf dom plan mid x) k is)))
       | inr h ↦ (
-        let p = right.cells q g (sym (other q h) ∙ e) in
-        (p.0, ap (λ k. slice_get k.names q) names ∙ p.1, cell_of p.0 g p.2))
+          let p = right.cells q g (sym (other q h) ∙ e) in
+          (p.0, ap (λ k. slice_get k.names q) names ∙ p.1, cell_of p.0 g p.2))
     ]
 
     set : touched.AreCells dom plan.engine plan.program same_name (kept new)
@@ -187,10 +189,10 @@ module _ {S : Type 0} (dom : Operations S) (plan : Plan) where
 
     results : AreResults dom new.operations new.states new.memo.entries
     results = subst (λ m. AreResults dom new.operations new.states m.entries) (sym memo) (
-      subst (λ s. AreResults dom new.operations s mid.memo.entries) (sym states) (
+        subst (λ s. AreResults dom new.operations s mid.memo.entries) (sym states) (
         subst (λ p. AreResults dom p mid.states mid.memo.entries) (sym operations) right.results
-      )
-    )
+        )
+        )
 
     right_new : IsRight dom plan new
     right_new = record {

@@ -188,9 +188,9 @@ module _ {S : Type 0} (dom : Operations S) (plan : Plan) (store : Store S) (row 
           let v : IsValue store.states (State f) (H y) = subst (λ u. IsValue store.states u (H y)) value q.value in
           let s = v.0 in
           let done : H M ≡ cell (batch.State s) i =
-              by_last j last y at
-              ∙ ap (λ (c : Cell S). stops_with dom over j (last_state None (begin j)) c.value) v.2
-              ∙ stops_equal j (last_state None (begin j)) (before dom plan store row o ready.at same n p fixed j (omega arith)) i f s e a v.1
+          by_last j last y at
+          ∙ ap (λ (c : Cell S). stops_with dom over j (last_state None (begin j)) c.value) v.2
+          ∙ stops_equal j (last_state None (begin j)) (before dom plan store row o ready.at same n p fixed j (omega arith)) i f s e a v.1
           in (
             s,
             ap (λ (x : Held). slice_get store.states x.state) (sym fg) ∙ v.1,
@@ -224,8 +224,9 @@ module _ {S : Type 0} (dom : Operations S) (plan : Plan) (store : Store S) (row 
               by_last j last y at
               ∙ ap (λ (c : Cell S). stops_with dom over j (last_state None (begin j)) c.value) v
               ∙ stops_over j (last_state None (begin j)) (before dom plan store row o ready.at same n p fixed j (omega arith)) (λ h. apart (j, omega arith, h)) f s
-                (input_value dom plan store ready.at.right o j y q ∙ ap Some e) a
-                (let z : (H y).index ≡ 0 = index_none dom plan store row o ready.at same n p fixed j y at in sym (ap (λ (c : Cell S). c.index) v) ∙ z)
+              (input_value dom plan store ready.at.right o j y q ∙ ap Some e) a
+              (let z : (H y).index ≡ 0 = index_none dom plan store row o ready.at same n p fixed j y at in sym (ap (λ (c : Cell S). c.index) v) ∙ z)
+
           of_value : (u : Value Held) → q.cell.value ≡ u → IsValue store.states u (H y) → IsValue store.states (Over n (reverse (sites_of M.path))) (H M)
           of_value u e v = ap (λ (c : Cell S). c.value) (done u e v) ∙ ap (batch.Over n) (sym (reverse-reverse (sites_of M.path)))
 

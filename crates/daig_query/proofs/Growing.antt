@@ -50,6 +50,7 @@ filled_same cells old new once later keeps numbered x = same_option (filled_at c
   where
     there : (f : Filled Held) → filled_at cells old x ≡ Some f → filled_at cells new x ≡ Some f
     there f e = let p = filled_named cells old x f e in filled_number cells new later x p.0 (keeps p.0 x p.1) ∙ p.2
+
     back : (f : Filled Held) → filled_at cells new x ≡ Some f → filled_at cells old x ≡ Some f
     back f e =
         let p = filled_named cells new x f e in
@@ -103,8 +104,8 @@ module _ {S : Type 0} (dom : Operations S) (plan : Plan) where
   pub kept_same : (old new : Store S) → IsRight dom plan old → Names old new → IsOnce new.names.names → (x : CellName) → kept new x ≡ kept old x
   kept_same old new right more once x =
       ap is_some (
-        ap (λ g. filled_at g.cells new.names.names x) more.graph
-        ∙ filled_same old.graph.cells old.names.names new.names.names right.once once more.names (λ n f e. let p = right.cells n f e in (p.0, p.1)) x
+      ap (λ g. filled_at g.cells new.names.names x) more.graph
+      ∙ filled_same old.graph.cells old.names.names new.names.names right.once once more.names (λ n f e. let p = right.cells n f e in (p.0, p.1)) x
       )
 
   -- and the store is right
@@ -117,14 +118,15 @@ module _ {S : Type 0} (dom : Operations S) (plan : Plan) where
     kept = record { named = λ x h. right.kept.named x (sym (same x) ∙ h); closed = λ x y h m. same y ∙ right.kept.closed x y (sym (same x) ∙ h) m };
     cells = λ n f e. cell n f (subst (λ g. get g.cells n ≡ Some f) more.graph e);
     results = subst (λ m. AreResults dom new.operations new.states m.entries) (sym more.memo) (
-      subst (λ states. AreResults dom new.operations states old.memo.entries) (sym more.states) (
+        subst (λ states. AreResults dom new.operations states old.memo.entries) (sym more.states) (
         subst (λ operations. AreResults dom operations old.states old.memo.entries) (sym more.operations) right.results
-      )
-    );
+        )
+        );
   }
     where
       same : (x : CellName) → kept new x ≡ kept old x
       same = kept_same old new right more once
+
       cell : (n : ℕ) (f : Filled Held) → get old.graph.cells n ≡ Some f → (x : CellName) × (slice_get new.names.names n ≡ Some x) × IsCellOf dom plan new x f
       cell n f e =
           let p = right.cells n f e in (
@@ -154,8 +156,8 @@ module _ {S : Type 0} (dom : Operations S) (plan : Plan) where
         named = subst (λ x. HasName plan.engine plan.program x) (sym same) opened.named;
         within = subst (λ x. length o.inputs ≤ length (inputs dom plan x)) (sym same) opened.within;
         numbers = subst (λ x. AreNumbers new.names.names o.inputs (take (length o.inputs) (inputs dom plan x))) (sym same) (
-          numbers_grow old.names.names new.names.names grows.names o.inputs (take (length o.inputs) (inputs dom plan (name_of old o))) opened.numbers
-        );
+            numbers_grow old.names.names new.names.names grows.names o.inputs (take (length o.inputs) (inputs dom plan (name_of old o))) opened.numbers
+            );
         cells = cells_grow old new grows o.inputs opened.cells;
       }
 

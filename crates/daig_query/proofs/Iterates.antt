@@ -123,8 +123,8 @@ module _ {S : Type 0} (dom : Operations S) (plan : Plan) (store : Store S) (row 
           absurd cc))
       by y e q (State g) w (s, a, v) =
           subst (λ c. B (suc i) (state_of c.value)) (sym v) (some i g s refl (input_value dom plan store at.right o i y q ∙ ap Some w) a (
-            let z : (G y).index ≡ 0 = index_none i y e in
-            sym (ap (λ (c : Cell S). c.index) v) ∙ z
+          let z : (G y).index ≡ 0 = index_none i y e in
+          sym (ap (λ (c : Cell S). c.index) v) ∙ z
           ))
 
   -- the next one is wanted exactly where they do not stop
@@ -205,5 +205,6 @@ module _ {S : Type 0} (dom : Operations S) (plan : Plan) (store : Store S) (row 
       more h =
           let apart : StopsWithin plan.engine.budget iterate k → ⊥ = λ (q : StopsWithin plan.engine.budget iterate k). (let c : true ≡ false = sym h ∙ (stopped q.0 q.1 q.2).1 in cc) in
           g apart ∙ goes_next apart
+
       none : wants_first dom plan.engine (first k) ≡ false → option_map (input_name N.path) answer ≡ next_of dom plan store o
       none h = let s = stops_where k refl h in ap (option_map (input_name N.path)) (f s) ∙ sym (stops_next s)

@@ -187,10 +187,10 @@ module _ {S : Type 0} (dom : Operations S) (plan : Plan) where
             named = at_later.entry.named;
             within = subst (λ k. k ≤ length all) (sym long) (let w : length o.inputs < length all = slice_get_within all (length o.inputs) y next_later in omega arith);
             numbers = subst (λ k. AreNumbers new.names.names (o.inputs ++ cell ∷ []) (take k all)) (sym long) (
-              subst (λ zs. AreNumbers new.names.names (o.inputs ++ cell ∷ []) zs) (sym (take_next all (length o.inputs) y next_later)) (
+                subst (λ zs. AreNumbers new.names.names (o.inputs ++ cell ∷ []) zs) (sym (take_next all (length o.inputs) y next_later)) (
                 numbers_push new.names.names o.inputs (take (length o.inputs) all) cell y at_later.entry.numbers named.number
-              )
-            );
+                )
+                );
             cells = pushed_there dom plan [] new o.inputs cell at_later.entry.cells s;
           }
 

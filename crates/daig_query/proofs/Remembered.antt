@@ -74,6 +74,7 @@ module _ {S : Type 0} (dom : Operations S) where
       where
         same : (x : CellName) → kept new x ≡ kept old x
         same x = ap (λ m. is_some (filled_at m new.names.names x)) graph ∙ ap (λ k. is_some (filled_at old.graph.cells k.names x)) names
+
         cell_at : (n : ℕ) (f : Filled Held) → get old.graph.cells n ≡ Some f → (x : CellName) × (slice_get new.names.names n ≡ Some x) × IsCellOf dom plan new x f
         cell_at n f e =
             let p = right.cells n f e in (

@@ -84,8 +84,8 @@ module _ {S : Type 0} (dom : Operations S) (plan : Plan) (ts : List Target) wher
   placed_stays store old new h p = record {
     path = subst (λ n. n < length store.names.paths) (sym h.path) p.path;
     stands = subst (λ cells. Stands dom plan ts store (place_of ts store new) cells) (sym h.found) (
-      subst (λ k. Stands dom plan ts store k old.found.items) (sym same) p.stands
-    );
+        subst (λ k. Stands dom plan ts store k old.found.items) (sym same) p.stands
+        );
   }
     where
       same : place_of ts store new ≡ place_of ts store old
@@ -104,10 +104,10 @@ module _ {S : Type 0} (dom : Operations S) (plan : Plan) (ts : List Target) wher
   placed_left store right old new cell y h p asked keeps one next number there = record {
     path = subst (λ n. n < length store.names.paths) (sym h.path) (slice_get_within store.names.paths 0 [] right.root);
     stands = subst (λ cells. Stands dom plan ts store (place_of ts store new) cells) (sym h.found) (
-      subst (λ k. Stands dom plan ts store k (old.found.items ++ cell ∷ [])) (next ∙ sym same) (
+        subst (λ k. Stands dom plan ts store k (old.found.items ++ cell ∷ [])) (next ∙ sym same) (
         stands_next dom plan ts store (place_of ts store old) old.found.items y cell p.stands asked keeps one number there
-      )
-    );
+        )
+        );
   }
     where
       same : place_of ts store new ≡ law.start (drop (suc old.target) ts)
@@ -131,10 +131,10 @@ module _ {S : Type 0} (dom : Operations S) (plan : Plan) (ts : List Target) wher
   placed_by store later right names old new frame t here h s = record {
     path = h.within;
     stands = subst (λ cells. Stands dom plan ts later (place_of ts later new) cells) (sym h.found) (
-      subst (λ k. Stands dom plan ts later k old.found.items) (sym (place_entered store later old new frame t here h)) (
+        subst (λ k. Stands dom plan ts later k old.found.items) (sym (place_entered store later old new frame t here h)) (
         stands_grow dom plan ts store later _ old.found.items right (names_grow store later names) s
-      )
-    );
+        )
+        );
   }
 
   -- through a call
@@ -142,9 +142,9 @@ module _ {S : Type 0} (dom : Operations S) (plan : Plan) (ts : List Target) wher
       IsPlaced dom plan ts later new
   placed_call store later right names old new n t here step h p =
       placed_by store later right names old new (InCall n) t here h (
-        stands_go dom plan ts store (path_at store.names.paths old.path) n (drop (suc old.step) t.steps) t.last (drop (suc old.target) ts) old.found.items (
-          subst (λ k. Stands dom plan ts store k old.found.items) (place_step ts store old t here (Go n) step) p.stands
-        )
+      stands_go dom plan ts store (path_at store.names.paths old.path) n (drop (suc old.step) t.steps) t.last (drop (suc old.target) ts) old.found.items (
+      subst (λ k. Stands dom plan ts store k old.found.items) (place_step ts store old t here (Go n) step) p.stands
+      )
       )
 
   -- into the last round of a loop
@@ -153,9 +153,9 @@ module _ {S : Type 0} (dom : Operations S) (plan : Plan) (ts : List Target) wher
       Enters (InLoop n (found dom plan (name (path_at store.names.paths old.path) (Fix n))).index) store.names later.names old new → IsPlaced dom plan ts store old → IsPlaced dom plan ts later new
   placed_round store later right names old new n t s here step state keeps h p =
       placed_by store later right names old new (InLoop n c.index) t here h (
-        subst (λ k. Stands dom plan ts store k old.found.items) on (
-          stands_on dom plan ts store at old.found.items y (subst (λ k. Stands dom plan ts store k old.found.items) (place_step ts store old t here (Take n) step) p.stands) refl keeps none
-        )
+      subst (λ k. Stands dom plan ts store k old.found.items) on (
+      stands_on dom plan ts store at old.found.items y (subst (λ k. Stands dom plan ts store k old.found.items) (place_step ts store old t here (Take n) step) p.stands) refl keeps none
+      )
       )
     where
       y : CellName

@@ -57,11 +57,13 @@ module _ {S : Type 0} (dom : Operations S) (states : List S) (once : IsOnce stat
           let r : goes_on dom budget j (Some t) (plain.State s) ≡ false = ap (λ b. if b then false else nat_lt j budget) k in
           let c : true ≡ false = sym goes ∙ r in
           cc
+
       apart : dom.same s t ≡ false → ⊥
       apart k = by stops
         where
           less : nat_lt j budget ≡ true
           less = sym (ap (λ b. if b then false else nat_lt j budget) k) ∙ goes
+
           by : Stops budget iterate j → ⊥
           by (inl o) = no_over h e o
           by (inr (inl (m, f, v, first, second))) =
@@ -87,6 +89,7 @@ module _ {S : Type 0} (dom : Operations S) (states : List S) (once : IsOnce stat
           let numbers : h.state ≡ g.state = once h.state g.state s at (there ∙ ap Some (sym st)) in
           let hg : h ≡ g = held_same h g numbers zeroed zero_before in
           inr (inl (i, g, q, before, e ∙ ap (λ x. Some (State x)) hg))
+
       apart : dom.same s t ≡ false → Stops budget iterate j
       apart k =
           let less : nat_lt j budget ≡ false = sym (ap (λ b. if b then false else nat_lt j budget) k) ∙ goes in

@@ -102,12 +102,12 @@ module _ {S : Type 0} (dom : Operations S) (plan : Plan) (ts : List Target) wher
     asked_kept = asked_more store k cells y h keeps;
     lasts = h.lasts ++ y ∷ [];
     values =
-      let g : CellName → batch.Value S = λ x. (found dom plan x).value in
-      let rest = values_left (found dom plan) (goes (found dom plan y) k) in
-      h.values
-      ∙ ap (λ vs. map g h.lasts ++ vs) ((walk_goes (found dom plan) k y e).1 ∙ ap (λ us. us ++ rest) one)
-      ∙ sym (append_assoc (map g h.lasts) (g y ∷ []) rest)
-      ∙ ap (λ us. us ++ rest) (sym (map-append g h.lasts (y ∷ [])));
+        let g : CellName → batch.Value S = λ x. (found dom plan x).value in
+        let rest = values_left (found dom plan) (goes (found dom plan y) k) in
+        h.values
+        ∙ ap (λ vs. map g h.lasts ++ vs) ((walk_goes (found dom plan) k y e).1 ∙ ap (λ us. us ++ rest) one)
+        ∙ sym (append_assoc (map g h.lasts) (g y ∷ []) rest)
+        ∙ ap (λ us. us ++ rest) (sym (map-append g h.lasts (y ∷ [])));
     numbers = numbers_push store.names.names cells h.lasts n y h.numbers number;
     there = pushed_there store cells n h.there s;
   }
@@ -149,12 +149,12 @@ module _ {S : Type 0} (dom : Operations S) (plan : Plan) (ts : List Target) wher
   unfolding found
   asked_named store k cells y right targets h e =
       demanded_named dom plan.engine plan.program same_name same_is right.checked targets.location targets.string targets.place ts y targets.are (
-        subst (λ xs. member same_name xs y ≡ true) (sym (names_on store k cells y h e)) (
-          member-append same_name (h.asked ++ y ∷ []) (names_left (found dom plan) (goes (found dom plan y) k)) y
-          ∙ ap (λ b. b || member same_name (names_left (found dom plan) (goes (found dom plan y) k)) y) (
-            member-append same_name h.asked (y ∷ []) y ∙ is_member (member same_name h.asked y)
-          )
-        )
+      subst (λ xs. member same_name xs y ≡ true) (sym (names_on store k cells y h e)) (
+      member-append same_name (h.asked ++ y ∷ []) (names_left (found dom plan) (goes (found dom plan y) k)) y
+      ∙ ap (λ b. b || member same_name (names_left (found dom plan) (goes (found dom plan y) k)) y) (
+      member-append same_name h.asked (y ∷ []) y ∙ is_member (member same_name h.asked y)
+      )
+      )
       )
     where
       is_member : (b : Bool) → (b || member same_name (y ∷ []) y) ≡ true

@@ -105,7 +105,16 @@ fn fill_missing<D: Domain, L: Ledger>(
     walk.drop_filled(&store.graph);
     let mut filled: u32 = 0;
     'work: loop {
-        match take_turn(alloc, dom, flow, store, targets, walk, filled == most, steps)? {
+        match take_turn(
+            alloc,
+            dom,
+            flow,
+            store,
+            targets,
+            walk,
+            filled == most,
+            steps,
+        )? {
             Turn::Pushed => {}
             Turn::Filled => filled += 1,
             Turn::Spent => {
@@ -131,6 +140,15 @@ impl<D: Domain> Engine<D> {
         steps: &mut Steps<L>,
     ) -> Result<Progress, Memory> {
         let dom = &self.domain;
-        fill_missing(alloc, dom, flow, &mut self.store, targets, walk, most, steps)
+        fill_missing(
+            alloc,
+            dom,
+            flow,
+            &mut self.store,
+            targets,
+            walk,
+            most,
+            steps,
+        )
     }
 }

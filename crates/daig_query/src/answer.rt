@@ -22,7 +22,9 @@ impl<D: Domain> Engine<D> {
         let before = self.kept_count();
         let mut done = false;
         while !done {
-            done = self.advance(alloc, flow, targets, walk, u32::MAX, steps)?.done;
+            done = self
+                .advance(alloc, flow, targets, walk, u32::MAX, steps)?
+                .done;
         }
         Ok(self.kept_count() - before)
     }

@@ -1,5 +1,6 @@
 //! The engine.
 ghost use Rattle.std.specs.Prelude.{◌<◌};
+
 use crate::store::Store;
 use cell_names::Names;
 use daig_graph::Graph;

@@ -27,12 +27,7 @@ fn next_of_operation(row: &Row<'_>, count: usize) -> Option<Input>
 }
 
 /// Of a fixed point: the next iterate, where the loop goes on.
-fn next_iterate(
-    graph: &Graph<Held>,
-    budget: u32,
-    row: &Row<'_>,
-    found: &[usize],
-) -> Option<Input>
+fn next_iterate(graph: &Graph<Held>, budget: u32, row: &Row<'_>, found: &[usize]) -> Option<Input>
     requires cells { AreCells graph.now.cells found.now }
     requires earlier { GoesOnTo budget (iterate_of graph.now.cells found.now) (length found.now) }
     ensures stops { StopsWithin budget (iterate_of graph.now.cells found.now) (length found.now) → result ≡ None }

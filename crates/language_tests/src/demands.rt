@@ -164,10 +164,19 @@ const BRANCHES: &str =
 fn demands_fill_what_is_missing(rt: HostRuntime) -> Result<(), Fail> {
     let alloc = rt.alloc();
     assert_eq!(rt;
-        told(alloc, COUNTS, 100, &[("after", 3, &[]), ("after", 3, &[]), ("before", 4, &[])])?.as_str(),
+        told(
+            alloc,
+            COUNTS,
+            100,
+            &[("after", 3, &[]), ("after", 3, &[]), ("before", 4, &[])]
+        )?
+        .as_str(),
         "11 i=[10,max] n=[10,10]; 0 i=[10,max] n=[10,10]; 0 i=[0,9] n=[10,10]; "
     );
-    assert_eq!(rt; told(alloc, COUNTS, 1, &[("after", 3, &[])])?.as_str(), "8 over 3; ");
+    assert_eq!(rt;
+        told(alloc, COUNTS, 1, &[("after", 3, &[])])?.as_str(),
+        "8 over 3; "
+    );
     assert_eq!(rt;
         told(alloc, COUNTS, 2, &[("after", 3, &[])])?.as_str(),
         "11 i=[10,max] n=[10,10]; "
@@ -179,7 +188,13 @@ fn demands_fill_what_is_missing(rt: HostRuntime) -> Result<(), Fail> {
 fn calls_are_told_apart(rt: HostRuntime) -> Result<(), Fail> {
     let alloc = rt.alloc();
     assert_eq!(rt;
-        told(alloc, CALLS, 100, &[("f", 0, &[4]), ("f", 0, &[5]), ("f", 0, &[])])?.as_str(),
+        told(
+            alloc,
+            CALLS,
+            100,
+            &[("f", 0, &[4]), ("f", 0, &[5]), ("f", 0, &[])]
+        )?
+        .as_str(),
         "5 x=[1,1]; 5 x=[2,2]; 0 x=[1,2]; "
     );
     Ok(())

@@ -35,12 +35,12 @@ returns-clause-puts g c =
       owned = c.owner-owner.ensures.is ∙ ap (λ k. owner (path_at k.paths entry.name.path) entry.name.point) computes.names;
     } in
     on_ok c.fill.result c.fill.ensures.fills (λ e.
-      puts dom plan mid _ computes.right entry.cell x f
-      (ap (λ k. slice_get k.names entry.cell) computes.names ∙ ready.at.entry.number)
-      (ap (λ m. get m entry.cell) computes.cells ∙ absent_get dom plan old ready.at.right entry.cell x ready.at.entry.number c.requires.absent)
-      ready.at.entry.named is
-      (subst (λ m. AreCells m entry.inputs) (sym computes.cells) ready.at.entry.cells)
-      refl refl refl refl e old computes)
+    puts dom plan mid _ computes.right entry.cell x f
+    (ap (λ k. slice_get k.names entry.cell) computes.names ∙ ready.at.entry.number)
+    (ap (λ m. get m entry.cell) computes.cells ∙ absent_get dom plan old ready.at.right entry.cell x ready.at.entry.number c.requires.absent)
+    ready.at.entry.named is
+    (subst (λ m. AreCells m entry.inputs) (sym computes.cells) ready.at.entry.cells)
+    refl refl refl refl e old computes)
 
 pub returns-clause-err : goal.returns-clause-err
 returns-clause-err g c =
@@ -50,9 +50,9 @@ returns-clause-err g c =
     let mid = c.compute.new.store in
     let computes = c.compute.ensures.computes in
     on_err c.fill.result c.fill.ensures.err (λ e.
-      record {
-        cells = e ∙ computes.cells;
-        names = computes.names;
-        states = computes.states;
-        right = (right_more dom plan mid _ computes.right e refl (keeps_refl mid.states) computes.right.single computes.right.results).right;
-      })
+    record {
+      cells = e ∙ computes.cells;
+      names = computes.names;
+      states = computes.states;
+      right = (right_more dom plan mid _ computes.right e refl (keeps_refl mid.states) computes.right.single computes.right.results).right;
+    })

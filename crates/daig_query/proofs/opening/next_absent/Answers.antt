@@ -17,7 +17,7 @@ returns-then-not-there-clause-right g c =
     let dom = g.D.Domain.operations c.args.dom.now in
     let store = c.inputs.store in
     later dom c.args.flow.now store _ c.inputs.invariant.at.right _ c.in_ok-name.name c.in_ok-cell.cell (
-      named_by store _ c.name.new.names c.in_ok-name.name c.in_ok-cell.cell _ c.inputs.invariant.at.right.once c.name.ensures.kept c.name.ensures.names c.in_ok-name.ensures.is c.in_ok-name.ensures.within c.in_ok-cell.ensures.name c.add.ensures.paths refl refl refl refl
+    named_by store _ c.name.new.names c.in_ok-name.name c.in_ok-cell.cell _ c.inputs.invariant.at.right.once c.name.ensures.kept c.name.ensures.names c.in_ok-name.ensures.is c.in_ok-name.ensures.within c.in_ok-cell.ensures.name c.add.ensures.paths refl refl refl refl
     )
 
 pub returns-then-not-there-clause-looks : goal.returns-then-not-there-clause-looks
@@ -26,7 +26,7 @@ returns-then-not-there-clause-looks g c =
     let store = c.inputs.store in
     let y = input_name (name_of store c.inputs.entry).path c.in-Some.input in
     looks dom c.args.flow.now store _ c.inputs.invariant.at.right y c.in_ok-name.name c.in_ok-cell.cell (
-      named_by store _ c.name.new.names c.in_ok-name.name c.in_ok-cell.cell y c.inputs.invariant.at.right.once c.name.ensures.kept c.name.ensures.names c.in_ok-name.ensures.is c.in_ok-name.ensures.within c.in_ok-cell.ensures.name c.add.ensures.paths refl refl refl refl
+    named_by store _ c.name.new.names c.in_ok-name.name c.in_ok-cell.cell y c.inputs.invariant.at.right.once c.name.ensures.kept c.name.ensures.names c.in_ok-name.ensures.is c.in_ok-name.ensures.within c.in_ok-cell.ensures.name c.add.ensures.paths refl refl refl refl
     ) c.args.row.now c.inputs.entry c.inputs.invariant.at (sym c.in-Some.ensures.next) c.args.entry.now c.inputs.invariant.cell c.inputs.invariant.name c.opened.result c.opened.ensures.is (none_of (get store.graph.cells c.in_ok-cell.cell) (sym c.has_cell-there.ensures.is ∙ c.if-not-there.true))
 
 pub inputs-smaller : goal.inputs-smaller
@@ -35,7 +35,7 @@ inputs-smaller g c =
     let store = c.inputs.store in
     let y = input_name (name_of store c.inputs.entry).path c.in-Some.input in
     fewer dom c.args.flow.now store _ c.inputs.invariant.at.right y c.in_ok-name.name c.in_ok-cell.cell (
-      named_by store _ c.name.new.names c.in_ok-name.name c.in_ok-cell.cell y c.inputs.invariant.at.right.once c.name.ensures.kept c.name.ensures.names c.in_ok-name.ensures.is c.in_ok-name.ensures.within c.in_ok-cell.ensures.name c.add.ensures.paths refl refl refl refl
+    named_by store _ c.name.new.names c.in_ok-name.name c.in_ok-cell.cell y c.inputs.invariant.at.right.once c.name.ensures.kept c.name.ensures.names c.in_ok-name.ensures.is c.in_ok-name.ensures.within c.in_ok-cell.ensures.name c.add.ensures.paths refl refl refl refl
     ) c.args.row.now c.inputs.entry c.inputs.invariant.at (sym c.in-Some.ensures.next) (record { cell = c.inputs.entry.cell; name = c.inputs.entry.name; inputs = c.push.new.self }) refl c.in_ok-push.ensures.added
 
 pub inputs-preserved : goal.inputs-preserved
@@ -62,5 +62,5 @@ returns-in_err-push-clause-right g c =
     let dom = g.D.Domain.operations c.args.dom.now in
     let store = c.inputs.store in
     later dom c.args.flow.now store _ c.inputs.invariant.at.right _ c.in_ok-name.name c.in_ok-cell.cell (
-      named_by store _ c.name.new.names c.in_ok-name.name c.in_ok-cell.cell _ c.inputs.invariant.at.right.once c.name.ensures.kept c.name.ensures.names c.in_ok-name.ensures.is c.in_ok-name.ensures.within c.in_ok-cell.ensures.name c.add.ensures.paths refl refl refl refl
+    named_by store _ c.name.new.names c.in_ok-name.name c.in_ok-cell.cell _ c.inputs.invariant.at.right.once c.name.ensures.kept c.name.ensures.names c.in_ok-name.ensures.is c.in_ok-name.ensures.within c.in_ok-cell.ensures.name c.add.ensures.paths refl refl refl refl
     )
