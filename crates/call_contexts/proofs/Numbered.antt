@@ -5,7 +5,7 @@ use Rattle.imp_slots.specs.Plain.{Code, Stop, code_numbers}
 use Rattle.imp_slots.specs.BlockViews.{before_code, code_of}
 use Rattle.imp_slots.specs.declared.blocks.SlotNode.{SlotNode}
 use Rattle.imp_slots.specs.declared.blocks.SlotNode.TheVariants as node
-use Rattle.program_chains.specs.Chains.{has, has_while}
+use Rattle.program_chains.specs.Chains.{has}
 use Rattle.call_contexts.proofs.Lists.{drop_item, drop_none}
 
 pub has_both : (n : ℕ) (xs ys : List ℕ) → has n (xs ++ ys) ≡ (has n xs || has n ys)
@@ -46,32 +46,3 @@ has_found n ss i s h e k = has_here n ss i s h e ∙ ap (λ b. b || has n (code_
 
 pub has_end : (n : ℕ) (ss : List SlotNode) (i : ℕ) → length ss ≤ i → has n (code_numbers (code_of (drop i ss))) ≡ false
 has_end n ss i h = ap (λ xs. has n (code_numbers (code_of xs))) (drop_none ss i h)
-
-while_before : (n : ℕ) (s : SlotNode) (r : Code) → has_while n (before_code s r) ≡ (has_while n (before_code s Stop) || has_while n r)
-while_before n (node.Simple m a) r = refl
-while_before n (node.If m c t e) r = go (has_while n t) (has_while n e)
-  where
-    go : (a b : Bool) → (if a then true else if b then true else has_while n r) ≡ ((if a then true else if b then true else false) || has_while n r)
-    go true b = refl
-    go false true = refl
-    go false false = refl
-while_before n (node.While m c b) r = go (n == m) (has_while n b)
-  where
-    go : (a b : Bool) → (if a then true else if b then true else has_while n r) ≡ ((if a then true else if b then true else false) || has_while n r)
-    go true b = refl
-    go false true = refl
-    go false false = refl
-while_before n (node.Call m i q) r = refl
-while_before n (node.Break m) r = refl
-
-while_here : (n : ℕ) (ss : List SlotNode) (i : ℕ) (s : SlotNode) → i < length ss → s ≡ get_or ss i s → has_while n (code_of (drop i ss)) ≡ (has_while n (before_code s Stop) || has_while n (code_of (drop (i + 1) ss)))
-while_here n ss i s h e = ap (λ xs. has_while n (code_of xs)) (drop_item ss i s h e) ∙ while_before n s (code_of (drop (i + 1) ss))
-
-pub while_step : (n : ℕ) (ss : List SlotNode) (i : ℕ) (s : SlotNode) → i < length ss → s ≡ get_or ss i s → has_while n (before_code s Stop) ≡ false → has_while n (code_of (drop i ss)) ≡ has_while n (code_of (drop (i + 1) ss))
-while_step n ss i s h e k = while_here n ss i s h e ∙ ap (λ b. b || has_while n (code_of (drop (i + 1) ss))) k
-
-pub while_found : (n : ℕ) (ss : List SlotNode) (i : ℕ) (s : SlotNode) → i < length ss → s ≡ get_or ss i s → has_while n (before_code s Stop) ≡ true → has_while n (code_of (drop i ss)) ≡ true
-while_found n ss i s h e k = while_here n ss i s h e ∙ ap (λ b. b || has_while n (code_of (drop (i + 1) ss))) k
-
-pub while_end : (n : ℕ) (ss : List SlotNode) (i : ℕ) → length ss ≤ i → has_while n (code_of (drop i ss)) ≡ false
-while_end n ss i h = ap (λ xs. has_while n (code_of xs)) (drop_none ss i h)

@@ -1,12 +1,25 @@
 -- The chains to a procedure from those of the later ones.
-use Rattle.std.proofs.Common.{ℕ, zero, suc, ◌≡◌, ◌+◌, ◌<◌, ◌≤◌, List, [], ◌∷◌, ◌++◌, length, drop, slice_get, get_or, Option, Some, None, refl, sym, ap, ◌∙◌, arith, add-one}
+use Rattle.std.proofs.Common.{ℕ, zero, suc, ◌≡◌, ◌⊎◌, inl, inr, ◌==◌, ◌+◌, ◌-◌, ◌<◌, ◌≤◌, cond, Bool, true, false, List, [], ◌∷◌, ◌++◌, length, drop, get_or, map, slice_get, Option, Some, None, refl, sym, ap, ◌∙◌, subst, arith, append_assoc, length-append}
 use Rattle.std.specs.Prelude.{if◌then◌else◌}
+use Rattle.std.proofs.lemmas.Bool.{cases_lt}
+use Rattle.imp_syntax.specs.Plain.{Statements, Ends, Starts, Procedure}
+use Rattle.imp_syntax.specs.Plain as tree
 use Rattle.imp_slots.specs.Plain.{Layout, Invoke, Code, Stop, Simple, If, While, Call, Break, Routine}
 use Rattle.imp_slots.specs.Fits.{FitsCall, FitsCode, FitInTurn, IsChecked}
 use Rattle.program_chains.specs.Chains.{calls_to, extended, through, chains_within, chains}
 use Rattle.program_chains.specs.Claims.{ChainsAreThroughCallers}
-use Rattle.call_contexts.specs.Tables.{through_table, chains_down}
-use Rattle.call_contexts.proofs.Lists.{by_test, get_below, drop_item, drop_none}
+use Rattle.imp_check.specs.Parts.{first_or}
+use Rattle.imp_check.specs.Programs.{AreNumbered}
+use Rattle.imp_check.specs.Slots.{Frame, callee_in, code_in, routines_from, routines_of}
+use Rattle.imp_check.specs.Entries.{inside, inside_loop, calls_here, sites_in, block_entries, procedure_entries, entries_from, entries_of, entry_of, frame_at, context_at}
+use Rattle.imp_check.specs.declared.entry.Context.{Context}
+use Rattle.imp_check.specs.declared.entry.Entry.{Entry}
+use Rattle.imp_check.specs.declared.entry.Which.TheVariants as which
+use Rattle.imp_check.proofs.RebuildLemmas.{Known, all_numbers, found}
+use Rattle.imp_slots.specs.Fits.{Distinct}
+use Rattle.call_contexts.specs.Tables.{chains_up, or_no_chains, chains_in, chains_by, through_sites}
+use Rattle.call_contexts.proofs.Lists.{by_test, drop_item, get_below, get_last, get_other}
+use Rattle.call_contexts.proofs.Placed.{one_more, swapped}
 
 callee_before : (before : List Routine) (l : Layout) (i : Invoke) (q : ℕ) (o : Option Routine) → o ≡ slice_get before q → FitsCall l i o → q < length before
 callee_before before l i q None e f = absurd f
@@ -24,12 +37,8 @@ no_calls before l p (Call n i q r) h f =
     (λ e. no_calls before l p r h f.1)
 no_calls before l p (Break n r) h f = no_calls before l p r h f
 
-one_more : (before : List Routine) (r : Routine) → length (before ++ (r ∷ [])) ≡ suc (length before)
-one_more [] r = refl
-one_more (x ∷ xs) r = ap suc (one_more xs r)
-
 -- so its chains go through those behind it
-pub through_later : (f : ℕ → List (List ℕ)) (before rs : List Routine) (k j p : ℕ) → k ≡ length before → FitInTurn before rs → k + j ≤ suc p → through f k rs p ≡ through f (k + j) (drop j rs) p
+through_later : (f : ℕ → List (List ℕ)) (before rs : List Routine) (k j p : ℕ) → k ≡ length before → FitInTurn before rs → k + j ≤ suc p → through f k rs p ≡ through f (k + j) (drop j rs) p
 through_later f before rs k zero p l t h = ap (λ m. through f m rs p) (omega arith)
 through_later f before [] k (suc j) p l t h = refl
 through_later f before (r ∷ rs) k (suc j) p l t h =
@@ -39,17 +48,140 @@ through_later f before (r ∷ rs) k (suc j) p l t h =
     ∙ through_later f (before ++ (r ∷ [])) rs (suc k) j p (ap suc l ∙ sym (one_more before r)) t.1 (omega arith)
     ∙ ap (λ m. through f m (drop j rs) p) (sym next)
 
-tabled : (f : ℕ → List (List ℕ)) (k : ℕ) (rs : List Routine) (p : ℕ) → through f k rs p ≡ through_table (chains_down f k rs) rs p
-tabled f k [] p = refl
-tabled f k (r ∷ rs) p = ap (λ zs. extended (f k) (calls_to p r.code) ++ zs) (tabled f (suc k) rs p)
+-- where the chains of those from a place on are these, so are the chains through them
+same_from : (f g : ℕ → List (List ℕ)) (k : ℕ) (rs : List Routine) (p : ℕ) → ((q : ℕ) → k ≤ q → q < k + length rs → f q ≡ g q) → through f k rs p ≡ through g k rs p
+same_from f g k [] p h = refl
+same_from f g k (r ∷ rs) p h =
+    ap (λ zs. extended zs (calls_to p r.code) ++ through f (suc k) rs p) (h k (omega arith) (omega arith))
+    ∙ ap (λ zs. extended (g k) (calls_to p r.code) ++ zs) (same_from f g (suc k) rs p (λ q a b. h q (omega arith) (omega arith)))
 
-pub from_later : (program : List Routine) (p : ℕ) → ChainsAreThroughCallers → IsChecked program → suc p < length program → through_table (chains_down (chains program) (p + 1) (drop (p + 1) program)) (drop (p + 1) program) p ≡ chains program p
-from_later program p law checked h =
+-- a table of chains by places
+up_length : (f : ℕ → List (List ℕ)) (last n : ℕ) → length (chains_up f last n) ≡ n
+up_length f last zero = refl
+up_length f last (suc n) = one_more (chains_up f last n) (f (last - n)) ∙ ap suc (up_length f last n)
+
+up_get : (f : ℕ → List (List ℕ)) (last n j : ℕ) → j < n → slice_get (chains_up f last n) j ≡ Some (f (last - j))
+up_get f last zero j h = absurd (omega arith)
+up_get f last (suc n) j h = go (up_get f last n j) (cases_lt j n)
+  where
+    go : (j < n → slice_get (chains_up f last n) j ≡ Some (f (last - j))) → (j < n) ⊎ (n ≤ j) → slice_get (chains_up f last n ++ f (last - n) ∷ []) j ≡ Some (f (last - j))
+    go ih (inl k) = get_other (chains_up f last n) (f (last - n)) j (λ e. let l = up_length f last n in absurd (omega arith)) ∙ ih k
+    go ih (inr k) =
+        let e : n ≡ j = omega arith in
+        let l : j ≡ length (chains_up f last n) = sym e ∙ sym (up_length f last n) in
+        ap (slice_get (chains_up f last n ++ f (last - n) ∷ [])) l ∙ get_last (chains_up f last n) (f (last - n)) ∙ ap (λ m. Some (f (last - m))) e
+
+pub up_more : (f : ℕ → List (List ℕ)) (last k i : ℕ) → k ≡ i + 1 → k ≤ last → chains_up f last (last - i) ≡ chains_up f last (last - k) ++ f k ∷ []
+up_more f last k i e h =
+    let a : last - i ≡ suc (last - k) = omega arith in
+    let b : last - (last - k) ≡ k = omega arith in
+    ap (chains_up f last) a ∙ ap (λ m. chains_up f last (last - k) ++ f m ∷ []) b
+
+-- the chains through these statements, as far as they call p
+abbrev through_entries : (f : ℕ → List (List ℕ)) → List Entry → (p : ℕ) → List (List ℕ)
+through_entries f [] p = []
+through_entries f (e ∷ es) p = cond (calls_here e.form p) (map (λ z. e.number ∷ z) (f e.context.proc) ++ through_entries f es p) (through_entries f es p)
+
+extended_both : (zs : List (List ℕ)) (ms ns : List ℕ) → extended zs (ms ++ ns) ≡ extended zs ms ++ extended zs ns
+extended_both zs [] ns = refl
+extended_both zs (m ∷ ms) ns = ap (λ ws. map (λ z. m ∷ z) zs ++ ws) (extended_both zs ms ns) ∙ sym (append_assoc (map (λ z. m ∷ z) zs) (extended zs ms) (extended zs ns))
+
+module _ (f : ℕ → List (List ℕ)) (p : ℕ) where
+  entries_both : (xs ys : List Entry) → through_entries f (xs ++ ys) p ≡ through_entries f xs p ++ through_entries f ys p
+  entries_both [] ys = refl
+  entries_both (e ∷ xs) ys = go (calls_here e.form p) (map (λ z. e.number ∷ z) (f e.context.proc)) (entries_both xs ys)
+    where
+      go : (b : Bool) (zs : List (List ℕ)) → through_entries f (xs ++ ys) p ≡ through_entries f xs p ++ through_entries f ys p → cond b (zs ++ through_entries f (xs ++ ys) p) (through_entries f (xs ++ ys) p) ≡ cond b (zs ++ through_entries f xs p) (through_entries f xs p) ++ through_entries f ys p
+      go true zs h = ap (λ ws. zs ++ ws) h ∙ sym (append_assoc zs (through_entries f xs p) (through_entries f ys p))
+      go false zs h = h
+
+  module _ (g : Frame) (k : ℕ) where
+    -- the chains through these statements are those through these calls
+    abbrev Through : List Entry → List ℕ → Type 0
+    Through xs ns = through_entries f xs p ≡ extended (f k) ns
+
+    through_both : (xs ys : List Entry) (ms ns : List ℕ) → Through xs ms → Through ys ns → Through (xs ++ ys) (ms ++ ns)
+    through_both xs ys ms ns a b = entries_both xs ys ∙ (λ i. a i ++ b i) ∙ sym (extended_both (f k) ms ns)
+
+    through_block : (c : Context) (a next : Option ℕ) (b : Statements) → c.proc ≡ k → Through (block_entries g c a next b) (calls_to p (code_in g b))
+    through_block c a next Ends e = refl
+    through_block c a next (Starts (tree.Simple n x) ss) e = through_block c (Some n) next ss e
+    through_block c a next (Starts (tree.Break n) ss) e = through_block c (Some n) next ss e
+    through_block c a next (Starts (tree.Call n x h es) ss) e =
+        let R = block_entries g c (Some n) next ss in
+        ap (λ b. cond b (map (λ z. n ∷ z) (f c.proc) ++ through_entries f R p) (through_entries f R p)) (swapped (callee_in g h) p)
+        ∙ go (p == callee_in g h) (through_block c (Some n) next ss e)
+      where
+        go : (b : Bool) → through_entries f (block_entries g c (Some n) next ss) p ≡ extended (f k) (calls_to p (code_in g ss)) → cond b (map (λ z. n ∷ z) (f c.proc) ++ through_entries f (block_entries g c (Some n) next ss) p) (through_entries f (block_entries g c (Some n) next ss) p) ≡ extended (f k) (if b then n ∷ calls_to p (code_in g ss) else calls_to p (code_in g ss))
+        go true h = (λ i. map (λ z. n ∷ z) (f (e i)) ++ h i)
+        go false h = h
+    through_block c a next (Starts (tree.If n d t u) ss) e =
+        let T = block_entries g (inside c n which.Then) None None t in
+        let E = block_entries g (inside c n which.Else) None None u in
+        let R = block_entries g c (Some n) next ss in
+        let ts = calls_to p (code_in g t) in
+        let us = calls_to p (code_in g u) in
+        let rs = calls_to p (code_in g ss) in
+        subst (Through ((T ++ E) ++ R)) (append_assoc ts us rs)
+        (through_both (T ++ E) R (ts ++ us) rs (through_both T E ts us (through_block (inside c n which.Then) None None t e) (through_block (inside c n which.Else) None None u e)) (through_block c (Some n) next ss e))
+    through_block c a next (Starts (tree.While n d b) ss) e =
+        through_both (block_entries g (inside_loop c n) None None b) (block_entries g c (Some n) next ss) (calls_to p (code_in g b)) (calls_to p (code_in g ss)) (through_block (inside_loop c n) None None b e) (through_block c (Some n) next ss e)
+
+  through_from : (es ps : List Procedure) → through_entries f (entries_from es ps) p ≡ through f (length es) (routines_from es ps) p
+  through_from es [] = refl
+  through_from es (q ∷ ps) =
+      entries_both (procedure_entries es q) (entries_from (es ++ q ∷ []) ps)
+      ∙ ap (λ zs. zs ++ through_entries f (entries_from (es ++ q ∷ []) ps) p) (through_block (frame_at es q) (length es) (context_at (length es)) None None q.body refl)
+      ∙ ap (λ zs. extended (f (length es)) (calls_to p (code_in (frame_at es q) q.body)) ++ zs) (through_from (es ++ q ∷ []) ps ∙ ap (λ k. through f k (routines_from (es ++ q ∷ []) ps) p) (one_more es q))
+
+  -- call statements that are known stand for what is known of them
+  sites_are : (at : ℕ → Option Entry) (xs : List Entry) → Known at xs → through_sites f at (sites_in xs p) ≡ through_entries f xs p
+  sites_are at [] k = refl
+  sites_are at (e ∷ xs) k = go (calls_here e.form p) (sites_are at xs (λ y i. k y (inr i)))
+    where
+      go : (b : Bool) → through_sites f at (sites_in xs p) ≡ through_entries f xs p → through_sites f at (cond b (e.number ∷ sites_in xs p) (sites_in xs p)) ≡ cond b (map (λ z. e.number ∷ z) (f e.context.proc) ++ through_entries f xs p) (through_entries f xs p)
+      go true h = (λ i. map (λ z. e.number ∷ z) (chains_by f (k e (inl refl) i)) ++ h i)
+      go false h = h
+
+-- the chains through one more call statement
+pub sites_step : (f : ℕ → List (List ℕ)) (at : ℕ → Option Entry) (ns : List ℕ) (i n : ℕ) (zs before behind : List (List ℕ)) → i < length ns → n ≡ get_or ns i n → zs ≡ chains_by f (at n) → behind ≡ before ++ map (λ z. n ∷ z) zs →
+    behind ++ through_sites f at (drop (i + 1) ns) ≡ before ++ through_sites f at (drop i ns)
+sites_step f at ns i n zs before behind h e c b =
+    let rest = through_sites f at (drop (i + 1) ns) in
+    ap (λ ws. ws ++ rest) (b ∙ ap (λ ws. before ++ map (λ z. n ∷ z) ws) c)
+    ∙ append_assoc before (map (λ z. n ∷ z) (chains_by f (at n))) rest
+    ∙ ap (λ ms. before ++ through_sites f at ms) (sym (drop_item ns i n h e))
+
+-- The chains to a procedure go through its call statements, by the chains to the later ones.
+pub from_sites : (ps : List Procedure) (main p : ℕ) (table : List (List (List ℕ))) → ChainsAreThroughCallers → IsChecked (routines_of ps) → AreNumbered ps → main + 1 ≡ length (routines_of ps) → p < main → table ≡ chains_up (chains (routines_of ps)) main (main - p) →
+    through_sites (chains_in table main) (entry_of (entries_of ps)) (sites_in (entries_of ps) p) ≡ chains (routines_of ps) p
+from_sites ps main p table law checked numbered e h t =
+    let rs = routines_of ps in
+    let later = drop (p + 1) rs in
+    let f = chains_in table main in
+    let g = chains rs in
     let s : 0 + (p + 1) ≡ p + 1 = omega arith in
-    sym (law program checked p h
-    ∙ through_later (chains program) [] program 0 (p + 1) p refl checked.fit (omega arith)
-    ∙ ap (λ m. through (chains program) m (drop (p + 1) program) p) s
-    ∙ tabled (chains program) (p + 1) (drop (p + 1) program) p)
+    let l : length later ≡ main - p = rest rs (p + 1) ∙ counted in
+    let k : Known (entry_of (entries_of ps)) (entries_of ps) = found (entries_of ps) (subst Distinct (sym (all_numbers ps)) numbered.once) in
+    sites_are f p (entry_of (entries_of ps)) (entries_of ps) k
+    ∙ through_from f p [] ps
+    ∙ through_later f [] rs 0 (p + 1) p refl checked.fit (omega arith)
+    ∙ same_from f g (0 + (p + 1)) later p (λ q a b. known q (omega arith) (omega arith))
+    ∙ sym (through_later g [] rs 0 (p + 1) p refl checked.fit (omega arith))
+    ∙ sym (law rs checked p (omega arith))
+  where
+    rest : {A : Type 0} (xs : List A) (n : ℕ) → length (drop n xs) ≡ length xs - n
+    rest xs zero = omega arith
+    rest [] (suc n) = omega arith
+    rest (x ∷ xs) (suc n) = rest xs n ∙ omega arith
+
+    counted : length (routines_of ps) - (p + 1) ≡ main - p
+    counted = omega arith
+
+    known : (q : ℕ) → p < q → q ≤ main → chains_in table main q ≡ chains (routines_of ps) q
+    known q a b =
+        let z : main - (main - q) ≡ q = omega arith in
+        ap (λ ts. or_no_chains (slice_get ts (main - q))) t ∙ ap or_no_chains (up_get (chains (routines_of ps)) main (main - p) (main - q) (omega arith)) ∙ ap (chains (routines_of ps)) z
 
 -- main has the one empty chain
 pub main_only : (program : List Routine) (p : ℕ) → p + 1 ≡ length program → chains program p ≡ [] ∷ []
@@ -72,28 +204,3 @@ none_past program p checked h = go (length program)
     go : (most : ℕ) → chains_within most program p ≡ []
     go zero = refl
     go (suc most) = by_test (suc p) (length program) (λ c. (if c then [] ∷ [] else through (chains_within most program) 0 program p) ≡ []) (λ k. absurd (omega arith)) (λ k. gone (chains_within most program))
-
-pub as_many : (f : ℕ → List (List ℕ)) (k : ℕ) (rs : List Routine) → length (chains_down f k rs) ≡ length rs
-as_many f k [] = refl
-as_many f k (r ∷ rs) = ap suc (as_many f (suc k) rs)
-
-pub through_step : (table : List (List (List ℕ))) (rs : List Routine) (p i : ℕ) (zs : List (List ℕ)) (r : Routine) → i < length table → i < length rs → zs ≡ get_or table i zs → r ≡ get_or rs i r → through_table (drop i table) (drop i rs) p ≡ extended zs (calls_to p r.code) ++ through_table (drop (i + 1) table) (drop (i + 1) rs) p
-through_step table rs p i zs r h k e m = λ j. through_table (drop_item table i zs h e j) (drop_item rs i r k m j) p
-
-pub through_end : (table : List (List (List ℕ))) (rs : List Routine) (p i : ℕ) → length table ≤ i → through_table (drop i table) (drop i rs) p ≡ []
-through_end table rs p i h = ap (λ zs. through_table zs (drop i rs) p) (drop_none table i h)
-
-down_at : (f : ℕ → List (List ℕ)) (rs : List Routine) (k m : ℕ) → k < length rs → chains_down f m (drop k rs) ≡ f m ∷ chains_down f (suc m) (drop (suc k) rs)
-down_at f [] k m h = absurd (omega arith)
-down_at f (r ∷ rs) zero m h = refl
-down_at f (r ∷ rs) (suc k) m h = down_at f rs k m (omega arith)
-
-pub down_first : (f : ℕ → List (List ℕ)) (rs : List Routine) (k : ℕ) → k < length rs → chains_down f k (drop k rs) ≡ f k ∷ chains_down f (k + 1) (drop (k + 1) rs)
-down_first f rs k h = rw add-one (down_at f rs k k h)
-
--- one more procedure in front
-pub down_more : (f : ℕ → List (List ℕ)) (rs : List Routine) (k i : ℕ) → k ≡ i + 1 → i < length rs → chains_down f i (drop i rs) ≡ f i ∷ chains_down f k (drop k rs)
-down_more f rs k i e h = down_first f rs i h ∙ ap (λ n. f i ∷ chains_down f n (drop n rs)) (sym e)
-
-pub down_none : (f : ℕ → List (List ℕ)) (rs : List Routine) → chains_down f (length rs) (drop (length rs) rs) ≡ []
-down_none f rs = ap (chains_down f (length rs)) (drop_none rs (length rs) (omega arith))

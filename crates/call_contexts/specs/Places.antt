@@ -1,5 +1,6 @@
 -- The procedure of a location, or why there is none, and its chains.
-use Rattle.std.specs.Prelude.{ℕ, List, [], Result, Ok, Err}
+use Rattle.std.specs.Prelude.{ℕ, List, [], Bool, true, false, Result, Ok, Err}
+use Rattle.imp_syntax.specs.Plain.{Statement, Simple, Break, Call, If, While}
 use Rattle.imp_syntax.specs.declared.edit.Location.{Location}
 use Rattle.imp_slots.specs.Plain.{Routine}
 use Rattle.program_chains.specs.Chains.{selected}
@@ -18,3 +19,11 @@ selected_at program string (Misses r) = []
 -- the chains of a location that a call string selects
 abbrev pub targets_of : List Routine → Location → (string : List ℕ) → List (List ℕ)
 targets_of program l string = selected_at program string (procedure_of program l)
+
+-- whether a statement is a loop
+abbrev pub is_loop : Statement → Bool
+is_loop (Simple n a) = false
+is_loop (Break n) = false
+is_loop (Call n x g es) = false
+is_loop (If n c t e) = false
+is_loop (While n c b) = true

@@ -1,15 +1,26 @@
 -- Chains to several procedures.
-use Rattle.std.specs.Prelude.{ℕ, suc, List, [], ◌∷◌, ◌++◌}
-use Rattle.imp_slots.specs.Plain.{Routine}
-use Rattle.program_chains.specs.Chains.{calls_to, extended}
+use Rattle.std.specs.Prelude.{ℕ, zero, suc, ◌-◌, List, [], ◌∷◌, ◌++◌, map, slice_get, Option, Some, None}
+use Rattle.imp_check.specs.declared.entry.Entry.{Entry}
 
--- the chains to each of these procedures, the first of which is the k-th
-abbrev pub chains_down : (chains_of : ℕ → List (List ℕ)) → (k : ℕ) → List Routine → List (List (List ℕ))
-chains_down chains_of k [] = []
-chains_down chains_of k (r ∷ rs) = chains_of k ∷ chains_down chains_of (suc k) rs
+-- the chains to so many procedures up to the last one, those of the last one first
+abbrev pub chains_up : (chains_of : ℕ → List (List ℕ)) → (last : ℕ) → (count : ℕ) → List (List (List ℕ))
+chains_up chains_of last zero = []
+chains_up chains_of last (suc count) = chains_up chains_of last count ++ chains_of (last - count) ∷ []
 
--- the chains to p through its calls in these procedures, of which the chains are these
-abbrev pub through_table : List (List (List ℕ)) → List Routine → (p : ℕ) → List (List ℕ)
-through_table [] rs p = []
-through_table (zs ∷ table) [] p = []
-through_table (zs ∷ table) (r ∷ rs) p = extended zs (calls_to p r.code) ++ through_table table rs p
+abbrev pub or_no_chains : Option (List (List ℕ)) → List (List ℕ)
+or_no_chains None = []
+or_no_chains (Some zs) = zs
+
+-- the chains to a procedure by such a table, none where it is not there
+abbrev pub chains_in : List (List (List ℕ)) → (last : ℕ) → ℕ → List (List ℕ)
+chains_in table last q = or_no_chains (slice_get table (last - q))
+
+-- the chains to the procedure of a statement
+abbrev pub chains_by : (chains_of : ℕ → List (List ℕ)) → Option Entry → List (List ℕ)
+chains_by chains_of None = []
+chains_by chains_of (Some e) = chains_of e.context.proc
+
+-- the chains through these call statements
+abbrev pub through_sites : (chains_of : ℕ → List (List ℕ)) → (at : ℕ → Option Entry) → List ℕ → List (List ℕ)
+through_sites chains_of at [] = []
+through_sites chains_of at (n ∷ ns) = map (λ z. n ∷ z) (chains_by chains_of (at n)) ++ through_sites chains_of at ns

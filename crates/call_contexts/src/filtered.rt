@@ -4,7 +4,7 @@ ghost use Rattle.imp_check.specs.Slots.{routines_of};
 ghost use Rattle.program_chains.specs.Chains.{ends_in, ending_in, selected};
 ghost use Rattle.call_contexts.specs.Places.{targets_of};
 
-use crate::places::{few_routines, place_of};
+use crate::places::place_of;
 use crate::table::chains_to;
 use imp_check::Checked;
 use imp_syntax::{Chain, Location, ProcId, StmtId};
@@ -61,7 +61,8 @@ fn ending_in(alloc: Global, calls: &[u32], chains: &[Items<StmtId>]) -> Result<I
 
 /// The chains to a procedure that a call string selects, those that end in it, in order: by the
 /// text of the last calls first. Chains and the string have the outermost call first. There are
-/// none to a procedure that is not there.
+/// none to a procedure that is not there. It takes time linear in the calls of the procedures from
+/// this one on and in the chains to them.
 pub fn chains(
     alloc: Global,
     prog: &Checked,
@@ -70,13 +71,14 @@ pub fn chains(
 ) -> Result<Items<Chain>, Memory>
     ensures is { IfOk result (λ found. found ≡ map reverse (selected (routines_of prog.now) proc string.now)) }
 {
-    let all = chains_to(alloc, few_routines(prog), proc.place() as usize)?;
+    let all = chains_to(alloc, prog, proc)?;
     let calls = last_first(alloc, string)?;
     ending_in(alloc, calls.as_slice(), all.as_slice())
 }
 
 /// The chains of a location that a call string selects: those to its procedure, as [`chains`] gives
-/// them, and none where the program has no such location.
+/// them, and none where the program has no such location. It takes the time of [`place_of`] and of
+/// [`chains`].
 pub fn targets(
     alloc: Global,
     prog: &Checked,

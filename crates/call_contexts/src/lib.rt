@@ -6,8 +6,9 @@
 //! [`marks`] gives the numbers at which widening stops in a procedure, and a [`Setting`] has those of
 //! all procedures, with how often and how the iterates of a loop are made.
 //!
-//! A program has at most 4,096 chains, each of at most 8 calls. Finding them takes time linear in the
-//! chains to the procedures from the last one down.
+//! A program has at most 4,096 chains, each of at most 8 calls. Nothing walks the program: a place is
+//! read off what is known of the statement, and the chains to a procedure are found along call
+//! sites, in time linear in the calls of the procedures from its own on and in the chains to them.
 #![tactic(auto)]
 
 mod filtered;
@@ -22,6 +23,7 @@ mod table;
 pub use filtered::{chains, targets};
 pub use joining::joined;
 pub use marking::marks;
-pub use numbers::{holds, is_loop_in};
+pub use numbers::holds;
 pub use places::{few_routines, place_of};
 pub use setting::Setting;
+pub use table::main_place;

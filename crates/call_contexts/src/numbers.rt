@@ -2,7 +2,7 @@
 ghost use Rattle.std.specs.Prelude.{◌≡◌, if◌then◌else◌, true, ◌||◌, ◌==◌};
 ghost use Rattle.imp_slots.specs.Plain.{Stop, code_numbers};
 ghost use Rattle.imp_slots.specs.BlockViews.{before_code};
-ghost use Rattle.program_chains.specs.Chains.{has, has_while};
+ghost use Rattle.program_chains.specs.Chains.{has};
 
 use imp_slots::{SlotBlock, SlotNode};
 
@@ -32,32 +32,6 @@ fn is_held(node: &SlotNode, number: u32) -> bool
     match node {
         SlotNode::If(_, _, then, els) => holds(then, number) || holds(els, number),
         SlotNode::While(_, _, body) => holds(body, number),
-        _ => false,
-    }
-}
-
-/// Whether a block has a while of this number, also inside its statements. It takes time linear in
-/// the block.
-#[cycle(looping)]
-#[tactic(auto, using(imp_slots::specs::BlockFalls::node_falls, crate::proofs::Numbered::while_step, crate::proofs::Numbered::while_found, crate::proofs::Numbered::while_end))]
-pub fn is_loop_in(block: &SlotBlock, number: u32) -> bool
-    ensures is { result ≡ has_while number block.now }
-{
-    for node in block.statements() {
-        if is_loop(node, number) {
-            return true;
-        }
-    }
-    false
-}
-
-#[cycle(looping)]
-fn is_loop(node: &SlotNode, number: u32) -> bool
-    ensures is { result ≡ has_while number (before_code node.now Stop) }
-{
-    match node {
-        SlotNode::If(_, _, then, els) => is_loop_in(then, number) || is_loop_in(els, number),
-        SlotNode::While(n, _, body) => *n == number || is_loop_in(body, number),
         _ => false,
     }
 }

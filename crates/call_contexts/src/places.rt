@@ -1,80 +1,67 @@
 //! The procedure of a location.
-ghost use Rattle.std.specs.Prelude.{◌≡◌, ◌<◌, ◌^◌, length, option_map};
+ghost use Rattle.std.specs.Prelude.{◌≡◌, ◌<◌, ◌^◌, length};
+ghost use Rattle.analysis_words.specs.declared.refusal.Refusal.TheVariants.{NoStatement};
 ghost use Rattle.imp_slots.specs.Fits.{IsChecked};
-ghost use Rattle.program_chains.specs.Chains.{holder, named, is_while};
-ghost use Rattle.batch_meaning.specs.Answers.{procedure_of};
+ghost use Rattle.program_chains.specs.Chains.{holder, is_while};
+ghost use Rattle.batch_meaning.specs.Answers.{found_or, found_loop, procedure_of};
 ghost use Rattle.imp_check.specs.Slots.{routines_of};
-ghost use Rattle.call_contexts.specs.Places.{found_of};
+ghost use Rattle.call_contexts.specs.Places.{found_of, is_loop};
 
-use crate::numbers::{holds, is_loop_in};
 use batch_meaning::Refusal;
 use imp_check::Checked;
 use imp_slots::Routine;
-use imp_syntax::{Location, ProcId};
-use plain_values::Text;
+use imp_syntax::{Location, ProcId, Stmt, StmtId, StmtNode};
 
-/// The first procedure that has a statement of this number.
-fn holder(routines: &[Routine], number: u32) -> Option<ProcId>
-    requires few { length routines.now < 2 ^ 32 }
-    ensures is { result ≡ holder number routines.now }
+/// The procedure of a statement.
+fn holder(prog: &Checked, stmt: StmtId) -> Result<ProcId, Refusal>
+    ensures is { found_of result ≡ found_or NoStatement (holder stmt (routines_of prog.now)) }
 {
-    for (k, routine) in routines.iter().enumerate() {
-        if holds(routine.body(), number) {
-            return Some(ProcId::new(k as u32));
-        }
+    match prog.entry(stmt) {
+        Some(entry) => Ok(entry.context.proc),
+        None => Err(Refusal::NoStatement),
     }
-    None
 }
 
-/// The first procedure of this name.
-fn named(routines: &[Routine], name: &Text) -> Option<ProcId>
-    requires few { length routines.now < 2 ^ 32 }
-    ensures is { result ≡ named name.now routines.now }
+fn is_loop(part: &Stmt) -> bool
+    ensures is { result ≡ is_loop part.now }
 {
-    for (k, routine) in routines.iter().enumerate() {
-        if name == routine.name() {
-            return Some(ProcId::new(k as u32));
-        }
-    }
-    None
+    matches!(part.node(), StmtNode::While(_, _))
 }
 
-/// Whether a while of the program has this number.
-fn is_while(routines: &[Routine], number: u32) -> bool
-    ensures is { result ≡ is_while number routines.now }
+/// The procedure of a loop.
+fn loop_holder(prog: &Checked, stmt: StmtId) -> Result<ProcId, Refusal>
+    ensures is { found_of result ≡ found_loop (is_while stmt (routines_of prog.now)) (found_or NoStatement (holder stmt (routines_of prog.now))) }
 {
-    for routine in routines {
-        if is_loop_in(routine.body(), number) {
-            return true;
+    prog.program();
+    match prog.entry(stmt) {
+        Some(entry) => {
+            let place = entry.context.proc;
+            if is_loop(&entry.part) {
+                Ok(place)
+            } else {
+                Err(Refusal::WrongStatement)
+            }
         }
+        None => Err(Refusal::NoStatement),
     }
-    false
 }
 
-/// The procedure of a location.
+/// The procedure of a location. It takes constant time for a statement, and time linear in the
+/// procedures for an end.
 ///
 /// # Errors
 ///
 /// [`Refusal::NoProcedure`] or [`Refusal::NoStatement`] where the program has no such procedure or
 /// statement, [`Refusal::WrongStatement`] where the head of a statement is asked for that is no loop.
+#[tactic(auto, using(crate::proofs::Placed::named_is))]
 pub fn place_of(prog: &Checked, at: &Location) -> Result<ProcId, Refusal>
     ensures is { found_of result ≡ procedure_of (routines_of prog.now) at.now }
 {
-    let routines = few_routines(prog);
     match at {
-        Location::Before(n) => holder(routines, n.number()).ok_or(Refusal::NoStatement),
-        Location::After(n) => holder(routines, n.number()).ok_or(Refusal::NoStatement),
-        Location::Head(n) => match holder(routines, n.number()) {
-            None => Err(Refusal::NoStatement),
-            Some(place) => {
-                if is_while(routines, n.number()) {
-                    Ok(place)
-                } else {
-                    Err(Refusal::WrongStatement)
-                }
-            }
-        },
-        Location::End(name) => named(routines, name).ok_or(Refusal::NoProcedure),
+        Location::Before(n) => holder(prog, *n),
+        Location::After(n) => holder(prog, *n),
+        Location::Head(n) => loop_holder(prog, *n),
+        Location::End(name) => prog.proc_named(name).ok_or(Refusal::NoProcedure),
     }
 }
 

@@ -1,50 +1,17 @@
 //! The chains to procedures, each with the last call first.
-ghost use Rattle.std.specs.Prelude.{◌≡◌, ◌++◌, ◌∷◌, [], ◌+◌, ◌<◌, ◌≤◌, ◌^◌, length, drop, map, ℕ, List, IfOk, OnOk};
-ghost use Rattle.imp_slots.specs.Plain.{Stop};
+ghost use Rattle.std.specs.Prelude.{◌≡◌, ◌++◌, ◌∷◌, [], ◌+◌, ◌-◌, ◌<◌, length, map, ℕ, List, IfOk, OnOk};
 ghost use Rattle.imp_slots.specs.Fits.{IsChecked};
-ghost use Rattle.imp_slots.specs.BlockViews.{before_code};
-ghost use Rattle.program_chains.specs.Chains.{calls_to, extended, chains};
-ghost use Rattle.call_contexts.specs.Tables.{through_table, chains_down};
+ghost use Rattle.imp_check.specs.Entries.{entries_of, entry_of};
+ghost use Rattle.imp_check.specs.Programs.{AreNumbered};
+ghost use Rattle.imp_check.specs.Slots.{routines_of};
+ghost use Rattle.program_chains.specs.Chains.{chains};
+ghost use Rattle.call_contexts.specs.Tables.{chains_up, chains_in, chains_by, through_sites};
 
-use imp_slots::{Routine, SlotBlock, SlotNode};
-use imp_syntax::StmtId;
+use imp_check::Checked;
+use imp_syntax::{ProcId, StmtId};
 use plain_values::{Items, Memory};
 use program_chains::chains_go_through_callers;
 use std::alloc::Global;
-
-/// Adds the calls of a procedure in a block, in the order of the text.
-#[cycle(calls)]
-#[tactic(auto, using(imp_slots::specs::BlockFalls::node_falls))]
-fn add_calls(block: &SlotBlock, callee: u32, found: &mut Items<StmtId>) -> Result<(), Memory>
-    ensures added { OnOk result (found.new ≡ found.old ++ calls_to callee block.now) }
-{
-    for node in block.statements() {
-        add_calls_in(node, callee, found)?;
-    }
-    Ok(())
-}
-
-#[cycle(calls)]
-fn add_calls_in(node: &SlotNode, callee: u32, found: &mut Items<StmtId>) -> Result<(), Memory>
-    ensures added { OnOk result (found.new ≡ found.old ++ calls_to callee (before_code node.now Stop)) }
-{
-    match node {
-        SlotNode::Call(n, _, q) => {
-            if callee == *q {
-                found.push(StmtId::new(*n))
-            } else {
-                Ok(())
-            }
-        }
-        SlotNode::If(_, _, then, els) => {
-            add_calls(then, callee, found)?;
-            add_calls(els, callee, found)
-        }
-        SlotNode::While(_, _, body) => add_calls(body, callee, found),
-        SlotNode::Simple(_, _) => Ok(()),
-        SlotNode::Break(_) => Ok(()),
-    }
-}
 
 /// A chain with one more call behind it.
 fn with_call(alloc: Global, site: StmtId, chain: &[StmtId]) -> Result<Items<StmtId>, Memory>
@@ -73,37 +40,39 @@ fn add_longer(
     Ok(())
 }
 
-/// Adds for each call the chains of its procedure, with the call behind them.
-fn add_extended(
-    alloc: Global,
-    chains: &[Items<StmtId>],
-    sites: &[StmtId],
-    found: &mut Items<Items<StmtId>>,
-) -> Result<(), Memory>
-    ensures added { OnOk result (found.new ≡ found.old ++ extended chains.now sites.now) }
+/// The chains to the procedure of a call, by a table of chains from those of main on down.
+fn chains_to_caller<'a>(
+    prog: &Checked,
+    main: u32,
+    table: &'a [Items<Items<StmtId>>],
+    site: StmtId,
+) -> &'a [Items<StmtId>]
+    ensures are { result.now ≡ chains_by (chains_in table.now main) (entry_of (entries_of prog.now) site) }
 {
-    for site in sites {
-        add_longer(alloc, chains, *site, found)?;
+    let Some(entry) = prog.entry(site) else {
+        return &[];
+    };
+    let caller = entry.context.proc.place();
+    match table.get(main.saturating_sub(caller) as usize) {
+        Some(chains) => chains.as_slice(),
+        None => &[],
     }
-    Ok(())
 }
 
-/// The chains through calls in these procedures, whose own chains are known.
-#[tactic(auto, using(crate::proofs::Tabled::through_step, crate::proofs::Tabled::through_end))]
+/// The chains through these call statements.
 fn through(
     alloc: Global,
-    routines: &[Routine],
+    prog: &Checked,
+    main: u32,
     table: &[Items<Items<StmtId>>],
-    callee: u32,
+    sites: &[StmtId],
 ) -> Result<Items<Items<StmtId>>, Memory>
-    requires as_many { length table.now ≡ length routines.now }
-    ensures is { IfOk result (λ found. found ≡ through_table table.now routines.now callee) }
+    ensures is { IfOk result (λ found. found ≡ through_sites (chains_in table.now main) (entry_of (entries_of prog.now)) sites.now) }
 {
     let mut found = Items::new(alloc);
-    for (i, routine) in routines.iter().enumerate() {
-        let mut sites = Items::new(alloc);
-        add_calls(routine.body(), callee, &mut sites)?;
-        add_extended(alloc, table[i].as_slice(), sites.as_slice(), &mut found)?;
+    for site in sites {
+        let chains = chains_to_caller(prog, main, table, *site);
+        add_longer(alloc, chains, *site, &mut found)?;
     }
     Ok(found)
 }
@@ -117,62 +86,56 @@ fn only_main(alloc: Global) -> Result<Items<Items<StmtId>>, Memory>
     Ok(found)
 }
 
-/// The chains to a procedure, where those of the later ones are known.
-#[tactic(auto, using(std::proofs::lemmas::List::take_rest, crate::proofs::Tabled::as_many, crate::proofs::Tabled::main_only, crate::proofs::Tabled::from_later))]
+/// The place of main, the last procedure.
+#[tactic(auto, using(crate::proofs::Few::some_heads, crate::proofs::Few::few_heads, crate::proofs::Few::as_many_heads))]
+pub fn main_place(prog: &Checked) -> u32
+    ensures last { result + 1 ≡ length (routines_of prog.now) }
+    ensures few { result < 64 }
+    ensures checked { IsChecked (routines_of prog.now) }
+    ensures numbered { AreNumbered prog.now }
+{
+    prog.table().procs().len() as u32 - 1
+}
+
+/// The chains to a procedure in front of main, where those of the later ones are known.
 fn chains_at(
     alloc: Global,
-    routines: &[Routine],
-    place: usize,
+    prog: &Checked,
+    main: u32,
     table: &[Items<Items<StmtId>>],
+    place: u32,
 ) -> Result<Items<Items<StmtId>>, Memory>
-    requires few { length routines.now < 2 ^ 32 }
-    requires checked { IsChecked routines.now }
-    requires within { place < length routines.now }
-    requires known { table.now ≡ chains_down (chains routines.now) (place + 1) (drop (place + 1) routines.now) }
-    ensures is { IfOk result (λ found. found ≡ chains routines.now place) }
+    requires last { main + 1 ≡ length (routines_of prog.now) }
+    requires before { place < main }
+    requires known { table.now ≡ chains_up (chains (routines_of prog.now)) main (main - place) }
+    ensures is { IfOk result (λ found. found ≡ chains (routines_of prog.now) place) }
 {
     chains_go_through_callers();
-    if place + 1 == routines.len() {
-        only_main(alloc)
-    } else {
-        through(alloc, &routines[place + 1..], table, place as u32)
-    }
+    main_place(prog);
+    let sites = prog.sites(ProcId::new(place));
+    let found = through(alloc, prog, main, table, sites)?;
+    Ok(found)
 }
 
-/// The chains to the procedures from a place on.
-#[tactic(auto, using(crate::proofs::Tabled::down_more, crate::proofs::Tabled::down_none))]
-fn chains_from(
-    alloc: Global,
-    routines: &[Routine],
-    place: usize,
-) -> Result<Vec<Items<Items<StmtId>>>, Memory>
-    requires few { length routines.now < 2 ^ 32 }
-    requires checked { IsChecked routines.now }
-    requires within { place ≤ length routines.now }
-    ensures is { IfOk result (λ table. table.items ≡ chains_down (chains routines.now) place (drop place routines.now)) }
-{
-    let mut table: Vec<Items<Items<StmtId>>> = Vec::new(alloc);
-    for k in (place..routines.len()).rev() {
-        let found = chains_at(alloc, routines, k, table.as_slice())?;
-        table.insert(0, found)?;
-    }
-    Ok(table)
-}
-
-/// The chains to a procedure.
-#[tactic(auto, using(crate::proofs::Tabled::none_past))]
+/// The chains to a procedure, by those to the procedures behind it.
+#[tactic(auto, using(crate::proofs::Tabled::none_past, crate::proofs::Tabled::main_only, crate::proofs::Tabled::up_more))]
 pub(crate) fn chains_to(
     alloc: Global,
-    routines: &[Routine],
-    place: usize,
+    prog: &Checked,
+    proc: ProcId,
 ) -> Result<Items<Items<StmtId>>, Memory>
-    requires few { length routines.now < 2 ^ 32 }
-    requires checked { IsChecked routines.now }
-    ensures is { IfOk result (λ found. found ≡ chains routines.now place) }
+    ensures is { IfOk result (λ found. found ≡ chains (routines_of prog.now) proc) }
 {
-    if place >= routines.len() {
+    let main = main_place(prog);
+    let place = proc.place();
+    if place > main {
         return Ok(Items::new(alloc));
     }
-    let table = chains_from(alloc, routines, place + 1)?;
-    chains_at(alloc, routines, place, table.as_slice())
+    let mut table: Vec<Items<Items<StmtId>>> = Vec::new(alloc);
+    let mut found = only_main(alloc)?;
+    for k in (place..main).rev() {
+        table.push(found)?;
+        found = chains_at(alloc, prog, main, table.as_slice(), k)?;
+    }
+    Ok(found)
 }

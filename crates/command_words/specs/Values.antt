@@ -3,7 +3,7 @@ use Rattle.std.specs.Prelude.{ℕ, ◌&&◌, nat_le, Bool, true, false, List, Op
 use Rattle.std.specs.Str.{bytes_eq}
 use Rattle.std.specs.Str.Parse.{digits_value}
 use Rattle.command_words.specs.declared.job.DomainName.{DomainName}
-use Rattle.command_words.specs.declared.job.DomainName.TheVariants.{Interval, Octagon}
+use Rattle.command_words.specs.declared.job.DomainName.TheVariants.{Interval, Octagon, ListSeg, IntervalListSeg, OctagonListSeg}
 
 -- a number within these bounds, as its decimal digits
 unfoldable pub number_in : ℕ → ℕ → List ℕ → Option ℕ
@@ -15,7 +15,10 @@ unfoldable pub domain_of : List ℕ → Option DomainName
 domain_of text =
     if bytes_eq text (codes "interval") then Some Interval
     else (if bytes_eq text (codes "octagon") then Some Octagon
-    else None)
+    else (if bytes_eq text (codes "listseg") then Some ListSeg
+    else (if bytes_eq text (codes "interval+listseg") then Some IntervalListSeg
+    else (if bytes_eq text (codes "octagon+listseg") then Some OctagonListSeg
+    else None))))
 
 -- whether the numbers of a procedure are the marks of widening
 unfoldable pub thresholds_of : List ℕ → Option Bool

@@ -46,6 +46,12 @@ pub enum DomainName {
     Interval,
     /// Bounds on numbers, and on the sums and differences of two.
     Octagon,
+    /// Which lists the variables name, and what they share.
+    ListSeg,
+    /// Intervals and list segments as one.
+    IntervalListSeg,
+    /// Octagons and list segments as one.
+    OctagonListSeg,
 }
 
 /// The name of a file, seen as the list of its bytes.

@@ -39,6 +39,18 @@ fn words_that_are_taken(rt: HostRuntime) -> Result<(), Fail> {
             r#"Serve { settings: Settings { domain: Octagon, widening: Widening { delay: 0, thresholds: true }, budget: 100 }, memo: 1024, file: FileName { text: "a" } }"#,
         ),
         (
+            "daig serve --domain listseg a",
+            r#"Serve { settings: Settings { domain: ListSeg, widening: Widening { delay: 0, thresholds: true }, budget: 100 }, memo: 1024, file: FileName { text: "a" } }"#,
+        ),
+        (
+            "daig batch --domain interval+listseg a",
+            r#"Batch { settings: Settings { domain: IntervalListSeg, widening: Widening { delay: 0, thresholds: true }, budget: 100 }, file: FileName { text: "a" } }"#,
+        ),
+        (
+            "daig batch --domain=octagon+listseg a",
+            r#"Batch { settings: Settings { domain: OctagonListSeg, widening: Widening { delay: 0, thresholds: true }, budget: 100 }, file: FileName { text: "a" } }"#,
+        ),
+        (
             "daig batch --delay 7 -- --budget",
             r#"Batch { settings: Settings { domain: Interval, widening: Widening { delay: 7, thresholds: true }, budget: 100 }, file: FileName { text: "--budget" } }"#,
         ),
@@ -83,6 +95,8 @@ fn words_that_are_refused(rt: HostRuntime) -> Result<(), Fail> {
         "daig serve --domain Interval a",
         "daig serve --domain octagons a",
         "daig serve --domain interval+octagon a",
+        "daig serve --domain listseg+interval a",
+        "daig serve --domain interval+listseg+listseg a",
         "daig serve --cubes a",
     ] {
         let found = shown(rt.alloc(), line)?;

@@ -32,6 +32,9 @@ pub(crate) fn domain_of(text: &str) -> Option<DomainName>
     match text {
         "interval" => Some(DomainName::Interval),
         "octagon" => Some(DomainName::Octagon),
+        "listseg" => Some(DomainName::ListSeg),
+        "interval+listseg" => Some(DomainName::IntervalListSeg),
+        "octagon+listseg" => Some(DomainName::OctagonListSeg),
         _ => None,
     }
 }

@@ -1,11 +1,15 @@
 //! The domains that the words name, each with the code that computes it.
 ghost use Rattle.batch_sound.specs.Theorem.{AreAnswersSound, AreReportsSound};
 ghost use Rattle.command_words.specs.declared.job.DomainName.{DomainName as Name};
+ghost use Rattle.listseg_meaning.specs.Domain.{segments};
+ghost use Rattle.product_meaning.specs.Product.{product};
 ghost use Rattle.daig_server.specs.Domains.{RepliesAs, meaning_of};
 
 use batch_sound::{answers_are_sound, reports_are_sound};
 use dom_interval::Interval;
+use dom_listseg::ListSeg;
 use dom_octagon::Octagon;
+use dom_product::Pair;
 use domain_laws::Domain;
 
 /// A domain that the words name: replies by it are those by what the name means.
@@ -34,6 +38,47 @@ impl Named for Octagon {
     ghost replies = { λ _. record { lines = λ _ _. refl; reports = λ _. refl } };
 }
 
+impl Named for ListSeg {
+    ghost use Rattle.std.specs.Prelude.{refl};
+    ghost use Rattle.command_words.specs.declared.job.DomainName.TheVariants as domain;
+
+    ghost name = { domain.ListSeg };
+
+    ghost replies = { λ _. record { lines = λ _ _. refl; reports = λ _. refl } };
+}
+
+/// A domain that the words name together with list segments: replies by the product are those by what that name means.
+pub trait NamedWithLists: Domain + Drop {
+    /// The name of the product.
+    ghost product_name: { Name };
+
+    ghost product_replies: { (d : Self) → RepliesAs product_name (product (Self.Domain.operations d) segments) };
+}
+
+impl NamedWithLists for Interval {
+    ghost use Rattle.std.specs.Prelude.{refl};
+    ghost use Rattle.command_words.specs.declared.job.DomainName.TheVariants as domain;
+
+    ghost product_name = { domain.IntervalListSeg };
+
+    ghost product_replies = { λ _. record { lines = λ _ _. refl; reports = λ _. refl } };
+}
+
+impl NamedWithLists for Octagon {
+    ghost use Rattle.std.specs.Prelude.{refl};
+    ghost use Rattle.command_words.specs.declared.job.DomainName.TheVariants as domain;
+
+    ghost product_name = { domain.OctagonListSeg };
+
+    ghost product_replies = { λ _. record { lines = λ _ _. refl; reports = λ _. refl } };
+}
+
+impl<A: NamedWithLists> Named for Pair<A, ListSeg> {
+    ghost name = { A.product_name };
+
+    ghost replies = { λ d. A.product_replies d.first };
+}
+
 /// Answers and reports are sound by a domain.
 fn domain_is_sound<D: Domain>()
     ensures answers { (d : D) → AreAnswersSound (D.operations d) (D.covers d) }
@@ -50,4 +95,7 @@ pub(crate) fn named_domains_are_sound()
 {
     domain_is_sound::<Interval>();
     domain_is_sound::<Octagon>();
+    domain_is_sound::<ListSeg>();
+    domain_is_sound::<Pair<Interval, ListSeg>>();
+    domain_is_sound::<Pair<Octagon, ListSeg>>();
 }

@@ -22,7 +22,9 @@ use crate::status::Status;
 use crate::task::Task;
 use command_words::{DomainName, Job, Settings, WordsError, read_words};
 use dom_interval::Interval;
+use dom_listseg::ListSeg;
 use dom_octagon::Octagon;
+use dom_product::Pair;
 use imp_check::Checked;
 use io_edge::{Failed, Files, LoadFault, Sink, Source};
 use request_json::{Refusal, Reply, reply_line};
@@ -175,6 +177,15 @@ fn run_program<I: Source, O: Sink, L: Ledger>(
             run_by(alloc, Interval, task, settings, program, script, out, steps)
         }
         DomainName::Octagon => run_by(alloc, Octagon, task, settings, program, script, out, steps),
+        DomainName::ListSeg => run_by(alloc, ListSeg, task, settings, program, script, out, steps),
+        DomainName::IntervalListSeg => {
+            let pair = Pair::new(Interval, ListSeg);
+            run_by(alloc, pair, task, settings, program, script, out, steps)
+        }
+        DomainName::OctagonListSeg => {
+            let pair = Pair::new(Octagon, ListSeg);
+            run_by(alloc, pair, task, settings, program, script, out, steps)
+        }
     }
 }
 

@@ -61,7 +61,14 @@ impl<D: Named> Server<D> {
     ) -> Result<Vec<u8>, Memory>
         ensures reply { IfOk result (λ v. v.items ≡ reply_text (of_reply.line_reply (meaning_of D.name).operations self.now line.now)) }
     {
-        let reply = line_reply(alloc, &self.domain, &self.program, &self.settings, line, steps)?;
+        let reply = line_reply(
+            alloc,
+            &self.domain,
+            &self.program,
+            &self.settings,
+            line,
+            steps,
+        )?;
         reply_line(alloc, &reply)
     }
 

@@ -14,7 +14,7 @@ use std::sync::ledger::{Blank, Ledger};
 use step_counter::Steps;
 
 /// The examples, each a program with a script and what comes out, and the domain that answers.
-const SERVED: [(&str, &str); 8] = [
+const SERVED: [(&str, &str); 9] = [
     ("first", "interval"),
     ("three", "interval"),
     ("counting", "interval"),
@@ -23,6 +23,7 @@ const SERVED: [(&str, &str); 8] = [
     ("arrays", "interval"),
     ("lists", "interval"),
     ("filling", "octagon"),
+    ("pushing", "interval+listseg"),
 ];
 
 /// The most bytes of a file.

@@ -85,7 +85,6 @@ pub fn check_table(alloc: Global, program: &Program) -> Result<Table, CheckError
     if let Some(found) = check_fault(alloc, program.procs())? {
         return Err(CheckError::Fault(found));
     }
-    small_program(program.procs());
     Ok(table_of(alloc, program.procs())?)
 }
 

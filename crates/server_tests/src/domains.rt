@@ -10,6 +10,13 @@ const TEN: &str =
 const FILLED: &str =
     "proc main() { var i: int; var n: int; var a: array; n = input; a = array n; i = 0; while (i < len a) { a[i] = i; i = i + 1; } }";
 
+/// A list that is pushed a number of times that is read, and then walked.
+const PUSHED: &str =
+    "proc main() { var i: int; var n: int; var p: list; var q: list; var x: list; n = input; while (i < n) { q = new; q.next = p; p = q; i = i + 1; } x = p; while (x != null) { x = x.next; } }";
+
+/// A number that is 0, and the item of a cell that was made.
+const MADE: &str = "proc main() { var i: int; var p: list; assert i == 0; p = new; i = p.item; }";
+
 /// Octagons: what is known of two numbers at once, where intervals know each alone.
 #[test]
 fn octagons(rt: HostRuntime) -> Result<(), Fail> {
@@ -55,6 +62,87 @@ fn octagons(rt: HostRuntime) -> Result<(), Fail> {
         let (status, bytes) = served(alloc, words, source.as_bytes(), script.as_bytes(), 100_000)?;
         assert_eq!(rt; bytes.as_slice(), wanted.as_bytes(), "{words} {script}");
         assert_eq!(rt; status, code, "{words} {script}");
+    }
+    Ok(())
+}
+
+/// List segments: what the lists share, where intervals know nothing of them.
+#[test]
+fn list_segments(rt: HostRuntime) -> Result<(), Fail> {
+    let alloc = rt.alloc();
+    let table = [
+        (
+            "daig serve --domain listseg f",
+            "proc main() { var p: list; var q: list; p = new; q = p.next; q = q.next; }",
+            "{\"at\":\"after 2\",\"do\":\"state\"}\n{\"at\":\"after 3\",\"do\":\"state\"}\n{\"do\":\"report\"}\n",
+            "{\"state\":\"p=1 q=nil 1:one(nil)\"}\n{\"state\":\"none\"}\n{\"report\":[{\"check\":\"null\",\"id\":2,\"verdict\":\"safe\"},{\"check\":\"null\",\"id\":3,\"verdict\":\"may\"}]}\n",
+            0,
+        ),
+        (
+            "daig serve --domain interval f",
+            "proc main() { var p: list; var q: list; p = new; q = p.next; q = q.next; }",
+            "{\"do\":\"report\"}\n",
+            "{\"report\":[{\"check\":\"null\",\"id\":2,\"verdict\":\"may\"},{\"check\":\"null\",\"id\":3,\"verdict\":\"may\"}]}\n",
+            0,
+        ),
+        (
+            "daig serve --widening plain --domain listseg f",
+            PUSHED,
+            "{\"at\":\"head 2\",\"do\":\"state\"}\n{\"do\":\"report\"}\n",
+            "{\"state\":\"p=nil q=nil x=nil | p=1 q=1 x=nil 1:one(nil) | p=1 q=1 x=nil 1:seg(nil)\"}\n{\"report\":[{\"check\":\"null\",\"id\":4,\"verdict\":\"safe\"},{\"check\":\"null\",\"id\":9,\"verdict\":\"safe\"}]}\n",
+            0,
+        ),
+        (
+            "daig serve --widening plain --domain interval f",
+            PUSHED,
+            "{\"do\":\"report\"}\n",
+            "{\"report\":[{\"check\":\"null\",\"id\":4,\"verdict\":\"may\"},{\"check\":\"null\",\"id\":9,\"verdict\":\"may\"}]}\n",
+            0,
+        ),
+    ];
+    for (words, source, script, wanted, code) in table {
+        let (status, bytes) = served(alloc, words, source.as_bytes(), script.as_bytes(), 100_000)?;
+        assert_eq!(rt; bytes.as_slice(), wanted.as_bytes(), "{words} {script}");
+        assert_eq!(rt; status, code, "{words} {script}");
+    }
+    Ok(())
+}
+
+/// Products: each part knows what the other does not.
+#[test]
+fn products(rt: HostRuntime) -> Result<(), Fail> {
+    let alloc = rt.alloc();
+    let table = [
+        (
+            "daig serve --domain interval+listseg f",
+            "{\"do\":\"report\"}\n{\"at\":\"before 3\",\"do\":\"state\"}\n{\"at\":\"after 3\",\"do\":\"state\"}\n",
+            "{\"report\":[{\"check\":\"assert\",\"id\":1,\"verdict\":\"safe\"},{\"check\":\"null\",\"id\":3,\"verdict\":\"safe\"}]}\n{\"state\":\"i=[0,0] & p=1 1:one(nil)\"}\n{\"state\":\"i=[min,max] & p=1 1:one(nil)\"}\n",
+        ),
+        (
+            "daig serve --domain octagon+listseg f",
+            "{\"do\":\"report\"}\n{\"at\":\"before 3\",\"do\":\"state\"}\n{\"at\":\"after 3\",\"do\":\"state\"}\n",
+            "{\"report\":[{\"check\":\"assert\",\"id\":1,\"verdict\":\"safe\"},{\"check\":\"null\",\"id\":3,\"verdict\":\"safe\"}]}\n{\"state\":\"i=[0,0] & p=1 1:one(nil)\"}\n{\"state\":\"i=[min,max] & p=1 1:one(nil)\"}\n",
+        ),
+        (
+            "daig serve --domain interval f",
+            "{\"do\":\"report\"}\n",
+            "{\"report\":[{\"check\":\"assert\",\"id\":1,\"verdict\":\"safe\"},{\"check\":\"null\",\"id\":3,\"verdict\":\"may\"}]}\n",
+        ),
+        (
+            "daig serve --domain listseg f",
+            "{\"do\":\"report\"}\n",
+            "{\"report\":[{\"check\":\"assert\",\"id\":1,\"verdict\":\"may\"},{\"check\":\"null\",\"id\":3,\"verdict\":\"safe\"}]}\n",
+        ),
+        (
+            "daig batch --domain interval+listseg f",
+            "",
+            "        proc main() {\n          var i: int;\n          var p: list;\n      1   assert i == 0;\n      2   p = new;\n      3   i = p.item;\n        }\n{\"report\":[{\"check\":\"assert\",\"id\":1,\"verdict\":\"safe\"},{\"check\":\"null\",\"id\":3,\"verdict\":\"safe\"}]}\n",
+        ),
+    ];
+    for (words, script, wanted) in table {
+        let (status, bytes) = served(alloc, words, MADE.as_bytes(), script.as_bytes(), 100_000)?;
+        assert_eq!(rt; bytes.as_slice(), wanted.as_bytes(), "{words} {script}");
+        assert_eq!(rt; status, 0, "{words} {script}");
     }
     Ok(())
 }

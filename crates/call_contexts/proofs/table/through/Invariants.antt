@@ -1,6 +1,9 @@
 use Rattle.std.proofs.Common.{◌≡◌, ◌++◌, drop}
-use Rattle.call_contexts.specs.Tables.{through_table}
+use Rattle.imp_check.specs.Entries.{entries_of, entry_of}
+use Rattle.call_contexts.specs.Tables.{chains_in, through_sites}
 use Rattle.call_contexts.proofs.table.through.Given as goal
 
-abbrev pub invariant-loop-i : goal.invariant-loop-i
-invariant-loop-i l = l.found ++ through_table (drop l.i l.table) (drop l.i l.routines) l.callee ≡ through_table l.table l.routines l.callee
+abbrev pub invariant-loop-site : goal.invariant-loop-site
+invariant-loop-site l =
+    l.found ++ through_sites (chains_in l.table l.main) (entry_of (entries_of l.prog)) (drop l.site-index l.sites)
+    ≡ through_sites (chains_in l.table l.main) (entry_of (entries_of l.prog)) l.sites

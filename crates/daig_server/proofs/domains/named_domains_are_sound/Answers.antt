@@ -1,10 +1,16 @@
-use Rattle.command_words.specs.declared.job.DomainName.TheVariants.{Interval, Octagon}
+use Rattle.command_words.specs.declared.job.DomainName.TheVariants.{Interval, Octagon, ListSeg, IntervalListSeg, OctagonListSeg}
 use Rattle.daig_server.proofs.domains.named_domains_are_sound.Goals as goal
 
 pub returns-clause-answers : goal.returns-clause-answers
 returns-clause-answers c Interval = c.domain_is_sound.ensures.answers (record {})
 returns-clause-answers c Octagon = c.domain_is_sound-2.ensures.answers (record {})
+returns-clause-answers c ListSeg = c.domain_is_sound-3.ensures.answers (record {})
+returns-clause-answers c IntervalListSeg = c.domain_is_sound-4.ensures.answers (record { first = record {}; second = record {} })
+returns-clause-answers c OctagonListSeg = c.domain_is_sound-5.ensures.answers (record { first = record {}; second = record {} })
 
 pub returns-clause-reports : goal.returns-clause-reports
 returns-clause-reports c Interval = c.domain_is_sound.ensures.reports (record {})
 returns-clause-reports c Octagon = c.domain_is_sound-2.ensures.reports (record {})
+returns-clause-reports c ListSeg = c.domain_is_sound-3.ensures.reports (record {})
+returns-clause-reports c IntervalListSeg = c.domain_is_sound-4.ensures.reports (record { first = record {}; second = record {} })
+returns-clause-reports c OctagonListSeg = c.domain_is_sound-5.ensures.reports (record { first = record {}; second = record {} })

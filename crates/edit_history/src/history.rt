@@ -1,0 +1,160 @@
+//! Histories of programs.
+ghost use Rattle.std.specs.Prelude.{◌≡◌, ◌+◌, ◌<◌, ◌≤◌, [], ◌∷◌, List, length, take, IfOk, OnOk, MatchOption, IsSome, ◌↔◌};
+ghost use Rattle.std.specs.VecDeque.{deque_capacity};
+ghost use Rattle.imp_syntax.specs.Plain.{Procedure};
+ghost use Rattle.imp_check.specs.Fine.{IsFine};
+ghost use Rattle.imp_check.specs.Changes.{AreWithin, Makes};
+ghost use Rattle.edit_history.specs.After.{LeadsOn, programs_by};
+ghost use Rattle.edit_history.specs.Times.{AreKept};
+
+use imp_check::{Change, Table};
+use plain_values::Memory;
+use std::alloc::Global;
+use std::collections::VecDeque;
+use std::marker::Model;
+
+/// How many programs can be gone back to.
+const MOST: usize = 64;
+
+/// The table of a program with the changes that lead to the programs behind it and ahead of it, seen as the programs, the
+/// nearest first.
+#[derive(Drop)]
+pub struct History {
+    table: Table,
+    past: VecDeque<Change>,
+    future: VecDeque<Change>,
+}
+
+impl Model for History {
+    ghost use Rattle.std.specs.VecDeque.{deque_capacity};
+    ghost use Rattle.edit_history.specs.After.{programs_by};
+    ghost use Rattle.edit_history.specs.Times.{AreKept, Times, times_code};
+
+    ghost Value = { Times };
+
+    ghost coded = { times_code };
+
+    ghost view = { λ a. record { now = a.table.program; room = a.table.room; past = programs_by a.table.program a.past.items; future = programs_by a.table.program a.future.items } };
+
+    ghost invariant = { λ a. AreKept a.table.program a.table.room a.past.items a.future.items (deque_capacity a.past) (deque_capacity a.future) };
+}
+
+impl History {
+    /// The history of a program at first: nothing is behind it or ahead of it. It takes all the memory that going back
+    /// and forth needs.
+    pub fn new(alloc: Global, table: Table) -> Result<History, Memory>
+        ensures now { IfOk result (λ h. h.now ≡ table.program) }
+        ensures room { IfOk result (λ h. h.room ≡ table.room) }
+        ensures past { IfOk result (λ h. h.past ≡ []) }
+        ensures future { IfOk result (λ h. h.future ≡ []) }
+    {
+        table.procs();
+        let past = VecDeque::with_capacity(alloc, MOST)?;
+        let future = VecDeque::with_capacity(alloc, MOST)?;
+        Ok(History {
+            table,
+            past,
+            future,
+        })
+    }
+
+    /// The table of the present program.
+    pub fn table(&self) -> &Table
+        ensures is { result.now.program ≡ self.now.now }
+        ensures room { result.now.room ≡ self.now.room }
+    {
+        &self.table
+    }
+
+    /// Makes places of the table below a number. For want of memory it keeps those that it has.
+    pub fn make_room(&mut self, below: u32) -> Result<(), Memory>
+        ensures room { OnOk result (below ≤ self.new.room) }
+        ensures no_less { self.old.room ≤ self.new.room }
+        ensures now { self.new.now ≡ self.old.now }
+        ensures past { self.new.past ≡ self.old.past }
+        ensures future { self.new.future ≡ self.old.future }
+    {
+        self.table.make_room(below)
+    }
+
+    /// The change that leads to the program behind, or `None` where there is none.
+    pub fn behind(&self) -> Option<&Change>
+        ensures there { IsSome result ↔ (0 < length self.now.past) }
+        ensures is { MatchOption result (self.now.past ≡ []) (λ change. LeadsOn self.now.room self.now.now change.now self.now.past) }
+    {
+        self.past.front()
+    }
+
+    /// The change that leads to the program ahead, or `None` where there is none.
+    pub fn ahead(&self) -> Option<&Change>
+        ensures there { IsSome result ↔ (0 < length self.now.future) }
+        ensures is { MatchOption result (self.now.future ≡ []) (λ change. LeadsOn self.now.room self.now.now change.now self.now.future) }
+    {
+        self.future.front()
+    }
+
+    /// Puts a change in. The program before it is then the nearest one behind, the one furthest behind goes where there
+    /// would be 65, and none is ahead. It takes no memory and cannot fail.
+    pub fn remember(&mut self, mut change: Change)
+        ghost program: { List Procedure }
+        requires makes { Makes self.old.now change program }
+        requires fine { IsFine program }
+        requires within { AreWithin self.old.room change.entries.items }
+        ensures now { self.new.now ≡ program }
+        ensures past { self.new.past ≡ take 64 (self.old.now ∷ self.old.past) }
+        ensures future { self.new.future ≡ [] }
+        ensures room { self.new.room ≡ self.old.room }
+    {
+        self.table.exchange(&mut change);
+        self.future.clear();
+        leave_room(&mut self.past);
+        self.past.push_front_reserved(change);
+    }
+
+    /// Goes back to the program behind, which then has the present one ahead of it. It takes no memory and cannot fail.
+    pub fn back(&mut self)
+        requires there { 0 < length self.old.past }
+        ensures now { self.new.now ∷ self.new.past ≡ self.old.past }
+        ensures future { self.new.future ≡ self.old.now ∷ self.old.future }
+        ensures room { self.new.room ≡ self.old.room }
+    {
+        go(&mut self.table, &mut self.past, &mut self.future);
+    }
+
+    /// Goes on to the program ahead, which then has the present one behind it. It takes no memory and cannot fail.
+    pub fn forth(&mut self)
+        requires there { 0 < length self.old.future }
+        ensures now { self.new.now ∷ self.new.future ≡ self.old.future }
+        ensures past { self.new.past ≡ self.old.now ∷ self.old.past }
+        ensures room { self.new.room ≡ self.old.room }
+    {
+        go(&mut self.table, &mut self.future, &mut self.past);
+    }
+}
+
+/// Removes the change furthest away where there are 64.
+fn leave_room(past: &mut VecDeque<Change>)
+    requires few { length past.old.items ≤ 64 }
+    ensures is { past.new.items ≡ take 63 past.old.items }
+    ensures capacity { deque_capacity past.new ≡ deque_capacity past.old }
+{
+    if past.len() == MOST {
+        past.pop_back();
+    }
+}
+
+/// Exchanges the nearest change of one side with the table; what is left is then the nearest of the other side.
+fn go(table: &mut Table, from: &mut VecDeque<Change>, onto: &mut VecDeque<Change>)
+    requires there { 0 < length from.old.items }
+    requires kept { AreKept table.old.program table.old.room from.old.items onto.old.items (deque_capacity from.old) (deque_capacity onto.old) }
+    ensures now { table.new.program ∷ programs_by table.new.program from.new.items ≡ programs_by table.old.program from.old.items }
+    ensures onto { programs_by table.new.program onto.new.items ≡ table.old.program ∷ programs_by table.old.program onto.old.items }
+    ensures room { table.new.room ≡ table.old.room }
+    ensures still { AreKept table.new.program table.new.room from.new.items onto.new.items (deque_capacity from.new) (deque_capacity onto.new) }
+{
+    let Some(mut change) = from.pop_front() else {
+        return;
+    };
+    table.exchange(&mut change);
+    onto.push_front_reserved(change);
+}
