@@ -1,17 +1,15 @@
 -- What a plan leaves.
-use Rattle.std.specs.Prelude.{◌≡◌, ◌↔◌, ℕ, List, Some, None, true}
-use Rattle.std.specs.FinMap.{get}
+use Rattle.std.specs.Prelude.{◌≡◌, ◌↔◌, ℕ, List, true}
 use Rattle.imp_slots.specs.Fits.{IsChecked}
 use Rattle.domain_laws.specs.Operations.{Operations}
 use Rattle.cell_names.specs.Paths.{CellName}
 use Rattle.kept_set.specs.Places.{KeepPlaces}
 use Rattle.kept_set.specs.Touched.{Edit, IsKept}
-use Rattle.daig_graph.specs.Held.{IsIn}
 use Rattle.imp_flow.specs.Plans.{Plan}
 use Rattle.imp_flow.specs.Changed.{AreChanged}
 use Rattle.edit_invalidate.specs.Same.{same_name}
-use Rattle.edit_invalidate.specs.Kept.{Cells, kept}
-use Rattle.edit_invalidate.specs.Removal.{IsRising, Removes, without}
+use Rattle.cell_removal.specs.Removal.{Cells, IsRising, Removes, without}
+use Rattle.edit_invalidate.specs.Kept.{kept}
 use Rattle.edit_invalidate.specs.Touched.{AreNamed, IsTouched}
 use Rattle.edit_invalidate.specs.Holds.{HoldsCells}
 
@@ -39,7 +37,3 @@ PlansLeaveKept dom V =
     (old new : Plan) (names : List CellName) (cells : Cells V) (stmts plan : List ℕ) → old.engine ≡ new.engine → IsChecked new.program → KeepPlaces old.program new.program →
     HoldsCells dom old names cells → AreChanged old new stmts → Removes cells (IsTouched old new names cells stmts) plan →
     LeavesKept dom old new names cells (without cells plan)
-
--- The cells of a plan are gone, and the others are as they were.
-abbrev pub RestStays : Type 0 → Type 0
-RestStays V = (cells : Cells V) (plan : List ℕ) (n : ℕ) → (IsIn plan n → get (without cells plan) n ≡ None) × ((IsIn plan n → ⊥) → get (without cells plan) n ≡ get cells n)

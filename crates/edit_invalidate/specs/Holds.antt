@@ -12,7 +12,8 @@ use Rattle.kept_set.specs.Touched.{AreCells}
 use Rattle.daig_graph.specs.Cells.{Filled}
 use Rattle.imp_flow.specs.Plans.{Plan}
 use Rattle.edit_invalidate.specs.Same.{same_name}
-use Rattle.edit_invalidate.specs.Kept.{Cells, kept, AreNumbers}
+use Rattle.cell_removal.specs.Removal.{Cells}
+use Rattle.edit_invalidate.specs.Kept.{kept, AreNumbers}
 
 module _ {S : Type 0} (dom : Operations S) (plan : Plan) where
   -- the inputs of a name of the program

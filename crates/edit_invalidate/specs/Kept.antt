@@ -1,14 +1,11 @@
 -- Cells by the numbers of their names.
 use Rattle.std.specs.Prelude.{◌≡◌, ℕ, suc, List, [], ◌∷◌, map, Option, Some, None, option_map, Bool, is_some, if◌then◌else◌, slice_get}
 use Rattle.std.specs.Option.{option_and_then}
-use Rattle.std.specs.Ordering.{nat_cmp}
-use Rattle.std.specs.FinMap.{FinMap, get}
+use Rattle.std.specs.FinMap.{get}
 use Rattle.daig_graph.specs.Cells.{Filled}
 use Rattle.cell_names.specs.Paths.{CellName}
+use Rattle.cell_removal.specs.Removal.{Cells}
 use Rattle.edit_invalidate.specs.Same.{same_name}
-
-abbrev pub Cells : Type 0 → Type 0
-Cells V = FinMap nat_cmp (Filled V)
 
 -- the number of a name: its place among the names
 unfoldable pub number_of : List CellName → CellName → Option ℕ

@@ -2,7 +2,6 @@ pub mod Same
 pub mod Kept
 pub mod Rows
 pub mod RowCode
-pub mod Removal
 pub mod Touched
 pub mod Holds
 pub mod Claims

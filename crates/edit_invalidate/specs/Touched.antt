@@ -9,7 +9,7 @@ use Rattle.cell_rows.specs.Flat.{flat_row}
 use Rattle.daig_graph.specs.Cells.{Filled, IsOwned}
 use Rattle.daig_graph.specs.Held.{IsIn}
 use Rattle.imp_flow.specs.Plans.{Plan}
-use Rattle.edit_invalidate.specs.Kept.{Cells}
+use Rattle.cell_removal.specs.Removal.{Cells}
 use Rattle.edit_invalidate.specs.Rows.{AskSame}
 
 -- Both programs have a row for the name, and these ask for the same of a cell with so many inputs.

@@ -1,11 +1,11 @@
 //! Planning.
 ghost use Rattle.std.specs.Prelude.{IfOk};
-ghost use Rattle.edit_invalidate.specs.Removal.{IsRising, Removes};
+ghost use Rattle.cell_removal.specs.Removal.{IsRising, Removes};
 ghost use Rattle.edit_invalidate.specs.Touched.{AreNamed, IsTouched};
 
-use crate::removal::{Plan, removal};
 use crate::touched::touched;
 use cell_names::Names;
+use cell_removal::{Plan, removal};
 use daig_graph::Graph;
 use imp_flow::Flow;
 use plain_values::Memory;

@@ -1,8 +1,7 @@
 //! The cells whose own row is changed.
-ghost use Rattle.std.specs.Prelude.{◌≡◌, ◌<◌, ℕ, length, IfOk, OnOk, Some, IsSome};
+ghost use Rattle.std.specs.Prelude.{◌≡◌, ◌<◌, ◌==◌, length, IfOk, OnOk};
 ghost use Rattle.std.specs.Bool.{Decides};
-ghost use Rattle.std.specs.FinMap as map;
-ghost use Rattle.cell_names.specs.Paths.{path_at, name_in};
+ghost use Rattle.cell_names.specs.Paths.{path_at};
 ghost use Rattle.imp_flow.specs.Near.{last_frame};
 ghost use Rattle.edit_invalidate.specs.Touched.{AddsTouched, AreNamed, AreTouched, KeepsCell, inputs_at, name_at};
 
@@ -25,7 +24,7 @@ fn last_of(names: &Names, path: PathId) -> Option<Frame>
 
 /// Whether a cell has one input.
 fn has_one_input<V>(graph: &Graph<V>, cell: usize) -> bool
-    ensures is { Decides result (inputs_at graph.now.cells cell ≡ 1) }
+    ensures is { result ≡ (inputs_at graph.now.cells cell == 1) }
 {
     match graph.inputs(cell) {
         None => false,

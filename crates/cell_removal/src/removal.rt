@@ -3,7 +3,7 @@ ghost use Rattle.std.specs.Prelude.{◌≡◌, ℕ, None, Some, IsSome, IfOk, On
 ghost use Rattle.std.specs.FinMap as map;
 ghost use Rattle.daig_graph.specs.Held.{IsIn};
 ghost use Rattle.daig_graph.specs.Cells.{AreCells};
-ghost use Rattle.edit_invalidate.specs.Removal.{Adds, IsNext, IsOrder, IsRising, Removes};
+ghost use Rattle.cell_removal.specs.Removal.{Adds, IsNext, IsOrder, IsRising, Removes};
 
 use daig_graph::{Graph, Use, Walk};
 use indexmap::IndexSet;
@@ -14,7 +14,7 @@ use std::marker::Model;
 /// Cells that can be taken away, each behind those that use it.
 #[derive(Drop)]
 pub struct Plan {
-    pub(crate) cells: IndexSet<usize>,
+    cells: IndexSet<usize>,
 }
 
 impl Model for Plan {
@@ -45,7 +45,7 @@ struct Open<'a> {
 fn next_user(users: &mut Walk<'_, Use>, planned: &IndexSet<usize>) -> Option<usize>
     ensures next { IsNext planned.now.keys users.old users.new result }
 {
-    while let Some(user) = users.next() {
+    'users: while let Some(user) = users.next() {
         if !planned.contains(&user.cell) {
             return Some(user.cell);
         }
@@ -91,8 +91,12 @@ fn add<V>(
     Ok(())
 }
 
-/// Plans these cells and all that are computed from them.
-pub(crate) fn removal<V>(
+/// The removal of these cells and of all that are computed from them.
+///
+/// # Errors
+///
+/// [`Memory`] alone.
+pub fn removal<V>(
     alloc: Global,
     graph: &Graph<V>,
     touched: &[usize],

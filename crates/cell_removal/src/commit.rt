@@ -1,6 +1,6 @@
 //! Taking planned cells away.
 ghost use Rattle.std.specs.Prelude.{◌≡◌};
-ghost use Rattle.edit_invalidate.specs.Removal.{IsOrder, without};
+ghost use Rattle.cell_removal.specs.Removal.{IsOrder, without};
 
 use crate::removal::Plan;
 use daig_graph::Graph;

@@ -1,10 +1,13 @@
 -- Taking cells away.
-use Rattle.std.specs.Prelude.{◌≡◌, ℕ, ◌<◌, ◌⊎◌, List, fold, Option, Some, IsSome, MatchOption, slice_get}
-use Rattle.std.specs.FinMap.{get, remove}
+use Rattle.std.specs.Prelude.{◌≡◌, ℕ, ◌<◌, ◌⊎◌, List, fold, Option, Some, None, IsSome, MatchOption, slice_get}
+use Rattle.std.specs.Ordering.{nat_cmp}
+use Rattle.std.specs.FinMap.{FinMap, get, remove}
 use Rattle.daig_graph.specs.Cells.{Filled, IsUse}
 use Rattle.daig_graph.specs.Held.{IsIn, IsOnce}
 use Rattle.daig_graph.specs.declared.graph.Use.{Use}
-use Rattle.edit_invalidate.specs.Kept.{Cells}
+
+abbrev pub Cells : Type 0 → Type 0
+Cells V = FinMap nat_cmp (Filled V)
 
 -- the cells without these
 abbrev pub without : {V : Type 0} → Cells V → List ℕ → Cells V
@@ -53,3 +56,7 @@ pub record IsFirst (planned : List ℕ) (users rest : List Use) (cell : ℕ) : T
 -- that user; or all are planned
 abbrev pub IsNext : (planned : List ℕ) → (users rest : List Use) → Option ℕ → Type 0
 IsNext planned users rest found = MatchOption found ((u : Use) → IsIn users u → IsIn planned u.cell) (IsFirst planned users rest)
+
+-- The cells of a plan are gone, and the others are as they were.
+abbrev pub RestStays : Type 0 → Type 0
+RestStays V = (cells : Cells V) (plan : List ℕ) (n : ℕ) → (IsIn plan n → get (without cells plan) n ≡ None) × ((IsIn plan n → ⊥) → get (without cells plan) n ≡ get cells n)

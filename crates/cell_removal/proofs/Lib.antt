@@ -1,0 +1,4 @@
+pub mod Ins
+pub mod Rest
+pub mod Pigeons
+pub mod Stacks
