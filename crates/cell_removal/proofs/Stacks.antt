@@ -5,7 +5,7 @@ use Rattle.std.specs.FinMap.{get, len}
 use Rattle.daig_graph.specs.Cells.{Filled, IsUse}
 use Rattle.daig_graph.specs.Held.{IsIn, IsOnce}
 use Rattle.daig_graph.specs.declared.graph.Use.{Use}
-use Rattle.cell_removal.specs.declared.removal.Open.{Open}
+use Rattle.cell_removal.specs.declared.planning.Open.{Open}
 use Rattle.cell_removal.specs.Removal.{Cells, Uses, LeadsTo, itself, through, IsRising, IsOrder, Adds, IsFirst}
 use Rattle.cell_removal.proofs.Ins.{in_none, in_first, in_more, in_cases, in_left, in_right, in_either, in_last, in_pushed, get_left, get_pushed}
 use Rattle.cell_removal.proofs.Pigeons.{Differ, differ_both, differ_once, no_more_than}
@@ -159,6 +159,7 @@ module _ {V : Type 0} (cells : Cells V) (rank : ℕ → ℕ) where
     where
       one : (x : ℕ) → IsIn (o.cell ∷ []) x → cell ≡ x
       one x m = elim (in_cases x o.cell [] m) [ inl e ↦ sym same ∙ e | inr n ↦ in_none x n ]
+
       new_at : (x : ℕ) → cell ≡ x → IsIn old x → ⊥
       new_at x e m = new (subst (IsIn old) (sym e) m)
 
@@ -188,11 +189,13 @@ module _ {V : Type 0} (cells : Cells V) (rank : ℕ → ℕ) where
       where
         no : (n x : ℕ) → slice_get planned n ≡ Some x → o.cell ≡ x → ⊥
         no n x a e = g.new o.cell at_top (n, a ∙ ap Some (sym e))
+
         once : (m n x : ℕ) → (slice_get planned m ≡ Some x) ⊎ ((m ≡ length planned) × (o.cell ≡ x)) → (slice_get planned n ≡ Some x) ⊎ ((n ≡ length planned) × (o.cell ≡ x)) → m ≡ n
         once m n x (inl a) (inl b) = g.order.once m n x a b
         once m n x (inl a) (inr b) = absurd (no m x a b.1)
         once m n x (inr a) (inl b) = absurd (no n x b a.1)
         once m n x (inr a) (inr b) = a.0 ∙ sym b.0
+
         first : (i x y : ℕ) → Uses cells y x → (slice_get planned i ≡ Some x) ⊎ ((i ≡ length planned) × (o.cell ≡ x)) → (j : ℕ) × (j < i) × (slice_get (planned ++ o.cell ∷ []) j ≡ Some y)
         first i x y u (inl a) = let f = g.order.users_first i x y a u in (f.0, f.1, get_left planned (o.cell ∷ []) f.0 y f.2)
         first i x y u (inr b) =

@@ -7,10 +7,10 @@
 //! The crate knows neither names nor programs.
 #![tactic(auto)]
 
-mod commit;
+mod committing;
 mod laws;
-mod removal;
+mod planning;
 
-pub use commit::commit;
+pub use committing::commit;
 pub use laws::rest_stays;
-pub use removal::{Plan, removal};
+pub use planning::{Plan, removal};

@@ -32,6 +32,6 @@ module _ (old new : Plan) (w : List Frame) (p : Point) (count : ℕ) where
   both_have r q answer alone h k a d = (
     λ t. record { row = row_in w r; other = row_in w q; had = sym h; has = sym k; asked = subst (λ b. AskSame b (row_in w r) (row_in w q)) a (d.0 t) },
     λ c. (let i : c.row ≡ row_in w r = some_inj c.row (row_in w r) (sym c.had ∙ sym h) in
-    let j : c.other ≡ row_in w q = some_inj c.other (row_in w q) (sym c.has ∙ sym k) in
-    d.1 (subst (λ b. AskSame b (row_in w r) (row_in w q)) (sym a) (subst (λ s. AskSame (count == 1) s (row_in w q)) i (subst (AskSame (count == 1) c.row) j c.asked)))),
+        let j : c.other ≡ row_in w q = some_inj c.other (row_in w q) (sym c.has ∙ sym k) in
+        d.1 (subst (λ b. AskSame b (row_in w r) (row_in w q)) (sym a) (subst (λ s. AskSame (count == 1) s (row_in w q)) i (subst (AskSame (count == 1) c.row) j c.asked)))),
   )

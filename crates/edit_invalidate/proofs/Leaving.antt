@@ -135,15 +135,15 @@ module _ {S V : Type 0} (dom : Operations S) (old new : Plan) (names : List Cell
     by_rows : (x : CellName) → (kept rest names x ≡ true) ↔ IsKeptByRows dom e same_name (kept cells names) x
     by_rows x = (
       λ k. (let f = filled_some (filled_at rest names x) k in
-      let p = filled_named rest names x f.0 f.1 in
-      let c = rest_cell cells plan p.0 f.0 p.2 in
-      let d = named p.0 f.0 c.0 in
-      let same : Some d.0 ≡ Some x = sym d.1.name ∙ p.1 in
-      let z : d.0 ≡ x = cc in
-      let w = subst (λ y. IsNamed p.0 y f.0) z d.1 in
-      record { had = name_kept p.0 x f.0 w; free = λ l. c.1 (r.each p.0 (by_number x l p.0 f.0 w)) }),
+          let p = filled_named rest names x f.0 f.1 in
+          let c = rest_cell cells plan p.0 f.0 p.2 in
+          let d = named p.0 f.0 c.0 in
+          let same : Some d.0 ≡ Some x = sym d.1.name ∙ p.1 in
+          let z : d.0 ≡ x = cc in
+          let w = subst (λ y. IsNamed p.0 y f.0) z d.1 in
+          record { had = name_kept p.0 x f.0 w; free = λ l. c.1 (r.each p.0 (by_number x l p.0 f.0 w)) }),
       λ k. (let c = of_name x k.had in
-      ap is_some (filled_number rest names h.once x c.0 c.2.name ∙ rest_other cells plan c.0 (λ m. k.free (by_name c.0 (r.only c.0 m) x c.1 c.2)) ∙ c.2.cell)),
+          ap is_some (filled_number rest names h.once x c.0 c.2.name ∙ rest_other cells plan c.0 (λ m. k.free (by_name c.0 (r.only c.0 m) x c.1 c.2)) ∙ c.2.cell)),
     )
 
     kept_is : (x : CellName) → (kept rest names x ≡ true) ↔ IsKept dom e same_name (kept cells names) x

@@ -21,11 +21,13 @@ number_there (y ∷ ys) x n e = go (number_there ys x) (same_name x y) refl e
   where
     Rest : Type 0
     Rest = (m : ℕ) → number_of ys x ≡ Some m → slice_get ys m ≡ Some x
+
     more : Rest → (o : Option ℕ) → number_of ys x ≡ o → option_map suc o ≡ Some n → slice_get (y ∷ ys) n ≡ Some x
     more rest None h k = absurd cc
     more rest (Some m) h k =
         let q : suc m ≡ n = cc in
         subst (λ i. slice_get (y ∷ ys) i ≡ Some x) q (rest m h)
+
     go : Rest → (b : Bool) → same_name x y ≡ b → (if b then Some 0 else option_map suc (number_of ys x)) ≡ Some n → slice_get (y ∷ ys) n ≡ Some x
     go rest true h k =
         let q : 0 ≡ n = cc in

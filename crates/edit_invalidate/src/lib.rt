@@ -13,9 +13,9 @@
 
 mod compare;
 mod laws;
-mod plan;
-mod touched;
+mod planning;
+mod touching;
 
 pub use compare::same_rows;
 pub use laws::plans_leave_kept;
-pub use plan::plan;
+pub use planning::plan;

@@ -3,7 +3,7 @@ ghost use Rattle.std.specs.Prelude.{IfOk};
 ghost use Rattle.cell_removal.specs.Removal.{IsRising, Removes};
 ghost use Rattle.edit_invalidate.specs.Touched.{AreNamed, IsTouched};
 
-use crate::touched::touched;
+use crate::touching::touched;
 use cell_names::Names;
 use cell_removal::{Plan, removal};
 use daig_graph::Graph;

@@ -1,7 +1,7 @@
 use Rattle.std.proofs.Common.{length, ◌⊎◌}
 use Rattle.daig_graph.specs.Held.{IsIn}
 use Rattle.daig_graph.specs.declared.graph.Use.{Use}
-use Rattle.cell_removal.proofs.removal.next_user.Given as goal
+use Rattle.cell_removal.proofs.planning.next_user.Given as goal
 
 -- those in front are planned
 abbrev pub invariant-users : goal.invariant-users

@@ -75,7 +75,7 @@ fn add<V>(
         users: graph.dependents(cell),
     })?;
     'users: while let Some(mut open) = stack.pop() {
-        match next_user(&mut open.users, planned) {
+        match next_user(&mut open.users, &*planned) {
             None => {
                 planned.insert(open.cell)?;
             }
@@ -96,11 +96,7 @@ fn add<V>(
 /// # Errors
 ///
 /// [`Memory`] alone.
-pub fn removal<V>(
-    alloc: Global,
-    graph: &Graph<V>,
-    touched: &[usize],
-) -> Result<Plan, Memory>
+pub fn removal<V>(alloc: Global, graph: &Graph<V>, touched: &[usize]) -> Result<Plan, Memory>
     requires rising { IsRising graph.now.cells }
     requires cells { AreCells graph.now.cells touched.now }
     ensures removes { IfOk result (Removes graph.now.cells (IsIn touched.now)) }

@@ -2,7 +2,7 @@
 ghost use Rattle.std.specs.Prelude.{◌≡◌};
 ghost use Rattle.cell_removal.specs.Removal.{IsOrder, without};
 
-use crate::removal::Plan;
+use crate::planning::Plan;
 use daig_graph::Graph;
 
 /// Takes the planned cells away; the others stay as they are. It takes no memory, and as many steps as the cells have
