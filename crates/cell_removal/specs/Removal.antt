@@ -52,6 +52,7 @@ pub record IsFirst (planned : List ℕ) (users rest : List Use) (cell : ℕ) : T
   pub there : IsIn users (record { cell = cell; place = place })
   pub new : IsIn planned cell → ⊥
   pub others : (u : Use) → IsIn users u → IsIn planned u.cell ⊎ ((u.cell ≡ cell) ⊎ IsIn rest u)
+  pub less : (u : Use) → IsIn rest u → IsIn users u
 
 -- that user; or all are planned
 abbrev pub IsNext : (planned : List ℕ) → (users rest : List Use) → Option ℕ → Type 0

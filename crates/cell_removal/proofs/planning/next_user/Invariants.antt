@@ -1,11 +1,9 @@
-use Rattle.std.proofs.Common.{length, ◌⊎◌}
-use Rattle.daig_graph.specs.Held.{IsIn}
-use Rattle.daig_graph.specs.declared.graph.Use.{Use}
+use Rattle.std.proofs.Common.{length}
+use Rattle.cell_removal.proofs.Users.{IsBehind}
 use Rattle.cell_removal.proofs.planning.next_user.Given as goal
 
--- those in front are planned
 abbrev pub invariant-users : goal.invariant-users
-invariant-users l = (u : Use) → IsIn l.initial.users u → IsIn l.planned.keys u.cell ⊎ IsIn l.users u
+invariant-users l = IsBehind l.planned.keys l.initial.users l.users
 
 abbrev pub decreases-users : goal.decreases-users
 decreases-users l = length l.users

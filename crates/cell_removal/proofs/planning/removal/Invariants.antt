@@ -1,4 +1,4 @@
-use Rattle.std.proofs.Common.{◌≡◌, ℕ, take}
+use Rattle.std.proofs.Common.{take}
 use Rattle.daig_graph.specs.Held.{IsIn}
 use Rattle.cell_removal.specs.Removal.{Removes}
 use Rattle.cell_removal.proofs.planning.removal.Given as goal
