@@ -21,6 +21,10 @@ leads_in cells plan order n (through m _ l u) =
     (f.0, f.2)
 
 module _ {V : Type 0} (cells : Cells V) where
+  -- a cell that is planned already
+  pub adds_there : (cell : ℕ) (old : List ℕ) → IsIn old cell → Adds cells cell old old
+  adds_there cell old m = record { here = m; kept = λ x k. k; only = λ x k. inl k }
+
   pub removes_none : (plan : List ℕ) → plan ≡ [] → Removes cells (IsIn []) plan
   removes_none plan e = subst (Removes cells (IsIn [])) (sym e) (record {
     order = record { there = λ x m. in_none x m; once = λ m n x a b. absurd cc; users_first = λ i x y a u. absurd cc };

@@ -1,6 +1,5 @@
 -- The turns of a walk along users, depth first.
-use Rattle.std.specs.Prelude.{◌≡◌, ℕ, ◌↔◌, List, [], ◌∷◌, ◌++◌}
-use Rattle.std.specs.Prelude.{nat_eq}
+use Rattle.std.specs.Prelude.{◌≡◌, ℕ, ◌↔◌, List, [], ◌∷◌, ◌++◌, nat_eq}
 use Rattle.indexmap.specs.IndexSet.{insert_key}
 use Rattle.daig_graph.specs.Cells.{IsUse}
 use Rattle.daig_graph.specs.Held.{IsIn}

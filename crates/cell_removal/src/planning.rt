@@ -98,7 +98,7 @@ fn turn<'a, V>(
 }
 
 /// Plans a cell and all that are computed from it, depth first: each cell behind its users.
-#[tactic(auto, using(crate::proofs::Turns::walks_first, crate::proofs::Turns::walks_turn, crate::proofs::Turns::turns_fall, crate::proofs::Turns::walks_last))]
+#[tactic(auto, using(crate::proofs::Turns::walks_first, crate::proofs::Turns::walks_turn, crate::proofs::Turns::turns_fall, crate::proofs::Turns::walks_last, crate::proofs::Whole::adds_there))]
 fn add<V>(
     alloc: Global,
     graph: &Graph<V>,
