@@ -19,6 +19,7 @@ use std::alloc::Global;
 /// # Errors
 ///
 /// [`Memory`] alone.
+#[tactic(auto, using(crate::proofs::Touching::touched_cells, crate::proofs::Touching::removes_same))]
 pub fn plan<V>(
     alloc: Global,
     graph: &Graph<V>,

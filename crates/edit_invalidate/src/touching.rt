@@ -1,17 +1,19 @@
 //! The cells whose own row is changed.
-ghost use Rattle.std.specs.Prelude.{◌≡◌, ◌<◌, ◌==◌, length, IfOk, OnOk};
+ghost use Rattle.std.specs.Prelude.{◌≡◌, ◌<◌, length, IfOk, OnOk};
 ghost use Rattle.std.specs.Bool.{Decides};
-ghost use Rattle.cell_names.specs.Paths.{path_at};
+ghost use Rattle.cell_names.specs.Paths.{path_at, name_in};
 ghost use Rattle.imp_flow.specs.Near.{last_frame};
 ghost use Rattle.edit_invalidate.specs.Touched.{AddsTouched, AreNamed, AreTouched, KeepsCell, inputs_at, name_at};
 
-use cell_names::{Frame, Names, PathId};
+use crate::compare::same_rows;
+use cell_names::{Frame, Name, Names, PathId};
 use daig_graph::Graph;
 use imp_flow::Flow;
 use plain_values::Memory;
 use std::alloc::Global;
 
 /// The last frame of a path, if it has one.
+#[tactic(auto, using(crate::proofs::Keeping::last_none, crate::proofs::Keeping::last_some))]
 fn last_of(names: &Names, path: PathId) -> Option<Frame>
     requires there { path < length names.now.paths }
     ensures is { result ≡ last_frame (path_at names.now.paths path) }
@@ -22,34 +24,45 @@ fn last_of(names: &Names, path: PathId) -> Option<Frame>
     }
 }
 
-/// Whether a cell has one input.
-fn has_one_input<V>(graph: &Graph<V>, cell: usize) -> bool
-    ensures is { result ≡ (inputs_at graph.now.cells cell == 1) }
+/// How many inputs a cell has.
+#[tactic(auto, using(crate::proofs::Keeping::none_counted, crate::proofs::Keeping::some_counted))]
+fn input_count<V>(graph: &Graph<V>, cell: usize) -> usize
+    ensures is { result ≡ inputs_at graph.now.cells cell }
 {
     match graph.inputs(cell) {
+        None => 0,
+        Some(inputs) => inputs.len(),
+    }
+}
+
+/// Whether a name keeps its row from one program to another, where its cell has so many inputs.
+#[tactic(auto, using(crate::proofs::Keeping::old_lacks, crate::proofs::Keeping::new_lacks, crate::proofs::Keeping::both_have))]
+fn name_keeps_row(names: &Names, old: &Flow, new: &Flow, name: &Name, inputs: usize) -> bool
+    requires there { name.now.path < length names.now.paths }
+    ensures is { Decides result (KeepsCell old.now new.now (name_in names.now.paths name.now) inputs) }
+{
+    let frame = last_of(names, name.path);
+    match &old.row(frame, name.point) {
         None => false,
-        Some(inputs) => inputs.len() == 1,
+        Some(row) => match &new.row(frame, name.point) {
+            None => false,
+            Some(other) => same_rows(frame.is_none(), inputs == 1, row, other),
+        },
     }
 }
 
 /// Whether a cell keeps its row from one program to another.
+#[tactic(auto, using(crate::proofs::Keeping::of_name))]
 fn keeps_row<V>(graph: &Graph<V>, names: &Names, old: &Flow, new: &Flow, cell: usize) -> bool
     requires there { cell < length names.now.names }
     ensures is { Decides result (KeepsCell old.now new.now (name_at names.now.names cell) (inputs_at graph.now.cells cell)) }
 {
     let name = names.get(cell);
-    let frame = last_of(names, name.path);
-    let left_alone = has_one_input(graph, cell);
-    match &old.row(frame, name.point) {
-        None => false,
-        Some(row) => match &new.row(frame, name.point) {
-            None => false,
-            Some(other) => crate::same_rows(frame.is_none(), left_alone, row, other),
-        },
-    }
+    name_keeps_row(names, old, new, &name, input_count(graph, cell))
 }
 
 /// Adds the cells of a statement whose own row is changed.
+#[tactic(auto, using(crate::proofs::Touching::seen_none, crate::proofs::Touching::seen_kept, crate::proofs::Touching::seen_touched, crate::proofs::Touching::seen_all))]
 fn add_touched<V>(
     graph: &Graph<V>,
     names: &Names,
@@ -70,6 +83,7 @@ fn add_touched<V>(
 }
 
 /// The cells of the changed statements whose own row is changed.
+#[tactic(auto, using(crate::proofs::Touching::touched_none, crate::proofs::Touching::touched_more))]
 pub(crate) fn touched<V>(
     alloc: Global,
     graph: &Graph<V>,
