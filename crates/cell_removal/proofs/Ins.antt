@@ -1,10 +1,11 @@
 -- Items of lists.
-use Rattle.std.proofs.Common.{◌≡◌, ℕ, zero, suc, ◌<◌, ◌⊎◌, List, [], ◌∷◌, ◌++◌, length, take, Some, slice_get, Bool, true, false, nat_eq, refl, sym, ap, subst, ◌∙◌, inl, inr, arith}
+use Rattle.std.proofs.Common.{◌≡◌, ℕ, zero, suc, ◌<◌, ◌⊎◌, List, [], ◌∷◌, ◌++◌, length, take, Some, slice_get, Bool, true, false, ◌||◌, nat_eq, refl, sym, ap, subst, ◌∙◌, inl, inr, arith}
 use Rattle.std.specs.Bool.{Decides}
 use Rattle.std.specs.List.{list_any}
 use Rattle.std.proofs.lemmas.Bool.Decides.{nat_tests}
 use Rattle.plain_values.proofs.Cases.{by_bool, or_either, some_inj}
 use Rattle.daig_graph.specs.Held.{IsIn}
+use Rattle.daig_graph.proofs.Cases.{nat_eq-true}
 
 module _ {A : Type 0} where
   pub in_none : {P : Type 0} (x : A) → IsIn [] x → P
@@ -87,16 +88,15 @@ in_any n (x ∷ xs) h =
 
 pub not_any : (n : ℕ) (xs : List ℕ) → list_any (nat_eq n) xs ≡ false → IsIn xs n → ⊥
 not_any n [] h m = in_none n m
-not_any n (x ∷ xs) h m = go (nat_eq n x) refl h (in_cases n x xs m)
+not_any n (x ∷ xs) h m = go (not_any n xs) (nat_eq n x) refl h (in_cases n x xs m)
   where
-    go : (b : Bool) → nat_eq n x ≡ b → list_any (nat_eq n) (x ∷ xs) ≡ false → (x ≡ n) ⊎ IsIn xs n → ⊥
-    go true e k c = let r : true ≡ false = subst (λ b. (if_or b (list_any (nat_eq n) xs)) ≡ false) e k in cc
-    go false e k (inl q) = absurd (let p : n ≡ x = sym q in grind (arith, nat_tests))
-    go false e k (inr r) = not_any n xs (subst (λ b. (if_or b (list_any (nat_eq n) xs)) ≡ false) e k) r
-
-    if_or : Bool → Bool → Bool
-    if_or true b = true
-    if_or false b = b
+    go : (list_any (nat_eq n) xs ≡ false → IsIn xs n → ⊥) → (b : Bool) → nat_eq n x ≡ b → (b || list_any (nat_eq n) xs) ≡ false → (x ≡ n) ⊎ IsIn xs n → ⊥
+    go rest true e k c = cc
+    go rest false e k (inl q) =
+        let t : nat_eq n x ≡ true = nat_eq-true n x (sym q) in
+        let u : true ≡ false = sym t ∙ e in
+        cc
+    go rest false e k (inr r) = rest k r
 
 pub in_or_not : (n : ℕ) (xs : List ℕ) → IsIn xs n ⊎ (IsIn xs n → ⊥)
 in_or_not n xs = by_bool (list_any (nat_eq n) xs) (λ e. inl (in_any n xs e)) (λ e. inr (not_any n xs e))
