@@ -32,11 +32,11 @@ module _ {S : Type 0} (dom : Operations S) {V : Type 0} where
       slice_get_within names n p.0 p.1
 
   module _ (plan : Plan) (names : List CellName) (cells : Cells V) (h : HoldsCells dom plan names cells) where
-    rows : Rows CellName (Cell S)
+    abbrev rows : Rows CellName (Cell S)
     rows = rows_of dom plan.engine plan.program same_name
 
     falls : (x y : ℕ) → Uses cells y x → rows.rank (name_at names x) < rows.rank (name_at names y)
-    unfolding rows inputs
+    unfolding inputs
     falls x y u =
         let f = u.1 in
         let p = h.cells y f.0 f.1 in
@@ -47,5 +47,4 @@ module _ {S : Type 0} (dom : Operations S) {V : Type 0} where
         subst (λ a. P a (name_at names y)) (sym (ap or_start q.2)) (subst (P q.0) (sym (ap or_start p.1)) lt)
 
   pub rise : CellsRise dom V
-  unfolding rows
   rise plan names cells h = record { rank = λ n. (rows plan names cells h).rank (name_at names n); falls = falls plan names cells h }

@@ -263,16 +263,16 @@ main_last (p ∷ ps) h =
     named (Some q) e = ap (λ n. Some n) ((bytes_decides q.name (codes "main")).0 e)
 
 module _ (e : Edit) (old : List Procedure) (next : ℕ) (fine : IsFine old) (after : IsFine (edited e old)) (below : All (λ (n : ℕ). n < next) (program_numbers old)) (continues : Continues e next) where
-  abbrev New : ℕ → Type 0
-  New k = next ≤ k
+  abbrev IsLater : ℕ → Type 0
+  IsLater k = next ≤ k
 
-  brings : Each New (numbers (brought e))
-  brings = subst (Each New) (sym continues) (high next (uses e))
+  brings : Each IsLater (numbers (brought e))
+  brings = subst (Each IsLater) (sym continues) (high next (uses e))
 
   once : Distinct (keys (program_seats old))
   once = subst Distinct (all_numbers [] old ∙ sym (keys_program old)) fine.fit.numbers_once
 
-  same_seat : (n : ℕ) (s t : Seat) → Member (n, s) (program_seats old) → Or New (program_seats old) (n, t) → s ≡ t
+  same_seat : (n : ℕ) (s t : Seat) → Member (n, s) (program_seats old) → Or IsLater (program_seats old) (n, t) → s ≡ t
   same_seat n s t m (inl a) =
       let lt : n < next = low next (program_numbers old) below n (subst (Member n) (keys_program old) (key_member (n, s) (program_seats old) m)) in
       absurd (omega arith)
@@ -282,7 +282,7 @@ module _ (e : Edit) (old : List Procedure) (next : ℕ) (fine : IsFine old) (aft
   statements n u v h f =
       let s = (all_seen old).at (n, u) (found_member n u (flat (reverse (routines_of old))) h) in
       let t = (all_seen (edited e old)).at (n, v) (found_member n v (flat (reverse (routines_of (edited e old)))) f) in
-      let q = same_seat n (seat u.routine.name u.text.loops s.callee) (seat v.routine.name v.text.loops t.callee) s.sits ((from_edit New e brings old).at _ t.sits) in
+      let q = same_seat n (seat u.routine.name u.text.loops s.callee) (seat v.routine.name v.text.loops t.callee) s.sits ((from_edit IsLater e brings old).at _ t.sits) in
       record {
         procedure = ap (λ (s : Seat). s.procedure) q;
         loops = ap (λ (s : Seat). s.loops) q;
