@@ -8,7 +8,7 @@ use Rattle.imp_slots.specs.Fits.{IsChecked}
 use Rattle.domain_laws.specs.Operations.{Operations}
 use Rattle.batch_meaning.specs.Batch.{Engine}
 use Rattle.demand_order.specs.Order.{member}
-use Rattle.demand_order.specs.Asking.{inputs_of}
+use Rattle.demand_order.specs.Asking.{inputs_of, value_of}
 use Rattle.demand_order.specs.Leading as lead
 use Rattle.cell_names.specs.Owners.{owner}
 use Rattle.cell_names.specs.Paths.{CellName}
@@ -169,6 +169,7 @@ module _ {S V : Type 0} (dom : Operations S) (old new : Plan) (names : List Cell
 
     pub leaves : LeavesKept dom old new names cells rest
     leaves = record {
+      found = λ x k. subst (λ (engine : Engine). value_of (rows_of dom engine new.program same_name) x ≡ value_of (rows_of dom old.engine old.program same_name) x) one (is_right dom e h.checked cn same_name same_is (kept cells names) h.kept x ((kept_is x).0 k)).found;
       kept = kept_is;
       holds = record {
         checked = cn;

@@ -2,7 +2,9 @@
 use Rattle.std.specs.Prelude.{◌≡◌, ◌↔◌, ℕ, List, true}
 use Rattle.imp_slots.specs.Fits.{IsChecked}
 use Rattle.domain_laws.specs.Operations.{Operations}
+use Rattle.demand_order.specs.Asking.{value_of}
 use Rattle.cell_names.specs.Paths.{CellName}
+use Rattle.cell_rows.specs.Claims.{rows_of}
 use Rattle.kept_set.specs.Places.{KeepPlaces}
 use Rattle.kept_set.specs.Touched.{Edit, IsKept}
 use Rattle.imp_flow.specs.Plans.{Plan}
@@ -25,8 +27,9 @@ CellsAreNamed dom V = (plan : Plan) (names : List CellName) (cells : Cells V) �
 abbrev pub CellsRise : {S : Type 0} → Operations S → Type 0 → Type 0
 CellsRise dom V = (plan : Plan) (names : List CellName) (cells : Cells V) → HoldsCells dom plan names cells → IsRising cells
 
--- What is left are exactly the kept names, and they are cells of the new program.
+-- What is left are exactly the kept names; they are cells of the new program, which computes at each what the old one did.
 pub record LeavesKept {S V : Type 0} (dom : Operations S) (old new : Plan) (names : List CellName) (cells rest : Cells V) : Type 0 where
+  pub found : (x : CellName) → kept rest names x ≡ true → value_of (rows_of dom new.engine new.program same_name) x ≡ value_of (rows_of dom old.engine old.program same_name) x
   pub kept : (x : CellName) → (kept rest names x ≡ true) ↔ IsKept dom (edit_of old new) same_name (kept cells names) x
   pub holds : HoldsCells dom new names rest
 
