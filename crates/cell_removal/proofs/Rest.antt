@@ -41,7 +41,7 @@ module _ {V : Type 0} where
   rest_cell cells xs n f e =
       elim (in_or_not n xs) [
         | inl m ↦ (let g = rest_gone cells xs n m in absurd cc)
-        | inr no ↦ (sym (rest_other cells xs n no) ∙ e, no)
+        | inr out ↦ (sym (rest_other cells xs n out) ∙ e, out)
       ]
 
   some_there : (o p : Option (Filled V)) → o ≡ p → IsSome p → IsSome o

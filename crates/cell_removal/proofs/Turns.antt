@@ -27,10 +27,10 @@ goes cells o r p planned stack more most user e f i a b =
 
 -- a new number is put at the end
 put_last : (xs : List ℕ) (n : ℕ) → (IsIn xs n → ⊥) → insert_key nat_eq xs n ≡ xs ++ n ∷ []
-put_last xs n no = go (list_any (nat_eq n) xs) refl
+put_last xs n out = go (list_any (nat_eq n) xs) refl
   where
     go : (b : Bool) → list_any (nat_eq n) xs ≡ b → (if b then xs else xs ++ n ∷ []) ≡ xs ++ n ∷ []
-    go true e = absurd (no (in_any n xs e))
+    go true e = absurd (out (in_any n xs e))
     go false e = refl
 
 all_left : {V : Type 0} (cells : Cells V) (cell : ℕ) (o : Open) → IsOpened cells cell o → (y : ℕ) → Uses cells y cell → IsLeft o.users y
