@@ -2,7 +2,7 @@
 ghost use Rattle.std.specs.Prelude.{◌≡◌, IfOk, IfErr};
 ghost use Rattle.imp_check.specs.Slots.{routines_of};
 ghost use Rattle.batch_meaning.specs.Answers.{answer, answer_in, procedure_of, In, Answers};
-ghost use Rattle.call_contexts.specs.Settings.{engine_of};
+ghost use Rattle.call_contexts.specs.Settings.{setting_of};
 ghost use Rattle.batch_interp.specs.Answered.{value_of, IsPlace, IsAnswer, IsRefused, Describes};
 
 use crate::frames::Plan;
@@ -10,11 +10,10 @@ use crate::sums::sum_of;
 use crate::{Answer, QueryError};
 use batch_meaning::Refusal;
 use batch_sound::answers_are_sound;
-use call_contexts::{chains, place_of};
+use call_contexts::{Setting, chains, place_of};
 use domain_laws::{Domain, Steps};
 use imp_check::Checked;
 use imp_syntax::{Location, ProcId};
-use program_chains::Widening;
 use std::alloc::Global;
 use std::sync::ledger::Ledger;
 
@@ -22,7 +21,7 @@ use std::sync::ledger::Ledger;
 fn procedure_of(prog: &Checked, at: &Location) -> Result<ProcId, QueryError>
     ensures is { IsPlace (procedure_of (routines_of prog.now) at.now) result }
 {
-    match place_of(prog, at) {
+    match place_of(&prog.view(), at) {
         Ok(place) => Ok(place),
         Err(why) => Err(QueryError::Refused(why)),
     }
@@ -31,12 +30,12 @@ fn procedure_of(prog: &Checked, at: &Location) -> Result<ProcId, QueryError>
 /// What a domain knows at a location of a program under a call string, which has the outermost call
 /// first: the states of the chains to the location's procedure that end in the string, each its last
 /// frame alone, joined in the order of the chains; or the first loop on the way that takes more than
-/// `budget` rounds.
+/// the rounds of the program's setting.
 ///
 /// A state that is answered describes each configuration that a run reaches there, with call sites
 /// of which the string is a suffix, under any inputs.
 ///
-/// Each chain is followed once from main, and of each loop that is met at most `budget` rounds are
+/// Each chain is followed once from main, and of each loop that is met at most so many rounds are
 /// taken. Nothing is kept for the next call.
 ///
 /// # Errors
@@ -50,17 +49,17 @@ pub fn answer<D: Domain, L: Ledger>(
     alloc: Global,
     dom: &D,
     prog: &Checked,
-    budget: u32,
-    widening: Widening,
+    setting: &Setting,
     at: &Location,
     string: &[u32],
     steps: &mut Steps<L>,
 ) -> Result<Answer<D::State>, QueryError>
-    ensures answered { IfOk result (λ a. answer (D.operations dom.now) (engine_of budget widening) (routines_of prog.now) at.now string.now ≡ Answers (value_of a)) }
-    ensures refused { IfErr result (IsRefused (answer (D.operations dom.now) (engine_of budget widening) (routines_of prog.now) at.now string.now)) }
+    requires setting { setting.now ≡ setting_of setting.now.engine (routines_of prog.now) }
+    ensures answered { IfOk result (λ a. answer (D.operations dom.now) setting.now.engine (routines_of prog.now) at.now string.now ≡ Answers (value_of a)) }
+    ensures refused { IfErr result (IsRefused (answer (D.operations dom.now) setting.now.engine (routines_of prog.now) at.now string.now)) }
     ensures sound { IfOk result (Describes (D.covers dom.now) (routines_of prog.now) at.now string.now) }
 {
-    let answer = answer_exactly(alloc, dom, prog, budget, widening, at, string, steps);
+    let answer = answer_exactly(alloc, dom, prog, setting, at, string, steps);
     answers_are_sound::<D>();
     prog.routines();
     answer
@@ -72,17 +71,17 @@ fn answer_at<D: Domain, L: Ledger>(
     alloc: Global,
     dom: &D,
     prog: &Checked,
-    budget: u32,
-    widening: Widening,
+    setting: &Setting,
     at: &Location,
     place: ProcId,
     string: &[u32],
     steps: &mut Steps<L>,
 ) -> Result<Answer<D::State>, QueryError>
-    ensures is { IsAnswer (answer_in (D.operations dom.now) (engine_of budget widening) (routines_of prog.now) at.now string.now (In place)) result }
+    requires setting { setting.now ≡ setting_of setting.now.engine (routines_of prog.now) }
+    ensures is { IsAnswer (answer_in (D.operations dom.now) setting.now.engine (routines_of prog.now) at.now string.now (In place)) result }
 {
-    let chains = chains(alloc, prog, place, string)?;
-    let plan = Plan::new(alloc, prog.routines(), budget, widening)?;
+    let chains = chains(alloc, &prog.view(), place, string)?;
+    let plan = Plan::new(prog.routines(), setting);
     sum_of(alloc, dom, &plan, at, chains.as_slice(), steps)
 }
 
@@ -91,19 +90,19 @@ fn answer_exactly<D: Domain, L: Ledger>(
     alloc: Global,
     dom: &D,
     prog: &Checked,
-    budget: u32,
-    widening: Widening,
+    setting: &Setting,
     at: &Location,
     string: &[u32],
     steps: &mut Steps<L>,
 ) -> Result<Answer<D::State>, QueryError>
-    ensures is { IsAnswer (answer (D.operations dom.now) (engine_of budget widening) (routines_of prog.now) at.now string.now) result }
+    requires setting { setting.now ≡ setting_of setting.now.engine (routines_of prog.now) }
+    ensures is { IsAnswer (answer (D.operations dom.now) setting.now.engine (routines_of prog.now) at.now string.now) result }
 {
     if string.len() > 2 {
         return Err(QueryError::Refused(Refusal::LongString));
     }
     match procedure_of(prog, at) {
         Err(error) => Err(error),
-        Ok(place) => answer_at(alloc, dom, prog, budget, widening, at, place, string, steps),
+        Ok(place) => answer_at(alloc, dom, prog, setting, at, place, string, steps),
     }
 }

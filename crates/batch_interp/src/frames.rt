@@ -1,14 +1,13 @@
 //! Where a block stands: its procedure, and the calls that led to it.
 ghost use Rattle.std.specs.Prelude.{◌≡◌, ◌-◌, ◌∷◌, [], ◌<◌, ◌≤◌, length, map, reverse, take, slice_get, IfOk};
 ghost use Rattle.std.specs.Option.{option_copied};
-ghost use Rattle.call_contexts.specs.Settings.{engine_of};
+ghost use Rattle.call_contexts.specs.Settings.{setting_of};
 ghost use Rattle.batch_interp.specs.Frames.{marks_at};
 
 use call_contexts::Setting;
 use imp_slots::Routine;
 use imp_syntax::{Chain, StmtId};
 use plain_values::{Items, Memory};
-use program_chains::Widening;
 use std::alloc::Global;
 use std::marker::Model;
 
@@ -16,7 +15,7 @@ use std::marker::Model;
 #[derive(Drop)]
 pub(crate) struct Plan<'a> {
     routines: &'a [Routine],
-    setting: Setting,
+    setting: &'a Setting,
 }
 
 impl<'a> Model for Plan<'a> {
@@ -30,9 +29,9 @@ impl<'a> Model for Plan<'a> {
 
     ghost coded = { plan_code };
 
-    ghost view = { λ a. record { program = a.routines.now; engine = a.setting.engine } };
+    ghost view = { λ a. record { program = a.routines.now; engine = a.setting.now.engine } };
 
-    ghost invariant = { λ a. a.setting.marks ≡ map (rising.marks a.setting.engine.widening) a.routines.now };
+    ghost invariant = { λ a. a.setting.now.marks ≡ map (rising.marks a.setting.now.engine.widening) a.routines.now };
 }
 
 /// The procedure of a block, and the call statements from main to it, the last one first.
@@ -44,17 +43,12 @@ pub(crate) struct Frame {
 }
 
 impl<'a> Plan<'a> {
-    /// The plan of a program, with the marks of its procedures.
-    pub(crate) fn new(
-        alloc: Global,
-        routines: &'a [Routine],
-        budget: u32,
-        widening: Widening,
-    ) -> Result<Plan<'a>, Memory>
-        ensures is { IfOk result (λ plan. plan ≡ record { program = routines.now; engine = engine_of budget widening }) }
+    /// The plan of a program by its setting.
+    pub(crate) fn new(routines: &'a [Routine], setting: &'a Setting) -> Plan<'a>
+        requires setting { setting.now ≡ setting_of setting.now.engine routines.now }
+        ensures is { result ≡ record { program = routines.now; engine = setting.now.engine } }
     {
-        let setting = Setting::new(alloc, routines, budget, widening)?;
-        Ok(Plan { routines, setting })
+        Plan { routines, setting }
     }
 
     /// How often the iterates of a loop are made at most.

@@ -5,7 +5,7 @@ ghost use Rattle.imp_check.specs.Slots.{routines_of};
 ghost use Rattle.analysis_words.specs.declared.findings.Finding.{Finding};
 ghost use Rattle.batch_meaning.specs.Report.{report, finding, checked_in};
 ghost use Rattle.batch_sound.specs.Theorem.{IsFindingSound};
-ghost use Rattle.call_contexts.specs.Settings.{engine_of};
+ghost use Rattle.call_contexts.specs.Settings.{setting_of};
 ghost use Rattle.batch_interp.specs.Totalling.{HasBody};
 
 use crate::befores::add_claims;
@@ -13,13 +13,13 @@ use crate::findings::add_findings;
 use crate::frames::Plan;
 use crate::totals::totals;
 use batch_sound::reports_are_sound;
-use call_contexts::{chains, few_routines};
+use call_contexts::{Setting, chains, few_routines};
 use domain_laws::{Domain, Finding, Findings, Steps};
 use imp_check::Checked;
 use imp_slots::SlotBlock;
 use imp_syntax::ProcId;
 use plain_values::{Items, Memory};
-use program_chains::{Widening, chains_go_through_callers, places_are_found};
+use program_chains::{chains_go_through_callers, places_are_found};
 use std::alloc::Global;
 use std::sync::ledger::Ledger;
 
@@ -44,13 +44,13 @@ fn add_report<D: Domain, L: Ledger>(
     places_are_found();
     let mut claims = Items::new(alloc);
     add_claims(body, &mut claims)?;
-    let chains = chains(alloc, prog, ProcId::new(place as u32), &[])?;
+    let chains = chains(alloc, &prog.view(), ProcId::new(place as u32), &[])?;
     let known = totals(alloc, dom, plan, place, body, chains.as_slice(), steps)?;
     add_findings(alloc, dom, claims.as_slice(), &known, found)
 }
 
 /// The findings of a program, one for each statement that has a check, in the order of the text: dead
-/// where no chain comes to its procedure, may where a loop takes more than `budget` rounds on the way,
+/// where no chain comes to its procedure, may where a loop takes more rounds than the setting has on the way,
 /// else what the domain says of the state in front of it.
 ///
 /// Where a finding is safe, no run under any inputs fails the check; where it is dead, no run comes to
@@ -62,14 +62,14 @@ pub fn batch_report<D: Domain, L: Ledger>(
     alloc: Global,
     dom: &D,
     prog: &Checked,
-    budget: u32,
-    widening: Widening,
+    setting: &Setting,
     steps: &mut Steps<L>,
 ) -> Result<Findings, Memory>
-    ensures exact { IfOk result (λ all. all ≡ report (D.operations dom.now) (engine_of budget widening) (routines_of prog.now)) }
+    requires setting { setting.now ≡ setting_of setting.now.engine (routines_of prog.now) }
+    ensures exact { IfOk result (λ all. all ≡ report (D.operations dom.now) setting.now.engine (routines_of prog.now)) }
     ensures sound { IfOk result (λ all. (f : Finding) → Contains all f → IsFindingSound (routines_of prog.now) f) }
 {
-    let found = all_findings(alloc, dom, prog, budget, widening, steps);
+    let found = all_findings(alloc, dom, prog, setting, steps);
     reports_are_sound::<D>();
     prog.routines();
     found
@@ -80,14 +80,14 @@ fn all_findings<D: Domain, L: Ledger>(
     alloc: Global,
     dom: &D,
     prog: &Checked,
-    budget: u32,
-    widening: Widening,
+    setting: &Setting,
     steps: &mut Steps<L>,
 ) -> Result<Findings, Memory>
-    ensures is { IfOk result (λ all. all ≡ report (D.operations dom.now) (engine_of budget widening) (routines_of prog.now)) }
+    requires setting { setting.now ≡ setting_of setting.now.engine (routines_of prog.now) }
+    ensures is { IfOk result (λ all. all ≡ report (D.operations dom.now) setting.now.engine (routines_of prog.now)) }
 {
     let routines = few_routines(prog);
-    let plan = Plan::new(alloc, routines, budget, widening)?;
+    let plan = Plan::new(routines, setting);
     let mut found = Items::new(alloc);
     for (place, routine) in routines.iter().enumerate() {
         add_report(

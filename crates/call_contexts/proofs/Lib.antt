@@ -5,3 +5,5 @@ pub mod Marked
 pub mod Placed
 pub mod Tabled
 pub mod Filtering
+pub mod LiteralLemmas
+pub mod Kept

@@ -2,3 +2,5 @@ pub mod Places
 pub mod Joined
 pub mod Tables
 pub mod Settings
+pub mod Literals
+pub mod Touches

@@ -6,7 +6,7 @@ ghost use Rattle.call_contexts.specs.Places.{targets_of};
 
 use crate::places::place_of;
 use crate::table::chains_to;
-use imp_check::Checked;
+use imp_check::View;
 use imp_syntax::{Chain, Location, ProcId, StmtId};
 use plain_values::{Items, Memory};
 use std::alloc::Global;
@@ -65,7 +65,7 @@ fn ending_in(alloc: Global, calls: &[u32], chains: &[Items<StmtId>]) -> Result<I
 /// this one on and in the chains to them.
 pub fn chains(
     alloc: Global,
-    prog: &Checked,
+    prog: &View<'_>,
     proc: ProcId,
     string: &[u32],
 ) -> Result<Items<Chain>, Memory>
@@ -81,7 +81,7 @@ pub fn chains(
 /// [`chains`].
 pub fn targets(
     alloc: Global,
-    prog: &Checked,
+    prog: &View<'_>,
     at: &Location,
     string: &[u32],
 ) -> Result<Items<Chain>, Memory>

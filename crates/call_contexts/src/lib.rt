@@ -4,7 +4,8 @@
 //! chains to a procedure that a call string selects, [`targets`] those of a location, in the order in
 //! which their states are joined. [`joined`] sheds one chain's state and joins it behind those before.
 //! [`marks`] gives the numbers at which widening stops in a procedure, and a [`Setting`] has those of
-//! all procedures, with how often and how the iterates of a loop are made.
+//! all procedures, with how often and how the iterates of a loop are made. After a change of the program
+//! [`Setting::after`] makes the marks of those procedures anew to which the change brings statements.
 //!
 //! A program has at most 4,096 chains, each of at most 8 calls. Nothing walks the program: a place is
 //! read off what is known of the statement, and the chains to a procedure are found along call
@@ -19,6 +20,7 @@ mod numbers;
 mod places;
 mod setting;
 mod table;
+mod touched;
 
 pub use filtered::{chains, targets};
 pub use joining::joined;
@@ -26,4 +28,4 @@ pub use marking::marks;
 pub use numbers::holds;
 pub use places::{few_routines, place_of};
 pub use setting::Setting;
-pub use table::main_place;
+pub use table::{main_place, procedure_count};

@@ -1,14 +1,14 @@
 //! The numbers that stand in a procedure.
 ghost use Rattle.std.specs.Prelude.{◌≡◌, ◌++◌, [], ◌∷◌, OnOk, map};
-ghost use Rattle.imp_slots.specs.Plain.{Stop};
 ghost use Rattle.imp_slots.specs.ActionViews.{effect_of};
-ghost use Rattle.imp_slots.specs.BlockViews.{before_code};
 ghost use Rattle.imp_slots.specs.CallViews.{argument_of};
-ghost use Rattle.program_chains.specs.Marks.{term_literals, guard_literals, effect_literals, argument_literals, literals};
+ghost use Rattle.program_chains.specs.Marks.{term_literals, guard_literals, effect_literals, argument_literals};
+ghost use Rattle.imp_check.specs.Entries.{entries_of, entry_of};
+ghost use Rattle.call_contexts.specs.Literals.{stmt_literals, form_literals, literals_in, literals_by};
 
-use imp_slots::{
-    Argument, SlotAction, SlotBlock, SlotCond, SlotCondNode, SlotExpr, SlotExprNode, SlotNode,
-};
+use imp_check::{SlotForm, View};
+use imp_slots::{Argument, SlotAction, SlotCond, SlotCondNode, SlotExpr, SlotExprNode, SlotStmt};
+use imp_syntax::StmtId;
 use plain_values::{Items, Memory, Number};
 
 fn add_term(expr: &SlotExpr, found: &mut Items<Number>) -> Result<(), Memory>
@@ -91,34 +91,45 @@ fn add_arguments(arguments: &[Argument], found: &mut Items<Number>) -> Result<()
     Ok(())
 }
 
-/// Adds the numbers of a block, in the order of the text.
-#[cycle(literals)]
-#[tactic(auto, using(imp_slots::specs::BlockFalls::node_falls))]
-pub(crate) fn add_block(block: &SlotBlock, found: &mut Items<Number>) -> Result<(), Memory>
-    ensures added { OnOk result (found.new ≡ found.old ++ literals block.now) }
+fn add_stmt(stmt: &SlotStmt, found: &mut Items<Number>) -> Result<(), Memory>
+    ensures added { OnOk result (found.new ≡ found.old ++ stmt_literals stmt.now) }
 {
-    for node in block.statements() {
-        add_node(node, found)?;
+    match stmt {
+        SlotStmt::Simple(action) => add_action(action, found),
+        SlotStmt::Break => Ok(()),
     }
-    Ok(())
 }
 
-#[cycle(literals)]
-fn add_node(node: &SlotNode, found: &mut Items<Number>) -> Result<(), Memory>
-    ensures added { OnOk result (found.new ≡ found.old ++ literals (before_code node.now Stop)) }
+fn add_form(form: &SlotForm, found: &mut Items<Number>) -> Result<(), Memory>
+    ensures added { OnOk result (found.new ≡ found.old ++ form_literals form.now) }
 {
-    match node {
-        SlotNode::Simple(_, action) => add_action(action, found),
-        SlotNode::If(_, c, then, els) => {
-            add_guard(c, found)?;
-            add_block(then, found)?;
-            add_block(els, found)
-        }
-        SlotNode::While(_, c, body) => {
-            add_guard(c, found)?;
-            add_block(body, found)
-        }
-        SlotNode::Call(_, call, _) => add_arguments(call.entering().arguments(), found),
-        SlotNode::Break(_) => Ok(()),
+    match form {
+        SlotForm::Stmt(stmt) => add_stmt(stmt, found),
+        SlotForm::Cond(cond) => add_guard(cond, found),
+        SlotForm::Call(call, _) => add_arguments(call.entering().arguments(), found),
     }
+}
+
+/// Adds the numbers of the statement of a number, if it is there.
+fn add_entry(prog: &View<'_>, stmt: StmtId, found: &mut Items<Number>) -> Result<(), Memory>
+    ensures added { OnOk result (found.new ≡ found.old ++ literals_in (entry_of (entries_of prog.now) stmt)) }
+{
+    match prog.entry(stmt) {
+        Some(entry) => add_form(&entry.form, found),
+        None => Ok(()),
+    }
+}
+
+/// Adds the numbers of these statements, in their order.
+pub(crate) fn add_statements(
+    prog: &View<'_>,
+    stmts: &[StmtId],
+    found: &mut Items<Number>,
+) -> Result<(), Memory>
+    ensures added { OnOk result (found.new ≡ found.old ++ literals_by (entry_of (entries_of prog.now)) stmts.now) }
+{
+    for stmt in stmts {
+        add_entry(prog, *stmt, found)?;
+    }
+    Ok(())
 }

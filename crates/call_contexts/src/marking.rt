@@ -1,9 +1,12 @@
 //! The marks of a procedure.
-ghost use Rattle.std.specs.Prelude.{◌≡◌, ◌≤◌, ◌++◌, ◌∷◌, length, take, drop, neg_ℤ, pos, IfOk, OnOk, MatchOption};
-ghost use Rattle.program_chains.specs.Marks.{marks, marks_of, with_mark};
+ghost use Rattle.std.specs.Prelude.{◌≡◌, ◌<◌, ◌≤◌, ◌++◌, ◌∷◌, length, take, drop, neg_ℤ, pos, slice_get, IfOk, OnOk, MatchOption, Some};
+ghost use Rattle.program_chains.specs.Marks.{marks_of, with_mark};
+ghost use Rattle.imp_check.specs.Slots.{routines_of};
+ghost use Rattle.call_contexts.specs.Settings.{all_marks};
 
-use crate::literals::add_block;
-use imp_slots::Routine;
+use crate::literals::add_statements;
+use imp_check::View;
+use imp_syntax::ProcId;
 use plain_values::{Items, Memory, Number};
 use program_chains::Widening;
 use std::alloc::Global;
@@ -49,14 +52,23 @@ fn marks_of(alloc: Global, numbers: &[Number]) -> Result<Items<i64>, Memory>
 
 /// The marks at which widening stops in a procedure: -1, 0, 1, and L and -L for each number L of its
 /// statements and conditions, rising, each once; none where there are no thresholds. It takes time
-/// quadratic in the numbers.
-pub fn marks(alloc: Global, widening: Widening, routine: &Routine) -> Result<Items<i64>, Memory>
-    ensures is { IfOk result (λ all. all ≡ marks widening routine.now) }
+/// linear in the procedure and quadratic in its numbers.
+#[tactic(auto, using(crate::proofs::LiteralLemmas::marks_by, crate::proofs::LiteralLemmas::no_marks))]
+pub fn marks(
+    alloc: Global,
+    widening: Widening,
+    prog: &View<'_>,
+    proc: ProcId,
+) -> Result<Items<i64>, Memory>
+    requires there { proc < length prog.now }
+    ensures is { IfOk result (λ marks. slice_get (all_marks widening (routines_of prog.now)) proc ≡ Some marks) }
 {
+    prog.procs();
     if !widening.thresholds {
         return Ok(Items::new(alloc));
     }
+    let stmts = prog.statements(alloc, proc)?;
     let mut numbers = Items::new(alloc);
-    add_block(routine.body(), &mut numbers)?;
+    add_statements(prog, stmts.as_slice(), &mut numbers)?;
     marks_of(alloc, numbers.as_slice())
 }

@@ -8,12 +8,12 @@ ghost use Rattle.imp_check.specs.Slots.{routines_of};
 ghost use Rattle.call_contexts.specs.Places.{found_of, is_loop};
 
 use batch_meaning::Refusal;
-use imp_check::Checked;
+use imp_check::{Checked, View};
 use imp_slots::Routine;
 use imp_syntax::{Location, ProcId, Stmt, StmtId, StmtNode};
 
 /// The procedure of a statement.
-fn holder(prog: &Checked, stmt: StmtId) -> Result<ProcId, Refusal>
+fn holder(prog: &View<'_>, stmt: StmtId) -> Result<ProcId, Refusal>
     ensures is { found_of result ≡ found_or NoStatement (holder stmt (routines_of prog.now)) }
 {
     match prog.entry(stmt) {
@@ -29,10 +29,10 @@ fn is_loop(part: &Stmt) -> bool
 }
 
 /// The procedure of a loop.
-fn loop_holder(prog: &Checked, stmt: StmtId) -> Result<ProcId, Refusal>
+fn loop_holder(prog: &View<'_>, stmt: StmtId) -> Result<ProcId, Refusal>
     ensures is { found_of result ≡ found_loop (is_while stmt (routines_of prog.now)) (found_or NoStatement (holder stmt (routines_of prog.now))) }
 {
-    prog.program();
+    prog.procs();
     match prog.entry(stmt) {
         Some(entry) => {
             let place = entry.context.proc;
@@ -54,7 +54,7 @@ fn loop_holder(prog: &Checked, stmt: StmtId) -> Result<ProcId, Refusal>
 /// [`Refusal::NoProcedure`] or [`Refusal::NoStatement`] where the program has no such procedure or
 /// statement, [`Refusal::WrongStatement`] where the head of a statement is asked for that is no loop.
 #[tactic(auto, using(crate::proofs::Placed::named_is))]
-pub fn place_of(prog: &Checked, at: &Location) -> Result<ProcId, Refusal>
+pub fn place_of(prog: &View<'_>, at: &Location) -> Result<ProcId, Refusal>
     ensures is { found_of result ≡ procedure_of (routines_of prog.now) at.now }
 {
     match at {

@@ -7,7 +7,7 @@ ghost use Rattle.imp_check.specs.Slots.{routines_of};
 ghost use Rattle.program_chains.specs.Chains.{chains};
 ghost use Rattle.call_contexts.specs.Tables.{chains_up, chains_in, chains_by, through_sites};
 
-use imp_check::Checked;
+use imp_check::View;
 use imp_syntax::{ProcId, StmtId};
 use plain_values::{Items, Memory};
 use program_chains::chains_go_through_callers;
@@ -42,7 +42,7 @@ fn add_longer(
 
 /// The chains to the procedure of a call, by a table of chains from those of main on down.
 fn chains_to_caller<'a>(
-    prog: &Checked,
+    prog: &View<'_>,
     main: u32,
     table: &'a [Items<Items<StmtId>>],
     site: StmtId,
@@ -62,7 +62,7 @@ fn chains_to_caller<'a>(
 /// The chains through these call statements.
 fn through(
     alloc: Global,
-    prog: &Checked,
+    prog: &View<'_>,
     main: u32,
     table: &[Items<Items<StmtId>>],
     sites: &[StmtId],
@@ -86,21 +86,29 @@ fn only_main(alloc: Global) -> Result<Items<Items<StmtId>>, Memory>
     Ok(found)
 }
 
+/// How many procedures there are.
+#[tactic(auto, using(crate::proofs::Few::few_heads, imp_check::proofs::TableLemmas::heads_length))]
+pub fn procedure_count(prog: &View<'_>) -> u32
+    ensures is { result ≡ length prog.now }
+{
+    prog.procs().len() as u32
+}
+
 /// The place of main, the last procedure.
 #[tactic(auto, using(crate::proofs::Few::some_heads, crate::proofs::Few::few_heads, crate::proofs::Few::as_many_heads))]
-pub fn main_place(prog: &Checked) -> u32
+pub fn main_place(prog: &View<'_>) -> u32
     ensures last { result + 1 ≡ length (routines_of prog.now) }
     ensures few { result < 64 }
     ensures checked { IsChecked (routines_of prog.now) }
     ensures numbered { AreNumbered prog.now }
 {
-    prog.table().procs().len() as u32 - 1
+    prog.procs().len() as u32 - 1
 }
 
 /// The chains to a procedure in front of main, where those of the later ones are known.
 fn chains_at(
     alloc: Global,
-    prog: &Checked,
+    prog: &View<'_>,
     main: u32,
     table: &[Items<Items<StmtId>>],
     place: u32,
@@ -121,7 +129,7 @@ fn chains_at(
 #[tactic(auto, using(crate::proofs::Tabled::none_past, crate::proofs::Tabled::main_only, crate::proofs::Tabled::up_more))]
 pub(crate) fn chains_to(
     alloc: Global,
-    prog: &Checked,
+    prog: &View<'_>,
     proc: ProcId,
 ) -> Result<Items<Items<StmtId>>, Memory>
     ensures is { IfOk result (λ found. found ≡ chains (routines_of prog.now) proc) }

@@ -4,15 +4,14 @@ ghost use Rattle.std.specs.Option.{option_copied};
 ghost use Rattle.imp_check.specs.Slots.{routines_of};
 ghost use Rattle.batch_meaning.specs.Answers.{procedure_of};
 ghost use Rattle.batch_interp.specs.Answered.{value_of};
-ghost use Rattle.daig_server.specs.Jobs.{engine_of};
+ghost use Rattle.call_contexts.specs.Settings.{setting_of};
 ghost use Rattle.daig_server.specs.Questions.{refusal_of};
 ghost use Rattle.daig_server.specs.Reply.{layout_at, value_reply, layout_or_none, routine_in, line_refusal, line_reply, report_reply, request_reply, state_reply};
 
 use crate::replies::{asked_run, listing, program_reply};
 use batch_interp::{Answer, QueryError, answer, batch_report};
 use batch_meaning::Refusal as QueryRefusal;
-use call_contexts::place_of;
-use command_words::Settings;
+use call_contexts::{Setting, place_of};
 use domain_laws::Domain;
 use imp_check::Checked;
 use imp_slots::{Layout, Routine};
@@ -56,7 +55,7 @@ fn routine_text<D: Domain>(
 fn routine_at<'a>(program: &'a Checked, at: &Location) -> Option<&'a Routine>
     ensures routine { option_copied result ≡ routine_in (routines_of program.now) (procedure_of (routines_of program.now) at.now) }
 {
-    match place_of(program, at) {
+    match place_of(&program.view(), at) {
         Ok(proc) => program.routines().get(proc.place() as usize),
         Err(_) => None,
     }
@@ -124,19 +123,19 @@ fn state_reply<D: Domain, L: Ledger>(
     alloc: Global,
     dom: &D,
     program: &Checked,
-    settings: &Settings,
+    setting: &Setting,
     query: &Query,
     steps: &mut Steps<L>,
 ) -> Result<Reply, Memory>
-    ensures reply { IfOk result (λ reply. reply ≡ state_reply (D.operations dom.now) (record { engine = engine_of settings.now; program = program.now }) query.now) }
+    requires setting { setting.now ≡ setting_of setting.now.engine (routines_of program.now) }
+    ensures reply { IfOk result (λ reply. reply ≡ state_reply (D.operations dom.now) (record { engine = setting.now.engine; program = program.now }) query.now) }
 {
     let string = numbers_of(alloc, &query.string)?;
     match answer(
         alloc,
         dom,
         program,
-        settings.budget,
-        settings.widening,
+        setting,
         &query.at,
         string.as_slice(),
         steps,
@@ -152,19 +151,13 @@ pub(crate) fn report_reply<D: Domain, L: Ledger>(
     alloc: Global,
     dom: &D,
     program: &Checked,
-    settings: &Settings,
+    setting: &Setting,
     steps: &mut Steps<L>,
 ) -> Result<Reply, Memory>
-    ensures reply { IfOk result (λ reply. reply ≡ report_reply (D.operations dom.now) (record { engine = engine_of settings.now; program = program.now })) }
+    requires setting { setting.now ≡ setting_of setting.now.engine (routines_of program.now) }
+    ensures reply { IfOk result (λ reply. reply ≡ report_reply (D.operations dom.now) (record { engine = setting.now.engine; program = program.now })) }
 {
-    let findings = batch_report(
-        alloc,
-        dom,
-        program,
-        settings.budget,
-        settings.widening,
-        steps,
-    )?;
+    let findings = batch_report(alloc, dom, program, setting, steps)?;
     Ok(Reply::Report(findings))
 }
 
@@ -174,15 +167,16 @@ fn request_reply<D: Domain, L: Ledger>(
     alloc: Global,
     dom: &D,
     program: &Checked,
-    settings: &Settings,
+    setting: &Setting,
     request: Request,
     steps: &mut Steps<L>,
 ) -> Result<Reply, Memory>
-    ensures reply { IfOk result (λ reply. reply ≡ request_reply (D.operations dom.now) (record { engine = engine_of settings.now; program = program.now }) request) }
+    requires setting { setting.now ≡ setting_of setting.now.engine (routines_of program.now) }
+    ensures reply { IfOk result (λ reply. reply ≡ request_reply (D.operations dom.now) (record { engine = setting.now.engine; program = program.now }) request) }
 {
     match request {
-        Request::State(query) => state_reply(alloc, dom, program, settings, &query, steps),
-        Request::Report => report_reply(alloc, dom, program, settings, steps),
+        Request::State(query) => state_reply(alloc, dom, program, setting, &query, steps),
+        Request::Report => report_reply(alloc, dom, program, setting, steps),
         Request::Program => program_reply(alloc, program),
         Request::Listing => Ok(Reply::Listing(listing(alloc, program)?)),
         Request::Run { inputs, fuel, at } => {
@@ -211,14 +205,15 @@ pub(crate) fn line_reply<D: Domain, L: Ledger>(
     alloc: Global,
     dom: &D,
     program: &Checked,
-    settings: &Settings,
+    setting: &Setting,
     line: &[u8],
     steps: &mut Steps<L>,
 ) -> Result<Reply, Memory>
-    ensures reply { IfOk result (λ reply. reply ≡ line_reply (D.operations dom.now) (record { engine = engine_of settings.now; program = program.now }) line.now) }
+    requires setting { setting.now ≡ setting_of setting.now.engine (routines_of program.now) }
+    ensures reply { IfOk result (λ reply. reply ≡ line_reply (D.operations dom.now) (record { engine = setting.now.engine; program = program.now }) line.now) }
 {
     match read_request(alloc, line) {
-        Ok(request) => request_reply(alloc, dom, program, settings, request, steps),
+        Ok(request) => request_reply(alloc, dom, program, setting, request, steps),
         Err(error) => line_refusal(error),
     }
 }

@@ -65,7 +65,7 @@ pub(crate) fn asked_run(
 {
     match at {
         None => run_reply(alloc, program, inputs, fuel, None),
-        Some(location) => match place_of(program, location) {
+        Some(location) => match place_of(&program.view(), location) {
             Ok(_) => run_reply(alloc, program, inputs, fuel, Some(location)),
             Err(why) => Ok(Reply::Refused(Refusal::Query(why))),
         },

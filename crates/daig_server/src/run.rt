@@ -143,7 +143,9 @@ fn run_by<D: Named, I: Source, O: Sink, L: Ledger>(
     ensures no_long_file { result ≡ Status.LongFile → ⊥ }
     ensures no_source { result ≡ Status.Source → ⊥ }
 {
-    let server = Server::new(domain, program, settings);
+    let Ok(server) = Server::new(alloc, domain, program, &settings) else {
+        return Status::Memory;
+    };
     run_task(alloc, task, server, script, out, steps)
 }
 

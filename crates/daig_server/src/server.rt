@@ -11,6 +11,7 @@ ghost use Rattle.daig_server.specs.Output.{batch_bytes};
 use crate::answers::{line_reply, report_reply};
 use crate::domains::Named;
 use crate::replies::listing;
+use call_contexts::Setting;
 use command_words::Settings;
 use imp_check::Checked;
 use plain_values::Memory;
@@ -21,35 +22,46 @@ use std::marker::Model;
 use std::sync::ledger::Ledger;
 use step_counter::Steps;
 
-/// The server of one program: it answers each line by the domain, interpreting the program from nothing.
+/// The server of one program: it answers each line by the domain, interpreting the program from nothing. How its loops are
+/// interpreted is made out once.
 #[derive(Drop)]
 pub struct Server<D: Named> {
     domain: D,
     program: Checked,
-    settings: Settings,
+    setting: Setting,
 }
 
 impl<D: Named> Model for Server<D> {
     ghost use Rattle.daig_server.specs.Held.{Held, held_code};
-    ghost use Rattle.daig_server.specs.Jobs.{engine_of};
+    ghost use Rattle.std.specs.Prelude.{◌≡◌};
+    ghost use Rattle.imp_check.specs.Slots.{routines_of};
+    ghost use Rattle.call_contexts.specs.Settings.{setting_of};
 
     ghost Value = { Held };
 
     ghost coded = { held_code };
 
-    ghost view = { λ s. record { engine = engine_of s.settings; program = s.program } };
+    ghost view = { λ s. record { engine = s.setting.engine; program = s.program } };
+
+    ghost invariant = { λ s. s.setting ≡ setting_of s.setting.engine (routines_of s.program) };
 }
 
 impl<D: Named> Server<D> {
-    /// The server of this program.
-    pub fn new(domain: D, program: Checked, settings: Settings) -> Server<D>
-        ensures held { result ≡ record { engine = engine_of settings; program = program } }
+    /// The server of this program. It fails for want of memory alone.
+    pub fn new(
+        alloc: Global,
+        domain: D,
+        program: Checked,
+        settings: &Settings,
+    ) -> Result<Server<D>, Memory>
+        ensures held { IfOk result (λ s. s ≡ record { engine = engine_of settings.now; program = program }) }
     {
-        Server {
+        let setting = Setting::new(alloc, &program.view(), settings.budget, settings.widening)?;
+        Ok(Server {
             domain,
             program,
-            settings,
-        }
+            setting,
+        })
     }
 
     /// The reply to a line, as text.
@@ -65,7 +77,7 @@ impl<D: Named> Server<D> {
             alloc,
             &self.domain,
             &self.program,
-            &self.settings,
+            &self.setting,
             line,
             steps,
         )?;
@@ -82,7 +94,7 @@ impl<D: Named> Server<D> {
         ensures bytes { IfOk result (λ v. v.items ≡ batch_bytes D.name self.now) }
     {
         let listing = listing(alloc, &self.program)?;
-        let reply = report_reply(alloc, &self.domain, &self.program, &self.settings, steps)?;
+        let reply = report_reply(alloc, &self.domain, &self.program, &self.setting, steps)?;
         let line = reply_line(alloc, &reply)?;
         let mut bytes = Vec::from_slice(alloc, listing.as_slice())?;
         bytes.extend_from_slice(line.as_slice())?;

@@ -1,5 +1,6 @@
 pub mod CloseOfLemmas
 pub mod FinishLemmas
+pub mod HalvesLemmas
 pub mod LawLemmas
 pub mod MiddleLemmas
 pub mod RoundLemmas

@@ -4,12 +4,9 @@ use Rattle.std.proofs.Common.{arith, suc, zero, ap, sym, subst, ◌∙◌, inl, 
 use Rattle.std.proofs.lemmas.Bool.{cases_lt, cases_eq, eq-eqb, ne_eqb}
 use Rattle.dbm_close.specs.declared.middle.Middle.{Middle}
 use Rattle.dbm_close.specs.Rounds.{HasMiddle, middle_entry, round_entry, rounded, via_both}
-use Rattle.dbm_close.specs.Steps.{half, half_sum, strengthened}
-use Rattle.dbm_core.proofs.NodeLemmas.{flip-below, flip-flip, parity}
+use Rattle.dbm_core.proofs.NodeLemmas.{parity}
 use Rattle.dbm_core.specs.Half.{HalfMatrix, IsMatrix, entry, nodes}
 use Rattle.dbm_core.specs.Limits.{IsWithin}
-use Rattle.dbm_core.specs.Nodes.{flip}
-use Rattle.dbm_core.specs.Weights.{add_weight, least}
 
 pub done-set : (P : ℕ → Option ℤ → Type 0) (v : List (Option ℤ)) (i : ℕ) (x : Option ℤ) → i < length v → ((k : ℕ) → k < i → P k (get_or v k None)) → P i x →
     (k : ℕ) → k < i + 1 → P k (get_or (slice_set v i x) k None)
@@ -54,11 +51,3 @@ pub middle_entry-slot : (m : Middle) (h : ℕ) (x y : Option ℤ) → x ≡ y �
 middle_entry-slot m h x y e =
     let p : (2 * h) / 2 ≡ h = omega arith in let q : (2 * h + 1) / 2 ≡ h = omega arith in
     rw (eq-eqb (2 * h) (2 * h) refl, eq-eqb (2 * h + 1) (2 * h + 1) refl, p, q, e) refl
-
--- own has the bounds from each node to that of the other sign
-pub half_sum-strengthened : (n : ℕ) (t : ℕ → ℕ → Option ℤ) (own : List (Option ℤ)) → ((i : ℕ) → i < 2 * n → get_or own i None ≡ t i (flip i)) →
-    (i j : ℕ) → i < 2 * n → j < 2 * n → half_sum own i j (t i j) ≡ strengthened t i j
-half_sum-strengthened n t own h i j hi hj =
-    ap (λ x. least (t i j) (half (add_weight x (get_or own (flip j) None)))) (h i hi)
-    ∙ ap (λ x. least (t i j) (half (add_weight (t i (flip i)) x))) (h (flip j) (flip-below j n hj))
-    ∙ ap (λ k. least (t i j) (half (add_weight (t i (flip i)) (t (flip j) k)))) (flip-flip j)

@@ -88,11 +88,6 @@ contradictory-agree h f g a (i, (l, p)) = (
   ),
 )
 
-pub consistent-agree : (h : ℕ) (f g : ℕ → ℕ → Option ℤ) → Agree (2 * h) f g → IsNotContradictory (2 * h) f → IsNotContradictory (2 * h) g
-consistent-agree h f g a p i l =
-    subst (λ x. AtMost (Some (pos 0)) (add_weight x (g (flip i) i))) (a i (flip i) l (flip-below i h l))
-    (subst (λ x. AtMost (Some (pos 0)) (add_weight (f i (flip i)) x)) (a (flip i) i (flip-below i h l) l) (p i l))
-
 pub too_low-agree : (n : ℕ) (f g : ℕ → ℕ → Option ℤ) → Agree n f g → IsTooLow n f → IsTooLow n g
 too_low-agree n f g a p = (p.0, p.1, (p.2.0, p.2.1, subst (λ x. AtMost x (Some (negsuc (2 ^ 64)))) (a p.0 p.1 p.2.0 p.2.1) p.2.2))
 
@@ -120,19 +115,6 @@ HasEntries-change k l f g m e a h = record {
   same_kinds = h.same_kinds ∙ e;
   entries = λ i j hi hj. (let n : length l ≡ length k = ap length e in h.entries i j (omega arith) (omega arith) ∙ a i j hi hj);
 }
-
-pub stage_strong : (kinds : List Bool) (f : ℕ → ℕ → Option ℤ) (t u : HalfMatrix) → HasEntries kinds (tightened f) t → HasEntries t.kinds (strengthened (entry t)) u → HasEntries kinds (strong f) u
-stage_strong kinds f t u p q = HasEntries-change kinds t.kinds (strengthened (entry t)) (strong f) u p.same_kinds
-    (strengthened-agree (length kinds) (entry t) (tightened f) p.entries) q
-
-pub stage_cut : (kinds : List Bool) (f : ℕ → ℕ → Option ℤ) (u r : HalfMatrix) → HasEntries kinds (strong f) u → HasEntries u.kinds (λ i j. cut (entry u i j)) r → HasEntries kinds (closed_entry f) r
-stage_cut kinds f u r p q = HasEntries-change kinds u.kinds (λ i j. cut (entry u i j)) (closed_entry f) r p.same_kinds
-    (λ i j hi hj. ap cut (p.entries i j hi hj)) q
-
-pub stage_tight-within : (kinds : List Bool) (f : ℕ → ℕ → Option ℤ) (t : HalfMatrix) → AreWithin (2 * length kinds) (2 ^ 102) f → HasEntries kinds (tightened f) t → AreWithin (nodes t) (2 ^ 103) (entry t)
-stage_tight-within kinds f t w p = subst (λ k. AreWithin (2 * length k) (2 ^ 103) (entry t)) (sym p.same_kinds)
-    (within-agree (2 * length kinds) (2 ^ 103) (entry t) (tightened f) p.entries
-    (AreWithin-more (2 * length kinds) (2 ^ 102 + 1) (2 ^ 103) (tightened f) (omega arith) (tightened-within (2 * length kinds) (2 ^ 102) f w)))
 
 pub stage_cut-within : (kinds : List Bool) (f : ℕ → ℕ → Option ℤ) (r : HalfMatrix) → AreWithin (2 * length kinds) (2 ^ 102) f → HasEntries kinds (closed_entry f) r → AreWithin (nodes r) (2 ^ 104) (entry r)
 stage_cut-within kinds f r w p = subst (λ k. AreWithin (2 * length k) (2 ^ 104) (entry r)) (sym p.same_kinds)

@@ -1,5 +1,5 @@
 -- Steps 2 to 6 of closing, at one entry each.
-use Rattle.std.specs.Prelude.{ℕ, ◌^◌, ◌-◌, ℤ, pos, ◌-ℤ◌, neg_ℤ, Option, Some, None, Bool, List, cond, int_lt, slice_index_or}
+use Rattle.std.specs.Prelude.{ℕ, ◌^◌, ◌-◌, ℤ, pos, ◌-ℤ◌, neg_ℤ, Option, Some, None, Bool, cond, int_lt}
 use Rattle.std.specs.Int.{int_div_euclid, int_rem_euclid, int_min, int_max}
 use Rattle.dbm_core.specs.Nodes.{flip, is_single}
 use Rattle.dbm_core.specs.Weights.{add_weight, least}
@@ -21,10 +21,6 @@ half (Some x) = Some (int_div_euclid x (pos 2))
 -- step 4: each bound is at most half the sum of its two nodes' own
 abbrev pub strengthened : (ℕ → ℕ → Option ℤ) → ℕ → ℕ → Option ℤ
 strengthened t i j = least (t i j) (half (add_weight (t i (flip i)) (t (flip j) j)))
-
--- the same of one bound, by the list of the nodes' own
-abbrev pub half_sum : List (Option ℤ) → ℕ → ℕ → Option ℤ → Option ℤ
-half_sum own i j bound = least bound (half (add_weight (slice_index_or own i None) (slice_index_or own (flip j) None)))
 
 -- step 5: a bound of 2^64 or more becomes none
 abbrev pub cut : Option ℤ → Option ℤ

@@ -1,7 +1,7 @@
 //! Sums and halves of bounds.
 ghost use Rattle.std.specs.Prelude.{◌≡◌, ◌-◌, ◌^◌, negsuc, pos, neg_ℤ, Some};
 ghost use Rattle.std.specs.Bool.{MatchBool};
-ghost use Rattle.dbm_close.specs.Steps.{cut, even_down, half};
+ghost use Rattle.dbm_close.specs.Steps.{cut, half};
 ghost use Rattle.dbm_core.specs.Limits.{IsWithin};
 ghost use Rattle.dbm_core.specs.Weights.{AtMost, add_weight};
 
@@ -27,17 +27,6 @@ pub fn is_negative(a: Option<i128>) -> bool
     match a {
         Some(x) => x < 0,
         None => false,
-    }
-}
-
-/// The greatest even number that is not above the bound.
-pub fn even_bound(a: Option<i128>) -> Option<i128>
-    requires within { IsWithin (2 ^ 102) a }
-    ensures even { result ≡ even_down a }
-{
-    match a {
-        Some(x) => Some(x - x.rem_euclid(2)),
-        None => None,
     }
 }
 

@@ -26,7 +26,7 @@ pub enum Closed {
 /// Its diagonal is 0 or less, and its finite entries lie from -2^70 to 2^70. The answer keeps the
 /// meaning: values within the slots' extremes satisfy it exactly where they satisfy the matrix,
 /// and none do where it is Empty. A closed matrix has a diagonal of 0 and entries from -2^64 to
-/// 2^64, so it can be closed again. That closing twice changes nothing is not promised.
+/// 2^64, so it can be closed again.
 pub fn close(alloc: Global, matrix: &Matrix) -> Result<Closed, Memory>
     requires diagonal { IsZeroAtMost (nodes matrix.now) (entry matrix.now) }
     requires within { AreWithin (nodes matrix.now) (2 ^ 70) (entry matrix.now) }

@@ -18,7 +18,7 @@
 //! walks is enough for integers is R. Bagnara, P. M. Hill and E. Zaffanella, "An Improved Tight
 //! Closure Algorithm for Integer Octagonal Constraints", 2008.
 //!
-//! Closing n slots takes n rounds over the 2n(n + 1) kept entries and five passes more, all in
+//! Closing n slots takes n rounds over the 2n(n + 1) kept entries and two passes more, all in
 //! place: no memory is taken but that of the copy, which becomes the answer. A round makes
 //! entries at most four times as large, so that all sums stay below 2^104, negative walks or not.
 #![tactic(auto)]
@@ -31,11 +31,13 @@ mod closed;
 mod middle;
 mod ranges;
 mod steps;
-mod strengthen;
 mod walks;
 
+pub use bounds::{is_negative, plus};
 pub use closed::{Closed, close};
+pub use middle::column;
 pub use ranges::slot_range;
+pub use steps::finish;
 
 /// A law, with nothing to run: step 4 halves even numbers only, so its halves are exact.
 pub fn halves_law()

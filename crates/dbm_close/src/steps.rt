@@ -1,18 +1,18 @@
-//! Steps 2 to 6, over the least weights.
-ghost use Rattle.std.specs.Prelude.{◌≡◌, ◌<◌, ◌+◌, ◌^◌, cond};
+//! Steps 2 to 6, over the least weights, in two passes over the kept entries.
+ghost use Rattle.std.specs.Prelude.{◌≡◌, ◌<◌, ◌≤◌, ◌+◌, ◌*◌, ◌^◌, ◌%◌, ℕ, None, slice_index_or, length};
 ghost use Rattle.std.specs.Bool.{MatchBool};
-ghost use Rattle.dbm_close.specs.Close.{IsContradictory, IsNotContradictory, IsNotTooLow, IsTooLow};
 ghost use Rattle.dbm_close.specs.Finish.{IsFinishOf};
-ghost use Rattle.dbm_close.specs.Steps.{cut, even_down, tightened};
-ghost use Rattle.dbm_core.specs.Half.{HasEntries, entry, nodes};
+ghost use Rattle.dbm_close.specs.Halves.{HasHalves, HasLowBound, HasNegativeHalves, HasNoLowBound, HasNoNegativeHalves, halved_bound};
+ghost use Rattle.dbm_close.specs.Steps.{cut, half};
+ghost use Rattle.dbm_core.specs.Half.{IsMatrix, entry, nodes, row_width};
 ghost use Rattle.dbm_core.specs.Limits.{AreWithin, IsWithin};
-ghost use Rattle.dbm_core.specs.Nodes.{is_single};
+ghost use Rattle.dbm_core.specs.Nodes.{flip};
 
 use crate::Closed;
-use crate::bounds::{cut_bound, even_bound, is_low_bound, is_negative, plus};
+use crate::bounds::{cut_bound, half_bound, is_low_bound, is_negative, plus};
+use crate::middle::column;
 use crate::ranges::has_empty_range;
-use crate::strengthen::strengthen;
-use dbm_core::{Matrix, other_sign};
+use dbm_core::{Matrix, other_sign, smaller};
 
 /// Steps 2 to 6, over the least weights.
 pub fn finish(weights: Matrix) -> Closed
@@ -20,65 +20,73 @@ pub fn finish(weights: Matrix) -> Closed
     ensures finish { IsFinishOf weights.kinds (entry weights) result }
 {
     let mut matrix = weights;
-    tighten(&mut matrix);
-    if is_contradictory(&matrix) {
+    let count = 2 * matrix.kinds().len();
+    let halves = halves_of(&matrix);
+    if has_negative_halves(&halves, count) {
         return Closed::Empty;
     }
-    strengthen(&mut matrix);
-    if is_too_low(&matrix) {
+    if has_low_bound(&matrix, &halves) {
         return Closed::Empty;
     }
-    cut_entries(&mut matrix);
+    strengthen_and_cut(&mut matrix, &halves);
     if has_empty_range(&matrix) {
         return Closed::Empty;
     }
     Closed::Matrix(matrix)
 }
 
-// Step 2: the bounds on one slot made even downwards.
-fn tighten(s: &mut Matrix)
-    requires within { AreWithin (nodes s.old) (2 ^ 102) (entry s.old) }
-    ensures entries { HasEntries s.old.kinds (tightened (entry s.old)) s.new }
+// Half of the bound from each node to that of the other sign, rounded down: step 2 makes the bound
+// twice that.
+fn halves_of(m: &Matrix) -> [Option<i128>; 32]
+    requires within { AreWithin (nodes m.now) (2 ^ 102) (entry m.now) }
+    ensures halves { HasHalves (nodes m.now) (entry m.now) result }
+    ensures small { (i : ℕ) → IsWithin (2 ^ 102) (slice_index_or result i None) }
 {
-    let _slots = s.kinds();
-    s.update(
-        |i: usize, j: usize, bound: Option<i128>| -> Option<i128>
-            requires row { i < 2 ^ 32 }
-            requires within { IsWithin (2 ^ 102) bound }
-            ensures value { result ≡ cond (is_single i j) (even_down bound) bound }
-        {
-            if j == other_sign(i) {
-                even_bound(bound)
-            } else {
-                bound
-            }
-        },
-    );
+    let count = 2 * m.kinds().len();
+    column(
+        count,
+        |i: usize| -> Option<i128>
+            requires row { i < nodes m.now }
+            requires few { length m.now.kinds ≤ 16 }
+            ensures value { result ≡ half (entry m.entry.now i (flip i)) }
+        { half_bound(m.get(i, other_sign(i))) },
+    )
 }
 
-// Step 3: whether both bounds on a slot leave no number.
-fn is_contradictory(t: &Matrix) -> bool
-    requires within { AreWithin (nodes t.now) (2 ^ 103) (entry t.now) }
-    ensures contradictory { MatchBool result (IsContradictory (nodes t.now) (entry t.now)) (IsNotContradictory (nodes t.now) (entry t.now)) }
+// Step 3: whether both halves of a slot leave no number.
+fn has_negative_halves(halves: &[Option<i128>; 32], count: usize) -> bool
+    requires few { count ≤ 32 }
+    requires even { count % 2 ≡ 0 }
+    requires small { (i : ℕ) → IsWithin (2 ^ 102) (slice_index_or halves.now i None) }
+    ensures negative { MatchBool result (HasNegativeHalves count halves.now) (HasNoNegativeHalves count halves.now) }
 {
-    let slots = t.kinds().len();
-    for i in 0..2 * slots {
-        let other = other_sign(i);
-        if is_negative(plus(t.get(i, other), t.get(other, i))) {
+    for i in 0..count {
+        if is_negative(plus(halves[i], halves[other_sign(i)])) {
             return true;
         }
     }
     false
 }
 
-// Step 5: whether an entry is below -2^64.
-fn is_too_low(u: &Matrix) -> bool
-    ensures too_low { MatchBool result (IsTooLow (nodes u.now) (entry u.now)) (IsNotTooLow (nodes u.now) (entry u.now)) }
+// Steps 2 and 4 at one bound: it is at most the sum of its nodes' halves.
+fn halved(halves: &[Option<i128>; 32], i: usize, j: usize, bound: Option<i128>) -> Option<i128>
+    requires row { i < 32 }
+    requires column { j < 32 }
+    requires small { (i : ℕ) → IsWithin (2 ^ 102) (slice_index_or halves.now i None) }
+    ensures bound { result ≡ halved_bound halves.now i j bound }
 {
-    let nodes = 2 * u.kinds().len();
+    smaller(bound, plus(halves[i], halves[other_sign(j)]))
+}
+
+// Step 5: whether an entry will be below -2^64.
+fn has_low_bound(m: &Matrix, halves: &[Option<i128>; 32]) -> bool
+    requires small { (i : ℕ) → IsWithin (2 ^ 102) (slice_index_or halves.now i None) }
+    ensures low { MatchBool result (HasLowBound (nodes m.now) (entry m.now) halves.now) (HasNoLowBound (nodes m.now) (entry m.now) halves.now) }
+{
+    let nodes = 2 * m.kinds().len();
     for i in 0..nodes {
-        for j in 0..nodes {
-            if is_low_bound(u.get(i, j)) {
+        for j in 0..2 * (i / 2) + 2 {
+            if is_low_bound(halved(halves, i, j, m.get(i, j))) {
                 return true;
             }
         }
@@ -86,14 +94,20 @@ fn is_too_low(u: &Matrix) -> bool
     false
 }
 
-// Step 5: an entry of 2^64 or more becomes none.
-fn cut_entries(u: &mut Matrix)
-    ensures entries { HasEntries u.old.kinds (λ i j. cut (entry u.old i j)) u.new }
+// Steps 2, 4 and 5, in place.
+fn strengthen_and_cut(m: &mut Matrix, halves: &[Option<i128>; 32])
+    requires small { (i : ℕ) → IsWithin (2 ^ 102) (slice_index_or halves.now i None) }
+    ensures matrix { IsMatrix m.new }
+    ensures same_kinds { m.new.kinds ≡ m.old.kinds }
+    ensures kept { (i j : ℕ) → i < nodes m.old → j < row_width i → entry m.new i j ≡ cut (halved_bound halves.now i j (entry m.old i j)) }
 {
-    let _slots = u.kinds();
-    u.update(
-        |_i: usize, _j: usize, bound: Option<i128>| -> Option<i128>
-            ensures value { result ≡ cut bound }
-        { cut_bound(bound) },
+    let _slots = m.kinds();
+    m.update(
+        |i: usize, j: usize, bound: Option<i128>| -> Option<i128>
+            requires row { i < 32 }
+            requires column { j < 32 }
+            requires small { (i : ℕ) → IsWithin (2 ^ 102) (slice_index_or halves.now i None) }
+            ensures value { result ≡ cut (halved_bound halves.entry.now i j bound) }
+        { cut_bound(halved(halves, i, j, bound)) },
     );
 }

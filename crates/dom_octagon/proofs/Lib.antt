@@ -1,6 +1,10 @@
+pub mod Bounds
+pub mod Copies
+pub mod Entering
 pub mod FirstKinds
 pub mod SameKinds
 pub mod Tables
 pub mod Tight
+pub mod Triangles
 pub mod Words
 pub mod Written

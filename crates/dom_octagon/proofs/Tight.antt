@@ -1,21 +1,44 @@
--- What closing gives.
-use Rattle.std.specs.Prelude.{◌≡◌, List, Bool}
+-- Closed states.
+use Rattle.std.specs.Prelude.{◌≡◌, ◌^◌, Option, Some, None, IfSome, refl}
 use Rattle.std.proofs.Common.{sym, subst}
-use Rattle.dbm_core.specs.Half.{HalfMatrix, entry}
-use Rattle.dbm_close.proofs.StrongLemmas.{no_empty_range-agree}
-use Rattle.dbm_close.specs.Close.{HasNoEmptyRange, IsCloseOf, closed_entry}
-use Rattle.dbm_close.specs.Laws.{IsLimitedAnswer}
+use Rattle.dbm_core.proofs.LimitLemmas.{zero-at_most}
+use Rattle.dbm_core.specs.Half.{HalfMatrix, IsMatrix, entry, nodes}
+use Rattle.dbm_core.specs.Limits.{IsLimited, IsZeroAtMost}
+use Rattle.dbm_close.specs.CloseOf.{close_of}
 use Rattle.dbm_close.specs.declared.closed.Closed.{Closed}
 use Rattle.dbm_close.specs.declared.closed.Closed.TheVariants.{Empty, Matrix}
-use Rattle.dom_octagon.specs.Limits.{IsState, IsTightState}
+use Rattle.dbm_incremental.proofs.LawLemmas.{close_of-closed, closed-limited, closed-same}
+use Rattle.dbm_incremental.specs.Answers.{IsClosedAnswer}
+use Rattle.dbm_incremental.specs.ClosedMatrices.{IsClosed}
+use Rattle.octagon_meaning.specs.States.{closed}
+use Rattle.dom_octagon.specs.Kept.{bounded_if}
+use Rattle.dom_octagon.specs.Limits.{IsTight}
 
-pub tight-answer : (m : HalfMatrix) (c : Closed) → IsCloseOf m c → IsLimitedAnswer c → IsTightState c
-tight-answer m Empty p l = tt
-tight-answer m (Matrix r) (s, e) l = record {
-  limited = l;
-  ranges = subst (λ k. HasNoEmptyRange k (entry r)) (sym e.entries.same_kinds) (no_empty_range-agree m.kinds (closed_entry s) (entry r) (λ i j hi hj. sym (e.entries.entries i j hi hj)) e.ranges);
-}
+pub closed_limited : (m : HalfMatrix) → IsClosed m → IsLimited (2 ^ 64) m
+closed_limited = closed-limited
 
-pub limited-state : (c : Closed) → IsLimitedAnswer c → IsState c
-limited-state Empty l = tt
-limited-state (Matrix r) l = l
+pub closed_tight : (m : HalfMatrix) → IsClosed m → IsTight m
+closed_tight m c = record { closed = c; limited = closed-limited m c; ranges = c.1.ranges }
+
+-- closing a closed matrix gives it again
+pub closed_same : (m : HalfMatrix) → IsClosed m → close_of m ≡ Matrix m
+closed_same = closed-same
+
+-- what closing answers is closed
+pub answer_closed : (m : HalfMatrix) (c : Closed) → IsMatrix m → IsZeroAtMost (nodes m) (entry m) → c ≡ close_of m → IsClosedAnswer c
+answer_closed m c t z e = subst IsClosedAnswer (sym e) (close_of-closed m t z)
+
+pub limited_closed : (m : HalfMatrix) (c : Closed) → IsMatrix m → IsLimited (2 ^ 64) m → c ≡ close_of m → IsClosedAnswer c
+limited_closed m c t l e = answer_closed m c t (zero-at_most (nodes m) (entry m) l.diagonal) e
+
+pub tight_if : (o : Option HalfMatrix) (c : Closed) → bounded_if o ≡ c → IsClosedAnswer c → IfSome o IsTight
+tight_if None c e p = tt
+tight_if (Some m) c e p = closed_tight m (subst IsClosedAnswer (sym e) p)
+
+-- closing twice is closing once
+pub closed_again : (o : Option HalfMatrix) (s : Closed) → bounded_if o ≡ closed s → IfSome o IsTight → closed (closed s) ≡ closed s
+closed_again o s e t = subst (λ c. closed c ≡ c) e (by o t)
+  where
+    by : (o : Option HalfMatrix) → IfSome o IsTight → closed (bounded_if o) ≡ bounded_if o
+    by None t = refl
+    by (Some m) t = closed-same m t.closed

@@ -18,6 +18,12 @@ word-same z p q =
     let g : FitsSigned w64 z = omega (arith, ints) in
     rw (to_z-of_z w128 z f) (to_z-of_z w64 z g)
 
+pub word-fits : (z : ℤ) → least ≤ℤ z → z ≤ℤ greatest → FitsSigned w64 (to_z w128 (of_z w128 z))
+word-fits z p q =
+    let f : FitsSigned w128 z = omega (arith, ints) in
+    let g : FitsSigned w64 z = omega (arith, ints) in
+    rw (to_z-of_z w128 z f) g
+
 low-least : (b : Bool) (a : Option ℤ) → least ≤ℤ range_low b a
 low-least true None = omega (arith, ints)
 low-least false None = omega (arith, ints)

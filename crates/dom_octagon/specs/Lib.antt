@@ -1,2 +1,4 @@
+pub mod Added
+pub mod Kept
 pub mod Limits
 pub mod Lists

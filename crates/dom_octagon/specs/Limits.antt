@@ -1,27 +1,23 @@
 -- What code knows of the numbers of a matrix: so closing is asked of small bounds alone, and no sum leaves 128 bits.
 use Rattle.std.specs.Prelude.{ℕ, ◌<◌, ◌^◌, Option, Some, None}
 use Rattle.dbm_core.specs.Half.{HalfMatrix, entry, nodes}
-use Rattle.dbm_core.specs.Limits.{AreWithin, IsLimited, IsWithin, IsZeroAtMost}
+use Rattle.dbm_core.specs.Limits.{AreWithin, HasZeroDiagonal, IsLimited, IsWithin, IsZeroAtMost}
 use Rattle.dbm_close.specs.Close.{HasNoEmptyRange}
-use Rattle.dbm_close.specs.declared.closed.Closed.{Closed}
-use Rattle.dbm_close.specs.declared.closed.Closed.TheVariants.{Empty, Matrix}
+use Rattle.dbm_incremental.specs.ClosedMatrices.{IsClosed, IsWhole}
 use Rattle.octagon_meaning.specs.Claims.{IsSmallForm}
 use Rattle.octagon_meaning.specs.declared.form.Form.{Form}
 use Rattle.octagon_meaning.specs.declared.form.Form.TheVariants.{Constant, Node}
 
--- a state's matrix: the diagonal is 0, and each bound is none or from -2^64 to 2^64
-abbrev pub IsState : Closed → Type 0
-IsState Empty = Unit {0}
-IsState (Matrix m) = IsLimited (2 ^ 64) m
-
--- a closed matrix: in addition no slot's range is empty
+-- a closed matrix: the diagonal is 0, each bound is none or from -2^64 to 2^64, and no slot's range is empty
 pub record IsTight (m : HalfMatrix) : Type 0 where
+  pub closed : IsClosed m
   pub limited : IsLimited (2 ^ 64) m
   pub ranges : HasNoEmptyRange m.kinds (entry m)
 
-abbrev pub IsTightState : Closed → Type 0
-IsTightState Empty = Unit {0}
-IsTightState (Matrix m) = IsTight m
+-- a matrix that obeys the triangle law, and whose diagonal is 0
+pub record ObeysTriangles (m : HalfMatrix) : Type 0 where
+  pub diagonal : HasZeroDiagonal (nodes m) (entry m)
+  pub whole : IsWhole m
 
 -- a matrix that can be closed
 pub record IsReady (m : HalfMatrix) : Type 0 where

@@ -1,15 +1,22 @@
 //! Assignments.
-ghost use Rattle.std.specs.Prelude.{◌≡◌, ◌<◌, ◌^◌, ◌-ℤ◌, Some, IfOk};
+ghost use Rattle.std.specs.Prelude.{◌≡◌, ◌≢◌, ◌/◌, ◌<◌, ◌^◌, ◌-ℤ◌, Some, IfOk};
 ghost use Rattle.dbm_core.specs.Half.{entry, nodes};
 ghost use Rattle.dbm_core.specs.Limits.{IsLimited, IsWithin};
 ghost use Rattle.dbm_core.specs.Weights.{add_weight};
+ghost use Rattle.dbm_close.specs.CloseOf.{close_of};
+ghost use Rattle.dbm_close.specs.declared.closed.Closed.TheVariants.{Matrix as Bounded};
+ghost use Rattle.dbm_incremental.specs.ClosedMatrices.{IsClosed};
+ghost use Rattle.octagon_meaning.specs.declared.form.Form.TheVariants.{Constant, Node};
 ghost use Rattle.octagon_meaning.specs.Forms.{slot_form as slot_form_of};
 ghost use Rattle.octagon_meaning.specs.Matrices as matrices;
-ghost use Rattle.dom_octagon.specs.Limits.{IsGoodForm, IsReady};
+ghost use Rattle.dom_octagon.specs.Limits.{IsGoodForm, IsReady, IsTight};
 
+use crate::OctagonState;
+use crate::close::{answered, close_kept, closed_matrix};
 use crate::evaluate::slot_form;
 use crate::matrices::{equation, meet_range};
 use dbm_core::{Matrix, other_sign};
+use dbm_incremental::{close_equation, is_whole};
 use num_bounds::Range;
 use octagon_meaning::Form;
 use plain_values::Memory;
@@ -20,6 +27,8 @@ pub fn without(alloc: Global, m: &Matrix, k: usize) -> Result<Matrix, Memory>
     requires limited { IsLimited (2 ^ 64) m.now }
     ensures value { IfOk result (λ r. r ≡ matrices.without m.now k) }
     ensures ready { IfOk result IsReady }
+    ensures closed { IsClosed m.now → IfOk result IsClosed }
+    ensures same { IsClosed m.now → close_of (matrices.without m.now k) ≡ Bounded (matrices.without m.now k) }
 {
     let _kinds = m.kinds();
     m.forget(alloc, k)
@@ -121,7 +130,7 @@ fn equated(alloc: Global, m: &Matrix, x: usize, form: Form) -> Result<Matrix, Me
 }
 
 /// The slot lies in a range.
-pub fn ranged(alloc: Global, m: &Matrix, x: usize, range: Range) -> Result<Matrix, Memory>
+fn ranged(alloc: Global, m: &Matrix, x: usize, range: Range) -> Result<Matrix, Memory>
     requires slot { x < 2 ^ 32 }
     requires limited { IsLimited (2 ^ 64) m.now }
     ensures value { IfOk result (λ r. r ≡ matrices.meets_range (matrices.without m.now x) x range) }
@@ -132,7 +141,100 @@ pub fn ranged(alloc: Global, m: &Matrix, x: usize, range: Range) -> Result<Matri
     Ok(free)
 }
 
-/// What an assignment makes of a closed matrix: slot x gets the value of an expression of this form, if
+/// A closed matrix whose slot x gets a value of a range, closed.
+pub fn close_ranged(
+    alloc: Global,
+    m: &Matrix,
+    x: usize,
+    range: Range,
+) -> Result<OctagonState, Memory>
+    requires slot { x < 2 ^ 32 }
+    requires tight { IsTight m.now }
+    ensures exact { IfOk result (λ s. s ≡ close_of (matrices.meets_range (matrices.without m.now x) x range)) }
+{
+    let _low = range.lo();
+    let set = ranged(alloc, m, x, range)?;
+    close_kept(alloc, m, set)
+}
+
+/// A closed matrix whose slot x gets a constant, closed.
+fn close_constant(alloc: Global, m: &Matrix, x: usize, c: i128) -> Result<OctagonState, Memory>
+    requires slot { x < 2 ^ 32 }
+    requires tight { IsTight m.now }
+    requires good { IsGoodForm (Some (Constant c)) }
+    ensures exact { IfOk result (λ s. s ≡ close_of (matrices.with_equation (matrices.without m.now x) (slot_form_of x) (Constant c))) }
+{
+    let set = equated(alloc, m, x, Form::Constant(c))?;
+    close_kept(alloc, m, set)
+}
+
+/// A closed matrix whose slot x gets its own node i and a constant, closed.
+fn close_carried(
+    alloc: Global,
+    m: &Matrix,
+    x: usize,
+    i: usize,
+    c: i128,
+) -> Result<OctagonState, Memory>
+    requires tight { IsTight m.now }
+    requires small { IsWithin (2 ^ 64) (Some c) }
+    ensures exact { IfOk result (λ s. s ≡ close_of (matrices.carried m.now x i c)) }
+{
+    let _kinds = m.kinds();
+    let set = carried(alloc, m, x, i, c)?;
+    close_kept(alloc, m, set)
+}
+
+/// A closed matrix whose slot x gets another slot's node i and a constant, closed.
+fn close_equated(
+    alloc: Global,
+    m: &Matrix,
+    x: usize,
+    i: usize,
+    c: i128,
+) -> Result<OctagonState, Memory>
+    requires slot { x < 2 ^ 32 }
+    requires tight { IsTight m.now }
+    requires apart { i / 2 ≢ x }
+    requires good { IsGoodForm (Some (Node i c)) }
+    ensures exact { IfOk result (λ s. s ≡ close_of (matrices.with_equation (matrices.without m.now x) (slot_form_of x) (Node i c))) }
+{
+    let slots = m.kinds().len();
+    if is_whole(m) && x < slots && i < 2 * slots {
+        return Ok(answered(close_equation(alloc, m, x, i, c)?));
+    }
+    let set = equated(alloc, m, x, Form::Node(i, c))?;
+    closed_matrix(alloc, &set)
+}
+
+/// What an assignment leaves of a closed matrix: slot x gets the value of an expression of this form, if
+/// it has one, and of this range.
+pub fn close_assigned(
+    alloc: Global,
+    m: &Matrix,
+    x: u32,
+    form: Option<Form>,
+    range: Range,
+) -> Result<OctagonState, Memory>
+    requires tight { IsTight m.now }
+    requires good { IsGoodForm form }
+    ensures exact { IfOk result (λ s. s ≡ close_of (matrices.assigned m.now x form range)) }
+{
+    let x = x as usize;
+    match form {
+        None => close_ranged(alloc, m, x, range),
+        Some(Form::Constant(c)) => close_constant(alloc, m, x, c),
+        Some(Form::Node(i, c)) => {
+            if i / 2 == x {
+                close_carried(alloc, m, x, i, c)
+            } else {
+                close_equated(alloc, m, x, i, c)
+            }
+        }
+    }
+}
+
+/// What an assignment makes of a closed matrix before it is closed: slot x gets the value of an expression of this form, if
 /// it has one, and of this range.
 pub fn assigned(
     alloc: Global,

@@ -1,23 +1,21 @@
-//! Layouts and calls.
+//! Layouts, and the frames that calls enter.
 ghost use Rattle.std.specs.Prelude.{◌≡◌, ◌<◌, ◌≤◌, ◌*◌, ◌^◌, ◌/◌, Some, None, MatchOption, IfOk, length, map, slice_get, take, pos};
 ghost use Rattle.std.specs.Option.{option_map};
 ghost use Rattle.dbm_core.specs.Half.{entry, nodes};
 ghost use Rattle.dbm_core.specs.Limits.{IsLimited, IsWithin};
 ghost use Rattle.dbm_core.specs.Tables.{matrix_of};
-ghost use Rattle.imp_slots.specs.CallViews.{argument_of, taken_of};
+ghost use Rattle.dbm_close.specs.CloseOf.{close_of};
+ghost use Rattle.imp_slots.specs.CallViews.{argument_of};
 ghost use Rattle.octagon_meaning.specs.Operations as operations;
-ghost use Rattle.dom_octagon.specs.Limits.{IsReady, IsTight, IsTightState};
-ghost use Rattle.dom_octagon.specs.Lists.{behind_these};
+ghost use Rattle.dom_octagon.specs.Limits.{IsReady, IsTight};
+ghost use Rattle.dom_octagon.specs.Lists.{AreOrdered, behind_these};
 
 use crate::OctagonState;
-use crate::assign::ranged;
-use crate::close::{closed, closed_matrix, empty, within};
-use crate::evaluate::{evaluate, range};
+use crate::close::{close_kept, closed_matrix, closure, empty};
+use crate::evaluate::evaluate;
 use crate::matrices::meet_range;
-use dbm_close::Closed;
 use dbm_core::Matrix;
-use imp_slots::{Argument, Entering, Layout, NumericSlot, Returning, SlotExpr, SlotExprNode};
-use num_bounds::Range;
+use imp_slots::{Argument, Entering, Layout, NumericSlot, SlotExpr, SlotExprNode};
 use octagon_meaning::Source;
 use plain_values::Memory;
 use std::alloc::{AllocError, Global};
@@ -231,11 +229,40 @@ fn entered_by(alloc: Global, entering: &Entering, m: &Matrix) -> Result<OctagonS
         None => Ok(empty()),
         Some(sources) => {
             let kinds = kinds(alloc, entering.layout().numbers())?;
-            let mut callee = entered_matrix(alloc, m, &kinds, &sources)?;
-            meet_sources(&mut callee, 0, &sources);
-            closed_matrix(alloc, &callee)
+            close_entered(alloc, m, &kinds, &sources)
         }
     }
+}
+
+/// The ends of each range are in order: there is nothing to do.
+fn ordered(sources: &[Source])
+    ensures ordered { AreOrdered sources.now }
+{
+    match sources {
+        [] => {}
+        [Source::FromSlot(_), rest @ ..] => ordered(rest),
+        [Source::InRange(range), rest @ ..] => {
+            let _low = range.lo();
+            ordered(rest);
+        }
+    }
+}
+
+/// The callee's matrix, closed.
+fn close_entered(
+    alloc: Global,
+    m: &Matrix,
+    kinds: &[bool],
+    sources: &[Source],
+) -> Result<OctagonState, Memory>
+    requires few { length kinds.now ≤ 16 }
+    requires tight { IsTight m.now }
+    ensures exact { IfOk result (λ t. t ≡ close_of (operations.meet_sources (matrix_of kinds.now (operations.entered m.now sources.now)) 0 sources.now)) }
+{
+    ordered(sources);
+    let mut callee = entered_matrix(alloc, m, kinds, sources)?;
+    meet_sources(&mut callee, 0, sources);
+    close_kept(alloc, m, callee)
 }
 
 /// The state in front of a callee's body.
@@ -243,48 +270,8 @@ fn entered_by(alloc: Global, entering: &Entering, m: &Matrix) -> Result<OctagonS
 pub fn entered(alloc: Global, entering: &Entering, s: &OctagonState) -> Result<OctagonState, Memory>
     ensures exact { IfOk result (λ t. t ≡ operations.enter entering.now s.now) }
 {
-    match closed(alloc, s)?.kept {
-        Closed::Empty => Ok(empty()),
-        Closed::Matrix(m) => entered_by(alloc, entering, &m),
-    }
-}
-
-/// The caller's state with the result in its place.
-fn taken(
-    alloc: Global,
-    returning: Option<Returning>,
-    m: Matrix,
-    callee: &Matrix,
-) -> Result<OctagonState, Memory>
-    requires tight { IsTight m }
-    requires callee { IsTight callee.now }
-    ensures exact { IfOk result (λ t. t ≡ operations.returned (taken_of returning) m callee.now) }
-{
-    match returning {
-        None => Ok(within(m)),
-        Some(Returning::Link { to: _, from: _ }) => Ok(within(m)),
-        Some(Returning::Numeric { to, from }) => {
-            let set = ranged(alloc, &m, to as usize, range(callee, from as usize))?;
-            closed_matrix(alloc, &set)
-        }
-    }
-}
-
-/// The state behind a call.
-#[tactic(auto, unfolding(octagon_meaning::specs::Operations::leave))]
-pub fn left(
-    alloc: Global,
-    returning: Option<Returning>,
-    s: &OctagonState,
-    done: &OctagonState,
-) -> Result<OctagonState, Memory>
-    ensures exact { IfOk result (λ t. t ≡ operations.leave (taken_of returning) s.now done.now) }
-{
-    match closed(alloc, s)?.kept {
-        Closed::Empty => Ok(empty()),
-        Closed::Matrix(m) => match closed(alloc, done)?.kept {
-            Closed::Empty => Ok(empty()),
-            Closed::Matrix(callee) => taken(alloc, returning, m, &callee),
-        },
+    match closure(s) {
+        None => Ok(empty()),
+        Some(m) => entered_by(alloc, entering, m),
     }
 }

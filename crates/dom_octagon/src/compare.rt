@@ -1,17 +1,21 @@
 //! Comparisons of expressions over a closed matrix.
 ghost use Rattle.std.specs.Prelude.{◌≡◌, ◌^◌, ◌+ℤ◌, ◌-ℤ◌, pos, Some, IfOk};
 ghost use Rattle.domain_laws.specs.Checks.{opposite};
-ghost use Rattle.dbm_core.specs.Limits.{IsLimited, IsWithin};
+ghost use Rattle.dbm_core.specs.Half.{HalfMatrix};
+ghost use Rattle.dbm_core.specs.Limits.{IsWithin};
+ghost use Rattle.dbm_close.specs.CloseOf.{close_of};
 ghost use Rattle.octagon_meaning.specs.Operations as operations;
-ghost use Rattle.dom_octagon.specs.Limits.{IsGoodForm, IsReady, IsTight};
+ghost use Rattle.dom_octagon.specs.Added.{IsSmallBound, with_bound_if};
+ghost use Rattle.dom_octagon.specs.Limits.{IsGoodForm, IsTight};
 
 use crate::OctagonState;
-use crate::close::{closed, closed_matrix, empty};
+use crate::added::close_with;
+use crate::close::{closure, empty};
 use crate::evaluate::evaluate;
 use crate::joins::joined;
 use crate::matrices::{difference, side_at_least, side_at_most};
-use dbm_close::Closed;
 use dbm_core::Matrix;
+use dbm_incremental::Bound;
 use imp_slots::SlotExpr;
 use imp_syntax::Relation;
 use num_bounds::Range;
@@ -51,100 +55,32 @@ fn bottom(l: Range) -> i128
     l.lo() as i128
 }
 
-fn less_matrix(m: &mut Matrix, a: Option<Form>, b: Option<Form>, l: Range, r: Range)
+/// The bound that makes a less than b.
+fn less_bound(m: &Matrix, a: Option<Form>, b: Option<Form>, l: Range, r: Range) -> Option<Bound>
     requires left { IsGoodForm a }
     requires right { IsGoodForm b }
-    ensures value { m.new ≡ operations.less_matrix m.old a b l r }
-    ensures ready { IsReady m.old → IsReady m.new }
+    ensures value { (n : HalfMatrix) → n.kinds ≡ m.now.kinds → with_bound_if n result ≡ operations.less_matrix n a b l r }
+    ensures small { IsSmallBound result }
 {
     match (a, b) {
-        (Some(f), Some(g)) => difference(m, f, g, -1),
+        (Some(f), Some(g)) => difference(f, g, -1),
         (Some(f), None) => side_at_most(m, Some(f), below(r)),
         (None, _) => side_at_least(m, b, above(l)),
     }
 }
 
-fn at_most_matrix(m: &mut Matrix, a: Option<Form>, b: Option<Form>, l: Range, r: Range)
+/// The bound that makes a at most b.
+fn most_bound(m: &Matrix, a: Option<Form>, b: Option<Form>, l: Range, r: Range) -> Option<Bound>
     requires left { IsGoodForm a }
     requires right { IsGoodForm b }
-    ensures value { m.new ≡ operations.at_most_matrix m.old a b l r }
-    ensures ready { IsReady m.old → IsReady m.new }
+    ensures value { (n : HalfMatrix) → n.kinds ≡ m.now.kinds → with_bound_if n result ≡ operations.at_most_matrix n a b l r }
+    ensures small { IsSmallBound result }
 {
     match (a, b) {
-        (Some(f), Some(g)) => difference(m, f, g, 0),
+        (Some(f), Some(g)) => difference(f, g, 0),
         (Some(f), None) => side_at_most(m, Some(f), top(r)),
         (None, _) => side_at_least(m, b, bottom(l)),
     }
-}
-
-/// The matrix once more, to be written to.
-fn copied(alloc: Global, m: &Matrix) -> Result<Matrix, Memory>
-    requires limited { IsLimited (2 ^ 64) m.now }
-    ensures same { IfOk result (λ n. n ≡ m.now) }
-    ensures ready { IfOk result IsReady }
-{
-    m.copy(alloc)
-}
-
-/// The matrix where a is less than b.
-fn lesser(
-    alloc: Global,
-    m: &Matrix,
-    a: Option<Form>,
-    b: Option<Form>,
-    l: Range,
-    r: Range,
-) -> Result<Matrix, Memory>
-    requires limited { IsLimited (2 ^ 64) m.now }
-    requires left { IsGoodForm a }
-    requires right { IsGoodForm b }
-    ensures value { IfOk result (λ n. n ≡ operations.less_matrix m.now a b l r) }
-    ensures ready { IfOk result IsReady }
-{
-    let mut copy = copied(alloc, m)?;
-    less_matrix(&mut copy, a, b, l, r);
-    Ok(copy)
-}
-
-/// The matrix where a is b at most.
-fn no_greater(
-    alloc: Global,
-    m: &Matrix,
-    a: Option<Form>,
-    b: Option<Form>,
-    l: Range,
-    r: Range,
-) -> Result<Matrix, Memory>
-    requires limited { IsLimited (2 ^ 64) m.now }
-    requires left { IsGoodForm a }
-    requires right { IsGoodForm b }
-    ensures value { IfOk result (λ n. n ≡ operations.at_most_matrix m.now a b l r) }
-    ensures ready { IfOk result IsReady }
-{
-    let mut copy = copied(alloc, m)?;
-    at_most_matrix(&mut copy, a, b, l, r);
-    Ok(copy)
-}
-
-/// The matrix where a is b.
-fn same(
-    alloc: Global,
-    m: &Matrix,
-    a: Option<Form>,
-    b: Option<Form>,
-    l: Range,
-    r: Range,
-) -> Result<Matrix, Memory>
-    requires limited { IsLimited (2 ^ 64) m.now }
-    requires left { IsGoodForm a }
-    requires right { IsGoodForm b }
-    ensures value { IfOk result (λ n. n ≡ operations.at_most_matrix (operations.at_most_matrix m.now a b l r) b a r l) }
-    ensures ready { IfOk result IsReady }
-{
-    let mut copy = copied(alloc, m)?;
-    at_most_matrix(&mut copy, a, b, l, r);
-    at_most_matrix(&mut copy, b, a, r, l);
-    Ok(copy)
 }
 
 fn less(
@@ -155,7 +91,7 @@ fn less(
     l: Range,
     r: Range,
 ) -> Result<OctagonState, Memory>
-    requires limited { IsLimited (2 ^ 64) m.now }
+    requires tight { IsTight m.now }
     requires left { IsGoodForm a }
     requires right { IsGoodForm b }
     ensures exact { IfOk result (λ s. s ≡ operations.less m.now a b l r) }
@@ -163,8 +99,7 @@ fn less(
     if r.hi() <= l.lo() {
         return Ok(empty());
     }
-    let met = lesser(alloc, m, a, b, l, r)?;
-    closed_matrix(alloc, &met)
+    close_with(alloc, m, less_bound(m, a, b, l, r), None)
 }
 
 fn at_most(
@@ -175,7 +110,7 @@ fn at_most(
     l: Range,
     r: Range,
 ) -> Result<OctagonState, Memory>
-    requires limited { IsLimited (2 ^ 64) m.now }
+    requires tight { IsTight m.now }
     requires left { IsGoodForm a }
     requires right { IsGoodForm b }
     ensures exact { IfOk result (λ s. s ≡ operations.at_most m.now a b l r) }
@@ -183,8 +118,7 @@ fn at_most(
     if r.hi() < l.lo() {
         return Ok(empty());
     }
-    let met = no_greater(alloc, m, a, b, l, r)?;
-    closed_matrix(alloc, &met)
+    close_with(alloc, m, most_bound(m, a, b, l, r), None)
 }
 
 fn equal(
@@ -195,7 +129,7 @@ fn equal(
     l: Range,
     r: Range,
 ) -> Result<OctagonState, Memory>
-    requires limited { IsLimited (2 ^ 64) m.now }
+    requires tight { IsTight m.now }
     requires left { IsGoodForm a }
     requires right { IsGoodForm b }
     ensures exact { IfOk result (λ s. s ≡ operations.equal m.now a b l r) }
@@ -203,8 +137,26 @@ fn equal(
     if r.hi() < l.lo() || l.hi() < r.lo() {
         return Ok(empty());
     }
-    let met = same(alloc, m, a, b, l, r)?;
-    closed_matrix(alloc, &met)
+    met(alloc, m, a, b, l, r)
+}
+
+/// What is left where a is at most b and b at most a, closed once.
+fn met(
+    alloc: Global,
+    m: &Matrix,
+    a: Option<Form>,
+    b: Option<Form>,
+    l: Range,
+    r: Range,
+) -> Result<OctagonState, Memory>
+    requires tight { IsTight m.now }
+    requires left { IsGoodForm a }
+    requires right { IsGoodForm b }
+    ensures exact { IfOk result (λ s. s ≡ close_of (operations.at_most_matrix (operations.at_most_matrix m.now a b l r) b a r l)) }
+{
+    let there = most_bound(m, a, b, l, r);
+    let back = most_bound(m, b, a, r, l);
+    close_with(alloc, m, there, back)
 }
 
 fn not_equal(
@@ -215,7 +167,7 @@ fn not_equal(
     l: Range,
     r: Range,
 ) -> Result<OctagonState, Memory>
-    requires limited { IsLimited (2 ^ 64) m.now }
+    requires tight { IsTight m.now }
     requires left { IsGoodForm a }
     requires right { IsGoodForm b }
     ensures exact { IfOk result (λ s. s ≡ operations.join (operations.less m.now a b l r) (operations.less m.now b a r l)) }
@@ -235,7 +187,7 @@ pub fn related(
     l: Range,
     r: Range,
 ) -> Result<OctagonState, Memory>
-    requires limited { IsLimited (2 ^ 64) m.now }
+    requires tight { IsTight m.now }
     requires left { IsGoodForm a }
     requires right { IsGoodForm b }
     ensures exact { IfOk result (λ s. s ≡ operations.related relation m.now a b l r) }
@@ -289,9 +241,9 @@ pub fn compared(
 ) -> Result<OctagonState, Memory>
     ensures exact { IfOk result (λ t. t ≡ operations.compare relation a.now b.now s.now) }
 {
-    match closed(alloc, s)?.kept {
-        Closed::Empty => Ok(empty()),
-        Closed::Matrix(m) => compare_terms(alloc, relation, a, b, &m),
+    match closure(s) {
+        None => Ok(empty()),
+        Some(m) => compare_terms(alloc, relation, a, b, m),
     }
 }
 

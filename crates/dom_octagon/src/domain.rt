@@ -5,10 +5,11 @@ ghost use Rattle.octagon_meaning.specs.Domain.{octagons};
 ghost use Rattle.octagon_meaning.proofs.Laws.{octagon_laws, octagon_keeps_dead};
 
 use crate::OctagonState;
-use crate::calls::{entered, initial, left};
+use crate::calls::{entered, initial};
 use crate::close::{closed, copy_of, is_empty};
 use crate::guards::assumed;
 use crate::joins::{joined, widened};
+use crate::returns::left;
 use crate::statements::behind;
 use crate::text::state_text;
 use crate::verdicts::verdict;

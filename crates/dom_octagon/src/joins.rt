@@ -2,13 +2,17 @@
 ghost use Rattle.std.specs.Prelude.{◌≡◌, ◌^◌, true, IfOk};
 ghost use Rattle.dbm_core.specs.Limits.{IsLimited};
 ghost use Rattle.dbm_core.specs.Operations as dbm;
+ghost use Rattle.dbm_core.specs.Same.{same_matrix};
 ghost use Rattle.dbm_core.specs.Tables.{matrix_of};
 ghost use Rattle.octagon_meaning.specs.Operations as operations;
-ghost use Rattle.dom_octagon.specs.Limits.{IsReady};
+ghost use Rattle.dbm_close.specs.CloseOf.{close_of};
+ghost use Rattle.dbm_close.specs.declared.closed.Closed.TheVariants as variants;
+ghost use Rattle.dbm_incremental.specs.ClosedMatrices.{IsClosed};
+ghost use Rattle.dom_octagon.specs.Limits.{IsTight};
 
 use crate::OctagonState;
-use crate::close::{closed, closed_matrix, copy_of, within};
-use dbm_close::Closed;
+use crate::close::{bounded, closed_copy, closure, copy_of, empty, widened_to};
+use crate::state::matrix_of_state;
 use dbm_core::Matrix;
 use plain_values::Memory;
 use std::alloc::Global;
@@ -22,13 +26,13 @@ fn alike(a: &Matrix, b: &Matrix) -> bool
     a.kinds() == b.kinds()
 }
 
-/// The greater bound at each pair.
+/// The greater bound at each pair of closed matrices.
 fn join_of(alloc: Global, a: &Matrix, b: &Matrix) -> Result<Matrix, Memory>
     requires same { b.now.kinds ≡ a.now.kinds }
-    requires left { IsLimited (2 ^ 64) a.now }
-    requires right { IsLimited (2 ^ 64) b.now }
-    ensures value { IfOk result (λ r. r ≡ matrix_of a.now.kinds (dbm.joined a.now b.now)) }
-    ensures ready { IfOk result IsReady }
+    requires left { IsTight a.now }
+    requires right { IsTight b.now }
+    ensures value { IfOk result (λ r. variants.Matrix r ≡ close_of (matrix_of a.now.kinds (dbm.joined a.now b.now))) }
+    ensures closed { IfOk result IsClosed }
 {
     let _left = a.kinds();
     let _right = b.kinds();
@@ -48,54 +52,59 @@ fn widening_of(alloc: Global, marks: &[i64], a: &Matrix, b: &Matrix) -> Result<M
     a.widen(alloc, marks, b)
 }
 
-fn join_matrices(alloc: Global, a: Matrix, b: Matrix) -> Result<OctagonState, Memory>
-    requires left { IsLimited (2 ^ 64) a }
-    requires right { IsLimited (2 ^ 64) b }
-    ensures exact { IfOk result (λ s. s ≡ operations.join_matrices a b) }
+fn join_matrices(alloc: Global, a: &Matrix, b: &Matrix) -> Result<OctagonState, Memory>
+    requires left { IsTight a.now }
+    requires right { IsTight b.now }
+    ensures exact { IfOk result (λ s. s ≡ operations.join_matrices a.now b.now) }
 {
-    if alike(&a, &b) {
-        let join = join_of(alloc, &a, &b)?;
-        return closed_matrix(alloc, &join);
+    if alike(a, b) {
+        return Ok(bounded(join_of(alloc, a, b)?));
     }
-    Ok(within(a))
+    closed_copy(alloc, a)
 }
 
-fn join_closed(alloc: Global, s: OctagonState, t: OctagonState) -> Result<OctagonState, Memory>
-    ensures exact { IfOk result (λ r. r ≡ operations.join_closed s t) }
-{
-    match s.kept {
-        Closed::Empty => Ok(t),
-        Closed::Matrix(a) => match t.kept {
-            Closed::Empty => Ok(within(a)),
-            Closed::Matrix(b) => join_matrices(alloc, a, b),
-        },
-    }
-}
-
-/// The greater bound at each pair, of the closed states.
+/// What either state describes.
 #[tactic(auto, unfolding(octagon_meaning::specs::Operations::join))]
 pub fn joined(alloc: Global, s: &OctagonState, t: &OctagonState) -> Result<OctagonState, Memory>
     ensures exact { IfOk result (λ r. r ≡ operations.join s.now t.now) }
 {
-    let left = closed(alloc, s)?;
-    let right = closed(alloc, t)?;
-    join_closed(alloc, left, right)
+    match (closure(s), closure(t)) {
+        (Some(a), Some(b)) => join_matrices(alloc, a, b),
+        (Some(a), None) => closed_copy(alloc, a),
+        (None, Some(b)) => closed_copy(alloc, b),
+        (None, None) => Ok(empty()),
+    }
 }
 
+/// Whether two matrices are the same.
+#[tactic(auto, using(crate::proofs::SameKinds::matrices_same))]
+fn is_same(a: &Matrix, b: &Matrix) -> bool
+    ensures exact { result ≡ same_matrix a.now b.now }
+    ensures same { result ≡ true → a.now ≡ b.now }
+{
+    *a == *b
+}
+
+/// The state s, of the matrix a, widened by a closed matrix of the same kinds. Where no bound rises
+/// nothing is closed.
 fn widen_matrices(
     alloc: Global,
     marks: &[i64],
+    s: &OctagonState,
     a: &Matrix,
     b: &Matrix,
 ) -> Result<OctagonState, Memory>
     requires left { IsLimited (2 ^ 64) a.now }
     requires right { IsLimited (2 ^ 64) b.now }
-    ensures exact { IfOk result (λ s. s ≡ operations.widen_matrices marks.now a.now b.now) }
+    requires same { b.now.kinds ≡ a.now.kinds }
+    requires is { s.now ≡ variants.Matrix a.now }
+    ensures exact { IfOk result (λ t. t ≡ variants.Matrix (matrix_of a.now.kinds (dbm.widened marks.now a.now b.now))) }
 {
-    if alike(a, b) {
-        return Ok(within(widening_of(alloc, marks, a, b)?));
+    let widening = widening_of(alloc, marks, a, b)?;
+    if is_same(a, &widening) {
+        return copy_of(alloc, s);
     }
-    Ok(within(a.copy(alloc)?))
+    widened_to(alloc, widening)
 }
 
 /// The left state, as it is, widened by the right one closed.
@@ -108,10 +117,15 @@ pub fn widened(
 ) -> Result<OctagonState, Memory>
     ensures exact { IfOk result (λ r. r ≡ operations.widen marks.now s.now t.now) }
 {
-    let right = closed(alloc, t)?;
-    match (&s.kept, &right.kept) {
-        (Closed::Matrix(a), Closed::Matrix(b)) => widen_matrices(alloc, marks, a, b),
-        (Closed::Empty, _) => Ok(right),
-        (_, Closed::Empty) => copy_of(alloc, s),
+    match (matrix_of_state(s), closure(t)) {
+        (Some(a), Some(b)) => {
+            if alike(a, b) {
+                return widen_matrices(alloc, marks, s, a, b);
+            }
+            copy_of(alloc, s)
+        }
+        (None, Some(b)) => closed_copy(alloc, b),
+        (Some(_), None) => copy_of(alloc, s),
+        (None, None) => Ok(empty()),
     }
 }

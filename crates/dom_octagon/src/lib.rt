@@ -4,11 +4,14 @@
 //! definitions of `octagon_meaning`, whose laws are those of a domain. The domain is that of A. Miné,
 //! "The Octagon Abstract Domain", 2006.
 //!
-//! Each operation closes the states that it is given, and its result, which takes time cubic in the
-//! slots. Widening closes its right state alone and keeps its left one as it is: else loops need not
-//! come to an end.
+//! By the definitions each operation closes the states that it is given, and its result, which takes
+//! time cubic in the slots. Here a state is closed once, and what an operation makes of a closed matrix
+//! is closed in quadratic time: after bounds, an assignment, a call. Only what widening gives is closed
+//! whole, and what an operation makes of a matrix with bounds of 2^63 or more. Widening keeps its left
+//! matrix as it is: else loops need not come to an end.
 #![tactic(auto)]
 
+mod added;
 mod assign;
 mod calls;
 mod close;
@@ -16,8 +19,11 @@ mod compare;
 mod domain;
 mod evaluate;
 mod guards;
+mod indices;
 mod joins;
+mod kept;
 mod matrices;
+mod returns;
 mod state;
 mod statements;
 mod text;

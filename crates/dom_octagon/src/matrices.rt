@@ -1,10 +1,14 @@
-//! What the operations make of a matrix before it is closed.
+//! The bounds that comparisons, ranges and equations add, and what they make of a matrix before it is
+//! closed.
 ghost use Rattle.std.specs.Prelude.{◌≡◌, ◌<◌, ◌^◌, ◌+ℤ◌, ◌-ℤ◌, Some};
+ghost use Rattle.dbm_core.specs.Half.{HalfMatrix};
 ghost use Rattle.dbm_core.specs.Limits.{IsWithin};
 ghost use Rattle.octagon_meaning.specs.Matrices as matrices;
+ghost use Rattle.dom_octagon.specs.Added.{IsSmallBound, with_bound_if};
 ghost use Rattle.dom_octagon.specs.Limits.{IsGoodForm, IsReady};
 
 use dbm_core::{Matrix, other_sign};
+use dbm_incremental::Bound;
 use num_bounds::Range;
 use octagon_meaning::Form;
 
@@ -20,14 +24,30 @@ pub fn bound(m: &mut Matrix, i: usize, j: usize, c: i128)
     }
 }
 
-/// Makes `v_i` at most c.
-pub fn greatest(m: &mut Matrix, i: usize, c: i128)
-    requires node { i < 2 ^ 60 }
-    requires small { IsWithin (2 ^ 69) (Some c) }
-    ensures value { m.new ≡ matrices.with_greatest m.old i c }
+/// Adds the bound, if there is one.
+fn bound_if(m: &mut Matrix, added: Option<Bound>)
+    requires small { IsSmallBound added }
+    ensures value { m.new ≡ with_bound_if m.old added }
     ensures ready { IsReady m.old → IsReady m.new }
 {
-    bound(m, other_sign(i), i, c + c);
+    match added {
+        None => {}
+        Some(added) => bound(m, added.row, added.column, added.bound),
+    }
+}
+
+/// The bound that makes `v_i` at most c.
+fn greatest(i: usize, c: i128) -> Option<Bound>
+    requires node { i < 2 ^ 60 }
+    requires small { IsWithin (2 ^ 69) (Some c) }
+    ensures value { (m : HalfMatrix) → with_bound_if m result ≡ matrices.with_greatest m i c }
+    ensures small { IsSmallBound result }
+{
+    Some(Bound {
+        row: other_sign(i),
+        column: i,
+        bound: c + c,
+    })
 }
 
 /// The greatest value that is left of v_i - v_j, where v_i + c is at most v_j + d and k.
@@ -42,19 +62,23 @@ fn gap(k: i128, d: i128, c: i128) -> i128
     k + d - c
 }
 
-/// Makes a - b at most k.
-pub fn difference(m: &mut Matrix, a: Form, b: Form, k: i128)
+/// The bound that makes a - b at most k.
+pub fn difference(a: Form, b: Form, k: i128) -> Option<Bound>
     requires left { IsGoodForm (Some a) }
     requires right { IsGoodForm (Some b) }
     requires small { IsWithin 1 (Some k) }
-    ensures value { m.new ≡ matrices.with_difference m.old a b k }
-    ensures ready { IsReady m.old → IsReady m.new }
+    ensures value { (m : HalfMatrix) → with_bound_if m result ≡ matrices.with_difference m a b k }
+    ensures small { IsSmallBound result }
 {
     match (a, b) {
-        (Form::Constant(_), Form::Constant(_)) => {}
-        (Form::Constant(c), Form::Node(j, d)) => greatest(m, other_sign(j), gap(k, d, c)),
-        (Form::Node(i, c), Form::Constant(d)) => greatest(m, i, gap(k, d, c)),
-        (Form::Node(i, c), Form::Node(j, d)) => bound(m, j, i, gap(k, d, c)),
+        (Form::Constant(_), Form::Constant(_)) => None,
+        (Form::Constant(c), Form::Node(j, d)) => greatest(other_sign(j), gap(k, d, c)),
+        (Form::Node(i, c), Form::Constant(d)) => greatest(i, gap(k, d, c)),
+        (Form::Node(i, c), Form::Node(j, d)) => Some(Bound {
+            row: j,
+            column: i,
+            bound: gap(k, d, c),
+        }),
     }
 }
 
@@ -65,8 +89,8 @@ pub fn equation(m: &mut Matrix, a: Form, b: Form)
     ensures value { m.new ≡ matrices.with_equation m.old a b }
     ensures ready { IsReady m.old → IsReady m.new }
 {
-    difference(m, a, b, 0);
-    difference(m, b, a, 0);
+    bound_if(m, difference(a, b, 0));
+    bound_if(m, difference(b, a, 0));
 }
 
 /// The greatest value of a node of an int slot.
@@ -92,17 +116,31 @@ fn is_beyond(m: &Matrix, i: usize, c: i128) -> bool
     node_extreme(i) <= c
 }
 
-/// Makes `v_i` at most an end of a range: an int slot takes none at or beyond its extreme.
+/// The bound that makes `v_i` at most an end of a range: an int slot takes none at or beyond its
+/// extreme.
 #[tactic(auto, unfolding(octagon_meaning::specs::Matrices::meets_end))]
-pub fn meet_end(m: &mut Matrix, i: usize, c: i128)
+fn end(m: &Matrix, i: usize, c: i128) -> Option<Bound>
+    requires node { i < 2 ^ 60 }
+    requires small { IsWithin (2 ^ 69) (Some c) }
+    ensures value { (n : HalfMatrix) → n.kinds ≡ m.now.kinds → with_bound_if n result ≡ matrices.meets_end n i c }
+    ensures small { IsSmallBound result }
+{
+    if is_beyond(m, i, c) {
+        None
+    } else {
+        greatest(i, c)
+    }
+}
+
+/// Makes `v_i` at most an end of a range.
+fn meet_end(m: &mut Matrix, i: usize, c: i128)
     requires node { i < 2 ^ 60 }
     requires small { IsWithin (2 ^ 69) (Some c) }
     ensures value { m.new ≡ matrices.meets_end m.old i c }
     ensures ready { IsReady m.old → IsReady m.new }
 {
-    if !is_beyond(m, i, c) {
-        greatest(m, i, c);
-    }
+    let added = end(m, i, c);
+    bound_if(m, added);
 }
 
 /// Makes a slot meet a range.
@@ -117,30 +155,30 @@ pub fn meet_range(m: &mut Matrix, k: usize, r: Range)
     meet_end(m, 2 * k + 1, -low);
 }
 
-/// A side of a comparison is h at most.
-pub fn side_at_most(m: &mut Matrix, form: Option<Form>, h: i128)
+/// The bound that makes a side of a comparison h at most.
+pub fn side_at_most(m: &Matrix, form: Option<Form>, h: i128) -> Option<Bound>
     requires good { IsGoodForm form }
     requires small { IsWithin (2 ^ 65) (Some h) }
-    ensures value { m.new ≡ matrices.side_at_most m.old form h }
-    ensures ready { IsReady m.old → IsReady m.new }
+    ensures value { (n : HalfMatrix) → n.kinds ≡ m.now.kinds → with_bound_if n result ≡ matrices.side_at_most n form h }
+    ensures small { IsSmallBound result }
 {
     match form {
-        Some(Form::Node(i, c)) => meet_end(m, i, h - c),
-        Some(Form::Constant(_)) => {}
-        None => {}
+        Some(Form::Node(i, c)) => end(m, i, h - c),
+        Some(Form::Constant(_)) => None,
+        None => None,
     }
 }
 
-/// A side of a comparison is l at least.
-pub fn side_at_least(m: &mut Matrix, form: Option<Form>, l: i128)
+/// The bound that makes a side of a comparison l at least.
+pub fn side_at_least(m: &Matrix, form: Option<Form>, l: i128) -> Option<Bound>
     requires good { IsGoodForm form }
     requires small { IsWithin (2 ^ 65) (Some l) }
-    ensures value { m.new ≡ matrices.side_at_least m.old form l }
-    ensures ready { IsReady m.old → IsReady m.new }
+    ensures value { (n : HalfMatrix) → n.kinds ≡ m.now.kinds → with_bound_if n result ≡ matrices.side_at_least n form l }
+    ensures small { IsSmallBound result }
 {
     match form {
-        Some(Form::Node(i, c)) => meet_end(m, other_sign(i), c - l),
-        Some(Form::Constant(_)) => {}
-        None => {}
+        Some(Form::Node(i, c)) => end(m, other_sign(i), c - l),
+        Some(Form::Constant(_)) => None,
+        None => None,
     }
 }

@@ -8,9 +8,8 @@ ghost use Rattle.octagon_meaning.specs.Text as texts;
 
 use crate::OctagonState;
 use crate::calls::bound_at;
-use crate::close::closed;
+use crate::close::closure;
 use crate::evaluate::range;
-use dbm_close::Closed;
 use dbm_core::{Matrix, other_sign};
 use imp_slots::{Layout, NumericSlot};
 use itoa::Buffer;
@@ -239,8 +238,8 @@ fn matrix_text(alloc: Global, numbers: &[NumericSlot], m: &Matrix) -> Result<Tex
 pub fn state_text(alloc: Global, layout: &Layout, s: &OctagonState) -> Result<Text, Memory>
     ensures value { IfOk result (λ v. v ≡ texts.text layout.now s.now) }
 {
-    match closed(alloc, s)?.kept {
-        Closed::Empty => Text::from_slice(alloc, b"none"),
-        Closed::Matrix(m) => matrix_text(alloc, layout.numbers(), &m),
+    match closure(s) {
+        None => Text::from_slice(alloc, b"none"),
+        Some(m) => matrix_text(alloc, layout.numbers(), m),
     }
 }

@@ -1,81 +1,23 @@
 //! Verdicts on checks.
 ghost use Rattle.std.specs.Prelude.{◌≡◌, false, IfOk, if◌then◌else◌};
-ghost use Rattle.imp_syntax.specs.declared.words.Relation.TheVariants as relations;
-ghost use Rattle.imp_slots.specs.Plain.{Literal, Length, Does};
+ghost use Rattle.imp_slots.specs.Plain.{Does};
 ghost use Rattle.imp_slots.specs.ActionViews.{effect_of, act_of};
 ghost use Rattle.domain_laws.specs.Checks as checks;
 ghost use Rattle.domain_laws.specs.Guards.{verdict_by};
 ghost use Rattle.analysis_words.specs.declared.verdict.Verdict.TheVariants as verdicts;
-ghost use Rattle.dbm_close.specs.declared.closed.Closed.TheVariants.{Matrix as Bounded};
 ghost use Rattle.octagon_meaning.specs.Operations as operations;
 ghost use Rattle.octagon_meaning.specs.States as states;
 
 use crate::OctagonState;
-use crate::close::{closed, empty, is_empty};
-use crate::compare::related;
-use crate::evaluate::{evaluate, slot};
+use crate::close::{closed, is_empty};
 use crate::guards::assumed;
+use crate::indices::{and_length, zero_and};
 use crate::joins::joined;
-use dbm_close::Closed;
 use domain_laws::Verdict;
 use imp_slots::{SlotAction, SlotExpr, SlotStmt};
 use imp_syntax::Relation;
-use num_bounds::Range;
-use octagon_meaning::Form;
 use plain_values::Memory;
 use std::alloc::Global;
-
-/// `0 > e`
-#[tactic(auto, unfolding(octagon_meaning::specs::Operations::compare, octagon_meaning::specs::Ranges::range_of, octagon_meaning::specs::Forms::form_of))]
-fn below_zero(alloc: Global, e: &SlotExpr, s: &OctagonState) -> Result<OctagonState, Memory>
-    ensures exact { IfOk result (λ t. t ≡ operations.compare relations.Greater (Literal 0) e.now s.now) }
-{
-    match closed(alloc, s)?.kept {
-        Closed::Empty => Ok(empty()),
-        Closed::Matrix(m) => match evaluate(&m, e) {
-            None => Ok(empty()),
-            Some(index) => related(
-                alloc,
-                Relation::Greater,
-                &m,
-                Some(Form::Constant(0)),
-                index.form,
-                Range::from_ends(0, 0),
-                index.range,
-            ),
-        },
-    }
-}
-
-/// `e >= len a`
-#[tactic(auto, unfolding(octagon_meaning::specs::Operations::compare, octagon_meaning::specs::Ranges::range_of, octagon_meaning::specs::Forms::form_of))]
-fn past_length(
-    alloc: Global,
-    a: u32,
-    e: &SlotExpr,
-    s: &OctagonState,
-) -> Result<OctagonState, Memory>
-    ensures exact { IfOk result (λ t. t ≡ operations.compare relations.AtLeast e.now (Length a) s.now) }
-{
-    match closed(alloc, s)?.kept {
-        Closed::Empty => Ok(empty()),
-        Closed::Matrix(m) => match evaluate(&m, e) {
-            None => Ok(empty()),
-            Some(index) => {
-                let length = slot(&m, a);
-                related(
-                    alloc,
-                    Relation::AtLeast,
-                    &m,
-                    index.form,
-                    length.form,
-                    index.range,
-                    length.range,
-                )
-            }
-        },
-    }
-}
 
 /// The state where an index is outside its array.
 #[tactic(auto, unfolding(octagon_meaning::specs::Operations::assume))]
@@ -87,8 +29,8 @@ fn out_of_bounds(
 ) -> Result<OctagonState, Memory>
     ensures exact { IfOk result (λ t. t ≡ operations.assume (checks.checked_guard (checks.Within a e.now)) false s.now) }
 {
-    let below = below_zero(alloc, e, s)?;
-    let past = past_length(alloc, a, e, s)?;
+    let below = zero_and(alloc, Relation::Greater, e, s)?;
+    let past = and_length(alloc, Relation::AtLeast, e, a, s)?;
     joined(alloc, &below, &past)
 }
 

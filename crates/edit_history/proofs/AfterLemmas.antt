@@ -56,7 +56,7 @@ programs_count ps (c ∷ cs) = ap suc (programs_count (after ps c) cs)
 pub lead_wider : (room more : ℕ) (ps : List Procedure) (cs : List Change) → room ≤ more → AllLead room ps cs → AllLead more ps cs
 lead_wider room more ps [] h a = tt
 lead_wider room more ps (c ∷ cs) h a = (
-  record { makes = a.0.makes; fine = a.0.fine; within = record { once = a.0.within.once; below = λ i d l. omega (arith, h, a.0.within.below i d l) } },
+  record { makes = a.0.makes; fine = a.0.fine; within = record { falling = a.0.within.falling; below = λ i d l. omega (arith, h, a.0.within.below i d l) } },
   lead_wider room more (after ps c) cs h a.1,
 )
 

@@ -2,7 +2,7 @@
 use Rattle.std.proofs.lemmas.Bool.Decides.{nat_tests}
 use Rattle.std.proofs.Common.{◌≡◌, ℕ, zero, suc, ◌<◌, ◌≤◌, ◌==◌, ◌⊎◌, inl, inr, cond, Bool, true, false, List, [], ◌∷◌, ◌++◌, length, Option, Some, None, refl, sym, ap, ◌∙◌, subst, arith}
 use Rattle.std.specs.List.{All}
-use Rattle.imp_slots.specs.Fits.{Absent, Distinct}
+use Rattle.imp_slots.specs.Fits.{Absent}
 use Rattle.imp_syntax.specs.Plain.{Procedure, program_numbers}
 use Rattle.imp_check.specs.Changes.{overlay, AreWithin}
 use Rattle.imp_check.specs.Entries.{entries_of, entry_of}
@@ -12,25 +12,12 @@ use Rattle.imp_check.specs.Tables.{entry_in}
 use Rattle.imp_check.proofs.PutLemmas.{other, entry_past}
 use Rattle.imp_check.proofs.RebuildLemmas.{entry_numbers, all_numbers}
 use Rattle.imp_check.proofs.OverlayLemmas.{put_numbers, overlay_more, overlay_other}
+use Rattle.imp_check.proofs.FallingLemmas.{all_more, falling_more}
 
 -- numbers above one are not it
 apart : (k : ℕ) (ps : List Put) → All (λ (p : Put). suc k ≤ p.number) ps → Absent k (put_numbers ps)
 apart k [] a = tt
 apart k (p ∷ ps) a = let l : suc k ≤ p.number = a 0 p (omega arith) in ((λ e. omega (arith, e, l)), apart k ps (λ i d h. a (suc i) d (omega arith)))
-
-all_more : (P : Put → Type 0) (ps : List Put) (p : Put) → All P ps → P p → All P (ps ++ p ∷ [])
-all_more P [] p a h zero d l = h
-all_more P [] p a h (suc i) d l = absurd (omega arith)
-all_more P (q ∷ ps) p a h zero d l = a 0 q (omega arith)
-all_more P (q ∷ ps) p a h (suc i) d l = all_more P ps p (λ k e m. a (suc k) e (omega arith)) h i d (omega arith)
-
-absent_more : (n : ℕ) (ps : List Put) (p : Put) → Absent n (put_numbers ps) → (n ≡ p.number → ⊥) → Absent n (put_numbers (ps ++ p ∷ []))
-absent_more n [] p a h = (h, tt)
-absent_more n (q ∷ ps) p a h = (a.0, absent_more n ps p a.1 h)
-
-distinct_more : (ps : List Put) (p : Put) → Distinct (put_numbers ps) → Absent p.number (put_numbers ps) → Distinct (put_numbers (ps ++ p ∷ []))
-distinct_more [] p d a = (tt, tt)
-distinct_more (q ∷ ps) p d a = (absent_more q.number ps p d.0 (λ e. a.0 (sym e)), distinct_more ps p d.1 a.1)
 
 -- the last place
 in_front : (xs : List (Option Entry)) (o : Option Entry) (m : ℕ) → m < length xs → entry_in (xs ++ o ∷ []) m ≡ entry_in xs m
@@ -80,7 +67,7 @@ module _ (xs ys zs : List (Option Entry)) (o : Option Entry) (e : xs ≡ ys ++ o
 
     pub within_put : (p : Put) → p.number ≡ length ys → length ys < b → AreWithin b ps → AreWithin b (ps ++ p ∷ [])
     within_put p n l w = record {
-      once = distinct_more ps p w.once (subst (λ k. Absent k (put_numbers ps)) (sym n) free);
+      falling = falling_more ps p w.falling (λ i d h. omega (arith, n, higher i d h));
       below = all_more (λ (q : Put). q.number < b) ps p w.below (omega (arith, n));
     }
 

@@ -63,7 +63,9 @@ back_length at (p ∷ ps) = ap suc (back_length at ps)
 -- the change back has the same numbers
 pub back_within : (at : ℕ → Option Entry) (ps : List Put) (room : ℕ) → AreWithin room ps → AreWithin room (back_of at ps)
 back_within at ps room w = record {
-  once = subst Distinct (sym (back_numbers at ps)) w.once;
+  falling = λ i j d h l.
+      let k : j < length ps = omega (arith, l, back_length at ps) in
+      omega (arith, below_back at ps i d (omega arith), below_back at ps j d l, w.falling i j d h k);
   below = λ i d h. let k : i < length ps = omega (arith, h, back_length at ps) in omega (arith, below_back at ps i d h, w.below i d k);
 }
 

@@ -1,8 +1,7 @@
 -- What comes in a table by numbers, and the programs of which one comes from the other by it.
-use Rattle.std.specs.Prelude.{ℕ, ◌≡◌, ◌<◌, List, [], ◌∷◌, map, Option, cond, ◌==◌, unwrap_or}
-use Rattle.std.specs.List.{All}
+use Rattle.std.specs.Prelude.{ℕ, ◌≡◌, ◌<◌, List, [], ◌∷◌, Option, cond, ◌==◌, unwrap_or}
+use Rattle.std.specs.List.{All, AllPairs}
 use Rattle.imp_syntax.specs.Plain.{Procedure}
-use Rattle.imp_slots.specs.Fits.{Distinct}
 use Rattle.imp_check.specs.Programs.{program_count}
 use Rattle.imp_check.specs.Entries.{entries_of, entry_of, heads_of, sites_of}
 use Rattle.imp_check.specs.declared.entry.Entry.{Entry}
@@ -14,9 +13,13 @@ abbrev pub overlay : List Put → (at : ℕ → Option Entry) → ℕ → Option
 overlay [] at m = at m
 overlay (p ∷ ps) at m = cond (p.number == m) p.entry (overlay ps at m)
 
--- each number stands once in a change, and is a place of a table of this length
+-- each number is less than those before it
+abbrev pub AreFalling : List Put → Type 0
+AreFalling puts = AllPairs (λ (p q : Put). q.number < p.number) puts
+
+-- the numbers of a change fall, and are places of a table of this length
 pub record AreWithin (room : ℕ) (puts : List Put) : Type 0 where
-  pub once : Distinct (map (λ (p : Put). p.number) puts)
+  pub falling : AreFalling puts
   pub below : All (λ (p : Put). p.number < room) puts
 
 -- The change makes the second program of the first.

@@ -17,5 +17,7 @@ pub mod Rebuilt
 pub mod Fine
 pub mod Checks
 pub mod Changes
+pub mod Views
+pub mod Walks
 pub mod Puts
 pub mod Small

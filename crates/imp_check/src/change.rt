@@ -17,7 +17,7 @@ pub struct Put {
 /// A change of a program by the numbers of its statements.
 #[derive(Drop)]
 pub struct Change {
-    /// The entries that come or go. Each number stands once.
+    /// The entries that come or go, those of greater numbers first. Each number stands once.
     pub entries: Vec<Put>,
     /// The procedures, or `None` where they stay.
     pub heads: Option<Items<Head>>,
@@ -35,5 +35,15 @@ pub(crate) fn exchange_list<T>(list: &mut Items<T>, other: &mut Option<Items<T>>
     match other {
         Some(other) => std::mem::swap(list, other),
         None => {}
+    }
+}
+
+/// This list, or else another one.
+pub(crate) fn list_or<'a, T>(list: &'a Option<Items<T>>, other: &'a [T]) -> &'a [T]
+    ensures is { result.now ≡ unwrap_or list.now other.now }
+{
+    match list {
+        Some(list) => list.as_slice(),
+        None => other,
     }
 }

@@ -16,6 +16,7 @@ use crate::entry::Entry;
 use crate::programs::check_fault;
 use crate::routines::routines_of;
 use crate::table::Table;
+use crate::view::View;
 use imp_slots::Routine;
 use imp_syntax::{ProcId, Program, StmtId};
 use plain_values::{Items, Memory, Text};
@@ -132,6 +133,13 @@ impl Checked {
         &self.parts.table
     }
 
+    /// The program as it is read. It takes constant time.
+    pub fn view(&self) -> View<'_>
+        ensures is { result ≡ self.now }
+    {
+        self.table().view()
+    }
+
     /// The first procedure of a name, or `None` where there is none. It takes time linear in the procedures.
     pub fn proc_named(&self, name: &Text) -> Option<ProcId>
         ensures is { result ≡ named_in self.now name.now }
@@ -152,7 +160,7 @@ impl Checked {
     pub fn count(&self) -> u32
         ensures is { result ≡ program_count self.now }
     {
-        self.table().count()
+        self.view().count()
     }
 
     /// The statement of a number, with where it stands and with its slots, or `None` where the program has no such

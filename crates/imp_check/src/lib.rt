@@ -49,6 +49,8 @@ mod slots;
 mod statements;
 mod table;
 mod terms;
+mod view;
+mod walk;
 
 pub use change::{Change, Put};
 pub use checked::{Checked, check, check_table};
@@ -58,3 +60,4 @@ pub use fault::{CheckError, Fault, Found};
 pub use numbered::is_numbered;
 pub use place::Place;
 pub use table::Table;
+pub use view::View;

@@ -1,9 +1,10 @@
 //! Places of a table, by number.
-ghost use Rattle.std.specs.Prelude.{ℕ, ◌≡◌, ◌<◌, ◌≤◌, ◌∷◌, [], length, OnOk, Some};
+ghost use Rattle.std.specs.Prelude.{ℕ, ◌≡◌, ◌<◌, ◌≤◌, ◌∷◌, [], length, MatchOption, OnOk, Option, Some};
 ghost use Rattle.std.specs.Option.{option_copied};
 ghost use Rattle.imp_check.specs.Tables.{entry_in};
 ghost use Rattle.imp_check.specs.Puts.{put_at};
-ghost use Rattle.imp_check.specs.Changes.{overlay, AreWithin};
+ghost use Rattle.imp_check.specs.Changes.{overlay, AreFalling, AreWithin};
+ghost use Rattle.imp_check.specs.declared.entry.Entry.{Entry};
 
 use crate::change::Put;
 use crate::entry::Entry;
@@ -87,4 +88,28 @@ fn put_in(places: &mut [Place], puts: &mut [Put])
     for i in 0..puts.len() {
         put_one(places, &mut puts[i]);
     }
+}
+
+/// What comes at a number by a change, or `None` where the change has no such number. It takes time logarithmic in the
+/// change.
+#[tactic(auto, using(crate::proofs::FallingLemmas::overlay_at, crate::proofs::FallingLemmas::overlay_gone, crate::proofs::FallingLemmas::greater_more, crate::proofs::FallingLemmas::less_more))]
+pub(crate) fn put_of(puts: &[Put], number: u32) -> Option<&Put>
+    requires falling { AreFalling puts.now }
+    ensures is { MatchOption result ((at : ℕ → Option Entry) → overlay puts.now at number ≡ at number) (λ put. (at : ℕ → Option Entry) → overlay puts.now at number ≡ put.now.entry) }
+{
+    let mut low = 0;
+    let mut high = puts.len();
+    while low < high {
+        let middle = low + (high - low) / 2;
+        let put = &puts[middle];
+        if put.number == number {
+            return Some(put);
+        }
+        if number < put.number {
+            low = middle + 1;
+        } else {
+            high = middle;
+        }
+    }
+    None
 }

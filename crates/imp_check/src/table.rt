@@ -1,27 +1,26 @@
 //! Programs as tables of their statements.
-ghost use Rattle.std.specs.Prelude.{◌≡◌, ℕ, ◌<◌, ◌≤◌, [], List, length, slice_get, option_map, false, IfOk, OnOk, OnErr, None};
+ghost use Rattle.std.specs.Prelude.{◌≡◌, ℕ, ◌<◌, ◌≤◌, [], List, length, false, IfOk, OnOk, OnErr, None};
 ghost use Rattle.std.specs.List.{All};
 ghost use Rattle.std.specs.Option.{option_copied};
 ghost use Rattle.imp_syntax.specs.Plain.{Procedure, program_numbers};
 ghost use Rattle.imp_slots.specs.Fits.{IsChecked};
 ghost use Rattle.imp_check.specs.Names.{named_in};
-ghost use Rattle.imp_check.specs.Programs.{AreNumbered, check_fault, program_count};
-ghost use Rattle.imp_check.specs.Slots.{layout_in, routines_of};
-ghost use Rattle.imp_check.specs.Parts.{ends_of};
-ghost use Rattle.imp_check.specs.Entries.{entries_of, entry_of, heads_of, head_of, sites_in};
+ghost use Rattle.imp_check.specs.Programs.{AreNumbered, check_fault};
+ghost use Rattle.imp_check.specs.Slots.{routines_of};
+ghost use Rattle.imp_check.specs.Entries.{entries_of, entry_of, heads_of, sites_in};
 ghost use Rattle.imp_check.specs.Fine.{IsFine};
 ghost use Rattle.imp_check.specs.Rebuilt.{program_by};
 ghost use Rattle.imp_check.specs.Tables.{entry_in, AreOf};
-ghost use Rattle.imp_check.specs.Changes.{AreWithin, Makes, overlay};
+ghost use Rattle.imp_check.specs.Changes.{AreFalling, AreWithin, Makes, overlay};
 
-use crate::change::{Change, Put, exchange_list};
-use crate::entry::{BlockEnds, Entry, Head};
-use crate::heads::{is_named, place_named};
+use crate::change::{Change, Put, exchange_list, list_or};
+use crate::entry::{Entry, Head};
 use crate::place::Place;
 use crate::putting::{entry_in, make_room, put_all};
 use crate::rebuilt::procedures_from;
 use crate::routines::routines_of;
-use imp_slots::{Layout, Routine};
+use crate::view::View;
+use imp_slots::Routine;
 use imp_syntax::{ProcId, Program, StmtId};
 use plain_values::{Items, Memory, Text};
 use std::alloc::Global;
@@ -97,56 +96,41 @@ impl Table {
         self.places.len()
     }
 
-    /// How many statements the program has.
-    pub fn count(&self) -> u32
-        ensures is { result ≡ program_count self.now.program }
+    /// The program as it is read. It takes constant time.
+    pub fn view(&self) -> View<'_>
+        ensures is { result ≡ self.now.program }
     {
-        self.count
+        let heads = self.heads.as_slice();
+        View::new(self, &[], heads, self.count, self.sites.as_slice())
+    }
+
+    /// The program that a change makes, as it is read. It takes constant time, and leaves the table.
+    pub fn changed<'a>(&'a self, change: &'a Change) -> View<'a>
+        ghost program: { List Procedure }
+        requires makes { Makes self.now.program change.now program }
+        requires fine { IsFine program }
+        requires falling { AreFalling change.now.entries.items }
+        ensures is { result ≡ program }
+    {
+        let heads = list_or(&change.heads, self.heads.as_slice());
+        let sites = list_or(&change.sites, self.sites.as_slice());
+        View::new(self, change.entries.as_slice(), heads, change.count, sites)
     }
 
     /// The call statements of a procedure, in the order of the text; none for a procedure that is not there. It takes
     /// constant time.
-    #[tactic(auto, using(crate::proofs::SiteLemmas::below_at, crate::proofs::SiteLemmas::below_past))]
     pub fn sites(&self, proc: ProcId) -> &[StmtId]
         ensures is { proc < length self.now.program → result.now ≡ sites_in (entries_of self.now.program) proc }
         ensures none { length self.now.program ≤ proc → result.now ≡ [] }
     {
-        match self.sites.get(proc.place() as usize) {
-            Some(sites) => sites.as_slice(),
-            None => &[],
-        }
-    }
-
-    /// The ends of a procedure's body, or `None` where there is no such procedure.
-    pub fn body(&self, proc: ProcId) -> Option<BlockEnds>
-        ensures is { result ≡ option_map (λ (p : Procedure). ends_of p.body) (slice_get self.now.program proc) }
-    {
-        match self.heads.get(proc.place() as usize) {
-            Some(head) => Some(head.body),
-            None => None,
-        }
-    }
-
-    /// The variables of a procedure as slots, or `None` where there is no such procedure.
-    pub fn layout(&self, proc: ProcId) -> Option<&Layout>
-        ensures is { option_copied result ≡ option_map layout_in (slice_get self.now.program proc) }
-    {
-        match self.heads.get(proc.place() as usize) {
-            Some(head) => Some(&head.layout),
-            None => None,
-        }
+        self.view().sites(proc)
     }
 
     /// The first procedure of a name, or `None` where there is none. It takes time linear in the procedures.
     pub fn proc_named(&self, name: &Text) -> Option<ProcId>
         ensures is { result ≡ named_in self.now.program name.now }
     {
-        let heads = self.heads.as_slice();
-        if is_named(heads, name) {
-            Some(ProcId::new(place_named(heads, name) as u32))
-        } else {
-            None
-        }
+        self.view().proc_named(name)
     }
 
     /// The program as a tree, made anew. It takes time linear in the program, and fails for want of memory alone.

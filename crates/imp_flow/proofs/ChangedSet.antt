@@ -4,7 +4,7 @@ use Rattle.std.proofs.lemmas.Map.Keys.{IsStrictlyIncreasing-from_sorted}
 use Rattle.std.proofs.lemmas.Map.Views.{btree_set_contains_iff}
 use Rattle.std.proofs.lemmas.Map.Lookups.{exact_unsigned}
 use Rattle.std.specs.Cmp.{nat_cmp_total}
-use Rattle.std.proofs.Common.{◌≡◌, ℕ, suc, ◌+◌, ◌<◌, ◌≤◌, ◌==◌, ◌||◌, ◌&&◌, not, List, [], ◌∷◌, length, reverse, Option, Some, None, Bool, true, false, MatchBool, slice_get, refl, sym, ap, subst, ◌∙◌, arith}
+use Rattle.std.proofs.Common.{◌≡◌, ◌⊎◌, inl, inr, ℕ, suc, ◌+◌, ◌<◌, ◌==◌, ◌||◌, ◌&&◌, not, List, [], ◌∷◌, length, reverse, Option, Some, None, Bool, true, false, MatchBool, slice_get, refl, sym, ap, subst, ◌∙◌, arith}
 use Rattle.std.specs.BTreeSet.{BTreeSet, contains, IsOrdered}
 use Rattle.std.specs.Ordering.{nat_cmp}
 use Rattle.plain_values.specs.Equal.{same, same_equal, same_Decides}
@@ -21,10 +21,14 @@ use Rattle.imp_flow.specs.Shapes.{Node}
 use Rattle.imp_flow.specs.Nodes.{node_of}
 use Rattle.imp_flow.specs.Plans.{Plan, plan_nodes}
 use Rattle.imp_flow.specs.Owners.{owner}
-use Rattle.imp_flow.specs.Changed.{is_start, IsChanged, AreChanged, Stays}
-use Rattle.imp_slots.specs.Fits.{routine_numbers}
-use Rattle.imp_flow.proofs.NumberLemmas.{node_numbers, all_numbers}
-use Rattle.imp_flow.proofs.ChangedStays.{found_node, none_stays}
+use Rattle.imp_flow.specs.Changed.{is_start, IsChanged, IsTold, AreChanged, Stays}
+use Rattle.imp_syntax.specs.Plain.{Procedure}
+use Rattle.imp_slots.specs.Fits.{IsChecked}
+use Rattle.imp_check.specs.Entries.{entries_of, sites_in}
+use Rattle.imp_check.specs.Walks.{numbers_at}
+use Rattle.imp_check.specs.declared.change.Put.{Put}
+use Rattle.imp_flow.specs.declared.search.Search.{Search}
+use Rattle.imp_flow.specs.Searches.{left_by, IsSearch, GoesOn, IsLooked, AllLooked, ArePutsLooked, AreCallersLooked, AreLoopsLooked}
 
 -- the second set has what the first has, and m, unless it is kept
 abbrev pub Adds : (has more : ℕ → Bool) → (m : ℕ) → (kept : Bool) → Type 0
@@ -44,12 +48,6 @@ adds_kept true kept m more e h = absurd cc
 adds_kept false true m more e h = refl
 adds_kept false false m more e h = let f : (m == m) ≡ false = sym e ∙ h in absurd (grind (arith, nat_tests))
 
--- What is known of the first i statements.
-pub record Noted (old new : Plan) (ns : List ℕ) (i : ℕ) (has : ℕ → Bool) : Type 0 where
-  pub start : has 0 ≡ false → main_layout (reverse old.program) ≡ main_layout (reverse new.program)
-  pub only : (n : ℕ) → has n ≡ true → IsChanged old new n
-  pub all : (k n : ℕ) → k < i → slice_get ns k ≡ Some n → has n ≡ false → Stays old new n
-
 module _ (old new : Plan) where
   abbrev main_old : Row
   main_old = Init (main_layout (reverse old.program))
@@ -57,13 +55,20 @@ module _ (old new : Plan) where
   abbrev main_new : Row
   main_new = Init (main_layout (reverse new.program))
 
-  pub noted_start : (ns : List ℕ) (has more : ℕ → Bool) (kept : Bool) → ((n : ℕ) → has n ≡ false) → Adds has more 0 kept → kept ≡ same layout_code (main_layout (reverse old.program)) (main_layout (reverse new.program)) → Noted old new ns 0 more
-  noted_start ns has more kept none h e = record {
+  -- A search that looked at the start of main.
+  pub search_begun : (s : Search) (has : ℕ → Bool) (kept : Bool) → old.engine ≡ new.engine → IsChecked old.program → IsChecked new.program → IsTold old new s.pair → ((n : ℕ) → has n ≡ false) → Adds has (contains nat_cmp s.changed) 0 kept → kept ≡ same layout_code (main_layout (reverse old.program)) (main_layout (reverse new.program)) → IsSearch old new s
+  search_begun s has kept one c d t none h e = record {
+    one = one;
+    old_checked = c;
+    new_checked = d;
+    told = t;
     start = λ f. same_equal layout_code (main_layout (reverse old.program)) (main_layout (reverse new.program)) (sym e ∙ adds_kept (has 0) kept 0 (more 0) (h 0) f);
     only = only;
-    all = λ k n l g f. absurd (omega arith);
   }
     where
+      more : ℕ → Bool
+      more = contains nat_cmp s.changed
+
       lost : kept ≡ false → Some main_new ≡ Some main_old → ⊥
       lost k f =
           let g : main_layout (reverse old.program) ≡ main_layout (reverse new.program) = cc in
@@ -78,37 +83,45 @@ module _ (old new : Plan) where
           let t = adds_true (has n) kept n 0 (more n) (h n) (none n) f in
           record { path = []; point = Entry; row = main_old; owned = sym t.1; had = refl; lost = lost t.0 }
 
-  pub noted_more : (ns : List ℕ) (i : ℕ) (has more : ℕ → Bool) (m : ℕ) (kept : Bool) → Noted old new ns i has → slice_get ns i ≡ Some m → MatchBool kept (Stays old new m) (IsChanged old new m) → Adds has more m kept → Noted old new ns (i + 1) more
-  noted_more ns i has more m kept s at told h = record {
-    start = λ f. s.start (adds_false (has 0) kept 0 m (more 0) (h 0) f);
-    only = λ n f. only n f (has n) refl;
-    all = all;
-  }
-    where
-      changed : (kept : Bool) → kept ≡ false → MatchBool kept (Stays old new m) (IsChanged old new m) → IsChanged old new m
-      changed true k t = absurd cc
-      changed false k t = t
+  -- It looks at one more statement.
+  module _ (s t : Search) (m : ℕ) (kept : Bool) (is : IsSearch old new s) (told : MatchBool kept (Stays old new m) (IsChanged old new m)) (pair : IsTold old new t.pair) (adds : Adds (contains nat_cmp s.changed) (contains nat_cmp t.changed) m kept) where
+    changed : (kept : Bool) → kept ≡ false → MatchBool kept (Stays old new m) (IsChanged old new m) → IsChanged old new m
+    changed true k t = absurd cc
+    changed false k t = t
 
-      stayed : (kept : Bool) → kept ≡ true → MatchBool kept (Stays old new m) (IsChanged old new m) → Stays old new m
-      stayed true k t = t
-      stayed false k t = absurd cc
+    stayed : (kept : Bool) → kept ≡ true → MatchBool kept (Stays old new m) (IsChanged old new m) → Stays old new m
+    stayed true k t = t
+    stayed false k t = absurd cc
 
-      only : (n : ℕ) → more n ≡ true → (b : Bool) → has n ≡ b → IsChanged old new n
-      only n f true e = s.only n e
-      only n f false e = let t = adds_true (has n) kept n m (more n) (h n) e f in subst (IsChanged old new) (sym t.1) (changed kept t.0 told)
+    abbrev has : ℕ → Bool
+    has = contains nat_cmp s.changed
 
-      last : (k n : ℕ) → k ≡ i → slice_get ns k ≡ Some n → more n ≡ false → Stays old new n
-      last k n q g f =
-          let e : m ≡ n = some_inj m n (sym at ∙ ap (slice_get ns) (sym q) ∙ g) in
-          subst (Stays old new) e (stayed kept (adds_kept (has m) kept m (more m) (h m) (ap more e ∙ f)) told)
+    abbrev more : ℕ → Bool
+    more = contains nat_cmp t.changed
 
-      all : (k n : ℕ) → k < i + 1 → slice_get ns k ≡ Some n → more n ≡ false → Stays old new n
-      all k n l g f =
-          (by_test k i (λ b. slice_get ns k ≡ Some n → Stays old new n) (λ q g. last k n q g f)
-          (λ q g. s.all k n (omega arith) g (adds_false (has n) kept n m (more n) (h n) f))) g
+    only : (n : ℕ) → more n ≡ true → (b : Bool) → has n ≡ b → IsChanged old new n
+    only n f true e = is.only n e
+    only n f false e = let t = adds_true (has n) kept n m (more n) (adds n) e f in subst (IsChanged old new) (sym t.1) (changed kept t.0 told)
 
-  pub noted_done : (ns : List ℕ) (i : ℕ) (has : ℕ → Bool) → Noted old new ns i has → length ns ≤ i → Noted old new ns (length ns) has
-  noted_done ns i has s h = record { start = s.start; only = s.only; all = λ k n l. s.all k n (omega arith) }
+    still : (n : ℕ) → has n ≡ true → (b : Bool) → more n ≡ b → b ≡ true
+    still n h true e = refl
+    still n h false e = sym (adds_false (has n) kept n m (more n) (adds n) e) ∙ h
+
+    pub goes_more : GoesOn old new s t
+    goes_more = record {
+      is = record {
+        one = is.one;
+        old_checked = is.old_checked;
+        new_checked = is.new_checked;
+        told = pair;
+        start = λ f. is.start (adds_false (has 0) kept 0 m (more 0) (adds 0) f);
+        only = λ n f. only n f (has n) refl;
+      };
+      more = λ n h. still n h (more n) refl;
+    }
+
+    pub looked_now : IsLooked old new t m
+    looked_now = record { kept = λ f. stayed kept (adds_kept (has m) kept m (more m) (adds m) f) told }
 
   start_is : (w : List Frame) (p : Point) → is_start w p ≡ true → (w ≡ []) × (p ≡ Entry)
   start_is [] Entry h = (refl, refl)
@@ -122,46 +135,84 @@ module _ (old new : Plan) where
   start_is [] (Leap n k) h = absurd cc
   start_is (f ∷ w) p h = absurd cc
 
-  -- the place of a statement's number
-  place : (x : Node) (xs : List Node) → Member x xs → (k : ℕ) × (k < length (node_numbers xs)) × (slice_get (node_numbers xs) k ≡ Some x.stmt)
-  place x [] m = elim m [ ]
-  place x (_ ∷ xs) here = (0, omega arith, refl)
-  place x (y ∷ xs) (there m) = let p = place x xs m in (suc p.0, omega (arith, p.1), p.2)
-
-  module _ (one : old.engine ≡ new.engine) (has : ℕ → Bool) (s : Noted old new (node_numbers (plan_nodes old)) (length (node_numbers (plan_nodes old))) has) where
-    not_start : (n : ℕ) → has n ≡ false → (o : Option Node) → node_of (plan_nodes old) n ≡ o → Stays old new n
-    not_start n h None e = none_stays old new one n e
-    not_start n h (Some x) e =
-        let f = found_node (plan_nodes old) n x e in
-        let k = place x (plan_nodes old) f.0 in
-        subst (Stays old new) f.1 (s.all k.0 x.stmt k.1 k.2 (ap has f.1 ∙ h))
-
-    unchanged_start : (w : List Frame) (p : Point) (r : Row) → has (owner w p) ≡ false → w ≡ [] → p ≡ Entry → flat_row old.engine (reverse old.program) w p ≡ Some r → flat_row new.engine (reverse new.program) w p ≡ Some r
+  module _ (s : Search) (is : IsSearch old new s) (rest : (n : ℕ) → contains nat_cmp s.changed n ≡ false → Stays old new n) where
+    unchanged_start : (w : List Frame) (p : Point) (r : Row) → contains nat_cmp s.changed (owner w p) ≡ false → w ≡ [] → p ≡ Entry → flat_row old.engine (reverse old.program) w p ≡ Some r → flat_row new.engine (reverse new.program) w p ≡ Some r
     unchanged_start w p r h a b had =
-        let P : List Frame → Point → Type 0 = λ w p. has (owner w p) ≡ false → flat_row old.engine (reverse old.program) w p ≡ Some r → flat_row new.engine (reverse new.program) w p ≡ Some r in
-        let q : P [] Entry = λ h had. ap (λ l. Some (Init l)) (sym (s.start h)) ∙ had in
+        let P : List Frame → Point → Type 0 = λ w p. contains nat_cmp s.changed (owner w p) ≡ false → flat_row old.engine (reverse old.program) w p ≡ Some r → flat_row new.engine (reverse new.program) w p ≡ Some r in
+        let q : P [] Entry = λ h had. ap (λ l. Some (Init l)) (sym (is.start h)) ∙ had in
         (subst (λ w. P w p) (sym a) (subst (P []) (sym b) q)) h had
 
-    unchanged : (n : ℕ) → has n ≡ false → IsChanged old new n → ⊥
+    unchanged : (n : ℕ) → contains nat_cmp s.changed n ≡ false → IsChanged old new n → ⊥
     unchanged n h x = x.lost (by_start (is_start x.path x.point) refl)
       where
         by_start : (t : Bool) → is_start x.path x.point ≡ t → flat_row new.engine (reverse new.program) x.path x.point ≡ Some x.row
-        by_start true e = let q = start_is x.path x.point e in unchanged_start x.path x.point x.row (ap has x.owned ∙ h) q.0 q.1 x.had
-        by_start false e = not_start n h (node_of (plan_nodes old) n) refl x.path x.point x.row x.owned e x.had
+        by_start true e = let q = start_is x.path x.point e in unchanged_start x.path x.point x.row (ap (contains nat_cmp s.changed) x.owned ∙ h) q.0 q.1 x.had
+        by_start false e = rest n h x.path x.point x.row x.owned e x.had
 
-    pub found : (n : ℕ) → IsChanged old new n → has n ≡ true
-    found n x = go (has n) refl
+    found : (n : ℕ) → IsChanged old new n → contains nat_cmp s.changed n ≡ true
+    found n x = go (contains nat_cmp s.changed n) refl
       where
-        go : (b : Bool) → has n ≡ b → has n ≡ true
+        go : (b : Bool) → contains nat_cmp s.changed n ≡ b → contains nat_cmp s.changed n ≡ true
         go true e = e
         go false e = absurd (unchanged n e x)
 
-  pub are_changed : old.engine ≡ new.engine → (set : BTreeSet ℕ) (ns ms : List ℕ) → IsOrdered nat_cmp set → ns ≡ set.keys → ms ≡ routine_numbers (reverse old.program) → Noted old new ms (length ms) (contains nat_cmp set) → AreChanged old new ns
-  are_changed one set ns ms o e l m =
-      let s = subst (λ ks. Noted old new ks (length ks) (contains nat_cmp set)) (l ∙ sym (all_numbers (reverse old.program))) m in
-      subst (AreChanged old new) (sym e)
-      (record {
-        rising = IsStrictlyIncreasing-from_sorted set.keys o;
-        only = λ n c. s.only n ((btree_set_contains_iff nat_cmp_total exact_unsigned set n).1 c);
-        all = λ n x. (btree_set_contains_iff nat_cmp_total exact_unsigned set n).0 (found one (contains nat_cmp set) s n x);
-      })
+    -- Where all that it has not found keep their rows, it has found the changed ones.
+    pub are_changed : (ns : List ℕ) → IsOrdered nat_cmp s.changed → ns ≡ s.changed.keys → AreChanged old new ns
+    are_changed ns o e =
+        subst (AreChanged old new) (sym e)
+        (record {
+          rising = IsStrictlyIncreasing-from_sorted s.changed.keys o;
+          only = λ n c. is.only n ((btree_set_contains_iff nat_cmp_total exact_unsigned s.changed n).1 c);
+          all = λ n x. (btree_set_contains_iff nat_cmp_total exact_unsigned s.changed n).0 (found n x);
+        })
+
+-- It looked at what comes or goes at a number, and at the loop that a break leaves there.
+pub record IsPutLooked (old new : Plan) (s : Search) (p : Put) : Type 0 where
+  pub at : IsLooked old new s p.number
+  pub left : (n : ℕ) → left_by p.entry ≡ Some n → IsLooked old new s n
+
+module _ (old new : Plan) where
+  -- A search goes on step by step, and what it looked at stays looked at.
+  pub goes_self : (s : Search) → IsSearch old new s → GoesOn old new s s
+  goes_self s i = record { is = i; more = λ n h. h }
+
+  pub goes_both : (r s t : Search) → GoesOn old new r s → GoesOn old new s t → GoesOn old new r t
+  goes_both r s t a b = record { is = b.is; more = λ n h. b.more n (a.more n h) }
+
+  module _ (s t : Search) (g : GoesOn old new s t) where
+    pub looked_more : (n : ℕ) → IsLooked old new s n → IsLooked old new t n
+    looked_more n l = record { kept = λ f. l.kept (go (contains nat_cmp s.changed n) refl f) }
+      where
+        go : (b : Bool) → contains nat_cmp s.changed n ≡ b → contains nat_cmp t.changed n ≡ false → b ≡ false
+        go true e f = clash (sym f ∙ g.more n e)
+          where
+            clash : {b : Bool} → false ≡ true → b ≡ false
+            clash e = absurd cc
+        go false e f = refl
+
+    pub all_looked_more : (ns : List ℕ) → AllLooked old new s ns → AllLooked old new t ns
+    all_looked_more ns a = record { at = λ i n e. looked_more n (a.at i n e) }
+
+    pub put_looked_more : (p : Put) → IsPutLooked old new s p → IsPutLooked old new t p
+    put_looked_more p a = record { at = looked_more p.number a.at; left = λ n e. looked_more n (a.left n e) }
+
+    pub puts_looked_more : (puts : List Put) → ArePutsLooked old new s puts → ArePutsLooked old new t puts
+    puts_looked_more puts a = record { at = λ i p e. looked_more p.number (a.at i p e); left = λ i p n e f. looked_more n (a.left i p n e f) }
+
+    pub callers_looked_more : (ps qs : List Procedure) (k : ℕ) → AreCallersLooked old new s ps qs k → AreCallersLooked old new t ps qs k
+    callers_looked_more ps qs k (inl e) = inl e
+    callers_looked_more ps qs k (inr a) = inr (all_looked_more (sites_in (entries_of qs) k) a)
+
+    pub loops_looked_more : (qs : List Procedure) (k : ℕ) → AreLoopsLooked old new s qs k → AreLoopsLooked old new t qs k
+    loops_looked_more qs k (inl e) = inl e
+    loops_looked_more qs k (inr a) = inr (all_looked_more (numbers_at qs k) a)
+
+-- what holds of the first items of a list, and of one more
+pub one_more : {A : Type 0} (xs : List A) (P : A → Type 0) (i : ℕ) (x : A) → ((k : ℕ) (y : A) → k < i → slice_get xs k ≡ Some y → P y) → slice_get xs i ≡ Some x → P x → (k : ℕ) (y : A) → k < i + 1 → slice_get xs k ≡ Some y → P y
+one_more xs P i x all at p k y l e =
+    (by_test k i (λ b. slice_get xs k ≡ Some y → P y)
+    (λ q f. subst P (some_inj x y (sym at ∙ ap (slice_get xs) (sym q) ∙ f)) p)
+    (λ q f. all k y (omega arith) f)) e
+
+pub one_further : (P : ℕ → Type 0) (i : ℕ) → ((k : ℕ) → k < i → P k) → P i → (k : ℕ) → k < i + 1 → P k
+one_further P i all p k l = by_test k i (λ b. P k) (λ q. subst P (sym q) p) (λ q. all k (omega arith))

@@ -139,7 +139,7 @@ module _ (old new : Plan) (one : old.engine ≡ new.engine) (n : ℕ) where
   new_is : (w : List Frame) (p : Point) → owner w p ≡ n → is_start w p ≡ false → flat_row new.engine (reverse new.program) w p ≡ news here_new w p
   new_is w p o h = flat_is new w p n o h ∙ ap (λ e. rows_by e new here_new w p) (sym one)
 
-  kept_stays : (o q : Option Node) → here_old ≡ o → here_new ≡ q → Kept (olds o) (news q) → Stays old new n
+  pub kept_stays : (o q : Option Node) → here_old ≡ o → here_new ≡ q → Kept (olds o) (news q) → Stays old new n
   kept_stays o q e f k w p r i h had =
       new_is w p i h ∙ ap (λ z. news z w p) f ∙ k.all w p r (sym (old_is w p i h ∙ ap (λ z. olds z w p) e) ∙ had)
 

@@ -13,6 +13,8 @@ pub mod ChangedBreaks
 pub mod ChangedShapes
 pub mod ChangedStays
 pub mod ChangedSet
+pub mod Alike
+pub mod ChangedRest
 pub mod NumberLemmas
 pub mod EnteredLemmas
 pub mod SameLeaves

@@ -1,7 +1,5 @@
 -- Nodes by their numbers.
-use Rattle.std.proofs.lemmas.List.{reverse-append}
-use Rattle.std.proofs.Math.Seq.{take-suc}
-use Rattle.std.proofs.Common.{◌≡◌, ◌≢◌, ℕ, ◌+◌, ◌<◌, ◌==◌, cond, List, [], ◌∷◌, ◌++◌, length, map, reverse, take, get_or, Option, Some, None, refl, sym, ap, ◌∙◌, subst, add-one, append_assoc, append-nil}
+use Rattle.std.proofs.Common.{◌≡◌, ◌≢◌, ℕ, ◌==◌, cond, List, [], ◌∷◌, ◌++◌, map, Option, Some, None, refl, sym, ap, ◌∙◌}
 use Rattle.imp_slots.specs.Plain.{Code, Stop, Simple, If, While, Call, Break, Routine, code_numbers}
 use Rattle.imp_slots.specs.Fits.{Absent, Distinct, routine_numbers}
 use Rattle.plain_values.proofs.Cases.{by_test}
@@ -47,11 +45,3 @@ pub found_there : (xs : List Node) (y : Node) → Distinct (node_numbers xs) →
 found_there [] y d m = elim m [ ]
 found_there (_ ∷ xs) y d here = by_test y.stmt y.stmt (λ t. cond t (Some y) (node_of xs y.stmt) ≡ Some y) (λ k. refl) (λ k. absurd (k refl))
 found_there (x ∷ xs) y d (there m) = by_test x.stmt y.stmt (λ t. cond t (Some x) (node_of xs y.stmt) ≡ Some y) (λ k. absurd (absent_there x.stmt y xs d.0 m k)) (λ k. found_there xs y d.1 m)
-
--- The numbers of procedures, from the last one on.
-pub numbers_more : (rs : List Routine) (k i : ℕ) (r : Routine) → k ≡ i + 1 → i < length rs → r ≡ get_or rs i r → routine_numbers (reverse (take k rs)) ≡ code_numbers r.code ++ routine_numbers (reverse (take i rs))
-numbers_more rs k i r e h g =
-    ap (λ (n : ℕ). routine_numbers (reverse (take n rs))) (e ∙ add-one i)
-    ∙ ap (λ (ps : List Routine). routine_numbers (reverse ps)) (take-suc rs i r h)
-    ∙ ap routine_numbers (reverse-append (take i rs) (get_or rs i r ∷ []))
-    ∙ ap (λ (q : Routine). code_numbers q.code ++ routine_numbers (reverse (take i rs))) (sym g)

@@ -10,3 +10,4 @@ pub mod Reached
 pub mod Owners
 pub mod Shifts
 pub mod Changed
+pub mod Searches

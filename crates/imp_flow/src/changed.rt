@@ -1,31 +1,20 @@
-//! The statements that a change of a program touches.
-ghost use Rattle.std.specs.Prelude.{◌≡◌, ℕ, ◌+◌, ◌<◌, drop, length, ◌==◌, ◌||◌, ◌&&◌, not, MatchBool, IfOk, OnOk, Some, reverse};
-ghost use Rattle.std.specs.BTreeSet.{contains};
-ghost use Rattle.std.specs.Ordering.{nat_cmp};
-ghost use Rattle.batch_meaning.specs.Places.{main_layout};
-ghost use Rattle.plain_values.specs.Equal.{same};
+//! Whether a statement keeps its rows in another program.
+ghost use Rattle.std.specs.Prelude.{◌≡◌, ◌+◌, ◌<◌, drop, length, ◌&&◌, MatchBool, Some};
 ghost use Rattle.imp_slots.specs.Fits.{IsChecked};
-ghost use Rattle.imp_slots.specs.PartCodes.{layout_code};
-ghost use Rattle.imp_check.specs.Slots.{routines_of};
 ghost use Rattle.imp_flow.specs.Entered.{leaves_now, shape_now};
 ghost use Rattle.imp_flow.specs.Shapes as plain;
-ghost use Rattle.imp_flow.specs.Changed.{AreChanged, IsTold, IsChanged, Stays, is_bare, same_leaves, same_marks, same_rounds, same_shapes};
+ghost use Rattle.imp_flow.specs.Changed.{IsTold, IsChanged, Stays, is_bare, same_leaves, same_marks, same_rounds, same_shapes};
 ghost use Rattle.imp_flow.specs.Nodes.{node_of};
 ghost use Rattle.imp_flow.specs.Plans.{marks_at, plan_nodes};
 
-use crate::flow::{Flow, main_layout};
+use crate::flow::Flow;
 use crate::node::{Leaves, Node, Shape};
-use crate::numbers::numbers_of;
 use cell_names::Point;
-use imp_check::Checked;
 use imp_syntax::{ProcId, StmtId};
-use plain_values::Memory;
-use std::alloc::Global;
-use std::collections::BTreeSet;
 
 /// A procedure of the old program and one of the new, and whether they have the same marks.
 #[derive(Clone, Copy)]
-struct Pair {
+pub(crate) struct Pair {
     place: ProcId,
     other: ProcId,
     is_same: bool,
@@ -65,7 +54,7 @@ fn same_leaves(leaves: &Leaves<'_>, others: &Leaves<'_>) -> bool
 }
 
 /// Compares the marks of two procedures.
-fn pair_of(old: &Flow, new: &Flow, place: ProcId, other: ProcId) -> Pair
+pub(crate) fn pair_of(old: &Flow<'_>, new: &Flow<'_>, place: ProcId, other: ProcId) -> Pair
     ensures told { IsTold old.now new.now result }
     ensures place { result.place ≡ place }
     ensures other { result.other ≡ other }
@@ -80,7 +69,7 @@ fn pair_of(old: &Flow, new: &Flow, place: ProcId, other: ProcId) -> Pair
 
 /// The procedures of a statement, where both programs have it, and else this pair. So marks are compared once while
 /// statements of one procedure follow each other.
-fn pair_at(old: &Flow, new: &Flow, pair: Pair, stmt: StmtId) -> Pair
+pub(crate) fn pair_at(old: &Flow<'_>, new: &Flow<'_>, pair: Pair, stmt: StmtId) -> Pair
     requires told { IsTold old.now new.now pair }
     ensures told { IsTold old.now new.now result }
     ensures places { (x y : plain.Node) → node_of (plan_nodes old.now) stmt ≡ Some x → node_of (plan_nodes new.now) stmt ≡ Some y → (result.place ≡ x.place) × (result.other ≡ y.place) }
@@ -96,7 +85,7 @@ fn pair_at(old: &Flow, new: &Flow, pair: Pair, stmt: StmtId) -> Pair
 }
 
 /// Whether the procedures of two statements have the same marks.
-fn same_marks(old: &Flow, new: &Flow, pair: Pair, node: &Node<'_>, other: &Node<'_>) -> bool
+fn same_marks(old: &Flow<'_>, new: &Flow<'_>, pair: Pair, node: &Node<'_>, other: &Node<'_>) -> bool
     requires told { IsTold old.now new.now pair }
     ensures is { result ≡ same_marks old.now new.now node.now.place other.now.place }
 {
@@ -108,7 +97,7 @@ fn same_marks(old: &Flow, new: &Flow, pair: Pair, node: &Node<'_>, other: &Node<
 }
 
 /// Whether two loops, whose bodies end at these points, have the same rounds.
-fn same_rounds(flow: &Flow, same_marks: bool, end: Point, other: Point) -> bool
+fn same_rounds(flow: &Flow<'_>, same_marks: bool, end: Point, other: Point) -> bool
     ensures is { result ≡ same_rounds flow.now.engine same_marks end other }
 {
     let budget = flow.budget();
@@ -116,7 +105,13 @@ fn same_rounds(flow: &Flow, same_marks: bool, end: Point, other: Point) -> bool
 }
 
 /// Whether two statements have the same rows, where the points in front of them are the same.
-fn same_shapes(old: &Flow, new: &Flow, pair: Pair, node: &Node<'_>, other: &Node<'_>) -> bool
+fn same_shapes(
+    old: &Flow<'_>,
+    new: &Flow<'_>,
+    pair: Pair,
+    node: &Node<'_>,
+    other: &Node<'_>,
+) -> bool
     requires told { IsTold old.now new.now pair }
     ensures is { result ≡ same_shapes old.now.engine (marks_at old.now node.now.place) (marks_at new.now other.now.place) (shape_now node.now.shape) (shape_now other.now.shape) }
 {
@@ -150,7 +145,7 @@ fn is_bare(shape: &Shape<'_>) -> bool
 }
 
 /// Whether each point of a statement keeps its row.
-fn stays(old: &Flow, new: &Flow, pair: Pair, stmt: StmtId) -> bool
+pub(crate) fn stays(old: &Flow<'_>, new: &Flow<'_>, pair: Pair, stmt: StmtId) -> bool
     requires one { old.now.engine ≡ new.now.engine }
     requires old { IsChecked old.now.program }
     requires new { IsChecked new.now.program }
@@ -167,48 +162,4 @@ fn stays(old: &Flow, new: &Flow, pair: Pair, stmt: StmtId) -> bool
         None => false,
         Some(other) => node.front == other.front && same_shapes(old, new, pair, &node, &other),
     }
-}
-
-/// Whether the start of main keeps its row: main, the last procedure, has the same variables.
-fn same_start(old: &Checked, new: &Checked) -> bool
-    ensures is { result ≡ same layout_code (main_layout (reverse (routines_of old.now))) (main_layout (reverse (routines_of new.now))) }
-{
-    main_layout(old) == main_layout(new)
-}
-
-/// Adds a number, unless what it stands for is kept.
-fn add_changed(changed: &mut BTreeSet<u32>, number: u32, is_kept: bool) -> Result<(), Memory>
-    ensures added { OnOk result ((n : ℕ) → contains nat_cmp changed.new n ≡ (contains nat_cmp changed.old n || (not is_kept && (n == number)))) }
-{
-    if !is_kept {
-        changed.insert(number)?;
-    }
-    Ok(())
-}
-
-/// The statements that a change of a program touches: the numbers of those that have a changed point, each once and
-/// rising, with 0 in front where the start of main is changed. A point is changed where it has a row in the old
-/// program, and the new one has none for it or another. A statement is told by its number, so one that is gone is
-/// touched, and one that is new is not.
-///
-/// It takes time linear in the old program and in what its statements use, as conditions, layouts of callees, breaks of
-/// loops and marks of procedures, times the logarithm of how many statements are touched.
-///
-/// # Errors
-///
-/// [`Memory`] alone.
-pub fn points_changed(alloc: Global, old: &Flow, new: &Flow) -> Result<Vec<u32>, Memory>
-    requires one { old.now.engine ≡ new.now.engine }
-    ensures are { IfOk result (λ ns. AreChanged old.now new.now ns.items) }
-{
-    let stmts = numbers_of(alloc, old.program().routines())?;
-    new.program().routines();
-    let mut pair = pair_of(old, new, ProcId::new(0), ProcId::new(0));
-    let mut changed = BTreeSet::new(alloc);
-    add_changed(&mut changed, 0, same_start(old.program(), new.program()))?;
-    for stmt in stmts.as_slice() {
-        pair = pair_at(old, new, pair, *stmt);
-        add_changed(&mut changed, stmt.number(), stays(old, new, pair, *stmt))?;
-    }
-    Ok(changed.into_iter().collect(alloc)?)
 }

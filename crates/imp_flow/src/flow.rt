@@ -3,7 +3,7 @@ ghost use Rattle.std.specs.Prelude.{ℕ, ◌≡◌, ◌+◌, option_map, IfOk, S
 ghost use Rattle.imp_slots.specs.Fits.{IsChecked};
 ghost use Rattle.imp_check.specs.Slots.{routines_of};
 ghost use Rattle.batch_meaning.specs.Places.{main_layout};
-ghost use Rattle.call_contexts.specs.Settings.{engine_of};
+ghost use Rattle.call_contexts.specs.Settings.{setting_of};
 ghost use Rattle.cell_names.specs.declared.frame.Point.TheVariants.{Entry, Body, Iterate};
 ghost use Rattle.cell_rows.specs.Rows.{Init};
 ghost use Rattle.cell_rows.specs.Flat.{flat_row};
@@ -19,22 +19,20 @@ use crate::rows::{
 };
 use call_contexts::{Setting, main_place};
 use cell_names::{Frame, Point};
-use imp_check::Checked;
+use imp_check::View;
 use imp_slots::Layout;
 use imp_syntax::{ProcId, StmtId};
-use plain_values::Memory;
 use program_chains::Widening;
-use std::alloc::Global;
 use std::marker::Model;
 
-/// A checked program, and how its loops are interpreted.
+/// A program as it is read, and how its loops are interpreted.
 #[derive(Drop)]
-pub struct Flow {
-    prog: Checked,
-    setting: Setting,
+pub struct Flow<'a> {
+    prog: View<'a>,
+    setting: &'a Setting,
 }
 
-impl Model for Flow {
+impl<'a> Model for Flow<'a> {
     ghost use Rattle.std.specs.Prelude.{◌≡◌};
     ghost use Rattle.imp_check.specs.Slots.{routines_of};
     ghost use Rattle.call_contexts.specs.Settings.{setting_of};
@@ -46,40 +44,33 @@ impl Model for Flow {
 
     ghost coded = { plan_code };
 
-    ghost view = { λ a. plan_of (routines_of a.prog) a.setting.engine };
+    ghost view = { λ a. plan_of (routines_of a.prog) a.setting.now.engine };
 
-    ghost invariant = { λ a. a.setting ≡ setting_of a.setting.engine (routines_of a.prog) };
+    ghost invariant = { λ a. a.setting.now ≡ setting_of a.setting.now.engine (routines_of a.prog) };
 }
 
 /// The variables of main.
 #[tactic(auto, using(crate::proofs::EnteredLemmas::main_there, crate::proofs::EnteredLemmas::main_gone))]
-pub(crate) fn main_layout(prog: &Checked) -> &Layout
+pub(crate) fn main_layout<'a>(prog: &View<'a>) -> &'a Layout
     ensures is { result.now ≡ main_layout (reverse (routines_of prog.now)) }
 {
-    match prog.table().layout(ProcId::new(main_place(prog))) {
+    match prog.layout(ProcId::new(main_place(prog))) {
         Some(layout) => layout,
         None => unreachable!(),
     }
 }
 
-impl Flow {
-    /// The flow of a program whose loops take at most `budget` rounds. It takes the time of the marks of its procedures,
-    /// and fails for want of memory alone.
-    pub fn new(
-        alloc: Global,
-        prog: &Checked,
-        budget: u32,
-        widening: Widening,
-    ) -> Result<Flow, Memory>
-        ensures is { IfOk result (λ flow. flow ≡ plan_of (routines_of prog.now) (engine_of budget widening)) }
+impl<'a> Flow<'a> {
+    /// The flow of a program by its setting. It takes constant time.
+    pub fn new(prog: View<'a>, setting: &'a Setting) -> Flow<'a>
+        requires setting { setting.now ≡ setting_of setting.now.engine (routines_of prog) }
+        ensures is { result ≡ plan_of (routines_of prog.entry) setting.now.engine }
     {
-        let prog = prog.clone()?;
-        let setting = Setting::new(alloc, prog.routines(), budget, widening)?;
-        Ok(Flow { prog, setting })
+        Flow { prog, setting }
     }
 
     /// The program.
-    pub fn program(&self) -> &Checked
+    pub fn program(&self) -> &View<'a>
         ensures is { routines_of result.now ≡ self.now.program }
     {
         &self.prog

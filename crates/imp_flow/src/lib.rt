@@ -14,11 +14,12 @@
 //! [`targets`] gives what a query demands at a location under a call string: for each chain the loops and calls on
 //! the way, and a last point.
 //!
-//! [`points_changed`] compares two programs: it gives the statements with a point that the new program lacks, or whose
-//! row it has another one for. A procedure more or less is no change to the others
-//! ([`procedures_shift_no_rows`]).
+//! [`points_changed`] compares a program with that which a change makes of it: it gives the statements with a point that
+//! the new program lacks, or has another row for. It looks at what the change touches and not at the whole program. A
+//! procedure more or less is no change to the others ([`procedures_shift_no_rows`]).
 //!
-//! A [`Flow`] keeps no table of its own: it is made in the time of its marks. A row takes constant time and no memory.
+//! A [`Flow`] is a program as it is read and its setting, both lent: it is made in constant time. A row takes constant time
+//! and no memory.
 #![tactic(auto)]
 
 mod changed;
@@ -26,18 +27,18 @@ mod flow;
 mod input;
 mod laws;
 mod node;
-mod numbers;
 mod row;
 mod rows;
+mod search;
 mod shifts;
 mod steps;
 mod ways;
 
-pub use changed::points_changed;
 pub use flow::Flow;
 pub use input::{Input, Way};
 pub use laws::inputs_are_asked;
 pub use row::{Binary, Row, Unary};
+pub use search::points_changed;
 pub use shifts::procedures_shift_no_rows;
 pub use steps::{Step, Target};
 pub use ways::{target, targets};

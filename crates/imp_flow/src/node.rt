@@ -7,7 +7,7 @@ ghost use Rattle.imp_flow.specs.Reached.{into_loops};
 
 use crate::steps::Step;
 use cell_names::Point;
-use imp_check::{Around, Checked, Entry, SlotForm, Which};
+use imp_check::{Around, Entry, SlotForm, View, Which};
 use imp_slots::{SlotCall, SlotCond, SlotStmt};
 use imp_syntax::{ProcId, StmtId, StmtNode};
 use plain_values::{Items, Memory};
@@ -22,7 +22,7 @@ pub(crate) struct Leave {
 /// The breaks that leave a loop, in the order of the text.
 #[derive(Clone, Copy, Drop)]
 pub(crate) struct Leaves<'a> {
-    prog: &'a Checked,
+    prog: &'a View<'a>,
     breaks: &'a [StmtId],
 }
 
@@ -43,7 +43,7 @@ pub(crate) enum Shape<'a> {
 /// memory.
 #[derive(Clone, Copy, Drop)]
 pub(crate) struct Node<'a> {
-    prog: &'a Checked,
+    prog: &'a View<'a>,
     known: &'a Entry,
     pub(crate) stmt: StmtId,
     /// Its procedure.
@@ -85,7 +85,7 @@ fn front_of(entry: &Entry) -> Point
 }
 
 /// The point in front of the statement of a number.
-fn front_in(prog: &Checked, stmt: StmtId) -> Point
+fn front_in(prog: &View<'_>, stmt: StmtId) -> Point
     ensures is { result ≡ front_in (known_in prog.now stmt) }
 {
     match prog.entry(stmt) {
@@ -116,20 +116,20 @@ impl<'a> Leaves<'a> {
 }
 
 /// The last point of the body of a procedure that stands in front of another one.
-fn end_in(prog: &Checked, place: ProcId, callee: ProcId) -> Option<Point>
+fn end_in(prog: &View<'_>, place: ProcId, callee: ProcId) -> Option<Point>
     ensures is { result ≡ end_in prog.now place callee }
 {
     if callee.place() >= place.place() {
         return None;
     }
-    match prog.table().body(callee) {
+    match prog.body(callee) {
         None => None,
         Some(ends) => Some(behind_or(Point::Entry, ends.last)),
     }
 }
 
 /// What a statement with a condition does to the flow.
-fn branching<'a>(prog: &'a Checked, entry: &'a Entry, cond: &'a SlotCond) -> Shape<'a>
+fn branching<'a>(prog: &'a View<'a>, entry: &'a Entry, cond: &'a SlotCond) -> Shape<'a>
     ensures is { shape_now result ≡ branching (known_in prog.now) entry.now cond.now entry.now.part }
 {
     let last = entry.inner.last;
@@ -146,7 +146,7 @@ fn branching<'a>(prog: &'a Checked, entry: &'a Entry, cond: &'a SlotCond) -> Sha
     }
 }
 
-fn shape_of<'a>(prog: &'a Checked, entry: &'a Entry) -> Shape<'a>
+fn shape_of<'a>(prog: &'a View<'a>, entry: &'a Entry) -> Shape<'a>
     ensures is { shape_now result ≡ shape_from (known_in prog.now) (end_in prog.now entry.now.context.proc) entry.now entry.now.form }
 {
     match &entry.form {
@@ -160,7 +160,7 @@ fn shape_of<'a>(prog: &'a Checked, entry: &'a Entry) -> Shape<'a>
 
 impl<'a> Node<'a> {
     /// A statement of which this is known.
-    pub(crate) fn of(prog: &'a Checked, entry: &'a Entry) -> Node<'a>
+    pub(crate) fn of(prog: &'a View<'a>, entry: &'a Entry) -> Node<'a>
         ensures is { node_now result ≡ node_by prog.now entry.now }
     {
         Node {
@@ -183,7 +183,7 @@ impl<'a> Node<'a> {
 }
 
 /// The innermost loop around a loop.
-fn head_of(prog: &Checked, stmt: StmtId) -> Option<StmtId>
+fn head_of(prog: &View<'_>, stmt: StmtId) -> Option<StmtId>
     ensures is { result ≡ head_of (known_in prog.now stmt) }
 {
     match prog.entry(stmt) {
@@ -195,7 +195,7 @@ fn head_of(prog: &Checked, stmt: StmtId) -> Option<StmtId>
 /// Adds the steps into a loop and those around it, at most so many.
 #[tactic(auto, using(crate::proofs::EnteredLemmas::into_more, crate::proofs::EnteredLemmas::into_none, crate::proofs::EnteredLemmas::into_zero))]
 fn enter_loops(
-    prog: &Checked,
+    prog: &View<'_>,
     most: u32,
     head: Option<StmtId>,
     steps: &mut Items<Step>,
@@ -216,11 +216,10 @@ fn enter_loops(
 
 /// The statement of a number.
 #[tactic(auto, using(crate::proofs::EnteredLemmas::node_found, crate::proofs::EnteredLemmas::node_gone))]
-pub(crate) fn node_of(prog: &Checked, stmt: StmtId) -> Option<Node<'_>>
+pub(crate) fn node_of<'a>(prog: &'a View<'a>, stmt: StmtId) -> Option<Node<'a>>
     ensures is { option_map node_now result ≡ node_of (nodes_of (reverse (routines_of prog.now))) stmt }
 {
-    prog.program();
-    prog.routines();
+    prog.procs();
     match prog.entry(stmt) {
         None => None,
         Some(entry) => Some(Node::of(prog, entry)),

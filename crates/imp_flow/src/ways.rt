@@ -14,7 +14,6 @@ use crate::node::{Node, Shape, behind_or};
 use crate::steps::{Step, Target};
 use call_contexts::main_place;
 use cell_names::Point;
-use imp_check::{Checked, Head};
 use imp_syntax::{Chain, Location, ProcId, StmtId};
 use plain_values::{Items, Memory, Text};
 use std::alloc::Global;
@@ -45,7 +44,7 @@ fn enter_loops(around: &Option<Node<'_>>, steps: &mut Items<Step>) -> Result<(),
 }
 
 /// The statement of a number, if it stands in the procedure at a place.
-fn node_in_place(flow: &Flow, place: ProcId, stmt: StmtId) -> Option<Node<'_>>
+fn node_in_place<'a>(flow: &'a Flow<'_>, place: ProcId, stmt: StmtId) -> Option<Node<'a>>
     ensures is { option_map node_now result ≡ node_in_place flow.now place stmt }
 {
     match flow.node(stmt) {
@@ -55,7 +54,7 @@ fn node_in_place(flow: &Flow, place: ProcId, stmt: StmtId) -> Option<Node<'_>>
 }
 
 /// Main, which no step leads to.
-fn enter_main(alloc: Global, flow: &Flow) -> Reached
+fn enter_main(alloc: Global, flow: &Flow<'_>) -> Reached
     ensures is { way_along flow.now [] ≡ Some result }
     ensures checked { IsChecked flow.now.program }
 {
@@ -66,7 +65,7 @@ fn enter_main(alloc: Global, flow: &Flow) -> Reached
 }
 
 /// From a procedure into the one that a statement of it calls.
-fn enter_call(flow: &Flow, caller: Reached, site: StmtId) -> Result<Option<Reached>, Memory>
+fn enter_call(flow: &Flow<'_>, caller: Reached, site: StmtId) -> Result<Option<Reached>, Memory>
     ensures is { IfOk result (λ callee. callee ≡ way_into flow.now site caller) }
 {
     let Reached { mut steps, place } = caller;
@@ -87,7 +86,7 @@ fn enter_call(flow: &Flow, caller: Reached, site: StmtId) -> Result<Option<Reach
 }
 
 /// From main into the last procedure of a chain, which has the outermost call first.
-fn enter_chain(alloc: Global, flow: &Flow, chain: &[StmtId]) -> Result<Option<Reached>, Memory>
+fn enter_chain(alloc: Global, flow: &Flow<'_>, chain: &[StmtId]) -> Result<Option<Reached>, Memory>
     ensures is { IfOk result (λ end. end ≡ way_along flow.now (reverse chain.now)) }
     ensures checked { IsChecked flow.now.program }
 {
@@ -102,7 +101,7 @@ fn enter_chain(alloc: Global, flow: &Flow, chain: &[StmtId]) -> Result<Option<Re
 }
 
 /// In front of a statement, if it stands in the procedure at a place.
-fn before(flow: &Flow, place: ProcId, stmt: StmtId) -> Option<Ending<'_>>
+fn before<'a>(flow: &'a Flow<'_>, place: ProcId, stmt: StmtId) -> Option<Ending<'a>>
     ensures is { option_map ending_of result ≡ ending_at flow.now (Location.Before stmt) place }
 {
     match node_in_place(flow, place, stmt) {
@@ -116,7 +115,7 @@ fn before(flow: &Flow, place: ProcId, stmt: StmtId) -> Option<Ending<'_>>
 }
 
 /// Behind a statement.
-fn after(flow: &Flow, place: ProcId, stmt: StmtId) -> Option<Ending<'_>>
+fn after<'a>(flow: &'a Flow<'_>, place: ProcId, stmt: StmtId) -> Option<Ending<'a>>
     ensures is { option_map ending_of result ≡ ending_at flow.now (Location.After stmt) place }
 {
     match node_in_place(flow, place, stmt) {
@@ -136,7 +135,7 @@ fn is_loop(shape: &Shape<'_>) -> bool
 }
 
 /// At the head of a loop: the fixed point of its iterates.
-fn head(flow: &Flow, place: ProcId, stmt: StmtId) -> Option<Ending<'_>>
+fn head<'a>(flow: &'a Flow<'_>, place: ProcId, stmt: StmtId) -> Option<Ending<'a>>
     ensures is { option_map ending_of result ≡ ending_at flow.now (Location.Head stmt) place }
 {
     match node_in_place(flow, place, stmt) {
@@ -148,19 +147,12 @@ fn head(flow: &Flow, place: ProcId, stmt: StmtId) -> Option<Ending<'_>>
     }
 }
 
-/// The procedure at a place.
-fn head_at(prog: &Checked, place: ProcId) -> Option<&Head>
-    ensures is { option_copied result ≡ slice_get (heads_of prog.now) place }
-{
-    prog.table().procs().get(place.place() as usize)
-}
-
 /// Behind the body of the procedure at a place, if this is its name.
-fn end<'a>(flow: &'a Flow, place: ProcId, name: &Text) -> Option<Ending<'a>>
+fn end<'a>(flow: &'a Flow<'_>, place: ProcId, name: &Text) -> Option<Ending<'a>>
     ensures is { option_map ending_of result ≡ ending_at flow.now (Location.End name.now) place }
 {
     let prog = flow.program();
-    let Some(head) = head_at(prog, place) else {
+    let Some(head) = prog.head(place) else {
         return None;
     };
     if name == head.bare.name() {
@@ -174,7 +166,7 @@ fn end<'a>(flow: &'a Flow, place: ProcId, name: &Text) -> Option<Ending<'a>>
 }
 
 /// A location in the procedure at a place, if it is there.
-fn ending_at<'a>(flow: &'a Flow, place: ProcId, at: &Location) -> Option<Ending<'a>>
+fn ending_at<'a>(flow: &'a Flow<'_>, place: ProcId, at: &Location) -> Option<Ending<'a>>
     ensures is { option_map ending_of result ≡ ending_at flow.now at.now place }
 {
     match at {
@@ -186,7 +178,7 @@ fn ending_at<'a>(flow: &'a Flow, place: ProcId, at: &Location) -> Option<Ending<
 }
 
 /// From a procedure to a location in it.
-fn arrive(flow: &Flow, from: Reached, at: &Location) -> Result<Option<Target>, Memory>
+fn arrive(flow: &Flow<'_>, from: Reached, at: &Location) -> Result<Option<Target>, Memory>
     ensures is { IfOk result (λ o. o ≡ target_from flow.now at.now from) }
 {
     let Reached { mut steps, place } = from;
@@ -207,7 +199,7 @@ fn arrive(flow: &Flow, from: Reached, at: &Location) -> Result<Option<Target>, M
 /// [`Memory`] for want of memory.
 pub fn target(
     alloc: Global,
-    flow: &Flow,
+    flow: &Flow<'_>,
     at: &Location,
     chain: &Chain,
 ) -> Result<Option<Target>, Memory>
@@ -222,7 +214,7 @@ pub fn target(
 /// The targets of a location under these chains.
 fn all_targets(
     alloc: Global,
-    flow: &Flow,
+    flow: &Flow<'_>,
     at: &Location,
     chains: &[Chain],
 ) -> Result<Items<Target>, Memory>
@@ -246,7 +238,7 @@ fn all_targets(
 /// [`Memory`] for want of memory.
 pub fn targets(
     alloc: Global,
-    flow: &Flow,
+    flow: &Flow<'_>,
     at: &Location,
     string: &[u32],
 ) -> Result<Items<Target>, Memory>
@@ -254,7 +246,7 @@ pub fn targets(
     ensures none { IfOk result (λ ts. (r : Refusal) → procedure_of flow.now.program at.now ≡ Misses r → ts ≡ []) }
 {
     let prog = flow.program();
-    prog.routines();
+    prog.procs();
     let chains = call_contexts::targets(alloc, prog, at, string)?;
     all_targets(alloc, flow, at, chains.as_slice())
 }

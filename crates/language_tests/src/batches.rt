@@ -3,6 +3,7 @@ ghost use Rattle.std.specs.Prelude.{◌≡◌, ◌<◌};
 
 use crate::checked::checked;
 use batch_interp::{Answer, QueryError, answer, batch_report};
+use call_contexts::{Setting, place_of};
 use dom_interval::{Interval, IntervalState};
 use domain_laws::{Domain, Finding, Steps};
 use imp_check::Checked;
@@ -28,7 +29,7 @@ fn location(alloc: Global, kind: &str, number: u32) -> Result<Location, Fail> {
 
 /// The variables of the procedure of a location, or of main.
 fn layout<'a>(prog: &'a Checked, at: &Location) -> Result<&'a Layout, Fail> {
-    let place = match call_contexts::place_of(prog, at) {
+    let place = match place_of(&prog.view(), at) {
         Ok(place) => place.place() as usize,
         Err(_) => 0,
     };
@@ -98,9 +99,8 @@ fn asked<L: Ledger>(
     };
     let at = location(alloc, place.0, place.1)?;
     let layout = layout(&prog, &at)?;
-    let found = answer(
-        alloc, &Interval, &prog, how.1, widening, &at, string, &mut steps,
-    );
+    let setting = Setting::new(alloc, &prog.view(), how.1, widening)?;
+    let found = answer(alloc, &Interval, &prog, &setting, &at, string, &mut steps);
     shown(alloc, layout, found)
 }
 
@@ -210,7 +210,8 @@ fn reported<L: Ledger>(
         delay: 0,
         thresholds: false,
     };
-    let findings = batch_report(alloc, &Interval, prog, budget, widening, &mut steps)?;
+    let setting = Setting::new(alloc, &prog.view(), budget, widening)?;
+    let findings = batch_report(alloc, &Interval, prog, &setting, &mut steps)?;
     shown_findings(alloc, &findings)
 }
 

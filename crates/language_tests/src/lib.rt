@@ -1,6 +1,6 @@
 //! Tests of the language from its texts: which program is refused and why, what is known of the
-//! statements of one that is not, how it runs, what is answered of it and reported, and the rows of its
-//! cells. The expected answers are worked out by hand.
+//! statements of one that is not, how it runs, and what is answered of it and reported. The expected answers are worked
+//! out by hand.
 #![tactic(auto)]
 
 #[cfg(test)]
@@ -13,7 +13,5 @@ mod faults;
 mod limits;
 #[cfg(test)]
 mod readers;
-#[cfg(test)]
-mod rows;
 #[cfg(test)]
 mod runs;

@@ -50,7 +50,7 @@ end-outside m i c h l = by (is_beyond m.kinds i c)
     by true = refl
     by false = bound-outside m (flip i) i (c +ℤ c) h (inr l)
 
-range-outside : (m : HalfMatrix) (k : ℕ) (r : Bounds) → IsMatrix m → length m.kinds ≤ k → m ≡ meets_range m k r
+pub range-outside : (m : HalfMatrix) (k : ℕ) (r : Bounds) → IsMatrix m → length m.kinds ≤ k → m ≡ meets_range m k r
 range-outside m k r h l = end-outside m (2 * k + 1) (neg_ℤ r.lo) h (omega arith) ∙ ap (λ n. meets_end n (2 * k + 1) (neg_ℤ r.lo)) (end-outside m (2 * k) r.hi h (omega arith))
 
 -- ranges of what is no slot are met by nothing

@@ -163,7 +163,7 @@ eqb-half a k = ap (λ h. eqb h k) (flip-half a)
 even-flip : (a : ℕ) → eqb (flip a % 2) 0 ≡ not (eqb (a % 2) 0)
 even-flip a = grind (arith, nat_tests)
 
-turned-flip : (k i a : ℕ) → turned k i (flip a) ≡ flip (turned k i a)
+pub turned-flip : (k i a : ℕ) → turned k i (flip a) ≡ flip (turned k i a)
 turned-flip k i a = ap (λ b. if b && not (eqb (i % 2) 0) then flip (flip a) else flip a) (eqb-half a k) ∙ by (eqb (a / 2) k && not (eqb (i % 2) 0))
   where
     by : (b : Bool) → (if b then flip (flip a) else flip a) ≡ flip (if b then flip a else a)
@@ -173,7 +173,7 @@ turned-flip k i a = ap (λ b. if b && not (eqb (i % 2) 0) then flip (flip a) els
 negated_twice : (c : ℤ) → c ≡ neg_ℤ (neg_ℤ c)
 negated_twice c = omega (arith, ints)
 
-shift-flip : (k : ℕ) (c : ℤ) (a : ℕ) → shift k c (flip a) ≡ neg_ℤ (shift k c a)
+pub shift-flip : (k : ℕ) (c : ℤ) (a : ℕ) → shift k c (flip a) ≡ neg_ℤ (shift k c a)
 shift-flip k c a =
     ap (λ b. if b then (if eqb (flip a % 2) 0 then c else neg_ℤ c) else pos 0) (eqb-half a k)
     ∙ ap (λ b. if eqb (a / 2) k then (if b then c else neg_ℤ c) else pos 0) (even-flip a)

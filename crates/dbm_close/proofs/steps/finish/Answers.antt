@@ -1,28 +1,52 @@
-use Rattle.std.proofs.Common.{inl, inr}
-use Rattle.dbm_close.proofs.FinishLemmas.{finished-here, too_low-here}
-use Rattle.dbm_close.proofs.StrongLemmas.{stage_cut, stage_cut-within, stage_strong, stage_tight-within}
-use Rattle.dbm_close.specs.Close.{strong}
-use Rattle.dbm_core.specs.Half.{HasEntries, entry}
+use Rattle.std.specs.Prelude.{◌≡◌, ◌*◌, length}
+use Rattle.std.proofs.Common.{ap, subst, inl, inr}
+use Rattle.dbm_close.proofs.FinishLemmas.{empty_range-here}
+use Rattle.dbm_close.proofs.StrongLemmas.{no_empty_range-agree, stage_cut-within}
+use Rattle.dbm_close.specs.Close.{HasNoEmptyRange, closed_entry}
+use Rattle.dbm_core.proofs.HalfLemmas.{entry-coherent}
+use Rattle.dbm_core.specs.Half.{HasEntries, entry, nodes}
+use Rattle.dbm_close.proofs.HalvesLemmas.{fused-entries, halves-consistent, halves-contradictory, in_range-strong, low-strong}
+use Rattle.dbm_close.specs.Halves.{HasNegativeHalves, HasNoNegativeHalves}
 use Rattle.dbm_close.proofs.steps.finish.Goals as goal
 
-pub strengthen-requires : goal.strengthen-requires
-strengthen-requires c = record { within = stage_tight-within c.args.weights.kinds (entry c.args.weights) c.tighten.new.s c.requires.within c.tighten.ensures.entries }
+pub returns-then-has_negative_halves : goal.returns-then-has_negative_halves
+returns-then-has_negative_halves c =
+    let k : 2 * length c.kinds.result.now ≡ nodes c.args.weights = ap (λ x. 2 * length x) c.kinds.ensures.value in
+    record {
+      finish = inl (halves-contradictory (entry c.args.weights) (length c.args.weights.kinds) c.halves_of-halves.result c.halves_of-halves.ensures.halves
+          (subst (λ n. HasNegativeHalves n c.halves_of-halves.result) k c.if-has_negative_halves.ensures.negative));
+    }
 
-pub returns-then-is_too_low : goal.returns-then-is_too_low
-returns-then-is_too_low c =
-    let u : HasEntries c.args.weights.kinds (strong (entry c.args.weights)) c.strengthen.new.t = stage_strong c.args.weights.kinds (entry c.args.weights) c.tighten.new.s c.strengthen.new.t c.tighten.ensures.entries c.strengthen.ensures.entries in
-    record { finish = inr (inl (too_low-here c.args.weights.kinds (entry c.args.weights) c.strengthen.new.t u c.if-is_too_low.ensures.too_low)) }
+pub returns-then-has_low_bound : goal.returns-then-has_low_bound
+returns-then-has_low_bound c = record {
+  finish = inr (inl (low-strong (entry c.args.weights) (length c.args.weights.kinds) c.halves_of-halves.result c.halves_of-halves.ensures.halves c.if-has_low_bound.ensures.low));
+}
 
 pub has_empty_range-requires : goal.has_empty_range-requires
-has_empty_range-requires c =
-    let u : HasEntries c.args.weights.kinds (strong (entry c.args.weights)) c.strengthen.new.t = stage_strong c.args.weights.kinds (entry c.args.weights) c.tighten.new.s c.strengthen.new.t c.tighten.ensures.entries c.strengthen.ensures.entries in
-    record { within = stage_cut-within c.args.weights.kinds (entry c.args.weights) c.cut_entries.new.u c.requires.within (stage_cut c.args.weights.kinds (entry c.args.weights) c.strengthen.new.t c.cut_entries.new.u u c.cut_entries.ensures.entries) }
+has_empty_range-requires c = record {
+  within = stage_cut-within c.args.weights.kinds (entry c.args.weights) c.strengthen_and_cut.new.m c.requires.within
+      (fused-entries c.args.weights c.strengthen_and_cut.new.m c.halves_of-halves.result c.kinds.ensures.matrix c.strengthen_and_cut.ensures.matrix c.strengthen_and_cut.ensures.same_kinds c.halves_of-halves.ensures.halves c.strengthen_and_cut.ensures.kept);
+}
+
+pub returns-then-has_empty_range : goal.returns-then-has_empty_range
+returns-then-has_empty_range c = record {
+  finish = inr (inr (empty_range-here c.args.weights.kinds (entry c.args.weights) c.strengthen_and_cut.new.m
+      (fused-entries c.args.weights c.strengthen_and_cut.new.m c.halves_of-halves.result c.kinds.ensures.matrix c.strengthen_and_cut.ensures.matrix c.strengthen_and_cut.ensures.same_kinds c.halves_of-halves.ensures.halves c.strengthen_and_cut.ensures.kept)
+      c.if-has_empty_range.ensures.empty));
+}
 
 pub returns : goal.returns
 returns c =
-    let u : HasEntries c.args.weights.kinds (strong (entry c.args.weights)) c.strengthen.new.t = stage_strong c.args.weights.kinds (entry c.args.weights) c.tighten.new.s c.strengthen.new.t c.tighten.ensures.entries c.strengthen.ensures.entries in
+    let k : 2 * length c.kinds.result.now ≡ nodes c.args.weights = ap (λ x. 2 * length x) c.kinds.ensures.value in
+    let h : HasEntries c.args.weights.kinds (closed_entry (entry c.args.weights)) c.strengthen_and_cut.new.m =
+    fused-entries c.args.weights c.strengthen_and_cut.new.m c.halves_of-halves.result c.kinds.ensures.matrix c.strengthen_and_cut.ensures.matrix c.strengthen_and_cut.ensures.same_kinds c.halves_of-halves.ensures.halves c.strengthen_and_cut.ensures.kept in
     record {
-      finish = finished-here c.args.weights.kinds (entry c.args.weights) c.tighten.new.s c.strengthen.new.t c.cut_entries.new.u c.tighten.ensures.entries u
-          (stage_cut c.args.weights.kinds (entry c.args.weights) c.strengthen.new.t c.cut_entries.new.u u c.cut_entries.ensures.entries)
-          c.if-is_contradictory.ensures.contradictory c.if-is_too_low.ensures.too_low c.if-has_empty_range.ensures.empty;
+      finish = record {
+        consistent = halves-consistent (entry c.args.weights) (length c.args.weights.kinds) c.halves_of-halves.result c.halves_of-halves.ensures.halves
+            (subst (λ n. HasNoNegativeHalves n c.halves_of-halves.result) k c.if-has_negative_halves.ensures.negative);
+        in_range = in_range-strong (entry c.args.weights) (length c.args.weights.kinds) c.halves_of-halves.result (entry-coherent c.args.weights c.kinds.ensures.matrix) c.halves_of-halves.ensures.halves c.if-has_low_bound.ensures.low;
+        ranges = no_empty_range-agree c.args.weights.kinds (entry c.strengthen_and_cut.new.m) (closed_entry (entry c.args.weights)) h.entries
+            (subst (λ x. HasNoEmptyRange x (entry c.strengthen_and_cut.new.m)) h.same_kinds c.if-has_empty_range.ensures.empty);
+        entries = h;
+      };
     }

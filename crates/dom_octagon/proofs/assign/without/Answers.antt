@@ -8,6 +8,10 @@ use Rattle.dbm_core.specs.Limits.{IsLimited}
 use Rattle.dbm_core.specs.Operations.{forgotten}
 use Rattle.octagon_meaning.proofs.Exact.{without-is}
 use Rattle.octagon_meaning.specs.Matrices as matrices
+use Rattle.dbm_incremental.proofs.KeepLemmas.{forget-closed}
+use Rattle.dbm_incremental.proofs.LawLemmas.{closed-same}
+use Rattle.dbm_incremental.specs.ClosedMatrices.{IsClosed}
+use Rattle.dom_octagon.proofs.Bounds.{without-entries}
 use Rattle.dom_octagon.proofs.Tables.{limited_ready}
 use Rattle.dom_octagon.specs.Limits.{IsReady}
 use Rattle.dom_octagon.proofs.assign.without.Goals as goal
@@ -18,3 +22,10 @@ returns-clause-value c = entries-if_ok-then (HasEntries c.args.m.now.kinds (forg
 
 pub returns-clause-ready : goal.returns-clause-ready
 returns-clause-ready c = entries-if_ok-then (IsLimited (2 ^ 64)) IsReady c.forget.result limited_ready (c.forget.ensures.limited (2 ^ 64) c.requires.limited)
+
+pub returns-clause-closed : goal.returns-clause-closed
+returns-clause-closed c = λ h. entries-if_ok-then (HasEntries c.args.m.now.kinds (forgotten (entry c.args.m.now) c.args.k)) IsClosed c.forget.result
+    (λ r e. forget-closed c.args.m.now r c.args.k h e) c.forget.ensures.entries
+
+pub returns-clause-same : goal.returns-clause-same
+returns-clause-same c = λ h. closed-same (matrices.without c.args.m.now c.args.k) (forget-closed c.args.m.now (matrices.without c.args.m.now c.args.k) c.args.k h (without-entries c.args.m.now c.args.k h.1.matrix))

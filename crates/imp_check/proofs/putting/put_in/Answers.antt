@@ -3,6 +3,7 @@ use Rattle.imp_check.specs.Tables.{entry_in}
 use Rattle.imp_check.specs.Changes.{overlay, AreWithin}
 use Rattle.imp_check.specs.declared.change.Put.{Put}
 use Rattle.imp_check.proofs.OverlayLemmas.{back_within, overlay_back, at_same, drop_more, as_long, overlay_step, back_step, all_back, all_in}
+use Rattle.imp_check.proofs.FallingLemmas.{falling_once}
 use Rattle.imp_check.proofs.putting.put_in.Goals as goal
 
 pub put_one-requires : goal.put_one-requires
@@ -31,8 +32,8 @@ loop-i-preserved c =
       as_long = c.put_one.ensures.as_long ∙ inv.as_long;
       as_many = as_long xs ys i c.put_one.new.put inv.as_many;
       rest = drop_more xs ys i c.put_one.new.put inv.rest;
-      back = back_step ys (entry_in c.args.places.now) i d (slice_index_or xs i d) k e c.requires.within.once xs (entry_in c.loop-i.places) c.put_one.new.put l c.put_one.ensures.number c.put_one.ensures.entry inv.put inv.back;
-      put = overlay_step ys (entry_in c.args.places.now) i d (slice_index_or xs i d) k e c.requires.within.once (entry_in c.loop-i.places) (entry_in c.put_one.new.places) c.put_one.ensures.is inv.put;
+      back = back_step ys (entry_in c.args.places.now) i d (slice_index_or xs i d) k e (falling_once ys c.requires.within.falling) xs (entry_in c.loop-i.places) c.put_one.new.put l c.put_one.ensures.number c.put_one.ensures.entry inv.put inv.back;
+      put = overlay_step ys (entry_in c.args.places.now) i d (slice_index_or xs i d) k e (falling_once ys c.requires.within.falling) (entry_in c.loop-i.places) (entry_in c.put_one.new.places) c.put_one.ensures.is inv.put;
     }
 
 pub returns-clause-back : goal.returns-clause-back

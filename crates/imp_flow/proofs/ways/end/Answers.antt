@@ -13,7 +13,7 @@ pub returns-in_default : goal.returns-in_default
 returns-in_default c =
     let x = c.args.name.now in
     let place = c.args.place in
-    let gone = sym c.head_at.ensures.is ∙ ap option_copied c.in_default.is in
+    let gone = sym c.head.ensures.is ∙ ap option_copied c.in_default.is in
     record { is = sym (ap (λ (rs : List Routine). ending x (slice_get rs place)) (sym c.program-prog.ensures.is) ∙ end_gone c.program-prog.result.now place x gone) }
 
 pub returns-then-eq : goal.returns-then-eq
@@ -21,7 +21,7 @@ returns-then-eq c =
     let x = c.args.name.now in
     let place = c.args.place in
     let head = c.in-Some.head.now in
-    let there = sym c.head_at.ensures.is ∙ ap option_copied c.in-Some.is in
+    let there = sym c.head.ensures.is ∙ ap option_copied c.in-Some.is in
     let here : Option (List ℕ × Point) = Some ([], behind_or Entry head.body.last) in
     let named = ap (bytes_eq x) (sym c.name.ensures.is) ∙ sym c.if-eq.ensures in
     record {
@@ -38,7 +38,7 @@ returns-else-eq c =
     let x = c.args.name.now in
     let place = c.args.place in
     let head = c.in-Some.head.now in
-    let there = sym c.head_at.ensures.is ∙ ap option_copied c.in-Some.is in
+    let there = sym c.head.ensures.is ∙ ap option_copied c.in-Some.is in
     let here : Option (List ℕ × Point) = Some ([], behind_or Entry head.body.last) in
     let named = ap (bytes_eq x) (sym c.name.ensures.is) ∙ sym c.if-eq.ensures in
     record {

@@ -11,4 +11,4 @@ returns-clause-are c =
     let string = c.args.string.now in
     let same = c.program-prog.ensures.is in
     let chains = c.as_slice.ensures.same ∙ c.in_ok-chains.ensures.is ∙ ap (λ ps. map reverse (targets_of ps l string)) same in
-    targets_are plan.program l string c.as_slice.result.now c.all_targets.result (subst IsChecked same c.routines.ensures.fit) chains c.all_targets.ensures.are
+    targets_are plan.program l string c.as_slice.result.now c.all_targets.result (subst IsChecked same c.procs.ensures.fit) chains c.all_targets.ensures.are

@@ -1,0 +1,7 @@
+pub mod Ins
+pub mod Rest
+pub mod Pigeons
+pub mod Users
+pub mod Stacks
+pub mod Turns
+pub mod Whole

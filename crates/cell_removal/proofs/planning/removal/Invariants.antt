@@ -1,0 +1,7 @@
+use Rattle.std.proofs.Common.{take}
+use Rattle.daig_graph.specs.Held.{IsIn}
+use Rattle.cell_removal.specs.Removal.{Removes}
+use Rattle.cell_removal.proofs.planning.removal.Given as goal
+
+abbrev pub invariant-loop-cell : goal.invariant-loop-cell
+invariant-loop-cell g l = Removes l.graph.cells (IsIn (take l.cell-index l.touched)) l.cells.keys

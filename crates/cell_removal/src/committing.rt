@@ -1,0 +1,19 @@
+//! Taking planned cells away.
+ghost use Rattle.std.specs.Prelude.{◌≡◌};
+ghost use Rattle.cell_removal.specs.Removal.{IsOrder, without};
+
+use crate::planning::Plan;
+use daig_graph::Graph;
+
+/// Takes the planned cells away; the others stay as they are. It takes no memory, and as many steps as the cells have
+/// inputs.
+pub fn commit<V>(graph: &mut Graph<V>, plan: Plan)
+where
+    V: Drop,
+    requires order { IsOrder graph.old.cells plan }
+    ensures removes { graph.new.cells ≡ without graph.old.cells plan }
+{
+    for cell in plan.cells() {
+        graph.remove(*cell);
+    }
+}

@@ -1,0 +1,219 @@
+-- One cell more.
+use Rattle.std.proofs.Common.{◌≡◌, ◌≢◌, ℕ, suc, ◌+◌, ◌<◌, ◌≤◌, ◌⊎◌, ◌||◌, List, [], ◌∷◌, take, length, Option, Some, None, Bool, true, false, cond, slice_get, refl, sym, ap, subst, ◌∙◌, inl, inr, arith}
+use Rattle.std.specs.Prelude.{is_some, IsSome, Result, Ok, Err, OnOk, OnErr}
+use Rattle.std.proofs.Math.Seq.{take-length}
+use Rattle.std.specs.Option.{option_and_then}
+use Rattle.std.specs.Cmp.{nat_cmp_total}
+use Rattle.std.specs.FinMap.{get, insert, len, len-insert, contains_key}
+use Rattle.plain_values.proofs.Cases.{by_bool, or_either, some_inj}
+use Rattle.domain_laws.specs.Operations.{Operations}
+use Rattle.demand_order.specs.Order.{member}
+use Rattle.demand_order.proofs.OrderLemmas.{or_false_right}
+use Rattle.cell_names.specs.Known.{IsOnce}
+use Rattle.cell_names.specs.Paths.{CellName}
+use Rattle.cell_rows.specs.Claims.{HasName}
+use Rattle.kept_set.specs.Touched as touched
+use Rattle.imp_flow.specs.Plans.{Plan}
+use Rattle.memo_table.specs.Results.{AreResults}
+use Rattle.daig_graph.specs.Cells.{AreCells, Filled}
+use Rattle.daig_graph.proofs.Maps.{get-insert-here, get-insert-other}
+use Rattle.daig_graph.proofs.Cases.{same_number}
+use Rattle.daig_query.specs.declared.held.Held.{Held}
+use Rattle.imp_flow.specs.declared.row.Row.{Row}
+use Rattle.daig_query.specs.declared.opening.Open.{Open}
+use Rattle.daig_query.specs.declared.store.Store.{Store}
+use Rattle.named_cells.specs.Same.{same_name}
+use Rattle.named_cells.specs.Named.{filled_at, number_of, AreNumbers}
+use Rattle.daig_query.specs.Kept.{kept, IsValue, Grows}
+use Rattle.named_cells.specs.Asked.{inputs}
+use Rattle.daig_query.specs.Right.{found, IsCellOf, IsRight}
+use Rattle.daig_query.specs.Opened.{name_of, IsReady, Puts, Computes}
+use Rattle.named_cells.proofs.Same.{same_is}
+use Rattle.daig_query.proofs.Lists.{get_some}
+use Rattle.daig_query.proofs.Growing.{keeps_same, grows_trans}
+use Rattle.named_cells.proofs.Numbers.{number_there, filled_number, numbers_of}
+
+pub member_place : (xs : List CellName) (z : CellName) → member same_name xs z ≡ true → (i : ℕ) × (slice_get xs i ≡ Some z)
+member_place [] z e = absurd cc
+member_place (y ∷ ys) z e = go (member_place ys z) (or_either (same_name z y) (member same_name ys z) e)
+  where
+    go : (member same_name ys z ≡ true → (i : ℕ) × (slice_get ys i ≡ Some z)) → (same_name z y ≡ true) ⊎ (member same_name ys z ≡ true) → (i : ℕ) × (slice_get (y ∷ ys) i ≡ Some z)
+    go rest (inl h) = (0, ap Some (sym (same_is.same_true z y h)))
+    go rest (inr h) = let p = rest h in (suc p.0, p.1)
+
+or_left : (a b : Bool) → a ≡ true → (a || b) ≡ true
+or_left a b h = ap (λ c. c || b) h
+
+or_right : (a b : Bool) → b ≡ true → (a || b) ≡ true
+or_right true b h = refl
+or_right false b h = h
+
+pub on_ok : {A E P Q : Type 0} (r : Result A E) → OnOk r P → (P → Q) → OnOk r Q
+on_ok (Ok a) h f = f h
+on_ok (Err e) h f = tt
+
+pub on_err : {A E P Q : Type 0} (r : Result A E) → OnErr r P → (P → Q) → OnErr r Q
+on_err (Ok a) h f = tt
+on_err (Err e) h f = f h
+
+module _ {S : Type 0} (dom : Operations S) (plan : Plan) where
+  -- all inputs are found, so these are their numbers
+  pub ready_numbers : (store : Store S) (row : Row) (o : Open) → IsReady dom plan store row o → AreNumbers store.names.names o.inputs (inputs dom plan (name_of store o))
+  ready_numbers store row o ready = subst (λ xs. AreNumbers store.names.names o.inputs xs) (ap (λ m. take m all) complete ∙ take-length all) ready.at.entry.numbers
+    where
+      all : List CellName
+      all = inputs dom plan (name_of store o)
+
+      beyond : length o.inputs < length all → ⊥
+      beyond l =
+          let q = get_some all (length o.inputs) l in
+          let c : Some q.0 ≡ None = sym q.1 ∙ ready.complete in
+          cc
+
+      complete : length o.inputs ≡ length all
+      complete = let w : length o.inputs ≤ length all = ready.at.entry.within in grind (arith, beyond)
+
+  -- a name that has no cell has none under its number
+  pub absent_get : (store : Store S) → IsRight dom plan store → (n : ℕ) (x : CellName) → slice_get store.names.names n ≡ Some x → kept store x ≡ false → get store.graph.cells n ≡ None
+  absent_get store right n x e h = go (get store.graph.cells n) refl
+    where
+      go : (o : Option (Filled Held)) → get store.graph.cells n ≡ o → o ≡ None
+      go None k = refl
+      go (Some f) k =
+          let a : kept store x ≡ true = ap is_some (filled_number store.graph.cells store.names.names right.once x n e ∙ k) in
+          let c : true ≡ false = sym a ∙ h in
+          absurd cc
+
+  pub computes_grow : (old new : Store S) → Computes dom plan old new → Grows old new
+  computes_grow old new h = record {
+    paths = keeps_same old.names.paths new.names.paths (ap (λ k. k.paths) h.names);
+    names = keeps_same old.names.names new.names.names (ap (λ k. k.names) h.names);
+    states = h.states;
+    cells = λ n f e. subst (λ m. get m n ≡ Some f) (sym h.cells) e;
+  }
+
+  pub computes_kept : (old new : Store S) → Computes dom plan old new → (y : CellName) → kept new y ≡ kept old y
+  computes_kept old new h y = ap (λ m. is_some (filled_at m new.names.names y)) h.cells ∙ ap (λ k. is_some (filled_at old.graph.cells k.names y)) h.names
+
+  module _ (mid new : Store S) (right : IsRight dom plan mid) (n : ℕ) (x : CellName) (f : Filled Held)
+      (number : slice_get mid.names.names n ≡ Some x) (absent : get mid.graph.cells n ≡ None) (has : HasName plan.engine plan.program x) (is : IsCellOf dom plan mid x f) (there : AreCells mid.graph.cells f.inputs)
+      (names : new.names ≡ mid.names) (states : new.states ≡ mid.states) (operations : new.operations ≡ mid.operations) (memo : new.memo ≡ mid.memo) (cells : new.graph.cells ≡ insert mid.graph.cells n f) where
+    here : get new.graph.cells n ≡ Some f
+    here = ap (λ m. get m n) cells ∙ get-insert-here mid.graph.cells n f
+
+    other : (q : ℕ) → q ≢ n → get new.graph.cells q ≡ get mid.graph.cells q
+    other q h = ap (λ m. get m q) cells ∙ get-insert-other mid.graph.cells n f q h
+
+    same_names : (y : CellName) → filled_at new.graph.cells new.names.names y ≡ filled_at new.graph.cells mid.names.names y
+    same_names y = ap (λ k. filled_at new.graph.cells k.names y) names
+
+    adds : (y : CellName) → kept new y ≡ (kept mid y || same_name y x)
+    adds y = ap is_some (same_names y) ∙ by_bool (same_name y x) is_it is_not
+      where
+        P : Type 0
+        P = is_some (filled_at new.graph.cells mid.names.names y) ≡ (kept mid y || same_name y x)
+
+        is_it : same_name y x ≡ true → P
+        is_it h =
+            let e : y ≡ x = same_is.same_true y x h in
+            let a : filled_at new.graph.cells mid.names.names y ≡ Some f = filled_number new.graph.cells mid.names.names right.once y n (number ∙ ap Some (sym e)) ∙ here in
+            ap is_some a ∙ sym (or_right (kept mid y) (same_name y x) h)
+
+        is_not : same_name y x ≡ false → P
+        is_not h = ap is_some (by (number_of mid.names.names y) refl) ∙ sym (ap (λ b. kept mid y || b) h ∙ or_false_right (kept mid y))
+          where
+            by : (o : Option ℕ) → number_of mid.names.names y ≡ o → option_and_then (get new.graph.cells) o ≡ option_and_then (get mid.graph.cells) o
+            by None e = refl
+            by (Some m) e = other m (λ q.
+                let a : slice_get mid.names.names m ≡ Some y = number_there mid.names.names y m e in
+                let b : Some y ≡ Some x = sym a ∙ (ap (slice_get mid.names.names) q ∙ number) in
+                let c : y ≡ x = some_inj y x b in
+                let d : same_name y x ≡ true = subst (λ z. same_name y z ≡ true) c (same_is.same_refl y) in
+                let k : true ≡ false = sym d ∙ h in
+                cc)
+
+    stays : (y : CellName) → kept mid y ≡ true → kept new y ≡ true
+    stays y h = adds y ∙ or_left (kept mid y) (same_name y x) h
+
+    grows : Grows mid new
+    grows = record {
+      paths = keeps_same mid.names.paths new.names.paths (ap (λ k. k.paths) names);
+      names = keeps_same mid.names.names new.names.names (ap (λ k. k.names) names);
+      states = keeps_same mid.states new.states states;
+      cells = λ q g e. elim (same_number q n) [
+        | inl h ↦ (let c : None ≡ Some g = sym (ap (get mid.graph.cells) h ∙ absent) ∙ e in absurd cc)
+        | inr h ↦ other q h ∙ e
+      ];
+    }
+
+    cell_of : (y : CellName) (g : Filled Held) → IsCellOf dom plan mid y g → IsCellOf dom plan new y g
+    cell_of y g c = record {
+      value = subst (λ s. IsValue s g.value (found dom plan y)) (sym states) c.value;
+      inputs = subst (λ k. AreNumbers k.names g.inputs (inputs dom plan y)) (sym names) c.inputs;
+      owned = c.owned;
+    }
+
+    named : (y : CellName) → kept new y ≡ true → HasName plan.engine plan.program y
+    named y h = elim (or_either (kept mid y) (same_name y x) (sym (adds y) ∙ h)) [
+      | inl a ↦ right.kept.named y a
+      | inr a ↦ subst (λ z. HasName plan.engine plan.program z) (sym (same_is.same_true y x a)) has
+    ]
+
+    input_kept : (z : CellName) → member same_name (inputs dom plan x) z ≡ true → kept new z ≡ true
+    input_kept z m =
+        let p = member_place (inputs dom plan x) z m in
+        let q = numbers_of mid.names.names f.inputs (inputs dom plan x) is.inputs p.0 z p.1 in
+        let s : IsSome (get mid.graph.cells q.0) = there p.0 q.0 q.1 in
+        stays z (ap is_some (filled_number mid.graph.cells mid.names.names right.once z q.0 q.2) ∙ s)
+
+    closed : (y z : CellName) → kept new y ≡ true → member same_name (inputs dom plan y) z ≡ true → kept new z ≡ true
+    unfolding inputs
+    closed y z h m = elim (or_either (kept mid y) (same_name y x) (sym (adds y) ∙ h)) [
+      | inl a ↦ stays z (right.kept.closed y z a m)
+      | inr a ↦ input_kept z (subst (λ v. member same_name (inputs dom plan v) z ≡ true) (same_is.same_true y x a) m)
+    ]
+
+    at_cell : (q : ℕ) (g : Filled Held) → get new.graph.cells q ≡ Some g → (y : CellName) × (slice_get new.names.names q ≡ Some y) × IsCellOf dom plan new y g
+    at_cell q g e = elim (same_number q n) [
+      | inl h ↦ (
+          let k : f ≡ g = some_inj f g (sym here ∙ (ap (get new.graph.cells) (sym h) ∙ e)) in
+          (x, ap (λ k. slice_get k.names q) names ∙ (ap (slice_get mid.names.names) h ∙ number), cell_of x g (subst (IsCellOf dom plan mid x) k is)))
+      | inr h ↦ (
+          let p = right.cells q g (sym (other q h) ∙ e) in
+          (p.0, ap (λ k. slice_get k.names q) names ∙ p.1, cell_of p.0 g p.2))
+    ]
+
+    set : touched.AreCells dom plan.engine plan.program same_name (kept new)
+    unfolding inputs
+    set = record { named = named; closed = closed }
+
+    results : AreResults dom new.operations new.states new.memo.entries
+    results = subst (λ m. AreResults dom new.operations new.states m.entries) (sym memo) (
+        subst (λ s. AreResults dom new.operations s mid.memo.entries) (sym states) (
+        subst (λ p. AreResults dom p mid.states mid.memo.entries) (sym operations) right.results
+        )
+        )
+
+    right_new : IsRight dom plan new
+    right_new = record {
+      checked = right.checked;
+      root = subst (λ k. slice_get k.paths 0 ≡ Some []) (sym names) right.root;
+      once = subst (λ k. IsOnce k.names) (sym names) right.once;
+      single = subst IsOnce (sym states) right.single;
+      kept = set;
+      cells = at_cell;
+      results = results;
+    }
+
+    one_more : len new.graph.cells ≡ suc (len mid.graph.cells)
+    one_more =
+        let a : contains_key mid.graph.cells n ≡ false = ap is_some absent in
+        ap len cells ∙ len-insert nat_cmp_total mid.graph.cells n f ∙ ap (λ b. cond b (len mid.graph.cells) (len mid.graph.cells + 1)) a ∙ (let h : len mid.graph.cells + 1 ≡ suc (len mid.graph.cells) = omega arith in h)
+
+    pub puts : (old : Store S) → Computes dom plan old mid → Puts dom plan old new x
+    puts old c = record {
+      right = right_new;
+      grows = grows_trans old mid new (computes_grow old mid c) grows;
+      adds = λ y. adds y ∙ ap (λ b. b || same_name y x) (computes_kept old mid c y);
+      count = one_more ∙ ap (λ m. suc (len m)) c.cells;
+    }

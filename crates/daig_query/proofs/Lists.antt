@@ -1,0 +1,28 @@
+-- Fronts of lists.
+use Rattle.std.proofs.Common.{◌≡◌, ℕ, zero, suc, ◌<◌, ◌⊎◌, List, [], ◌∷◌, ◌++◌, map, take, length, Some, slice_get, refl, ap, ◌∙◌, inl, inr, arith}
+use Rattle.std.proofs.lemmas.List.{map-append}
+
+-- one item more
+pub take_next : {A : Type 0} (xs : List A) (i : ℕ) (x : A) → slice_get xs i ≡ Some x → take (suc i) xs ≡ take i xs ++ x ∷ []
+take_next [] i x e = absurd cc
+take_next (y ∷ ys) zero x e = let q : y ≡ x = cc in ap (λ z. z ∷ []) q
+take_next (y ∷ ys) (suc i) x e = ap (λ zs. y ∷ zs) (take_next ys i x e)
+
+pub map_next : {A B : Type 0} (f : A → B) (xs : List A) (i : ℕ) (x : A) → slice_get xs i ≡ Some x → map f (take (suc i) xs) ≡ map f (take i xs) ++ f x ∷ []
+map_next f xs i x e = ap (map f) (take_next xs i x e) ∙ map-append f (take i xs) (x ∷ [])
+
+pub get_take : {A : Type 0} (xs : List A) (k i : ℕ) → i < k → slice_get (take k xs) i ≡ slice_get xs i
+get_take xs zero i h = absurd (omega arith)
+get_take [] (suc k) i h = refl
+get_take (x ∷ xs) (suc k) zero h = refl
+get_take (x ∷ xs) (suc k) (suc i) h = get_take xs k i (omega arith)
+
+-- a list is empty, or has a last item
+pub last_view : {A : Type 0} (xs : List A) → (xs ≡ []) ⊎ ((us : List A) × (u : A) × (xs ≡ us ++ u ∷ []))
+last_view [] = inl refl
+last_view (x ∷ xs) = elim (last_view xs) [ inl e ↦ inr ([], x, ap (λ ys. x ∷ ys) e) | inr p ↦ inr (x ∷ p.0, p.1, ap (λ ys. x ∷ ys) p.2) ]
+
+pub get_some : {A : Type 0} (xs : List A) (i : ℕ) → i < length xs → (x : A) × (slice_get xs i ≡ Some x)
+get_some [] i h = absurd (omega arith)
+get_some (x ∷ xs) zero h = (x, refl)
+get_some (x ∷ xs) (suc i) h = get_some xs i (omega arith)

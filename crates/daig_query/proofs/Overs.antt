@@ -1,0 +1,172 @@
+-- What a name stores one of whose inputs is an Over.
+use Rattle.std.proofs.Common.{◌≡◌, ◌≢◌, ℕ, zero, suc, ◌<◌, ◌≤◌, List, [], ◌∷◌, map, take, length, Option, Some, None, true, option_map, slice_get, refl, sym, ap, ap₂, subst, ◌∙◌, arith}
+use Rattle.std.specs.Prelude.{◌↔◌, reverse}
+use Rattle.std.specs.Option.{option_and_then}
+use Rattle.std.proofs.Math.Seq.{take-length}
+use Rattle.std.proofs.lemmas.Option.{slice_get_within, slice_get-map}
+use Rattle.plain_values.proofs.Cases.{some_inj}
+use Rattle.domain_laws.specs.Operations.{Operations}
+use Rattle.batch_meaning.specs.Values as batch
+use Rattle.batch_meaning.specs.Values.{lift, lift2}
+use Rattle.batch_meaning.specs.Batch.{Engine}
+use Rattle.cell_names.specs.declared.frame.Frame.{Frame}
+use Rattle.cell_names.specs.declared.frame.Point.{Point}
+use Rattle.cell_names.specs.Paths.{CellName}
+use Rattle.cell_rows.specs.Cells.{Cell, asks_row, operation_row, most_row}
+use Rattle.imp_flow.specs.Near.{row_in}
+use Rattle.imp_flow.specs.Plans.{Plan}
+use Rattle.imp_flow.specs.declared.input.Input.{Input}
+use Rattle.imp_flow.specs.declared.row.Unary.{Unary}
+use Rattle.imp_flow.specs.declared.row.Unary.TheVariants as one
+use Rattle.imp_flow.specs.declared.row.Binary.{Binary}
+use Rattle.imp_flow.specs.declared.row.Binary.TheVariants as two
+use Rattle.imp_flow.specs.declared.row.Row.{Row}
+use Rattle.imp_flow.specs.declared.row.Row.TheVariants.{Init, One, Two, Fixed, Joins}
+use Rattle.daig_graph.specs.declared.value.Value.{Value}
+use Rattle.daig_graph.specs.declared.value.Value.TheVariants.{State, Over}
+use Rattle.loop_unroll.specs.Iterates.{iterate_of, value_at}
+use Rattle.daig_query.specs.declared.held.Held.{Held}
+use Rattle.daig_query.specs.declared.opening.Open.{Open}
+use Rattle.daig_query.specs.declared.store.Store.{Store}
+use Rattle.daig_query.specs.Kept.{Cells, IsValue}
+use Rattle.daig_query.specs.Overs.{IsFirstOver}
+use Rattle.named_cells.specs.Asked.{inputs}
+use Rattle.daig_query.specs.Right.{found}
+use Rattle.daig_query.specs.Opened.{IsReady}
+use Rattle.daig_query.proofs.Lists.{get_some}
+use Rattle.daig_query.proofs.Found.{Input as Found, input_found, input_value}
+use Rattle.daig_query.proofs.Fixes.{overs}
+use Rattle.daig_query.proofs.Asked.{X, I, F, r, law, asks, most_inputs}
+
+abbrev IsState : {S : Type 0} → Cell S → Type 0
+IsState {S} c = (s : S) × (c.value ≡ batch.State s)
+
+module _ {S : Type 0} (dom : Operations S) (engine : Engine) (n : ℕ) (z : List ℕ) where
+  one_over : (op : Unary) (a : Input) (w : List Frame) (v : Cell S) (vs : List (Cell S)) → v.value ≡ batch.Over n z → (operation_row dom engine (row_in w (One op a)) (v ∷ vs)).value ≡ batch.Over n z
+  one_over (one.Post s) a w v vs e = ap (lift _) e
+  one_over (one.Assume c b) a w v vs e = ap (lift _) e
+  one_over (one.Enter call) a w v vs e = ap (lift _) e
+  one_over (one.Exit c) a w v vs e = ap (lift _) e
+
+  left_over : (f : S → S → S) (a b : batch.Value S) → a ≡ batch.Over n z → lift2 f a b ≡ batch.Over n z
+  left_over f a b e = ap (λ x. lift2 f x b) e
+
+  right_over : (f : S → S → S) (a b : batch.Value S) (s : S) → a ≡ batch.State s → b ≡ batch.Over n z → lift2 f a b ≡ batch.Over n z
+  right_over f a b s e h = ap₂ (lift2 f) e h
+
+  two_left : (op : Binary) (a b : Input) (w : List Frame) (v u : Cell S) (vs : List (Cell S)) → v.value ≡ batch.Over n z → (operation_row dom engine (row_in w (Two op a b)) (v ∷ u ∷ vs)).value ≡ batch.Over n z
+  two_left two.Join a b w v u vs e = left_over dom.join v.value u.value e
+  two_left (two.Leave call) a b w v u vs e = left_over (dom.leave call.now.returning) v.value u.value e
+  two_left (two.Widen marks) a b w v u vs e = left_over (dom.widen marks.now) v.value u.value e
+
+  two_right : (op : Binary) (a b : Input) (w : List Frame) (v u : Cell S) (vs : List (Cell S)) → IsState v → u.value ≡ batch.Over n z → (operation_row dom engine (row_in w (Two op a b)) (v ∷ u ∷ vs)).value ≡ batch.Over n z
+  two_right two.Join a b w v u vs (s, e) h = right_over dom.join v.value u.value s e h
+  two_right (two.Leave call) a b w v u vs (s, e) h = right_over (dom.leave call.now.returning) v.value u.value s e h
+  two_right (two.Widen marks) a b w v u vs (s, e) h = right_over (dom.widen marks.now) v.value u.value s e h
+
+  -- The first Over among the values, at place i.
+  pub over_row : (row : Row) → ((m : ℕ) (p : Point) → row ≢ Fixed m p) → (w : List Frame) (vs : List (Cell S)) (i : ℕ) (v : Cell S) → slice_get vs i ≡ Some v → v.value ≡ batch.Over n z →
+      ((j : ℕ) (u : Cell S) → j < i → slice_get vs j ≡ Some u → IsState u) → i < most_row dom engine (row_in w row) → asks_row dom engine (row_in w row) vs ≡ None → (operation_row dom engine (row_in w row) vs).value ≡ batch.Over n z
+  over_row (Init layout) f w vs i v at e before few none = absurd (omega arith)
+  over_row (One op a) f w [] i v at e before few none = absurd cc
+  over_row (One op a) f w (u ∷ vs) zero v at e before few none = one_over op a w u vs (subst (λ (c : Cell S). c.value ≡ batch.Over n z) (sym (some_inj u v at)) e)
+  over_row (One op a) f w (u ∷ vs) (suc i) v at e before few none = absurd (omega arith)
+  over_row (Two op a b) f w [] i v at e before few none = absurd cc
+  over_row (Two op a b) f w (u ∷ []) i v at e before few none = absurd cc
+  over_row (Two op a b) f w (u ∷ t ∷ vs) zero v at e before few none = two_left op a b w u t vs (subst (λ (c : Cell S). c.value ≡ batch.Over n z) (sym (some_inj u v at)) e)
+  over_row (Two op a b) f w (u ∷ t ∷ vs) (suc zero) v at e before few none = two_right op a b w u t vs (before 0 u (omega arith) refl) (subst (λ (c : Cell S). c.value ≡ batch.Over n z) (sym (some_inj t v at)) e)
+  over_row (Two op a b) f w (u ∷ t ∷ vs) (suc (suc i)) v at e before few none = absurd (omega arith)
+  over_row (Fixed m p) f w vs i v at e before few none = absurd (f m p refl)
+  over_row (Joins s l m p) f w [] i v at e before few none = absurd cc
+  over_row (Joins s l m p) f w (u ∷ []) zero v at e before few none = subst (λ (c : Cell S). c.value ≡ batch.Over n z) (sym (some_inj u v at)) e
+  over_row (Joins s l m p) f w (u ∷ []) (suc i) v at e before few none = absurd cc
+  over_row (Joins s l m p) f w (u ∷ t ∷ vs) zero v at e before few none = left_over dom.join u.value t.value (subst (λ (c : Cell S). c.value ≡ batch.Over n z) (sym (some_inj u v at)) e)
+  over_row (Joins s l m p) f w (u ∷ t ∷ vs) (suc zero) v at e before few none =
+      let first = before 0 u (omega arith) refl in
+      right_over dom.join u.value t.value first.0 first.1 (subst (λ (c : Cell S). c.value ≡ batch.Over n z) (sym (some_inj t v at)) e)
+  over_row (Joins s l m p) f w (u ∷ t ∷ vs) (suc (suc i)) v at e before few none = absurd (omega arith)
+
+-- an iterate that has a value is among the numbers
+within : (cells : Cells) (numbers : List ℕ) (i : ℕ) (u : Value Held) → iterate_of cells numbers i ≡ Some u → i < length numbers
+within cells numbers i u e = by (slice_get numbers i) refl e
+  where
+    by : (o : Option ℕ) → slice_get numbers i ≡ o → option_and_then (value_at cells) o ≡ Some u → i < length numbers
+    by None h k = absurd cc
+    by (Some n) h k = slice_get_within numbers i n h
+
+module _ {S : Type 0} (dom : Operations S) (plan : Plan) (store : Store S) (row : Row) (o : Open) (ready : IsReady dom plan store row o) (same : (s t : S) → (dom.same s t ≡ true) ↔ (s ≡ t)) where
+  abbrev all : List CellName
+  all = I dom plan store row o ready.at
+
+  abbrev value : CellName → Cell S
+  value = F dom plan store row o ready.at
+
+  abbrev named : CellName
+  named = X dom plan store row o ready.at
+
+  complete : length o.inputs ≡ length all
+  complete =
+      let w : length o.inputs ≤ length all = ready.at.entry.within in
+      grind (arith, beyond)
+    where
+      beyond : length o.inputs < length all → ⊥
+      beyond l =
+          let q = get_some all (length o.inputs) l in
+          let c : Some q.0 ≡ None = sym q.1 ∙ ready.complete in
+          cc
+
+  asks_none : asks_row dom plan.engine (r dom plan store row o ready.at) (map value all) ≡ None
+  asks_none =
+      ap (λ xs. asks_row dom plan.engine (r dom plan store row o ready.at) (map value xs)) (sym (ap (λ m. take m all) complete ∙ take-length all))
+      ∙ asks dom plan store row o ready.at (length o.inputs) ready.at.entry.within
+      ∙ ready.complete
+
+  value_is : value named ≡ operation_row dom plan.engine (r dom plan store row o ready.at) (map value all)
+  unfolding inputs found
+  value_is = (law dom plan store row o ready.at).value
+
+  -- the name has the first Over among its inputs
+  pub over_value : (n : ℕ) (chain : List ℕ) → IsFirstOver store.graph.cells o.inputs n chain → (value named).value ≡ batch.Over n (reverse chain)
+  over_value n chain h = by row refl
+    where
+      i : ℕ
+      i = h.place
+
+      there : i < length o.inputs
+      there = within store.graph.cells o.inputs i (Over n chain) h.here
+
+      plain : ((m : ℕ) (p : Point) → row ≢ Fixed m p) → (value named).value ≡ batch.Over n (reverse chain)
+      plain f =
+          let q = input_found dom plan store ready.at.right o ready.at.entry i there in
+          let w : q.2.cell.value ≡ Over n chain = some_inj q.2.cell.value (Over n chain) (sym (input_value dom plan store ready.at.right o i q.0 q.2) ∙ h.here) in
+          let v : (value q.0).value ≡ batch.Over n (reverse chain) = subst (λ u. IsValue store.states u (value q.0)) w q.2.value in
+          let few : length all ≤ most_row dom plan.engine (r dom plan store row o ready.at) = most_inputs dom plan store row o ready.at in
+          let same_length : length o.inputs ≡ length all = complete in
+          ap (λ (c : Cell S). c.value) value_is
+          ∙ over_row dom plan.engine n (reverse chain) row f named.path (map value all) i (value q.0) (slice_get-map value all i ∙ ap (option_map value) q.1) v before (let t : i < length o.inputs = there in omega arith) asks_none
+        where
+          before : (j : ℕ) (u : Cell S) → j < i → slice_get (map value all) j ≡ Some u → IsState u
+          before j u l e = of_value p.2.cell.value refl p.2.value
+            where
+              p : (x : CellName) × (slice_get all j ≡ Some x) × Found dom plan store ready.at.right o j x
+              p = input_found dom plan store ready.at.right o ready.at.entry j (let t : i < length o.inputs = there in omega arith)
+
+              is : value p.0 ≡ u
+              is = some_inj (value p.0) u (sym (slice_get-map value all j ∙ ap (option_map value) p.1) ∙ e)
+
+              of_value : (t : Value Held) → p.2.cell.value ≡ t → IsValue store.states t (value p.0) → IsState u
+              of_value (Over m w) k v = absurd (h.before j m w l (input_value dom plan store ready.at.right o j p.0 p.2 ∙ ap Some k))
+              of_value (State g) k (s, a, v) = (s, ap (λ (c : Cell S). c.value) (sym is ∙ v))
+
+      by : (q : Row) → row ≡ q → (value named).value ≡ batch.Over n (reverse chain)
+      by (Fixed m p) e = overs dom plan store row o ready same m p e i there n chain h.here
+      by (Init layout) e = plain (λ m p k. let c : Init layout ≡ Fixed m p = sym e ∙ k in absurd cc)
+      by (One op a) e = plain (λ m p k. let c : One op a ≡ Fixed m p = sym e ∙ k in absurd cc)
+      by (Two op a b) e = plain (λ m p k. let c : Two op a b ≡ Fixed m p = sym e ∙ k in absurd cc)
+      by (Joins s l m p) e = plain (λ k q t. let c : Joins s l m p ≡ Fixed k q = sym e ∙ t in absurd cc)
+
+pub first_along : {cells : Cells} {xs ys : List ℕ} {n : ℕ} {chain : List ℕ} → xs ≡ ys → IsFirstOver cells xs n chain → IsFirstOver cells ys n chain
+first_along {cells} {xs} {ys} {n} {chain} e h = subst (λ zs. IsFirstOver cells zs n chain) e h
+
+pub over_copied : {S : Type 0} {v : batch.Value S} {n : ℕ} {chain copy : List ℕ} → copy ≡ chain → v ≡ batch.Over n (reverse chain) → v ≡ batch.Over n (reverse copy)
+over_copied {S} {v} {n} {chain} {copy} e h = h ∙ ap (λ z. batch.Over n (reverse z)) (sym e)

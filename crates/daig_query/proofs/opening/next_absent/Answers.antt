@@ -1,0 +1,66 @@
+use Rattle.std.proofs.Common.{refl, sym, ◌∙◌}
+use Rattle.std.specs.FinMap.{get}
+use Rattle.imp_flow.specs.Near.{input_name}
+use Rattle.daig_query.specs.Opened.{name_of}
+use Rattle.daig_query.proofs.Growing.{names_trans}
+use Rattle.daig_query.proofs.Looking.{named_by, later, looks, more, fewer, none_of}
+use Rattle.daig_query.proofs.opening.next_absent.Goals as goal
+
+pub returns-then-not-there-clause-names : goal.returns-then-not-there-clause-names
+returns-then-not-there-clause-names g c =
+    let store = c.inputs.store in
+    let named = named_by store _ c.name.new.names c.in_ok-name.name c.in_ok-cell.cell _ c.inputs.invariant.at.right.once c.name.ensures.kept c.name.ensures.names c.in_ok-name.ensures.is c.in_ok-name.ensures.within c.in_ok-cell.ensures.name c.add.ensures.paths refl refl refl refl in
+    names_trans c.args.store.now store _ c.inputs.invariant.names named.names
+
+pub returns-then-not-there-clause-right : goal.returns-then-not-there-clause-right
+returns-then-not-there-clause-right g c =
+    let dom = g.D.Domain.operations c.args.dom.now in
+    let store = c.inputs.store in
+    later dom c.args.flow.now store _ c.inputs.invariant.at.right _ c.in_ok-name.name c.in_ok-cell.cell (
+    named_by store _ c.name.new.names c.in_ok-name.name c.in_ok-cell.cell _ c.inputs.invariant.at.right.once c.name.ensures.kept c.name.ensures.names c.in_ok-name.ensures.is c.in_ok-name.ensures.within c.in_ok-cell.ensures.name c.add.ensures.paths refl refl refl refl
+    )
+
+pub returns-then-not-there-clause-looks : goal.returns-then-not-there-clause-looks
+returns-then-not-there-clause-looks g c =
+    let dom = g.D.Domain.operations c.args.dom.now in
+    let store = c.inputs.store in
+    let y = input_name (name_of store c.inputs.entry).path c.in-Some.input in
+    looks dom c.args.flow.now store _ c.inputs.invariant.at.right y c.in_ok-name.name c.in_ok-cell.cell (
+    named_by store _ c.name.new.names c.in_ok-name.name c.in_ok-cell.cell y c.inputs.invariant.at.right.once c.name.ensures.kept c.name.ensures.names c.in_ok-name.ensures.is c.in_ok-name.ensures.within c.in_ok-cell.ensures.name c.add.ensures.paths refl refl refl refl
+    ) c.args.row.now c.inputs.entry c.inputs.invariant.at (sym c.in-Some.ensures.next) c.args.entry.now c.inputs.invariant.cell c.inputs.invariant.name c.opened.result c.opened.ensures.is (none_of (get store.graph.cells c.in_ok-cell.cell) (sym c.has_cell-there.ensures.is ∙ c.if-not-there.true))
+
+pub inputs-smaller : goal.inputs-smaller
+inputs-smaller g c =
+    let dom = g.D.Domain.operations c.args.dom.now in
+    let store = c.inputs.store in
+    let y = input_name (name_of store c.inputs.entry).path c.in-Some.input in
+    fewer dom c.args.flow.now store _ c.inputs.invariant.at.right y c.in_ok-name.name c.in_ok-cell.cell (
+    named_by store _ c.name.new.names c.in_ok-name.name c.in_ok-cell.cell y c.inputs.invariant.at.right.once c.name.ensures.kept c.name.ensures.names c.in_ok-name.ensures.is c.in_ok-name.ensures.within c.in_ok-cell.ensures.name c.add.ensures.paths refl refl refl refl
+    ) c.args.row.now c.inputs.entry c.inputs.invariant.at (sym c.in-Some.ensures.next) (record { cell = c.inputs.entry.cell; name = c.inputs.entry.name; inputs = c.push.new.self }) refl c.in_ok-push.ensures.added
+
+pub inputs-preserved : goal.inputs-preserved
+inputs-preserved g c =
+    let dom = g.D.Domain.operations c.args.dom.now in
+    let store = c.inputs.store in
+    let y = input_name (name_of store c.inputs.entry).path c.in-Some.input in
+    let named = named_by store (record store { names = c.add.new.self }) c.name.new.names c.in_ok-name.name c.in_ok-cell.cell y c.inputs.invariant.at.right.once c.name.ensures.kept c.name.ensures.names c.in_ok-name.ensures.is c.in_ok-name.ensures.within c.in_ok-cell.ensures.name c.add.ensures.paths refl refl refl refl in
+    record {
+      names = names_trans c.args.store.now store _ c.inputs.invariant.names named.names;
+      at = more dom c.args.flow.now store _ c.inputs.invariant.at.right y c.in_ok-name.name c.in_ok-cell.cell named c.args.row.now c.inputs.entry c.inputs.invariant.at (sym c.in-Some.ensures.next) (record { cell = c.inputs.entry.cell; name = c.inputs.entry.name; inputs = c.push.new.self }) refl refl c.in_ok-push.ensures.added (sym c.has_cell-there.ensures.is ∙ c.if-not-there.false);
+      cell = c.inputs.invariant.cell;
+      name = c.inputs.invariant.name;
+    }
+
+pub returns-in_err-push-clause-names : goal.returns-in_err-push-clause-names
+returns-in_err-push-clause-names g c =
+    let store = c.inputs.store in
+    let named = named_by store _ c.name.new.names c.in_ok-name.name c.in_ok-cell.cell _ c.inputs.invariant.at.right.once c.name.ensures.kept c.name.ensures.names c.in_ok-name.ensures.is c.in_ok-name.ensures.within c.in_ok-cell.ensures.name c.add.ensures.paths refl refl refl refl in
+    names_trans c.args.store.now store _ c.inputs.invariant.names named.names
+
+pub returns-in_err-push-clause-right : goal.returns-in_err-push-clause-right
+returns-in_err-push-clause-right g c =
+    let dom = g.D.Domain.operations c.args.dom.now in
+    let store = c.inputs.store in
+    later dom c.args.flow.now store _ c.inputs.invariant.at.right _ c.in_ok-name.name c.in_ok-cell.cell (
+    named_by store _ c.name.new.names c.in_ok-name.name c.in_ok-cell.cell _ c.inputs.invariant.at.right.once c.name.ensures.kept c.name.ensures.names c.in_ok-name.ensures.is c.in_ok-name.ensures.within c.in_ok-cell.ensures.name c.add.ensures.paths refl refl refl refl
+    )

@@ -1,0 +1,11 @@
+pub mod Kept
+pub mod Right
+pub mod Asked
+pub mod Made
+pub mod Overs
+pub mod Opened
+pub mod Walked
+pub mod Filled
+pub mod Turned
+pub mod Answered
+pub mod Claims

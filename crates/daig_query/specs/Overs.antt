@@ -1,0 +1,20 @@
+-- Overs among cells.
+use Rattle.std.specs.Prelude.{◌≡◌, ℕ, ◌<◌, List, Some}
+use Rattle.daig_graph.specs.declared.value.Value.TheVariants.{Over}
+use Rattle.loop_unroll.specs.Iterates.{iterate_of}
+use Rattle.daig_query.specs.Kept.{Cells}
+
+module _ (cells : Cells) (numbers : List ℕ) where
+  -- the cell at a place holds this Over
+  abbrev pub IsOverAt : ℕ → ℕ → List ℕ → Type 0
+  IsOverAt i n chain = iterate_of cells numbers i ≡ Some (Over n chain)
+
+  -- none of the first so many does hold one
+  abbrev pub HasNoOver : ℕ → Type 0
+  HasNoOver count = (i n : ℕ) (chain : List ℕ) → i < count → ¬ (IsOverAt i n chain)
+
+  -- the first one
+  pub record IsFirstOver (n : ℕ) (chain : List ℕ) : Type 0 where
+    pub place : ℕ
+    pub here : IsOverAt place n chain
+    pub before : HasNoOver place

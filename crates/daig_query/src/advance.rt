@@ -1,0 +1,278 @@
+//! Filling.
+ghost use Rattle.std.specs.Prelude.{◌≡◌, ◌+◌, ◌*◌, ◌<◌, ◌≤◌, ◌↔◌, [], ◌∷◌, ◌++◌, Some, true, false, suc, length, map, min, IfOk, IfErr, IfSome, IsTrue, OnErr, OnOk};
+ghost use Rattle.cell_rows.specs.Targets.{Target as PlainTarget};
+ghost use Rattle.imp_flow.specs.Reached.{target_of};
+ghost use Rattle.daig_query.specs.Kept.{kept, Grows};
+ghost use Rattle.daig_query.specs.Right.{IsRight};
+ghost use Rattle.daig_query.specs.Opened.{name_of};
+ghost use Rattle.daig_query.specs.Walked.{AreStacked, AreTargets, IsDone, IsGood, IsPlaced, place_of};
+ghost use Rattle.daig_query.specs.Filled.{added, missing, Fills};
+ghost use Rattle.daig_query.specs.Turned.{fills_of, stacked_names, IsTopAbsent, Obeys, Turns};
+
+use crate::engine::Engine;
+use crate::opening::{Open, fill, next_absent, row_of};
+use crate::store::Store;
+use crate::walk::{Walk, next_demanded};
+use domain_laws::{Domain, Steps};
+use imp_flow::{Flow, Target};
+use plain_values::Memory;
+use std::alloc::Global;
+use std::sync::ledger::Ledger;
+
+/// How many cells were filled, and whether none is missing any more.
+#[derive(Clone, Copy, Debug, PartialEq, Eq)]
+pub struct Progress {
+    pub filled: usize,
+    pub done: bool,
+}
+
+/// What a turn of the machine did.
+#[derive(Clone, Copy)]
+pub(crate) enum Turn {
+    /// It pushed the first input, or demanded name, that is missing.
+    Pushed,
+    /// It filled the name on top.
+    Filled,
+    /// The name on top may not be filled any more.
+    Spent,
+    /// Nothing is missing.
+    Done,
+}
+
+/// With no name on the stack: the next demanded name is pushed.
+fn turn_walk<D: Domain>(
+    alloc: Global,
+    dom: &D,
+    flow: &Flow<'_>,
+    store: &mut Store<D::State>,
+    targets: &[Target],
+    walk: &mut Walk,
+) -> Result<Turn, Memory>
+    requires right { IsRight (D.operations dom.now) flow.now store.old }
+    requires targets { AreTargets flow.now (map target_of targets.now) }
+    requires placed { IsPlaced (D.operations dom.now) flow.now (map target_of targets.now) store.old walk.old }
+    requires empty { walk.old.stack.items ≡ [] }
+    ensures right { IsRight (D.operations dom.now) flow.now store.new }
+    ensures grows { Grows store.old store.new }
+    ensures walk { IsGood (D.operations dom.now) flow.now (map target_of targets.now) store.new walk.new }
+    ensures turns { IfOk result (Turns (D.operations dom.now) flow.now (map target_of targets.now) store.old store.new [] walk.new) }
+    ensures cells { store.new.graph.cells ≡ store.old.graph.cells }
+{
+    match next_demanded(alloc, dom, flow, store, targets, walk)? {
+        None => Ok(Turn::Done),
+        Some(entry) => {
+            walk.stack.push(entry)?;
+            Ok(Turn::Pushed)
+        }
+    }
+}
+
+/// With a name on top of the stack, which is taken off: its first missing input is pushed on it, or it is filled.
+fn turn_open<D: Domain, L: Ledger>(
+    alloc: Global,
+    dom: &D,
+    flow: &Flow<'_>,
+    store: &mut Store<D::State>,
+    targets: &[Target],
+    walk: &mut Walk,
+    top: Open,
+    spent: bool,
+    steps: &mut Steps<L>,
+) -> Result<Turn, Memory>
+    requires right { IsRight (D.operations dom.now) flow.now store.old }
+    requires placed { IsPlaced (D.operations dom.now) flow.now (map target_of targets.now) store.old walk.old }
+    requires stacked { AreStacked (D.operations dom.now) flow.now store.old (place_of (map target_of targets.now) store.old walk.old) (walk.old.stack.items ++ top ∷ []) }
+    requires absent { kept store.old (name_of store.old top) ≡ false }
+    ensures right { IsRight (D.operations dom.now) flow.now store.new }
+    ensures grows { Grows store.old store.new }
+    ensures walk { IsGood (D.operations dom.now) flow.now (map target_of targets.now) store.new walk.new }
+    ensures turns { IfOk result (Turns (D.operations dom.now) flow.now (map target_of targets.now) store.old store.new (stacked_names store.old (walk.old.stack.items ++ top ∷ [])) walk.new) }
+    ensures obeys { IfOk result (Obeys spent) }
+    ensures err { OnErr result (store.new.graph.cells ≡ store.old.graph.cells) }
+    ensures least { steps.old ≤ steps.new }
+    ensures ticked { IfOk result (λ turn. steps.new ≤ steps.old + D.counted dom.now * fills_of turn) }
+    ensures most { steps.new ≤ steps.old + D.counted dom.now }
+{
+    let mut entry = top;
+    let Some(row) = row_of(flow, &store.names, &entry.name) else {
+        unreachable!()
+    };
+    if let Some(input) = next_absent(alloc, dom, flow, store, &row, &mut entry)? {
+        walk.stack.push(entry)?;
+        walk.stack.push(input)?;
+        return Ok(Turn::Pushed);
+    }
+    if spent {
+        walk.stack.push(entry)?;
+        return Ok(Turn::Spent);
+    }
+    fill(alloc, dom, flow, store, &row, entry, steps)?;
+    Ok(Turn::Filled)
+}
+
+/// A turn of the machine. Where `spent`, nothing is filled.
+fn take_turn<D: Domain, L: Ledger>(
+    alloc: Global,
+    dom: &D,
+    flow: &Flow<'_>,
+    store: &mut Store<D::State>,
+    targets: &[Target],
+    walk: &mut Walk,
+    spent: bool,
+    steps: &mut Steps<L>,
+) -> Result<Turn, Memory>
+    requires right { IsRight (D.operations dom.now) flow.now store.old }
+    requires targets { AreTargets flow.now (map target_of targets.now) }
+    requires walk { IsGood (D.operations dom.now) flow.now (map target_of targets.now) store.old walk.old }
+    requires absent { IsTopAbsent store.old walk.old.stack.items }
+    ensures right { IsRight (D.operations dom.now) flow.now store.new }
+    ensures grows { Grows store.old store.new }
+    ensures walk { IsGood (D.operations dom.now) flow.now (map target_of targets.now) store.new walk.new }
+    ensures turns { IfOk result (Turns (D.operations dom.now) flow.now (map target_of targets.now) store.old store.new (stacked_names store.old walk.old.stack.items) walk.new) }
+    ensures obeys { IfOk result (Obeys spent) }
+    ensures err { OnErr result (store.new.graph.cells ≡ store.old.graph.cells) }
+    ensures least { steps.old ≤ steps.new }
+    ensures ticked { IfOk result (λ turn. steps.new ≤ steps.old + D.counted dom.now * fills_of turn) }
+    ensures most { steps.new ≤ steps.old + D.counted dom.now }
+{
+    match walk.stack.pop() {
+        None => turn_walk(alloc, dom, flow, store, targets, walk),
+        Some(entry) => turn_open(alloc, dom, flow, store, targets, walk, entry, spent, steps),
+    }
+}
+
+/// Fills the first cells that are missing, at most so many, if there is a limit.
+fn fill_missing<D: Domain, L: Ledger>(
+    alloc: Global,
+    dom: &D,
+    flow: &Flow<'_>,
+    store: &mut Store<D::State>,
+    targets: &[Target],
+    walk: &mut Walk,
+    limit: Option<usize>,
+    steps: &mut Steps<L>,
+) -> Result<Progress, Memory>
+    requires right { IsRight (D.operations dom.now) flow.now store.old }
+    requires targets { AreTargets flow.now (map target_of targets.now) }
+    requires walk { IsGood (D.operations dom.now) flow.now (map target_of targets.now) store.old walk.old }
+    ensures fills { Fills (D.operations dom.now) flow.now (map target_of targets.now) store.old store.new (added store.old store.new) }
+    ensures walk { IsGood (D.operations dom.now) flow.now (map target_of targets.now) store.new walk.new }
+    ensures within { IfSome limit (λ n. added store.old store.new ≤ n) }
+    ensures counted { IfOk result (λ p. p.filled ≡ added store.old store.new) }
+    ensures all { IfOk result (λ p. p.done ≡ true → p.filled ≡ length (missing (D.operations dom.now) flow.now (map target_of targets.now) store.old)) }
+    ensures done { IfOk result (λ p. p.done ≡ true → IsDone (D.operations dom.now) flow.now (map target_of targets.now) store.new walk.new) }
+    ensures more { IfOk result (λ p. p.done ≡ false → p.filled < length (missing (D.operations dom.now) flow.now (map target_of targets.now) store.old)) }
+    ensures limited { IfOk result (λ p. p.done ≡ false → limit ≡ Some p.filled) }
+    ensures least { steps.old ≤ steps.new }
+    ensures ticked { IfOk result (λ p. steps.new ≤ steps.old + D.counted dom.now * p.filled) }
+    ensures most { steps.new ≤ steps.old + D.counted dom.now * suc (added store.old store.new) }
+{
+    walk.drop_filled(&store.graph);
+    let before = store.graph.kept_count();
+    'turns: loop {
+        let filled = store.graph.kept_count() - before;
+        let spent = limit == Some(filled);
+        match take_turn(alloc, dom, flow, store, targets, walk, spent, steps)? {
+            Turn::Pushed => {}
+            Turn::Filled => {}
+            Turn::Spent => {
+                return Ok(Progress {
+                    filled,
+                    done: false,
+                });
+            }
+            Turn::Done => return Ok(Progress { filled, done: true }),
+        }
+    }
+}
+
+impl<D: Domain> Engine<D> {
+    /// Fills the first names that these targets need and that have no cell, at most so many, in the order of the demand:
+    /// depth first, each after its inputs from left to right. The walk is one that was begun for these targets, over
+    /// cells that were only added to since; it says how far the demand has come.
+    ///
+    /// A step takes time in proportion to what it fills, and not to what is left. It ticks at most once an operation of
+    /// the domain for each name that it fills; for an operation that is remembered, a fixed point and an Over it does not.
+    ///
+    /// # Errors
+    ///
+    /// [`Memory`] for want of memory. Some of the names may be filled then, the first ones, and all cells are right; the
+    /// operation that failed may have ticked too.
+    pub fn advance<L: Ledger>(
+        &mut self,
+        alloc: Global,
+        flow: &Flow<'_>,
+        targets: &[Target],
+        walk: &mut Walk,
+        most: usize,
+        steps: &mut Steps<L>,
+    ) -> Result<Progress, Memory>
+        requires right { IsRight (D.operations self.old.domain) flow.now self.old.store }
+        requires targets { AreTargets flow.now (map target_of targets.now) }
+        requires walk { IsGood (D.operations self.old.domain) flow.now (map target_of targets.now) self.old.store walk.old }
+        ensures domain { self.new.domain ≡ self.old.domain }
+        ensures fills { Fills (D.operations self.old.domain) flow.now (map target_of targets.now) self.old.store self.new.store (added self.old.store self.new.store) }
+        ensures walk { IsGood (D.operations self.old.domain) flow.now (map target_of targets.now) self.new.store walk.new }
+        ensures within { added self.old.store self.new.store ≤ most }
+        ensures counted { IfOk result (λ p. p.filled ≡ added self.old.store self.new.store) }
+        ensures first { IfOk result (λ p. p.filled ≡ min most (length (missing (D.operations self.old.domain) flow.now (map target_of targets.now) self.old.store))) }
+        ensures all { IfOk result (λ p. IsTrue p.done ↔ (length (missing (D.operations self.old.domain) flow.now (map target_of targets.now) self.old.store) ≤ most)) }
+        ensures done { IfOk result (λ p. IsTrue p.done → IsDone (D.operations self.old.domain) flow.now (map target_of targets.now) self.new.store walk.new) }
+        ensures least { steps.old ≤ steps.new }
+        ensures ticked { IfOk result (λ p. steps.new ≤ steps.old + D.counted self.old.domain * p.filled) }
+        ensures most { steps.new ≤ steps.old + D.counted self.old.domain * suc (added self.old.store self.new.store) }
+    {
+        let dom = &self.domain;
+        fill_missing(
+            alloc,
+            dom,
+            flow,
+            &mut self.store,
+            targets,
+            walk,
+            Some(most),
+            steps,
+        )
+    }
+
+    /// Fills all names that these targets need and that have no cell, and gives how many they are: [`Engine::advance`]
+    /// with no limit.
+    ///
+    /// # Errors
+    ///
+    /// [`Memory`], as [`Engine::advance`].
+    pub fn demand<L: Ledger>(
+        &mut self,
+        alloc: Global,
+        flow: &Flow<'_>,
+        targets: &[Target],
+        walk: &mut Walk,
+        steps: &mut Steps<L>,
+    ) -> Result<usize, Memory>
+        requires right { IsRight (D.operations self.old.domain) flow.now self.old.store }
+        requires targets { AreTargets flow.now (map target_of targets.now) }
+        requires walk { IsGood (D.operations self.old.domain) flow.now (map target_of targets.now) self.old.store walk.old }
+        ensures domain { self.new.domain ≡ self.old.domain }
+        ensures fills { Fills (D.operations self.old.domain) flow.now (map target_of targets.now) self.old.store self.new.store (added self.old.store self.new.store) }
+        ensures walk { IsGood (D.operations self.old.domain) flow.now (map target_of targets.now) self.new.store walk.new }
+        ensures counted { IfOk result (λ n. n ≡ added self.old.store self.new.store) }
+        ensures all { IfOk result (λ n. n ≡ length (missing (D.operations self.old.domain) flow.now (map target_of targets.now) self.old.store)) }
+        ensures done { OnOk result (IsDone (D.operations self.old.domain) flow.now (map target_of targets.now) self.new.store walk.new) }
+        ensures least { steps.old ≤ steps.new }
+        ensures ticked { IfOk result (λ n. steps.new ≤ steps.old + D.counted self.old.domain * n) }
+        ensures most { steps.new ≤ steps.old + D.counted self.old.domain * suc (added self.old.store self.new.store) }
+    {
+        let dom = &self.domain;
+        let progress = fill_missing(
+            alloc,
+            dom,
+            flow,
+            &mut self.store,
+            targets,
+            walk,
+            None,
+            steps,
+        )?;
+        Ok(progress.filled)
+    }
+}

@@ -1,0 +1,255 @@
+//! The value of a name, from those of its inputs.
+ghost use Rattle.std.specs.Prelude.{◌≡◌, ◌≢◌, ◌+◌, ◌-◌, ◌<◌, ◌≤◌, ◌^◌, ℕ, IfOk, IfSome, IsSome, MatchOption, Some, None, length, reverse, option_map, option_copied};
+ghost use Rattle.cell_names.specs.Paths.{path_at, sites_of};
+ghost use Rattle.loop_unroll.specs.Iterates.{iterate_of, state_in, IsEqual};
+ghost use Rattle.daig_query.specs.Kept.{IsValue};
+ghost use Rattle.daig_query.specs.Right.{found, IsRight};
+ghost use Rattle.daig_query.specs.Made.{alone_in, index_in, number, row_result, state_at};
+ghost use Rattle.daig_query.specs.Opened.{name_of, IsReady, Computes};
+ghost use Rattle.daig_query.specs.Overs.{HasNoOver, IsFirstOver};
+ghost use Rattle.imp_flow.specs.declared.row.Row.TheVariants.{Fixed};
+
+use crate::held::Held;
+use crate::opening::Open;
+use crate::operations::{apply, operation_of};
+use crate::store::Store;
+use cell_names::{Names, PathId};
+use daig_graph::{Graph, SharedChain, Value};
+use domain_laws::{Domain, Steps};
+use imp_flow::{Flow, Row, Unary};
+use imp_syntax::{Chain, StmtId};
+use loop_unroll::converged;
+use memo_table::Key;
+use plain_values::{Items, Memory};
+use state_table::Table;
+use std::alloc::Global;
+use std::hash::Hash;
+use std::sync::ledger::Ledger;
+
+/// The first of these cells that holds an Over: its loop and its chain.
+fn first_over<'a>(graph: &'a Graph<Held>, cells: &[usize]) -> Option<(StmtId, &'a SharedChain)>
+    ensures is { MatchOption result (HasNoOver graph.now.cells cells.now (length cells.now)) (λ r. IsFirstOver graph.now.cells cells.now r.0 r.1.now) }
+{
+    for cell in cells {
+        if let Some(Value::Over { head, chain }) = graph.value(*cell) {
+            return Some((*head, chain));
+        }
+    }
+    None
+}
+
+/// What the cell at a place among these holds, where that is a state.
+fn held_at(graph: &Graph<Held>, cells: &[usize], place: usize) -> Option<Held>
+    ensures is { result ≡ state_in (iterate_of graph.now.cells cells.now place) }
+{
+    match graph.value(*cells.get(place)?) {
+        Some(Value::State(held)) => Some(*held),
+        _ => None,
+    }
+}
+
+/// Of iterates that stop at one that is the state of the iterate before it: that state, with that one's index.
+fn settled(graph: &Graph<Held>, cells: &[usize]) -> Held
+    requires equal { IsEqual (iterate_of graph.now.cells cells.now) (length cells.now - 1) }
+    requires small { length cells.now ≤ 2 ^ 32 }
+    ensures is { IfSome (state_in (iterate_of graph.now.cells cells.now (length cells.now - 2))) (λ s. result ≡ record { state = s.state; index = length cells.now - 2 }) }
+{
+    let index = cells.len() - 2;
+    match held_at(graph, cells, index) {
+        Some(held) => Held {
+            state: held.state,
+            index: index as u32,
+        },
+        None => unreachable!(),
+    }
+}
+
+/// The call sites of a path, outermost first.
+fn chain_of(alloc: Global, names: &Names, path: PathId) -> Result<SharedChain, Memory>
+    requires there { path < length names.now.paths }
+    ensures is { IfOk result (λ chain. chain ≡ reverse (sites_of (path_at names.now.paths path))) }
+{
+    let mut rest = names.sites(alloc, path)?;
+    let mut sites = Items::with_capacity(alloc, rest.len())?;
+    while let Some(site) = rest.pop() {
+        sites.push(site)?;
+    }
+    SharedChain::new(alloc, Chain::new(sites))
+}
+
+/// Where the iterates of a loop stop, all of them states.
+fn fixed<D: Domain>(
+    alloc: Global,
+    dom: &D,
+    flow: &Flow<'_>,
+    store: &Store<D::State>,
+    row: &Row<'_>,
+    head: StmtId,
+    entry: &Open,
+) -> Result<Value<Held>, Memory>
+    requires ready { IsReady (D.operations dom.now) flow.now store.now row.now entry.now }
+    requires states { HasNoOver store.now.graph.cells entry.now.inputs (length entry.now.inputs) }
+    requires fixed { (p : _) × (row.now ≡ Fixed head p) }
+    ensures value { IfOk result (λ v. IsValue store.now.states v (found (D.operations dom.now) flow.now (name_of store.now entry.now))) }
+{
+    let cells = entry.inputs.as_slice();
+    if converged(&store.graph, flow.budget(), cells) {
+        Ok(Value::State(settled(&store.graph, cells)))
+    } else {
+        let chain = chain_of(alloc, &store.names, entry.name.path)?;
+        Ok(Value::Over { head, chain })
+    }
+}
+
+/// The index that a row passes on from its left input.
+fn index_of(row: &Row<'_>, left: Option<Held>) -> u32
+    ensures is { result ≡ index_in row.now left }
+{
+    match (row, left) {
+        (Row::One(Unary::Exit(_), _), Some(held)) => held.index,
+        (Row::Joins(true, _, _, _), Some(held)) => held.index,
+        _ => 0,
+    }
+}
+
+/// The left input of a join behind a loop with breaks, where it is alone.
+fn alone(row: &Row<'_>, left: Option<Held>, right: Option<Held>) -> Option<Held>
+    ensures is { result ≡ alone_in row.now left right }
+{
+    match (row, left, right) {
+        (Row::Joins(_, _, _, _), Some(held), None) => Some(held),
+        _ => None,
+    }
+}
+
+/// The number of the state that is held.
+fn number(held: Option<Held>) -> Option<usize>
+    ensures is { result ≡ number held }
+{
+    match held {
+        None => None,
+        Some(held) => Some(held.state),
+    }
+}
+
+/// The state that has a number.
+fn operand<S: Eq + Hash + Drop>(states: &Table<S>, number: Option<usize>) -> Option<&S>
+    requires known { IfSome number (λ n. n < length states.now) }
+    ensures is { option_copied result ≡ state_at states.now number }
+{
+    match number {
+        None => None,
+        Some(number) => Some(states.get(number)),
+    }
+}
+
+/// The number of what a row makes of the states that have these numbers.
+fn result_of<D: Domain, L: Ledger>(
+    alloc: Global,
+    dom: &D,
+    flow: &Flow<'_>,
+    store: &mut Store<D::State>,
+    row: &Row<'_>,
+    left: Option<usize>,
+    right: Option<usize>,
+    steps: &mut Steps<L>,
+) -> Result<usize, Memory>
+    requires right { IsRight (D.operations dom.now) flow.now store.old }
+    requires there { IsSome (row_result (D.operations dom.now) row.now (state_at store.old.states left) (state_at store.old.states right)) }
+    requires left { IfSome left (λ n. n < length store.old.states) }
+    requires known { IfSome right (λ n. n < length store.old.states) }
+    ensures is { IfOk result (λ n. state_at store.new.states (Some n) ≡ row_result (D.operations dom.now) row.now (state_at store.old.states left) (state_at store.old.states right)) }
+    ensures computes { Computes (D.operations dom.now) flow.now store.old store.new }
+    ensures least { steps.old ≤ steps.new }
+    ensures most { steps.new ≤ steps.old + D.counted dom.now }
+{
+    let operation = store.operations.intern(operation_of(alloc, row)?)?;
+    let key = Key {
+        operation,
+        left,
+        right,
+    };
+    if let Some(state) = store.memo.get(&key) {
+        return Ok(state);
+    }
+    let state = apply(
+        alloc,
+        dom,
+        row,
+        operand(&store.states, left),
+        operand(&store.states, right),
+        steps,
+    )?;
+    let number = store.states.intern(state)?;
+    let _ = store.memo.keep(key, number);
+    Ok(number)
+}
+
+/// What a row that is no fixed point makes of inputs that all are states.
+fn applied<D: Domain, L: Ledger>(
+    alloc: Global,
+    dom: &D,
+    flow: &Flow<'_>,
+    store: &mut Store<D::State>,
+    row: &Row<'_>,
+    entry: &Open,
+    steps: &mut Steps<L>,
+) -> Result<Value<Held>, Memory>
+    requires ready { IsReady (D.operations dom.now) flow.now store.old row.now entry.now }
+    requires states { HasNoOver store.old.graph.cells entry.now.inputs (length entry.now.inputs) }
+    requires plain { (n : ℕ) (p : _) → row.now ≢ Fixed n p }
+    ensures value { IfOk result (λ v. IsValue store.new.states v (found (D.operations dom.now) flow.now (name_of store.old entry.now))) }
+    ensures computes { Computes (D.operations dom.now) flow.now store.old store.new }
+    ensures least { steps.old ≤ steps.new }
+    ensures most { steps.new ≤ steps.old + D.counted dom.now }
+{
+    let cells = entry.inputs.as_slice();
+    let left = held_at(&store.graph, cells, 0);
+    let right = held_at(&store.graph, cells, 1);
+    let index = index_of(row, left);
+    if let Some(held) = alone(row, left, right) {
+        let state = held.state;
+        return Ok(Value::State(Held { state, index }));
+    }
+    let state = result_of(
+        alloc,
+        dom,
+        flow,
+        store,
+        row,
+        number(left),
+        number(right),
+        steps,
+    )?;
+    Ok(Value::State(Held { state, index }))
+}
+
+/// The value of a name all of whose inputs are found: an Over among them, the left one first; else what its row makes of
+/// their states. It ticks for an operation that is not remembered.
+pub(crate) fn compute<D: Domain, L: Ledger>(
+    alloc: Global,
+    dom: &D,
+    flow: &Flow<'_>,
+    store: &mut Store<D::State>,
+    row: &Row<'_>,
+    entry: &Open,
+    steps: &mut Steps<L>,
+) -> Result<Value<Held>, Memory>
+    requires ready { IsReady (D.operations dom.now) flow.now store.old row.now entry.now }
+    ensures value { IfOk result (λ v. IsValue store.new.states v (found (D.operations dom.now) flow.now (name_of store.old entry.now))) }
+    ensures computes { Computes (D.operations dom.now) flow.now store.old store.new }
+    ensures least { steps.old ≤ steps.new }
+    ensures most { steps.new ≤ steps.old + D.counted dom.now }
+{
+    if let Some(over) = first_over(&store.graph, entry.inputs.as_slice()) {
+        let chain = over.1.clone()?;
+        return Ok(Value::Over {
+            head: over.0,
+            chain,
+        });
+    }
+    match row {
+        Row::Fixed(head, _) => fixed(alloc, dom, flow, store, row, *head, entry),
+        _ => applied(alloc, dom, flow, store, row, entry, steps),
+    }
+}

@@ -1,0 +1,89 @@
+//! The engine.
+ghost use Rattle.std.specs.Prelude.{◌≡◌, ◌<◌, IfOk, false};
+ghost use Rattle.std.specs.FinMap as map;
+ghost use Rattle.imp_slots.specs.Fits.{IsChecked};
+ghost use Rattle.cell_names.specs.Paths.{CellName};
+ghost use Rattle.cell_removal.specs.Removal.{IsOrder, without};
+ghost use Rattle.imp_flow.specs.Plans.{Plan};
+ghost use Rattle.daig_query.specs.Claims.{Lessens};
+ghost use Rattle.daig_query.specs.Kept.{kept};
+ghost use Rattle.daig_query.specs.Right.{IsRight};
+
+use crate::held::Held;
+use crate::store::Store;
+use cell_names::Names;
+use cell_removal::commit;
+use daig_graph::Graph;
+use domain_laws::Domain;
+use memo_table::Memo;
+use plain_values::Memory;
+use state_table::Table;
+use std::alloc::Global;
+
+/// A domain, and the cells that are filled.
+#[derive(Drop)]
+pub struct Engine<D: Domain> {
+    pub(crate) domain: D,
+    pub(crate) store: Store<D::State>,
+}
+
+impl<D: Domain + Drop> Engine<D> {
+    /// An engine that keeps nothing, and remembers at most so many results of operations. It is right for every checked
+    /// program.
+    pub fn new(alloc: Global, domain: D, memo: usize) -> Result<Engine<D>, Memory>
+        requires some { 0 < memo }
+        ensures domain { IfOk result (λ e. e.domain ≡ domain) }
+        ensures empty { IfOk result (λ e. (x : CellName) → kept e.store x ≡ false) }
+        ensures right { IfOk result (λ e. (plan : Plan) → IsChecked plan.program → IsRight (D.operations e.domain) plan e.store) }
+    {
+        let store = Store {
+            graph: Graph::new(alloc),
+            names: Names::new(alloc),
+            states: Table::new(alloc),
+            operations: Table::new(alloc),
+            memo: Memo::new(alloc, memo)?,
+        };
+        Ok(Engine { domain, store })
+    }
+}
+
+impl<D: Domain> Engine<D> {
+    /// The domain.
+    pub fn domain(&self) -> &D
+        ensures is { result.now ≡ self.now.domain }
+    {
+        &self.domain
+    }
+
+    /// The cells, by the numbers of their names.
+    pub fn graph(&self) -> &Graph<Held>
+        ensures is { result.now ≡ self.now.store.graph }
+    {
+        &self.store.graph
+    }
+
+    /// The names, by their numbers.
+    pub fn names(&self) -> &Names
+        ensures is { result.now ≡ self.now.store.names }
+    {
+        &self.store.names
+    }
+
+    /// Takes planned cells away, as when an edit empties them. It takes as many steps as they have inputs, and no memory.
+    /// Where the cells that are left are those of another program, all is right for that one (`cells_stay_right`).
+    pub fn empty(&mut self, plan: cell_removal::Plan)
+        requires order { IsOrder self.old.store.graph.cells plan }
+        ensures removes { self.new.store.graph.cells ≡ without self.old.store.graph.cells plan }
+        ensures lessens { Lessens self.old.store self.new.store }
+        ensures domain { self.new.domain ≡ self.old.domain }
+    {
+        commit(&mut self.store.graph, plan);
+    }
+
+    /// How many cells are kept.
+    pub fn kept_count(&self) -> usize
+        ensures count { result ≡ map.len self.now.store.graph.cells }
+    {
+        self.store.graph.kept_count()
+    }
+}

@@ -1,0 +1,114 @@
+//! Names that are being filled.
+ghost use Rattle.std.specs.Prelude.{◌≡◌, ◌+◌, ◌≤◌, ◌<◌, [], false, length, option_map, is_some, IfOk, OnOk, OnErr};
+ghost use Rattle.std.specs.FinMap as map;
+ghost use Rattle.cell_names.specs.Paths.{path_at, name_in};
+ghost use Rattle.imp_flow.specs.Near.{row_in};
+ghost use Rattle.daig_query.specs.Kept.{kept, Names as OnlyNames};
+ghost use Rattle.daig_query.specs.Opened.{name_of, row_at, IsAt, IsReady, Looks, Puts, Computes};
+ghost use Rattle.daig_query.specs.Right.{IsRight};
+
+use crate::compute::compute;
+use crate::held::Held;
+use crate::inputs::next_input;
+use crate::store::Store;
+use cell_names::{Name, Names};
+use daig_graph::{Graph, Inputs};
+use domain_laws::{Domain, Steps};
+use imp_flow::{Flow, Row};
+use plain_values::Memory;
+use std::alloc::Global;
+use std::sync::ledger::Ledger;
+
+/// A name that is to be filled: its number, and the cells of those of its inputs that are found.
+#[derive(Drop)]
+pub(crate) struct Open {
+    pub(crate) cell: usize,
+    pub(crate) name: Name,
+    pub(crate) inputs: Inputs,
+}
+
+/// A name none of whose inputs is found yet.
+pub(crate) fn opened(alloc: Global, cell: usize, name: &Name) -> Open
+    ensures is { result ≡ record { cell = cell; name = name.now; inputs = [] } }
+{
+    Open {
+        cell,
+        name: *name,
+        inputs: Inputs::new(alloc),
+    }
+}
+
+/// Whether there is a cell of this number.
+pub(crate) fn has_cell(graph: &Graph<Held>, cell: usize) -> bool
+    ensures is { result ≡ is_some (map.get graph.now.cells cell) }
+{
+    match graph.value(cell) {
+        Some(_) => true,
+        None => false,
+    }
+}
+
+/// The row of a name.
+pub(crate) fn row_of<'a>(flow: &'a Flow<'_>, names: &Names, name: &Name) -> Option<Row<'a>>
+    requires there { name.now.path < length names.now.paths }
+    ensures is { option_map (row_in (path_at names.now.paths name.now.path)) result ≡ row_at flow.now (name_in names.now.paths name.now) }
+{
+    let frame = match names.last_frame(name.path) {
+        Some((_, frame)) => Some(frame),
+        None => None,
+    };
+    flow.row(frame, name.point)
+}
+
+/// Finds the inputs of a name from left to right, up to the first that has no cell, which is given.
+pub(crate) fn next_absent<D: Domain>(
+    alloc: Global,
+    dom: &D,
+    flow: &Flow<'_>,
+    store: &mut Store<D::State>,
+    row: &Row<'_>,
+    entry: &mut Open,
+) -> Result<Option<Open>, Memory>
+    requires at { IsAt (D.operations dom.now) flow.now store.old row.now entry.old }
+    ensures names { OnlyNames store.old store.new }
+    ensures right { IsRight (D.operations dom.now) flow.now store.new }
+    ensures looks { IfOk result (Looks (D.operations dom.now) flow.now store.new row.now entry.old entry.new) }
+{
+    'inputs: while let Some(input) = next_input(dom, flow, store, row, entry) {
+        let name = input.name(&mut store.names, entry.name.path)?;
+        let cell = store.names.add(name)?;
+        let there = has_cell(&store.graph, cell);
+        if !there {
+            return Ok(Some(opened(alloc, cell, &name)));
+        }
+        entry.inputs.push(cell)?;
+    }
+    Ok(None)
+}
+
+/// Fills a name all of whose inputs are found. It ticks for an operation that is not remembered.
+pub(crate) fn fill<D: Domain, L: Ledger>(
+    alloc: Global,
+    dom: &D,
+    flow: &Flow<'_>,
+    store: &mut Store<D::State>,
+    row: &Row<'_>,
+    entry: Open,
+    steps: &mut Steps<L>,
+) -> Result<(), Memory>
+    requires ready { IsReady (D.operations dom.now) flow.now store.old row.now entry }
+    requires absent { kept store.old (name_of store.old entry) ≡ false }
+    ensures puts { OnOk result (Puts (D.operations dom.now) flow.now store.old store.new (name_of store.old entry)) }
+    ensures err { OnErr result (Computes (D.operations dom.now) flow.now store.old store.new) }
+    ensures least { steps.old ≤ steps.new }
+    ensures most { steps.new ≤ steps.old + D.counted dom.now }
+{
+    let value = compute(alloc, dom, flow, store, row, &entry, steps)?;
+    let owner = store.names.owner(&entry.name);
+    let Open {
+        cell,
+        name: _,
+        inputs,
+    } = entry;
+    store.graph.fill(cell, owner, value, inputs)
+}

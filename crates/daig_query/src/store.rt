@@ -1,0 +1,17 @@
+//! What an engine keeps.
+use crate::held::Held;
+use cell_names::Names;
+use daig_graph::Graph;
+use memo_table::{Memo, Operation};
+use state_table::Table;
+use std::hash::Hash;
+
+/// Cells by the numbers of their names, the states that they hold by numbers, and what operations gave.
+#[derive(Drop)]
+pub(crate) struct Store<S: Eq + Hash> {
+    pub(crate) graph: Graph<Held>,
+    pub(crate) names: Names,
+    pub(crate) states: Table<S>,
+    pub(crate) operations: Table<Operation>,
+    pub(crate) memo: Memo<S>,
+}

@@ -1,4 +1,0 @@
-use Rattle.dbm_close.proofs.strengthen.halve_sums.Goals as goal
-
-pub returns-clause-kept : goal.returns-clause-kept
-returns-clause-kept c = λ i j l w. (c.update.ensures.kept i j l w).1

@@ -1,0 +1,15 @@
+pub mod AllLemmas
+pub mod AssignLemmas
+pub mod BlockLemmas
+pub mod CloseLemmas
+pub mod ClosedLemmas
+pub mod EdgeLemmas
+pub mod EndsLemmas
+pub mod ExistLemmas
+pub mod InsertLemmas
+pub mod KeepLemmas
+pub mod LawLemmas
+pub mod MoveLemmas
+pub mod StandLemmas
+pub mod TightLemmas
+pub mod TriangleLemmas

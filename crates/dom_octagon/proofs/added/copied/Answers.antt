@@ -1,0 +1,6 @@
+use Rattle.dom_octagon.proofs.Tables.{if_ok-by, limited_ready}
+use Rattle.dom_octagon.specs.Limits.{IsReady}
+use Rattle.dom_octagon.proofs.added.copied.Goals as goal
+
+pub returns-clause-ready : goal.returns-clause-ready
+returns-clause-ready c = if_ok-by c.copy.result c.args.m.now IsReady c.copy.ensures.same (limited_ready c.args.m.now c.requires.limited)

@@ -1,0 +1,51 @@
+//! What calls return.
+ghost use Rattle.std.specs.Prelude.{◌≡◌, IfOk};
+ghost use Rattle.imp_slots.specs.CallViews.{taken_of};
+ghost use Rattle.octagon_meaning.specs.Operations as operations;
+ghost use Rattle.dom_octagon.specs.Limits.{IsTight};
+
+use crate::OctagonState;
+use crate::assign::close_ranged;
+use crate::close::{closed_copy, closure, empty};
+use crate::evaluate::range;
+use dbm_core::Matrix;
+use imp_slots::Returning;
+use plain_values::Memory;
+use std::alloc::Global;
+
+/// The caller's state with the result in its place.
+fn taken(
+    alloc: Global,
+    returning: Option<Returning>,
+    m: &Matrix,
+    callee: &Matrix,
+) -> Result<OctagonState, Memory>
+    requires tight { IsTight m.now }
+    requires callee { IsTight callee.now }
+    ensures exact { IfOk result (λ t. t ≡ operations.returned (taken_of returning) m.now callee.now) }
+{
+    match returning {
+        None => closed_copy(alloc, m),
+        Some(Returning::Link { to: _, from: _ }) => closed_copy(alloc, m),
+        Some(Returning::Numeric { to, from }) => {
+            close_ranged(alloc, m, to as usize, range(callee, from as usize))
+        }
+    }
+}
+
+/// The state behind a call.
+#[tactic(auto, unfolding(octagon_meaning::specs::Operations::leave))]
+pub fn left(
+    alloc: Global,
+    returning: Option<Returning>,
+    s: &OctagonState,
+    done: &OctagonState,
+) -> Result<OctagonState, Memory>
+    ensures exact { IfOk result (λ t. t ≡ operations.leave (taken_of returning) s.now done.now) }
+{
+    match (closure(s), closure(done)) {
+        (Some(m), Some(callee)) => taken(alloc, returning, m, callee),
+        (Some(_), None) => Ok(empty()),
+        (None, _) => Ok(empty()),
+    }
+}

@@ -1,0 +1,42 @@
+-- What a plan leaves.
+use Rattle.std.specs.Prelude.{◌≡◌, ◌↔◌, ℕ, List, true}
+use Rattle.imp_slots.specs.Fits.{IsChecked}
+use Rattle.domain_laws.specs.Operations.{Operations}
+use Rattle.demand_order.specs.Asking.{value_of}
+use Rattle.cell_names.specs.Paths.{CellName}
+use Rattle.cell_rows.specs.Claims.{rows_of}
+use Rattle.kept_set.specs.Places.{KeepPlaces}
+use Rattle.kept_set.specs.Touched.{Edit, IsKept}
+use Rattle.imp_flow.specs.Plans.{Plan}
+use Rattle.imp_flow.specs.Changed.{AreChanged}
+use Rattle.named_cells.specs.Same.{same_name}
+use Rattle.cell_removal.specs.Removal.{Cells, IsRising, Removes, without}
+use Rattle.named_cells.specs.Named.{kept}
+use Rattle.edit_invalidate.specs.Touched.{AreNamed, IsTouched}
+use Rattle.named_cells.specs.Holds.{HoldsCells}
+
+-- the change from one program to another
+abbrev pub edit_of : Plan → Plan → Edit
+edit_of old new = record { engine = old.engine; old = old.program; new = new.program }
+
+-- Each cell of a program has a name.
+abbrev pub CellsAreNamed : {S : Type 0} → Operations S → Type 0 → Type 0
+CellsAreNamed dom V = (plan : Plan) (names : List CellName) (cells : Cells V) → HoldsCells dom plan names cells → AreNamed cells names
+
+-- It has a rank above those of its inputs.
+abbrev pub CellsRise : {S : Type 0} → Operations S → Type 0 → Type 0
+CellsRise dom V = (plan : Plan) (names : List CellName) (cells : Cells V) → HoldsCells dom plan names cells → IsRising cells
+
+-- What is left are exactly the kept names; they are cells of the new program, which computes at each what the old one did.
+pub record LeavesKept {S V : Type 0} (dom : Operations S) (old new : Plan) (names : List CellName) (cells rest : Cells V) : Type 0 where
+  pub found : (x : CellName) → kept rest names x ≡ true → value_of (rows_of dom new.engine new.program same_name) x ≡ value_of (rows_of dom old.engine old.program same_name) x
+  pub kept : (x : CellName) → (kept rest names x ≡ true) ↔ IsKept dom (edit_of old new) same_name (kept cells names) x
+  pub holds : HoldsCells dom new names rest
+
+-- So where statements keep their places, a plan of removal for the changed cells of the changed statements leaves the kept
+-- names.
+abbrev pub PlansLeaveKept : {S : Type 0} → Operations S → Type 0 → Type 0
+PlansLeaveKept dom V =
+    (old new : Plan) (names : List CellName) (cells : Cells V) (stmts plan : List ℕ) → old.engine ≡ new.engine → IsChecked new.program → KeepPlaces old.program new.program →
+    HoldsCells dom old names cells → AreChanged old new stmts → Removes cells (IsTouched old new names cells stmts) plan →
+    LeavesKept dom old new names cells (without cells plan)

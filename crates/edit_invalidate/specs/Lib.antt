@@ -1,0 +1,4 @@
+pub mod Rows
+pub mod RowCode
+pub mod Touched
+pub mod Claims

@@ -1,0 +1,71 @@
+-- Programs as they are read.
+use Rattle.std.proofs.Common.{◌≡◌, ℕ, ◌<◌, List, [], length, Option, Some, None, unwrap_or, slice_get, slice_index_or, ◌≤◌, refl, sym, ap, ◌∙◌, subst, arith}
+use Rattle.imp_syntax.specs.Plain.{Procedure}
+use Rattle.std.proofs.lemmas.Option.{slice_get-get_or, slice_get_past}
+use Rattle.imp_check.specs.Entries.{entries_of, entry_of, sites_in, sites_of}
+use Rattle.imp_check.specs.Fine.{IsFine}
+use Rattle.imp_check.specs.Tables.{AreOf}
+use Rattle.imp_check.specs.Changes.{AreFalling, Makes, overlay}
+use Rattle.imp_check.specs.Views.{over, program_over, AreRead}
+use Rattle.imp_check.specs.declared.entry.Entry.{Entry}
+use Rattle.imp_check.specs.declared.entry.Head.{Head}
+use Rattle.imp_check.specs.declared.change.Put.{Put}
+use Rattle.imp_check.specs.declared.change.Change.{Change}
+use Rattle.imp_check.proofs.TableLemmas.{table_is, table_right}
+use Rattle.imp_check.proofs.SiteLemmas.{below_at, below_past}
+
+pub read_is : (under : List Procedure) (puts : List Put) (count : ℕ) (heads : List Head) (sites : List (List ℕ)) (program : List Procedure) → AreRead under puts count heads sites program → program_over under puts count heads ≡ program
+read_is under puts count heads sites program r = table_is program (over under puts) count heads sites r.right
+
+pub read_right : (under : List Procedure) (puts : List Put) (count : ℕ) (heads : List Head) (sites : List (List ℕ)) (program : List Procedure) → AreRead under puts count heads sites program → AreRead under puts count heads sites (program_over under puts count heads)
+read_right under puts count heads sites program r = record { right = table_right program (over under puts) count heads sites r.right; falling = r.falling }
+
+none_fall : AreFalling []
+none_fall i j d h l = absurd (omega arith)
+
+-- a table as it is ..
+module _ (program : List Procedure) (at : ℕ → Option Entry) (count : ℕ) (heads : List Head) (sites : List (List ℕ)) (right : AreOf program at count heads sites) where
+  pub read_table : (hs : List Head) (ss : List (List ℕ)) → hs ≡ heads → ss ≡ sites → AreRead program [] count hs ss program
+  read_table hs ss h s = record {
+    right = record { fine = right.fine; entries = λ n. refl; counted = right.counted; procedures = h ∙ right.procedures; calls = s ∙ right.calls };
+    falling = none_fall;
+  }
+
+  -- .. and with a change over it
+  pub read_changed : (after : List Procedure) (c : Change) (puts : List Put) (hs : List Head) (ss : List (List ℕ)) → Makes program c after → IsFine after → AreFalling c.entries.items → puts ≡ c.entries.items → hs ≡ unwrap_or c.heads heads → ss ≡ unwrap_or c.sites sites → AreRead program puts c.count hs ss after
+  read_changed after c puts hs ss m f g p h s = subst (λ (ps : List Put). AreRead program ps c.count hs ss after) (sym p) (record {
+    right = record {
+      fine = f;
+      entries = λ n. sym (m.entries n);
+      counted = m.counted;
+      procedures = h ∙ ap (unwrap_or c.heads) right.procedures ∙ sym m.heads;
+      calls = s ∙ ap (unwrap_or c.sites) right.calls ∙ sym m.sites;
+    };
+    falling = g;
+  })
+
+-- what is found where the change has the number, and where it has not
+pub read_put : (under : List Procedure) (puts : List Put) (count : ℕ) (heads : List Head) (sites : List (List ℕ)) (program now : List Procedure) (n : ℕ) (o : Option Entry) → AreRead under puts count heads sites program → program ≡ now → ((at : ℕ → Option Entry) → overlay puts at n ≡ o) → o ≡ entry_of (entries_of now) n
+read_put under puts count heads sites program now n o r e h = sym (h (entry_of (entries_of under))) ∙ r.right.entries n ∙ ap (λ (ps : List Procedure). entry_of (entries_of ps) n) e
+
+pub read_under : (under : List Procedure) (puts : List Put) (count : ℕ) (heads : List Head) (sites : List (List ℕ)) (program now : List Procedure) (n : ℕ) → AreRead under puts count heads sites program → program ≡ now → ((at : ℕ → Option Entry) → overlay puts at n ≡ at n) → entry_of (entries_of under) n ≡ entry_of (entries_of now) n
+read_under under puts count heads sites program now n r e h = sym (h (entry_of (entries_of under))) ∙ r.right.entries n ∙ ap (λ (ps : List Procedure). entry_of (entries_of ps) n) e
+
+-- the call statements of a procedure
+module _ (ps : List Procedure) (ss : List (List ℕ)) (i p : ℕ) where
+  pub site_of : (s : List ℕ) → ss ≡ sites_of ps → i ≡ p → i < length ss → s ≡ slice_index_or ss i s → p < length ps → s ≡ sites_in (entries_of ps) p
+  site_of s e q l at h =
+      some s (sites_in (entries_of ps) p)
+      (sym (slice_get-get_or ss i s l ∙ ap Some (sym at)) ∙ ap (λ zs. slice_get zs i) e ∙ ap (λ (k : ℕ). slice_get (sites_of ps) k) q ∙ below_at (entries_of ps) (length ps) p h)
+    where
+      some : (a b : List ℕ) → Some a ≡ Some b → a ≡ b
+      some a b e = cc
+
+  clash : {s : List ℕ} → Some s ≡ None → ⊥
+  clash e = cc
+
+  pub no_site : ss ≡ sites_of ps → i ≡ p → i < length ss → length ps ≤ p → ⊥
+  no_site e q l h = clash (sym (slice_get-get_or ss i [] l) ∙ ap (λ zs. slice_get zs i) e ∙ ap (λ (k : ℕ). slice_get (sites_of ps) k) q ∙ below_past (entries_of ps) (length ps) p h)
+
+  pub site_gone : ss ≡ sites_of ps → i ≡ p → length ss ≤ i → p < length ps → ⊥
+  site_gone e q l h = clash (sym (below_at (entries_of ps) (length ps) p h) ∙ ap (λ (k : ℕ). slice_get (sites_of ps) k) (sym q) ∙ ap (λ zs. slice_get zs i) (sym e) ∙ slice_get_past ss i l)

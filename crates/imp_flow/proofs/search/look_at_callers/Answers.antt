@@ -1,0 +1,18 @@
+use Rattle.std.proofs.Common.{ℕ, subst}
+use Rattle.imp_flow.specs.Searches.{AreCallersLooked}
+use Rattle.imp_flow.proofs.ChangedSet.{goes_both, callers_looked_more, one_further}
+use Rattle.imp_flow.proofs.search.look_at_callers.Goals as goal
+
+pub loop-place-preserved : goal.loop-place-preserved
+loop-place-preserved c =
+    let old = c.args.old.now in
+    let new = c.args.new.now in
+    let s = c.loop-place.search in
+    let t = c.look_at_callers_of.new.search in
+    let ps = c.args.before.now in
+    let qs = c.args.after.now in
+    let g = c.in_ok-look_at_callers_of.ensures.on in
+    record {
+      on = goes_both old new c.args.search.now s t c.loop-place.invariant.on g;
+      looked = one_further (λ (k : ℕ). AreCallersLooked old new t ps qs k) c.loop-place.place (λ k l. callers_looked_more old new s t g ps qs k (c.loop-place.invariant.looked k l)) (subst (λ (k : ℕ). AreCallersLooked old new t ps qs k) c.new.ensures.is c.in_ok-look_at_callers_of.ensures.looked);
+    }

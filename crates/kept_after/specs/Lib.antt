@@ -1,0 +1,4 @@
+pub mod Staying
+pub mod Same
+pub mod After
+pub mod Claims

@@ -1,0 +1,77 @@
+-- Filling what is missing keeps cells.
+use Rattle.std.proofs.Common.{◌≡◌, ◌⊎◌, ℕ, Bool, true, false, ◌||◌, List, [], ◌∷◌, ◌++◌, map, take, filter, Option, Some, None, refl, sym, ap, subst, ◌∙◌, inl, inr}
+use Rattle.std.specs.Prelude.{not}
+use Rattle.std.proofs.lemmas.Bool.{or_left, or_right, false_from_ne_true}
+use Rattle.plain_values.proofs.Cases.{or_either}
+use Rattle.imp_syntax.specs.declared.edit.Location.{Location}
+use Rattle.imp_syntax.specs.declared.edit.Location.TheVariants.{Before}
+use Rattle.imp_slots.specs.Fits.{IsChecked}
+use Rattle.imp_slots.specs.Plain.{Routine}
+use Rattle.domain_laws.specs.Operations.{Operations}
+use Rattle.batch_meaning.specs.Answers.{Found, In, Misses, procedure_of}
+use Rattle.batch_meaning.specs.Batch.{Engine}
+use Rattle.batch_meaning.specs.Report.{Checked, checked_statements}
+use Rattle.cell_names.specs.Paths.{CellName}
+use Rattle.cell_rows.specs.Claims.{HasName}
+use Rattle.cell_rows.specs.Targets.{Target, demanded, targets}
+use Rattle.demand_order.specs.Order.{System, IsAcyclic, member, seen, fill_all}
+use Rattle.demand_order.specs.OrderLaws.{IsDistinct, IsClosed, Needed, input, under, order}
+use Rattle.demand_order.specs.InTurn.{all_demanded}
+use Rattle.demand_order.proofs.AskingProofs.{system-acyclic}
+use Rattle.demand_order.proofs.InTurnLemmas.{turns-one}
+use Rattle.demand_order.proofs.OrderLemmas.{member-append}
+use Rattle.demand_order.proofs.OrderLawProofs.{order-distinct}
+use Rattle.demand_order.proofs.TheoremProofs.{below, ceiling, filled, kept_or_needed, missing}
+use Rattle.demand_laws.specs.Claims.{found_by, names_of, report_names}
+use Rattle.demand_laws.specs.Reports.{check_targets, report_demands, targets_in, or_none}
+use Rattle.demand_laws.proofs.Machine.{rows, law}
+use Rattle.kept_set.specs.Touched.{AreCells}
+use Rattle.named_cells.specs.Same.{same_name}
+use Rattle.named_cells.proofs.Same.{same_is}
+use Rattle.session_machine.specs.Claims.{AreKept}
+use Rattle.session_machine.proofs.Lists.{take_member, take_distinct, filter_holds, append_distinct}
+
+module _ {S : Type 0} (dom : Operations S) (engine : Engine) (program : List Routine) (checked : IsChecked program) (kept : List CellName) (are : AreKept dom engine program kept) where
+  abbrev s : System CellName
+  s = names_of dom engine program same_name
+
+  abbrev k : CellName → Bool
+  k = member same_name kept
+
+  acyclic : IsAcyclic (names_of dom engine program same_name)
+  acyclic = system-acyclic (rows dom engine program same_name same_is checked) (law dom engine program same_name same_is checked)
+
+  module _ (names : List CellName) (there : (x : CellName) → Needed (names_of dom engine program same_name) names x → HasName engine program x) (n : ℕ) where
+    abbrev xs : List CellName
+    xs = fill_all s k [] names
+
+    seen_is : (x : CellName) → member same_name (kept ++ take n xs) x ≡ seen s k (take n xs) x
+    seen_is x = member-append same_name kept (take n xs) x
+
+    all_seen : member same_name (kept ++ take n xs) ≡ seen s k (take n xs)
+    all_seen = λ i x. seen_is x i
+
+    named : (x : CellName) → member same_name (kept ++ take n xs) x ≡ true → HasName engine program x
+    named x m =
+        elim (or_either (k x) (member same_name (take n xs) x) (sym (seen_is x) ∙ m)) [
+          | inl h ↦ are.cells.named x h
+          | inr h ↦ elim ((kept_or_needed s acyclic k are.cells.closed names x).0 (or_right (k x) (member same_name xs x) (take_member same_name n xs x h))) [
+            | inl j ↦ are.cells.named x j
+            | inr j ↦ there x j
+          ]
+        ]
+
+    fresh : (x : CellName) → member same_name (take n xs) x ≡ true → k x ≡ false
+    fresh x m =
+        let h : member same_name (filter (λ y. not (k y)) (order s names)) x ≡ true = subst (λ ys. member same_name ys x ≡ true) (missing s acyclic k are.cells.closed names) (take_member same_name n xs x m) in
+        let j = filter_holds same_name same_is.same_true (λ y. not (k y)) (order s names) x h in
+        false_from_ne_true (k x) (λ i. cc)
+
+    pub fill_keeps : AreKept dom engine program (kept ++ take n xs)
+    fill_keeps = record {
+      cells = record {
+        named = named;
+        closed = subst (IsClosed s) (sym all_seen) (filled s acyclic k are.cells.closed names n);
+      };
+      once = append_distinct same_name kept (take n xs) are.once (take_distinct same_name n xs (order-distinct s acyclic k names (ceiling s names) (below s acyclic names))) same_is.same_true same_is.same_refl fresh;
+    }

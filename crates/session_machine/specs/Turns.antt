@@ -1,0 +1,112 @@
+-- What each request makes of the machine.
+use Rattle.std.specs.Prelude.{◌≡◌, ℕ, suc, ◌<◌, ◌≤◌, Bool, List, [], ◌∷◌, ◌++◌, take, filter, length, Option, Some, None}
+use Rattle.imp_syntax.specs.Plain.{Procedure}
+use Rattle.imp_syntax.specs.declared.edit.Location.{Location}
+use Rattle.imp_syntax.specs.declared.edit.Edit.{Edit}
+use Rattle.domain_laws.specs.Operations.{Operations}
+use Rattle.batch_meaning.specs.Answers.{Answer, Found, In, Misses, answer, procedure_of}
+use Rattle.demand_order.specs.Order.{member, fill_all}
+use Rattle.cell_names.specs.Paths.{CellName}
+use Rattle.cell_rows.specs.Cells.{Cell}
+use Rattle.cell_rows.specs.Targets.{Target, demanded, targets}
+use Rattle.demand_laws.specs.Claims.{names_of, found_by, report_fills}
+use Rattle.imp_check.specs.Slots.{routines_of}
+use Rattle.imp_edit.specs.Edited.{edited, next_after}
+use Rattle.kept_set.specs.Touched as touched
+use Rattle.kept_after.specs.After.{kept_after}
+use Rattle.named_cells.specs.Same.{same_name}
+use Rattle.session_machine.specs.Machine.{Machine, Ticket, keeping, ticketed, turned_to, without_ticket}
+
+-- the targets of a question; none where the program refuses it
+abbrev pub or_none : Option (List Target) → List Target
+or_none None = []
+or_none (Some ts) = ts
+
+abbrev pub targets_in : Machine → Location → (string : List ℕ) → Found → List Target
+targets_in m l string (Misses r) = []
+targets_in m l string (In p) = or_none (targets (routines_of m.program) p l string)
+
+abbrev pub targets_of : Machine → Location → (string : List ℕ) → List Target
+targets_of m l string = targets_in m l string (procedure_of (routines_of m.program) l)
+
+-- with these names kept beside the others, and so many filled
+abbrev pub filled : List CellName → Machine → Machine
+filled xs m = keeping (m.kept ++ xs) (length xs) m
+
+-- with these names kept beside the others
+abbrev pub added : List CellName → Machine → Machine
+added xs m = keeping (m.kept ++ xs) m.cost m
+
+-- whether a name is kept
+abbrev pub is_kept : Machine → CellName → Bool
+is_kept m = member same_name m.kept
+
+-- a ticket more, and a ticket less
+abbrev pub opened : Location → (string : List ℕ) → Machine → Machine
+opened l string m = ticketed (m.tickets ++ record { number = m.next_ticket; at = l; string = string } ∷ []) (suc m.next_ticket) m
+
+abbrev pub closed : ℕ → Machine → Machine
+closed n m = ticketed (without_ticket n m.tickets) m.next_ticket m
+
+module _ {S : Type 0} (dom : Operations S) where
+  -- what the present program computes at a name
+  abbrev pub found : Machine → CellName → Cell S
+  found m = found_by dom m.engine (routines_of m.program) same_name
+
+  -- what is missing for a question, in the order in which it is filled
+  abbrev pub missing : List Target → Machine → List CellName
+  missing ts m = fill_all (names_of dom m.engine (routines_of m.program) same_name) (is_kept m) [] (demanded (found m) ts)
+
+  abbrev pub missing_at : Location → (string : List ℕ) → Machine → List CellName
+  missing_at l string m = missing (targets_of m l string) m
+
+  -- .. and for a report
+  abbrev pub missing_for_report : Machine → List CellName
+  missing_for_report m = report_fills dom m.engine (routines_of m.program) same_name (is_kept m)
+
+  -- the answer of the present program, interpreted from scratch
+  abbrev pub answer_at : Location → (string : List ℕ) → Machine → Answer S
+  answer_at l string m = answer dom m.engine (routines_of m.program) l string
+
+  -- the machine after a question that is answered, and after a report
+  abbrev pub asked : Location → (string : List ℕ) → Machine → Machine
+  asked l string m = filled (missing_at l string m) m
+
+  abbrev pub reported : Machine → Machine
+  reported m = filled (missing_for_report m) m
+
+  -- after a step of a ticket that fills the first n names, and after one that ends it
+  abbrev pub stepped : Ticket → (n : ℕ) → Machine → Machine
+  stepped t n m = filled (take n (missing_at t.at t.string m)) m
+
+  abbrev pub ended : Ticket → Machine → Machine
+  ended t m = closed t.number (asked t.at t.string m)
+
+  -- With another program: of the kept names those are kept that the change leaves.
+  abbrev pub moved : List Procedure → (past future : List (List Procedure)) → (next : ℕ) → Machine → Machine
+  moved program past future next m =
+      turned_to program past future next (filter (kept_after dom (record { engine = m.engine; old = routines_of m.program; new = routines_of program }) same_name (is_kept m)) m.kept) m
+
+  -- after an edit that is accepted
+  abbrev pub committed : Edit → Machine → Machine
+  committed e m = moved (edited e m.program) (take 64 (m.program ∷ m.past)) [] (next_after e m.next) m
+
+  -- back to the program behind, and on to the one ahead, if there is one
+  abbrev pub back_to : List (List Procedure) → Machine → Machine
+  back_to [] m = m
+  back_to (p ∷ ps) m = moved p ps (m.program ∷ m.future) m.next m
+
+  abbrev pub on_to : List (List Procedure) → Machine → Machine
+  on_to [] m = m
+  on_to (p ∷ ps) m = moved p (m.program ∷ m.past) ps m.next m
+
+  abbrev pub undone : Machine → Machine
+  undone m = back_to m.past m
+
+  abbrev pub redone : Machine → Machine
+  redone m = on_to m.future m
+
+-- For want of memory some of these names are filled, the first ones, and nothing else is changed.
+pub record IsBetween (xs : List CellName) (old : Machine) (stands : Machine → Type 0) : Type 0 where
+  pub count : ℕ
+  pub some : stands (added (take count xs) old)
