@@ -9,6 +9,8 @@ mod closings;
 #[cfg(test)]
 mod graphs;
 #[cfg(test)]
+mod intervals;
+#[cfg(test)]
 mod matrices;
 #[cfg(test)]
 mod octagons;

@@ -1,17 +1,12 @@
 //! States by hand.
 ghost use Rattle.std.specs.Prelude.{◌≡◌, ◌<◌};
 
-use crate::compare::{related, within};
-use crate::statements::behind;
-use crate::text::state_text;
-use crate::widening::widened;
-use crate::{Interval, IntervalState, SlotRange};
+use dom_interval::{Interval, IntervalState};
 use domain_laws::{Domain, Steps, Verdict};
 use imp_slots::{
     Layout, NumericSlot, SlotAction, SlotCond, SlotCondNode, SlotExpr, SlotExprNode, SlotStmt,
 };
 use imp_syntax::{Operator, Relation};
-use num_bounds::Range;
 use plain_values::{Items, Number, Text};
 use std::alloc::Global;
 use std::marker::Brand;
@@ -32,32 +27,83 @@ fn layout(alloc: Global) -> Result<Layout, Fail> {
     Ok(Layout::new(alloc, numbers, Items::new(alloc))?)
 }
 
+/// Ints `x` and `y`.
+fn pair(alloc: Global) -> Result<Layout, Fail> {
+    let mut numbers = Items::new(alloc);
+    for name in ["x", "y"] {
+        let name = Text::from_slice(alloc, name.as_bytes())?;
+        numbers.push(NumericSlot::new(name, false))?;
+    }
+    Ok(Layout::new(alloc, numbers, Items::new(alloc))?)
+}
+
 fn slot(x: u32, alloc: Global) -> Result<SlotExpr, Fail> {
     Ok(SlotExpr::new(alloc, SlotExprNode::Slot(x))?)
 }
 
-fn number(n: u32, alloc: Global) -> Result<SlotExpr, Fail> {
-    Ok(SlotExpr::new(alloc, SlotExprNode::Literal(Number::new(u64::from(n))))?)
+fn literal(n: u64, alloc: Global) -> Result<SlotExpr, Fail> {
+    Ok(SlotExpr::new(alloc, SlotExprNode::Literal(Number::new(n)))?)
 }
 
 fn binary(o: Operator, a: SlotExpr, b: SlotExpr, alloc: Global) -> Result<SlotExpr, Fail> {
     Ok(SlotExpr::new(alloc, SlotExprNode::Binary(o, a, b))?)
 }
 
-/// The state of ints with these ranges.
-fn state(alloc: Global, ranges: &[(i64, i64)]) -> Result<IntervalState, Fail> {
-    let mut slots = Vec::new(alloc);
-    for (lo, hi) in ranges {
-        let range = Range::new(*lo, *hi).ok_or("empty")?;
-        slots.push(SlotRange {
-            is_array: false,
-            range,
-        })?;
+/// A number of either sign: one below zero is `0 - (-n - 1) - 1`.
+fn number(n: i64, alloc: Global) -> Result<SlotExpr, Fail> {
+    if n >= 0 {
+        return literal(n.unsigned_abs(), alloc);
     }
-    Ok(within(slots))
+    let rest = literal((n + 1).unsigned_abs(), alloc)?;
+    let above = binary(Operator::Subtract, literal(0, alloc)?, rest, alloc)?;
+    binary(Operator::Subtract, above, literal(1, alloc)?, alloc)
 }
 
 /// Behind one statement after another, from all 0.
+fn behind<L: Ledger>(
+    alloc: Global,
+    layout: &Layout,
+    steps: &mut Steps<L>,
+    actions: &[SlotAction],
+) -> Result<IntervalState, Fail> {
+    let mut s = Interval.init(alloc, layout, steps)?;
+    for action in actions {
+        let stmt = SlotStmt::Simple(action.clone()?);
+        s = Interval.post(alloc, &stmt, &s, steps)?;
+    }
+    Ok(s)
+}
+
+/// The state of `x` and `y` at these values.
+fn at<L: Ledger>(
+    alloc: Global,
+    steps: &mut Steps<L>,
+    x: i64,
+    y: i64,
+) -> Result<IntervalState, Fail> {
+    let actions = [
+        SlotAction::SetInt(0, number(x, alloc)?),
+        SlotAction::SetInt(1, number(y, alloc)?),
+    ];
+    behind(alloc, &pair(alloc)?, steps, &actions)
+}
+
+/// The state of `x` and `y` with these ranges: the join of their lower and of their upper ends.
+fn state<L: Ledger>(
+    alloc: Global,
+    steps: &mut Steps<L>,
+    x: (i64, i64),
+    y: (i64, i64),
+) -> Result<IntervalState, Fail> {
+    let low = at(alloc, steps, x.0, y.0)?;
+    let high = at(alloc, steps, x.1, y.1)?;
+    Ok(Interval.join(alloc, &low, &high, steps)?)
+}
+
+fn pair_text(alloc: Global, s: &IntervalState) -> Result<Text, Fail> {
+    Ok(Interval.text(alloc, &pair(alloc)?, s)?)
+}
+
 fn shown<L: Ledger>(alloc: Global, blank: Blank, actions: &[SlotAction]) -> Result<Text, Fail>
     requires name { blank.name ≡ L.name }
     requires parts { blank.parts ≡ L.parts }
@@ -65,11 +111,7 @@ fn shown<L: Ledger>(alloc: Global, blank: Blank, actions: &[SlotAction]) -> Resu
 {
     let mut steps = Steps::<L>::new(blank);
     let layout = layout(alloc)?;
-    let mut s = Interval.init(alloc, &layout, &mut steps)?;
-    for action in actions {
-        let stmt = SlotStmt::Simple(action.clone()?);
-        s = Interval.post(alloc, &stmt, &s, &mut steps)?;
-    }
+    let s = behind(alloc, &layout, &mut steps, actions)?;
     Ok(Interval.text(alloc, &layout, &s)?)
 }
 
@@ -83,12 +125,12 @@ fn remainders_and_quotients(rt: HostRuntime) -> Result<(), Fail> {
     let ten = binary(
         Operator::Remainder,
         slot(0, alloc)?,
-        number(10, alloc)?,
+        literal(10, alloc)?,
         alloc,
     )?;
     let hundred = binary(
         Operator::Divide,
-        number(100, alloc)?,
+        literal(100, alloc)?,
         slot(0, alloc)?,
         alloc,
     )?;
@@ -127,40 +169,42 @@ fn arrays(rt: HostRuntime) -> Result<(), Fail> {
 #[test]
 fn overflow(rt: HostRuntime) -> Result<(), Fail> {
     let alloc = rt.alloc();
-    let most = SlotExpr::new(
-        alloc,
-        SlotExprNode::Literal(Number::new(9223372036854775807)),
-    )?;
+    let most = number(MAX, alloc)?;
     let more = binary(Operator::Add, slot(0, alloc)?, number(1, alloc)?, alloc)?;
     let actions = [SlotAction::SetInt(0, most), SlotAction::SetInt(0, more)];
     assert_eq!(rt; after(alloc, &actions)?.as_slice(), "none".as_bytes());
     Ok(())
 }
 
-/// The text of a state of the ints `x` and `y`.
-fn pair_text(alloc: Global, s: &IntervalState) -> Result<Text, Fail> {
-    let mut numbers = Items::new(alloc);
-    numbers.push(NumericSlot::new(Text::from_slice(alloc, b"x")?, false))?;
-    numbers.push(NumericSlot::new(Text::from_slice(alloc, b"y")?, false))?;
-    let layout = Layout::new(alloc, numbers, Items::new(alloc))?;
-    Ok(state_text(alloc, &layout, s)?)
+/// What `x` in a relation to `y` leaves of their ranges.
+fn compared<L: Ledger>(
+    alloc: Global,
+    blank: Blank,
+    relation: Relation,
+    x: (i64, i64),
+    y: (i64, i64),
+) -> Result<Text, Fail>
+    requires name { blank.name ≡ L.name }
+    requires parts { blank.parts ≡ L.parts }
+    requires some { 0 < blank.parts }
+{
+    let mut steps = Steps::<L>::new(blank);
+    let s = state(alloc, &mut steps, x, y)?;
+    let guard = SlotCondNode::Compare(relation, slot(0, alloc)?, slot(1, alloc)?);
+    let guard = SlotCond::new(alloc, guard)?;
+    pair_text(
+        alloc,
+        &Interval.assume(alloc, &guard, true, &s, &mut steps)?,
+    )
 }
 
-/// What `x` in a relation to `y` leaves of their ranges.
-fn compared(alloc: Global, r: Relation, x: (i64, i64), y: (i64, i64)) -> Result<Text, Fail> {
-    let x = SlotRange {
-        is_array: false,
-        range: Range::new(x.0, x.1).ok_or("empty")?,
-    };
-    let y = SlotRange {
-        is_array: false,
-        range: Range::new(y.0, y.1).ok_or("empty")?,
-    };
-    let mut slots = Vec::new(alloc);
-    slots.push(x)?;
-    slots.push(y)?;
-    let s = related(r, Some(0), Some(1), x.range, y.range, slots);
-    pair_text(alloc, &s)
+fn compared_uncounted(
+    alloc: Global,
+    r: Relation,
+    x: (i64, i64),
+    y: (i64, i64),
+) -> Result<Text, Fail> {
+    compared::<Brand>(alloc, Blank::new(1), r, x, y)
 }
 
 #[test]
@@ -189,7 +233,7 @@ fn relations(rt: HostRuntime) -> Result<(), Fail> {
         (Relation::NotEqual, (7, 7), (7, 7), "none"),
     ];
     for (relation, x, y, want) in table {
-        let text = compared(alloc, relation, x, y)?;
+        let text = compared_uncounted(alloc, relation, x, y)?;
         assert_eq!(rt;
             text.as_slice(),
             want.as_bytes(),
@@ -197,6 +241,33 @@ fn relations(rt: HostRuntime) -> Result<(), Fail> {
         );
     }
     Ok(())
+}
+
+/// The range of `x` that is widened by another; `y` is 0 in both.
+fn widened<L: Ledger>(
+    alloc: Global,
+    blank: Blank,
+    marks: &[i64],
+    l: (i64, i64),
+    r: (i64, i64),
+) -> Result<Text, Fail>
+    requires name { blank.name ≡ L.name }
+    requires parts { blank.parts ≡ L.parts }
+    requires some { 0 < blank.parts }
+{
+    let mut steps = Steps::<L>::new(blank);
+    let l = state(alloc, &mut steps, l, (0, 0))?;
+    let r = state(alloc, &mut steps, r, (0, 0))?;
+    pair_text(alloc, &Interval.widen(alloc, marks, &l, &r, &mut steps)?)
+}
+
+fn widened_uncounted(
+    alloc: Global,
+    marks: &[i64],
+    l: (i64, i64),
+    r: (i64, i64),
+) -> Result<Text, Fail> {
+    widened::<Brand>(alloc, Blank::new(1), marks, l, r)
 }
 
 #[test]
@@ -214,12 +285,35 @@ fn widening(rt: HostRuntime) -> Result<(), Fail> {
         (marks, (0, 1), (0, 10), "x=[0,10] y=[0,0]"),
     ];
     for (marks, l, r, want) in table {
-        let l = state(alloc, &[l, (0, 0)])?;
-        let r = state(alloc, &[r, (0, 0)])?;
-        let text = pair_text(alloc, &widened(alloc, marks, &l, &r)?)?;
+        let text = widened_uncounted(alloc, marks, l, r)?;
         assert_eq!(rt; text.as_slice(), want.as_bytes());
     }
     Ok(())
+}
+
+/// The verdict on `assert x < y;`, and whether a copy is equal and reached, and nothing is behind a break.
+fn judged<L: Ledger>(
+    alloc: Global,
+    blank: Blank,
+    x: (i64, i64),
+    y: (i64, i64),
+) -> Result<(Verdict, bool), Fail>
+    requires name { blank.name ≡ L.name }
+    requires parts { blank.parts ≡ L.parts }
+    requires some { 0 < blank.parts }
+{
+    let mut steps = Steps::<L>::new(blank);
+    let s = state(alloc, &mut steps, x, y)?;
+    let less = SlotCondNode::Compare(Relation::Less, slot(0, alloc)?, slot(1, alloc)?);
+    let claim = SlotStmt::Simple(SlotAction::Assert(SlotCond::new(alloc, less)?));
+    let verdict = Interval.check(alloc, &claim, &s)?;
+    let copied = Interval.copy(alloc, &s)? == s && !Interval.dead(&s);
+    let broken = Interval.post(alloc, &SlotStmt::Break, &s, &mut steps)?;
+    Ok((verdict, copied && Interval.dead(&broken)))
+}
+
+fn judged_uncounted(alloc: Global, x: (i64, i64), y: (i64, i64)) -> Result<(Verdict, bool), Fail> {
+    judged::<Brand>(alloc, Blank::new(1), x, y)
 }
 
 #[test]
@@ -231,21 +325,7 @@ fn verdicts(rt: HostRuntime) -> Result<(), Fail> {
         ((4, 5), (1, 3), Verdict::May),
     ];
     for (x, y, want) in table {
-        let less = SlotCondNode::Compare(Relation::Less, slot(0, alloc)?, slot(1, alloc)?);
-        let claim = SlotStmt::Simple(SlotAction::Assert(SlotCond::new(alloc, less)?));
-        let s = state(alloc, &[x, y])?;
-        assert_eq!(rt; Interval.check(alloc, &claim, &s)?, want);
-        assert!(rt; Interval.copy(alloc, &s)? == s);
-        assert!(rt; !Interval.dead(&s));
+        assert_eq!(rt; judged_uncounted(alloc, x, y)?, (want, true));
     }
-    Ok(())
-}
-
-#[test]
-fn breaks(rt: HostRuntime) -> Result<(), Fail> {
-    let alloc = rt.alloc();
-    let s = state(alloc, &[(0, 0)])?;
-    let s = behind(alloc, &SlotStmt::Break, &s)?;
-    assert!(rt; Interval.dead(&s));
     Ok(())
 }

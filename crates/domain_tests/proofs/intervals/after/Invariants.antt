@@ -1,4 +1,4 @@
-use Rattle.dom_interval.proofs.tests.after.Given as goal
+use Rattle.domain_tests.proofs.intervals.after.Given as goal
 
 -- nothing is counted
 abbrev pub ghosts-shown : goal.ghosts-shown
