@@ -291,7 +291,21 @@ fn widening(rt: HostRuntime) -> Result<(), Fail> {
     Ok(())
 }
 
-/// The verdict on `assert x < y;`, and whether a copy is equal and reached, and nothing is behind a break.
+/// The verdict on `assert x < y;`.
+fn verdict(alloc: Global, s: &IntervalState) -> Result<Verdict, Fail> {
+    let less = SlotCondNode::Compare(Relation::Less, slot(0, alloc)?, slot(1, alloc)?);
+    let claim = SlotStmt::Simple(SlotAction::Assert(SlotCond::new(alloc, less)?));
+    Ok(Interval.check(alloc, &claim, s)?)
+}
+
+/// Whether a copy is equal and reached, and nothing is behind a break.
+fn breaks<L: Ledger>(alloc: Global, steps: &mut Steps<L>, s: &IntervalState) -> Result<bool, Fail> {
+    let copied = Interval.copy(alloc, s)? == *s && !Interval.dead(s);
+    let broken = Interval.post(alloc, &SlotStmt::Break, s, steps)?;
+    Ok(copied && Interval.dead(&broken))
+}
+
+/// The verdict on a state, and whether it can be copied and broken off.
 fn judged<L: Ledger>(
     alloc: Global,
     blank: Blank,
@@ -304,12 +318,8 @@ fn judged<L: Ledger>(
 {
     let mut steps = Steps::<L>::new(blank);
     let s = state(alloc, &mut steps, x, y)?;
-    let less = SlotCondNode::Compare(Relation::Less, slot(0, alloc)?, slot(1, alloc)?);
-    let claim = SlotStmt::Simple(SlotAction::Assert(SlotCond::new(alloc, less)?));
-    let verdict = Interval.check(alloc, &claim, &s)?;
-    let copied = Interval.copy(alloc, &s)? == s && !Interval.dead(&s);
-    let broken = Interval.post(alloc, &SlotStmt::Break, &s, &mut steps)?;
-    Ok((verdict, copied && Interval.dead(&broken)))
+    let broken = breaks(alloc, &mut steps, &s)?;
+    Ok((verdict(alloc, &s)?, broken))
 }
 
 fn judged_uncounted(alloc: Global, x: (i64, i64), y: (i64, i64)) -> Result<(Verdict, bool), Fail> {

@@ -81,6 +81,61 @@ fn a_sum_of_an_input(rt: HostRuntime) -> Result<(), Fail> {
     Ok(())
 }
 
+/// `i < len a`
+fn below_the_length(alloc: Global) -> Result<SlotCond, Fail> {
+    let length = SlotExpr::new(alloc, SlotExprNode::Length(2))?;
+    let guard = SlotCondNode::Compare(Relation::Less, slot(0, alloc)?, length);
+    Ok(SlotCond::new(alloc, guard)?)
+}
+
+/// Behind `n = input; a = array n; i = 0;`.
+fn in_front<L: Ledger>(alloc: Global, steps: &mut Steps<L>) -> Result<OctagonState, Fail> {
+    let actions = [
+        SlotAction::Input(1),
+        SlotAction::MakeArray(2, slot(1, alloc)?),
+        SlotAction::SetInt(0, number(0, alloc)?),
+    ];
+    after(alloc, steps, &actions)
+}
+
+/// Inside a loop with this guard.
+fn inside<L: Ledger>(
+    alloc: Global,
+    steps: &mut Steps<L>,
+    guard: &SlotCond,
+    iterate: &OctagonState,
+) -> Result<OctagonState, Fail> {
+    Ok(Octagon.assume(alloc, guard, true, iterate, steps)?)
+}
+
+/// The next iterate of a loop with this guard and body.
+fn next_iterate<L: Ledger>(
+    alloc: Global,
+    steps: &mut Steps<L>,
+    guard: &SlotCond,
+    body: &SlotStmt,
+    iterate: &OctagonState,
+) -> Result<OctagonState, Fail> {
+    let inside = inside(alloc, steps, guard, iterate)?;
+    let behind = Octagon.post(alloc, body, &inside, steps)?;
+    Ok(Octagon.widen(alloc, &[-1, 0, 1], iterate, &behind, steps)?)
+}
+
+/// The third iterate of a loop.
+fn third_iterate<L: Ledger>(
+    alloc: Global,
+    steps: &mut Steps<L>,
+    guard: &SlotCond,
+    body: &SlotStmt,
+    first: OctagonState,
+) -> Result<OctagonState, Fail> {
+    let mut iterate = first;
+    for _ in 0..3 {
+        iterate = next_iterate(alloc, steps, guard, body, &iterate)?;
+    }
+    Ok(iterate)
+}
+
 /// `n = input; a = array n; i = 0; while (i < len a) { i = i + 1; }`, in front of the loop's body.
 fn in_loop<L: Ledger>(alloc: Global, blank: Blank) -> Result<Text, Fail>
     requires name { blank.name ≡ L.name }
@@ -88,24 +143,11 @@ fn in_loop<L: Ledger>(alloc: Global, blank: Blank) -> Result<Text, Fail>
     requires some { 0 < blank.parts }
 {
     let mut steps = Steps::<L>::new(blank);
-    let actions = [
-        SlotAction::Input(1),
-        SlotAction::MakeArray(2, slot(1, alloc)?),
-        SlotAction::SetInt(0, number(0, alloc)?),
-    ];
-    let first = after(alloc, &mut steps, &actions)?;
-    let length = SlotExpr::new(alloc, SlotExprNode::Length(2))?;
-    let guard = SlotCondNode::Compare(Relation::Less, slot(0, alloc)?, length);
-    let guard = SlotCond::new(alloc, guard)?;
-    let next = SlotStmt::Simple(SlotAction::SetInt(0, plus_one(0, alloc)?));
-    let mut iterate = Octagon.copy(alloc, &first)?;
-    for _ in 0..3 {
-        let inside = Octagon.assume(alloc, &guard, true, &iterate, &mut steps)?;
-        let behind = Octagon.post(alloc, &next, &inside, &mut steps)?;
-        iterate = Octagon.widen(alloc, &[-1, 0, 1], &iterate, &behind, &mut steps)?;
-    }
-    let inside = Octagon.assume(alloc, &guard, true, &iterate, &mut steps)?;
-    shown(alloc, &inside)
+    let guard = below_the_length(alloc)?;
+    let body = SlotStmt::Simple(SlotAction::SetInt(0, plus_one(0, alloc)?));
+    let first = in_front(alloc, &mut steps)?;
+    let iterate = third_iterate(alloc, &mut steps, &guard, &body, first)?;
+    shown(alloc, &inside(alloc, &mut steps, &guard, &iterate)?)
 }
 
 fn in_loop_uncounted(alloc: Global) -> Result<Text, Fail> {
