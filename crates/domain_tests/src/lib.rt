@@ -9,8 +9,6 @@ mod closings;
 #[cfg(test)]
 mod graphs;
 #[cfg(test)]
-mod intervals;
-#[cfg(test)]
 mod matrices;
 #[cfg(test)]
 mod octagons;

@@ -1,4 +1,4 @@
-use Rattle.domain_tests.proofs.intervals.compared_uncounted.Given as goal
+use Rattle.interval_tests.proofs.intervals.compared_uncounted.Given as goal
 
 -- nothing is counted
 abbrev pub ghosts-compared : goal.ghosts-compared

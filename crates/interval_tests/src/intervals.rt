@@ -1,5 +1,6 @@
 //! States by hand.
-ghost use Rattle.std.specs.Prelude.{◌≡◌, ◌<◌};
+ghost use Rattle.std.specs.Prelude.{◌≡◌, ◌<◌, ◌≤◌};
+ghost use Rattle.plain_values.specs.Numbers.{greatest};
 
 use dom_interval::{Interval, IntervalState};
 use domain_laws::{Domain, Steps, Verdict};
@@ -41,7 +42,9 @@ fn slot(x: u32, alloc: Global) -> Result<SlotExpr, Fail> {
     Ok(SlotExpr::new(alloc, SlotExprNode::Slot(x))?)
 }
 
-fn literal(n: u64, alloc: Global) -> Result<SlotExpr, Fail> {
+fn literal(n: u64, alloc: Global) -> Result<SlotExpr, Fail>
+    requires small { n ≤ greatest }
+{
     Ok(SlotExpr::new(alloc, SlotExprNode::Literal(Number::new(n)))?)
 }
 

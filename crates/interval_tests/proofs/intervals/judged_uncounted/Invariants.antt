@@ -1,4 +1,4 @@
-use Rattle.domain_tests.proofs.intervals.judged_uncounted.Given as goal
+use Rattle.interval_tests.proofs.intervals.judged_uncounted.Given as goal
 
 -- nothing is counted
 abbrev pub ghosts-judged : goal.ghosts-judged

@@ -1,4 +1,4 @@
-use Rattle.domain_tests.proofs.intervals.after.Given as goal
+use Rattle.interval_tests.proofs.intervals.after.Given as goal
 
 -- nothing is counted
 abbrev pub ghosts-shown : goal.ghosts-shown
