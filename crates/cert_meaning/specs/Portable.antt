@@ -1,8 +1,9 @@
 -- States that can be written as a text and read back, and compared.
-use Rattle.std.specs.Prelude.{◌≡◌, ℕ, List, Option, Some, None, Bool, true}
+use Rattle.std.specs.Prelude.{◌≡◌, ℕ, ℤ, List, Option, Some, None, Bool, true}
 use Rattle.imp_slots.specs.Plain.{Layout}
 use Rattle.concrete_sem.specs.Values.{Variables, Heap}
 use Rattle.concrete_sem.specs.Proper.{IsProper}
+use Rattle.program_chains.specs.Marks.{IsRising}
 use Rattle.domain_laws.specs.Operations.{Operations}
 
 pub record Portable (S : Type 0) : Type 0 where
@@ -24,3 +25,12 @@ pub record PortableLaws {S : Type 0} (dom : Operations S) (covers : S → Heap �
   pub refused : (ls : List Layout) (t : List ℕ) (s : S) → port.take ls t ≡ None → dom.fits s ls ≡ true → port.put s ≡ t → ⊥
   pub taken : (ls : List Layout) (t : List ℕ) (s : S) → port.take ls t ≡ Some s → (dom.fits s ls ≡ true) × (port.put s ≡ t)
   pub below : IsSoundOrder dom covers port.leq
+
+-- An order of the states that fit, in which joins and widenings are above both sides.
+pub record HasUpperBounds {S : Type 0} (dom : Operations S) (leq : S → S → Bool) : Type 0 where
+  pub self : (s : S) → leq s s ≡ true
+  pub trans : (ls : List Layout) (s t u : S) → dom.fits s ls ≡ true → dom.fits t ls ≡ true → dom.fits u ls ≡ true → leq s t ≡ true → leq t u ≡ true → leq s u ≡ true
+  pub join_left : (ls : List Layout) (s t : S) → dom.fits s ls ≡ true → dom.fits t ls ≡ true → leq s (dom.join s t) ≡ true
+  pub join_right : (ls : List Layout) (s t : S) → dom.fits s ls ≡ true → dom.fits t ls ≡ true → leq t (dom.join s t) ≡ true
+  pub widen_left : (marks : List ℤ) (ls : List Layout) (s t : S) → IsRising marks → dom.fits s ls ≡ true → dom.fits t ls ≡ true → leq s (dom.widen marks s t) ≡ true
+  pub widen_right : (marks : List ℤ) (ls : List Layout) (s t : S) → IsRising marks → dom.fits s ls ≡ true → dom.fits t ls ≡ true → leq t (dom.widen marks s t) ≡ true
