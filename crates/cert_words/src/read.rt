@@ -27,7 +27,11 @@ fn word(is_none: bool, is_negative: bool, size: u128) -> Option<i128>
         return None;
     }
     let number = size as i128;
-    if is_negative { Some(-number) } else { Some(number) }
+    if is_negative {
+        Some(-number)
+    } else {
+        Some(number)
+    }
 }
 
 /// The words of a text that is one of words.

@@ -1,13 +1,11 @@
 -- The order of intervals.
-use Rattle.std.specs.Prelude.{◌≡◌, ◌≤ℤ◌, ℤ, int_le, ◌&&◌, List, [], ◌∷◌, map, Option, Some, None, Bool, true, false}
+use Rattle.std.specs.Prelude.{◌≡◌, ◌≤ℤ◌, ℤ, int_le, ◌&&◌, List, [], ◌∷◌, map, Bool, true}
 use Rattle.std.proofs.Common.{refl, sym, arith, subst}
 use Rattle.std.proofs.lemmas.Int.{ints}
 use Rattle.std.proofs.lemmas.Bool.{and_parts, and_from}
 use Rattle.std.specs.List.{AllZip}
 use Rattle.imp_slots.specs.Plain.{Numeric, Layout}
-use Rattle.concrete_sem.specs.Values.{Number, Int, Variables, Heap}
-use Rattle.concrete_sem.specs.Proper.{IsProper}
-use Rattle.program_chains.specs.Marks.{IsRising}
+use Rattle.concrete_sem.specs.Values.{Number, Int, Variables}
 use Rattle.cert_meaning.specs.Portable.{IsSoundOrder, HasUpperBounds}
 use Rattle.interval_meaning.specs.State.{Intervals, Empty, Within}
 use Rattle.interval_meaning.specs.Operations.{join}

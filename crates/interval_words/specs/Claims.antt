@@ -1,5 +1,4 @@
 -- What is claimed of the order of intervals.
-use Rattle.std.specs.Prelude.{◌≡◌}
 use Rattle.cert_meaning.specs.Portable.{PortableLaws, HasUpperBounds}
 use Rattle.interval_meaning.specs.Covers.{covers}
 use Rattle.interval_meaning.specs.Domain.{intervals}
