@@ -19,7 +19,7 @@ use Rattle.cert_sound.specs.Theorem.{AreOfFrames, AreCertificatesSound}
 use Rattle.cert_sound.proofs.Fitting.{InProgram, last_at}
 use Rattle.cert_sound.proofs.Safe.{IsSafe, safe_reached, main_safe}
 
-all_in : (program : List Routine) → InProgram program (reverse program)
+pub all_in : (program : List Routine) → InProgram program (reverse program)
 all_in program q t at = sym (sym at ∙ look_get (reverse program) q ∙ ap (λ ps. slice_get ps q) (reverse-reverse program))
 
 module _ {S : Type 0} (dom : Operations S) (covers : S → Heap → List Variables → Type 0) (laws : Laws dom covers) (keeps : Kept) (places : PlacesAreFound) (leq : S → S → Bool) (order : IsSoundOrder dom covers leq) where

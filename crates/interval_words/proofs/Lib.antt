@@ -1,2 +1,4 @@
 pub mod Words
 pub mod Order
+pub mod Texts
+pub mod Slots

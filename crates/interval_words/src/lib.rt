@@ -1,18 +1,16 @@
 //! Intervals as words, and their order: `specs/Words.antt`.
 //!
 //! A state's text is `0` where it is Empty, else `1` and the ends of each slot. The text of a state is
-//! taken back, and refused exactly where no state that fits has it. The order compares slot by slot. The
-//! functions do nothing when they run: each carries laws as its clauses.
+//! taken back, and refused exactly where no state that fits has it. The order compares slot by slot. States
+//! are given here by their slots, none for Empty. Each call takes time linear in the slots and the text.
 #![tactic(auto)]
 
-ghost use Rattle.interval_words.specs.Claims.{IntervalsArePortable, IntervalsHaveUpperBounds};
+mod laws;
+mod order;
+mod read;
+mod write;
 
-/// What is put is taken back, what no state that fits has as its text is refused, and the order is sound.
-pub fn intervals_are_portable()
-    ensures portable { IntervalsArePortable }
-{}
-
-/// Joins and widenings of states that fit are above both sides by the order, which is one.
-pub fn intervals_have_upper_bounds()
-    ensures upper { IntervalsHaveUpperBounds }
-{}
+pub use laws::{intervals_are_portable, intervals_have_upper_bounds};
+pub use order::leq;
+pub use read::take;
+pub use write::put;

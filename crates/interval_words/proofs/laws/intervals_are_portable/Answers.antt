@@ -4,7 +4,7 @@ use Rattle.interval_meaning.specs.Domain.{intervals}
 use Rattle.interval_words.specs.Words.{told, state_of, leq}
 use Rattle.interval_words.proofs.Words.{interval_words_are}
 use Rattle.interval_words.proofs.Order.{interval_order}
-use Rattle.interval_words.proofs.intervals_are_portable.Goals as goal
+use Rattle.interval_words.proofs.laws.intervals_are_portable.Goals as goal
 
 pub returns : goal.returns
 returns c = record { portable = words_are_portable intervals covers told state_of leq interval_words_are interval_order }
