@@ -1,25 +1,24 @@
 -- Entries come of lines, and a yes is sound.
-use Rattle.std.specs.Prelude.{◌≡◌, ◌+◌, ◌==◌, ◌&&◌, ℕ, zero, suc, ◌<◌, List, [], ◌∷◌, length, reverse, slice_index_or, Option, Some, None, Bool, true, false, Contains, option_and_then, option_map, if◌then◌else◌}
+use Rattle.std.specs.Prelude.{◌≡◌, ◌+◌, ◌==◌, ◌&&◌, ℕ, suc, List, [], ◌∷◌, reverse, Option, Some, None, Contains, option_and_then, option_map, if◌then◌else◌}
 use Rattle.std.proofs.Common.{refl, sym, ap, ◌∙◌, arith, subst}
 use Rattle.std.specs.Str.{bytes_eq}
 use Rattle.std.proofs.lemmas.Bool.{and_parts}
 use Rattle.std.proofs.lemmas.Bool.Decides.{nat_tests}
 use Rattle.std.proofs.lemmas.Slice.Eq.{bytes_eq-Decides}
 use Rattle.script_loop.specs.Lines.{all_lines}
-use Rattle.imp_slots.specs.Plain.{Layout, Routine}
-use Rattle.imp_slots.specs.Fits.{IsChecked}
+use Rattle.imp_slots.specs.Plain.{Routine}
 use Rattle.concrete_sem.specs.Values.{Variables, Heap}
 use Rattle.concrete_sem.specs.Reach.{call_sites}
 use Rattle.concrete_sem.specs.WellFormed.{variables_of}
 use Rattle.domain_laws.specs.Operations.{Operations}
 use Rattle.plain_values.proofs.Cases.{by_bool, some_inj}
-use Rattle.plain_values.proofs.Members.{Member, here, there, Each, none_there, each_more}
+use Rattle.plain_values.proofs.Members.{here, there, Each, none_there, each_more}
 use Rattle.cert_meaning.specs.Portable.{Portable, PortableLaws}
 use Rattle.cert_meaning.specs.Chained.{layouts_around}
 use Rattle.cert_meaning.specs.Followed.{Followed, Passes, Fails, followed_program}
 use Rattle.cert_sound.specs.Theorem.{AreOfFrames, IsCovered, AreCertificatesSound}
 use Rattle.cert_lines.specs.Lines.{Line, line_of, Entry, written_in, Entries, Reads, Bad, unless_there, with_entry, is_loop_under, entry_in, entry_of, entries}
-use Rattle.cert_lines.specs.Verify.{Verified, Yes, of_followed, of_entries, verify}
+use Rattle.cert_lines.specs.Verify.{Yes, of_followed, of_entries, verify}
 use Rattle.cert_lines.specs.Theorem.{IsWritten, IsYesSound}
 
 contains_later : {A : Type 0} (y : A) (x : A) (xs : List A) → Contains xs x → Contains (y ∷ xs) x
@@ -91,7 +90,7 @@ module _ {S : Type 0} (dom : Operations S) (covers : S → Heap → List Variabl
 
 pub yes_sound : {S : Type 0} (dom : Operations S) (covers : S → Heap → List Variables → Type 0) (port : Portable S) → PortableLaws dom covers port → AreCertificatesSound dom covers port.leq → IsYesSound dom covers port
 unfolding verify
-yes_sound {S} dom covers port laws sound program cert n c checked yes reach = by (entries port program 1 [] (all_lines cert)) refl yes
+yes_sound {S} dom covers port laws sound program cert n c checked answer reach = by (entries port program 1 [] (all_lines cert)) refl answer
   where
     passes : (es : List (Entry S)) → Each (Comes dom covers port laws program cert) es → (r : Followed S) → followed_program dom port.leq (written_in es) program ≡ r → of_followed r ≡ Yes → (s : S) × IsWritten port program cert (call_sites c.frames) n s × covers s c.heap (variables_of c.frames)
     passes es each (Passes s ss) is k =

@@ -1,4 +1,4 @@
 pub mod Words
-pub mod Order
+pub mod Ordered
 pub mod Texts
 pub mod Slots

@@ -10,24 +10,28 @@ use interval_meaning::SlotRange;
 fn slots_leq(left: &[SlotRange], right: &[SlotRange]) -> bool
     ensures exact { result ≡ meant.slots_leq left.now right.now }
 {
-    match (left, right) {
-        ([a, left @ ..], [b, right @ ..]) => {
-            if a.range.lo() < b.range.lo() || a.range.hi() > b.range.hi() {
-                return false;
+    match left {
+        [] => true,
+        [a, left @ ..] => match right {
+            [] => true,
+            [b, right @ ..] => {
+                b.range.lo() <= a.range.lo()
+                    && a.range.hi() <= b.range.hi()
+                    && slots_leq(left, right)
             }
-            slots_leq(left, right)
-        }
-        _ => true,
+        },
     }
 }
 
 /// Whether the left state, given by its slots, none for Empty, is found below the right one.
 pub fn leq(left: Option<&[SlotRange]>, right: Option<&[SlotRange]>) -> bool
-    ensures exact { result ≡ meant.leq (slots_in (option_map (λ r. r.now) left)) (slots_in (option_map (λ r. r.now) right)) }
+    ensures exact { result ≡ meant.leq (slots_in (option_map (λ r. r.now) left.entry)) (slots_in (option_map (λ r. r.now) right.entry)) }
 {
-    match (left, right) {
-        (None, _) => true,
-        (Some(_), None) => false,
-        (Some(left), Some(right)) => slots_leq(left, right),
+    match left {
+        None => true,
+        Some(left) => match right {
+            None => false,
+            Some(right) => slots_leq(left, right),
+        },
     }
 }

@@ -1,9 +1,8 @@
 //! The state of a text.
-ghost use Rattle.std.specs.Prelude.{◌≡◌, ◌++◌, Some, None, IfOk, if◌then◌else◌};
+ghost use Rattle.std.specs.Prelude.{◌≡◌, ◌≤ℤ◌, pos, ◌++◌, unsigned_abs, IfOk};
 ghost use Rattle.std.specs.Option.{option_map};
-ghost use Rattle.interval_meaning.specs.Covers.{fits_slot};
 ghost use Rattle.interval_words.specs.Words as meant;
-ghost use Rattle.interval_words.specs.Slots.{slots_in};
+ghost use Rattle.interval_words.specs.Slots.{slots_in, slot_with, slot_if};
 
 use cert_words::words_of;
 use imp_slots::{Layout, NumericSlot};
@@ -14,7 +13,7 @@ use std::alloc::{AllocError, Global};
 
 /// The slot with these ends, where it fits.
 fn slot_of(number: &NumericSlot, lo: i128, hi: i128) -> Option<SlotRange>
-    ensures exact { result ≡ (let slot = record { is_array = number.now.is_array; range = record { lo = lo; hi = hi } } in if fits_slot number.now slot then Some slot else None) }
+    ensures exact { result ≡ slot_if number.now (slot_with number.now lo hi) }
 {
     let is_array = number.is_array();
     let least = if is_array { 0 } else { i128::from(i64::MIN) };
@@ -29,7 +28,7 @@ fn slot_of(number: &NumericSlot, lo: i128, hi: i128) -> Option<SlotRange>
 }
 
 /// The slots behind these.
-#[tactic(auto, using(crate::proofs::Slots::more_behind))]
+#[tactic(auto, using(crate::proofs::Slots::more_behind, crate::proofs::Slots::slot_fits, crate::proofs::Slots::slot_misfits))]
 fn slots_of(
     numbers: &[NumericSlot],
     words: &[Option<i128>],
@@ -39,6 +38,11 @@ fn slots_of(
 {
     match (numbers, words) {
         ([], []) => Ok(Some(slots)),
+        ([], [_, ..]) => Ok(None),
+        ([_, ..], []) => Ok(None),
+        ([_, ..], [None, ..]) => Ok(None),
+        ([_, ..], [Some(_)]) => Ok(None),
+        ([_, ..], [Some(_), None, ..]) => Ok(None),
         ([number, numbers @ ..], [Some(lo), Some(hi), words @ ..]) => {
             let Some(slot) = slot_of(number, *lo, *hi) else {
                 return Ok(None);
@@ -47,7 +51,6 @@ fn slots_of(
             slots.push(slot)?;
             slots_of(numbers, words, slots)
         }
-        _ => Ok(None),
     }
 }
 
@@ -65,6 +68,16 @@ fn within_of(
     Ok(slots.map(Some))
 }
 
+fn is_number(number: i128, word: Option<i128>) -> bool
+    requires positive { pos 0 ≤ℤ number }
+    ensures exact { result ≡ meant.is_number (unsigned_abs number) word }
+{
+    match word {
+        None => false,
+        Some(other) => number == other,
+    }
+}
+
 fn state_of(
     alloc: Global,
     layouts: &[Layout],
@@ -72,11 +85,16 @@ fn state_of(
 ) -> Result<Option<Option<Vec<SlotRange>>>, AllocError>
     ensures exact { IfOk result (λ found. option_map (λ o. slots_in (option_map (λ v. v.items) o)) found ≡ meant.state_of layouts.now words.now) }
 {
-    match words {
-        [Some(0)] => Ok(Some(None)),
-        [Some(1), rest @ ..] => within_of(alloc, layouts, rest),
-        _ => Ok(None),
+    let [word, rest @ ..] = words else {
+        return Ok(None);
+    };
+    if is_number(0, *word) {
+        return Ok(if rest.is_empty() { Some(None) } else { None });
     }
+    if is_number(1, *word) {
+        return within_of(alloc, layouts, rest);
+    }
+    Ok(None)
 }
 
 /// The slots of the state of frames with these layouts, the last one's first, that has this text, none for

@@ -6,7 +6,7 @@ ghost use Rattle.interval_meaning.specs.State.{Within};
 ghost use Rattle.interval_words.specs.Words.{told};
 ghost use Rattle.interval_words.specs.Slots.{slot_text, slots_in};
 
-use cert_words::put_more;
+use cert_words::{put_more, put_word};
 use interval_meaning::SlotRange;
 use plain_values::{Memory, Text};
 use std::alloc::Global;
@@ -22,7 +22,8 @@ fn put_slot(text: &mut Text, slot: SlotRange) -> Result<(), Memory>
 fn put_within(alloc: Global, slots: &[SlotRange]) -> Result<Text, Memory>
     ensures exact { IfOk result (λ text. text ≡ words_text (told (Within slots.now))) }
 {
-    let mut text = Text::from_slice(alloc, b"1")?;
+    let mut text = Text::new(alloc);
+    put_word(&mut text, Some(1))?;
     for slot in slots {
         put_slot(&mut text, *slot)?;
     }
@@ -31,10 +32,12 @@ fn put_within(alloc: Global, slots: &[SlotRange]) -> Result<Text, Memory>
 
 /// The text of the state with these slots, of Empty where there are none. It fails for want of memory alone.
 pub fn put(alloc: Global, slots: Option<&[SlotRange]>) -> Result<Text, Memory>
-    ensures exact { IfOk result (λ text. text ≡ words_text (told (slots_in (option_map (λ r. r.now) slots)))) }
+    ensures exact { IfOk result (λ text. text ≡ words_text (told (slots_in (option_map (λ r. r.now) slots.entry)))) }
 {
-    match slots {
-        None => Text::from_slice(alloc, b"0"),
-        Some(slots) => put_within(alloc, slots),
-    }
+    let Some(slots) = slots else {
+        let mut text = Text::new(alloc);
+        put_word(&mut text, Some(0))?;
+        return Ok(text);
+    };
+    put_within(alloc, slots)
 }

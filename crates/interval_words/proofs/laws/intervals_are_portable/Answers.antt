@@ -3,7 +3,7 @@ use Rattle.interval_meaning.specs.Covers.{covers}
 use Rattle.interval_meaning.specs.Domain.{intervals}
 use Rattle.interval_words.specs.Words.{told, state_of, leq}
 use Rattle.interval_words.proofs.Words.{interval_words_are}
-use Rattle.interval_words.proofs.Order.{interval_order}
+use Rattle.interval_words.proofs.Ordered.{interval_order}
 use Rattle.interval_words.proofs.laws.intervals_are_portable.Goals as goal
 
 pub returns : goal.returns

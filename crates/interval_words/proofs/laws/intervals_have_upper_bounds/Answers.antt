@@ -1,4 +1,4 @@
-use Rattle.interval_words.proofs.Order.{interval_bounds}
+use Rattle.interval_words.proofs.Ordered.{interval_bounds}
 use Rattle.interval_words.proofs.laws.intervals_have_upper_bounds.Goals as goal
 
 pub returns : goal.returns
