@@ -1,0 +1,3 @@
+pub mod Heads
+pub mod Same
+pub mod Whole

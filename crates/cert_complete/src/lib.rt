@@ -1,0 +1,25 @@
+//! That the certificates of batch interpretation hold, for every domain with upper bounds, from its laws.
+//!
+//! [`certificates_hold`] does nothing when it runs, and carries the theorem as its clause. The proof goes
+//! through batch interpretation and following side by side: each block gives the same states in both, since
+//! the head of a loop is what is written of it, is above the state in front of the loop, and above what a
+//! round makes of it.
+#![tactic(auto)]
+
+ghost use Rattle.std.specs.Prelude.{Bool};
+ghost use Rattle.cert_meaning.specs.Portable.{HasUpperBounds};
+ghost use Rattle.cert_complete.specs.Theorem.{CertificatesHold};
+
+use domain_laws::Domain;
+use program_chains::{chains_go_through_callers, marks_rise, places_are_found};
+
+/// Where no loop of a checked program used up its budget, following the program with the states that batch
+/// interpretation has at the heads of its loops finds nothing. Joins and widenings are to be above both sides,
+/// by the order by which states are compared.
+pub fn certificates_hold<D: Domain>()
+    ensures hold { (d : D) (leq : D.State → D.State → Bool) → HasUpperBounds (D.operations d) leq → CertificatesHold (D.operations d) leq }
+{
+    marks_rise();
+    places_are_found();
+    chains_go_through_callers();
+}

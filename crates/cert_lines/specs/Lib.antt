@@ -1,0 +1,4 @@
+pub mod Lines
+pub mod Verify
+pub mod Certificate
+pub mod Theorem

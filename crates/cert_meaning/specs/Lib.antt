@@ -1,0 +1,4 @@
+pub mod Portable
+pub mod Followed
+pub mod Chained
+pub mod Written

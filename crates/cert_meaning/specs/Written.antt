@@ -1,0 +1,18 @@
+-- The states that a certificate has: those at the heads of loops, as batch interpretation finds them.
+use Rattle.std.specs.Prelude.{ℕ, List, Option, Some, None}
+use Rattle.imp_syntax.specs.declared.edit.Location.TheVariants.{Head}
+use Rattle.imp_slots.specs.Plain.{Routine}
+use Rattle.domain_laws.specs.Operations.{Operations}
+use Rattle.batch_meaning.specs.Values.{Value, State, Over}
+use Rattle.batch_meaning.specs.Batch.{Engine}
+use Rattle.batch_meaning.specs.Places.{value_at}
+
+-- the state of a value, where it is one
+abbrev pub state_in : {S : Type 0} → Option (Value S) → Option S
+state_in None = None
+state_in (Some (State s)) = Some s
+state_in (Some (Over n z)) = None
+
+-- the state at the head of loop n under the call sites z, the last first
+abbrev pub heads : {S : Type 0} → Operations S → Engine → List Routine → (z : List ℕ) → (n : ℕ) → Option S
+heads dom engine program z n = state_in (value_at dom engine program (Head n) z)

@@ -1,0 +1,4 @@
+pub mod Fitting
+pub mod Inverted
+pub mod Safe
+pub mod Whole

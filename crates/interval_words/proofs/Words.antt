@@ -1,0 +1,126 @@
+-- The words of intervals.
+use Rattle.std.specs.Prelude.{◌≡◌, ◌≤ℤ◌, ℕ, ℤ, pos, negsuc, List, [], ◌∷◌, Option, Some, None, true, option_map, if◌then◌else◌}
+use Rattle.std.proofs.Common.{refl, sym, ap, ◌∙◌, arith, subst}
+use Rattle.std.proofs.lemmas.Int.{ints}
+use Rattle.std.proofs.lemmas.Bool.{and_parts, and_from}
+use Rattle.imp_slots.specs.Plain.{Numeric, Layout}
+use Rattle.num_bounds.specs.Bounds.{least, greatest}
+use Rattle.plain_values.proofs.Cases.{by_bool, by_test, some_inj}
+use Rattle.cert_words.specs.Claims.{IsSmall, AreSmall}
+use Rattle.cert_words.specs.States.{AreWords}
+use Rattle.interval_meaning.specs.State.{Intervals, Empty, Within}
+use Rattle.interval_meaning.specs.Covers.{fits_slot, fits_slots, fits}
+use Rattle.interval_meaning.specs.Domain.{intervals}
+use Rattle.interval_meaning.specs.declared.slot_range.SlotRange.{SlotRange}
+use Rattle.interval_meaning.proofs.SlotLaws.{fits_slots-true, fits-range}
+use Rattle.interval_words.specs.Words.{slots_told, told, is_number, slot_before, slots_of, empty_of, within_of, state_of}
+
+told_some : (s : Intervals) → told s ≡ [] → ⊥
+told_some Empty e = cc
+told_some (Within rs) e = cc
+
+small_word : (z : ℤ) → least ≤ℤ z → z ≤ℤ greatest → IsSmall (Some z)
+small_word (pos n) a b = omega (arith, ints)
+small_word (negsuc n) a b = omega (arith, ints)
+
+small_slots : (ks : List Numeric) (rs : List SlotRange) → fits_slots ks rs ≡ true → AreSmall (slots_told rs)
+small_slots [] [] h = tt
+small_slots [] (r ∷ rs) h = cc
+small_slots (k ∷ ks) [] h = cc
+small_slots (k ∷ ks) (r ∷ rs) h =
+    let f = (fits_slots-true (k ∷ ks) (r ∷ rs) h).0 in
+    let i = fits-range r.is_array r.range f.1 in
+    let low : least ≤ℤ r.range.lo = i.low in
+    let middle : r.range.lo ≤ℤ r.range.hi = i.ordered in
+    let high : r.range.hi ≤ℤ greatest = i.high in
+    (small_word r.range.lo low (omega (arith, ints)), (small_word r.range.hi (omega (arith, ints)) high, small_slots ks rs (and_parts (fits_slot k r) (fits_slots ks rs) h).1))
+
+told_small : (ls : List Layout) (s : Intervals) → fits s ls ≡ true → AreSmall (told s)
+unfolding fits
+told_small ls Empty h = (omega arith, tt)
+told_small [] (Within rs) h = cc
+told_small (l ∷ ls) (Within rs) h = (omega arith, small_slots l.numbers rs h)
+
+slots_back : (ks : List Numeric) (rs : List SlotRange) → fits_slots ks rs ≡ true → slots_of ks (slots_told rs) ≡ Some rs
+slots_back [] [] h = refl
+slots_back [] (r ∷ rs) h = cc
+slots_back (k ∷ ks) [] h = cc
+slots_back (k ∷ ks) (r ∷ rs) h =
+    let p = and_parts (fits_slot k r) (fits_slots ks rs) h in
+    let e : k.is_array ≡ r.is_array = (fits_slots-true (k ∷ ks) (r ∷ rs) h).0.0 in
+    ap (λ b. slot_before k (record { is_array = b; range = r.range }) (slots_of ks (slots_told rs))) e ∙
+    ap (slot_before k r) (slots_back ks rs p.1) ∙ ap (λ c. if c then Some (r ∷ rs) else None) p.0
+
+told_back : (ls : List Layout) (s : Intervals) → fits s ls ≡ true → state_of ls (told s) ≡ Some s
+unfolding fits
+told_back ls Empty h = refl
+told_back [] (Within rs) h = cc
+told_back (l ∷ ls) (Within rs) h = ap (option_map Within) (slots_back l.numbers rs h)
+
+-- what comes of an option that is changed
+record Changed {A B : Type 0} (f : A → B) (o : Option A) (b : B) : Type 0 where
+  from : A
+  was : o ≡ Some from
+  is : f from ≡ b
+
+changed : {A B : Type 0} (f : A → B) (o : Option A) (b : B) → option_map f o ≡ Some b → Changed f o b
+changed f None b e = absurd cc
+changed f (Some a) b e = record { from = a; was = refl; is = some_inj (f a) b e }
+
+abbrev SlotsAre : List Numeric → List (Option ℤ) → List SlotRange → Type 0
+SlotsAre ks ws rs = (fits_slots ks rs ≡ true) × (slots_told rs ≡ ws)
+
+before_exact : (k : Numeric) (ks : List Numeric) (s : SlotRange) (o : Option (List SlotRange)) (ws : List (Option ℤ)) (rs : List SlotRange) → ((qs : List SlotRange) → o ≡ Some qs → SlotsAre ks ws qs) → slot_before k s o ≡ Some rs → SlotsAre (k ∷ ks) (Some s.range.lo ∷ (Some s.range.hi ∷ ws)) rs
+before_exact k ks s o ws rs rest e =
+    by_bool (fits_slot k s)
+    (λ f.
+    let c = changed (λ ss. s ∷ ss) o rs (sym (ap (λ c. if c then option_map (λ ss. s ∷ ss) o else None) f) ∙ e) in
+    let r = rest c.from c.was in
+    subst (SlotsAre (k ∷ ks) (Some s.range.lo ∷ (Some s.range.hi ∷ ws))) c.is
+    (and_from (fits_slot k s) (fits_slots ks c.from) f r.0, ap (λ ws. Some s.range.lo ∷ (Some s.range.hi ∷ ws)) r.1))
+    (λ f. let i : None ≡ Some rs = sym (ap (λ c. if c then option_map (λ ss. s ∷ ss) o else None) f) ∙ e in absurd cc)
+
+slots_exact : (ks : List Numeric) (ws : List (Option ℤ)) (rs : List SlotRange) → slots_of ks ws ≡ Some rs → SlotsAre ks ws rs
+slots_exact [] [] rs e = subst (SlotsAre [] []) (some_inj [] rs e) (refl, refl)
+slots_exact [] (w ∷ ws) rs e = absurd cc
+slots_exact (k ∷ ks) [] rs e = absurd cc
+slots_exact (k ∷ ks) (None ∷ ws) rs e = absurd cc
+slots_exact (k ∷ ks) (Some lo ∷ []) rs e = absurd cc
+slots_exact (k ∷ ks) (Some lo ∷ (None ∷ ws)) rs e = absurd cc
+slots_exact (k ∷ ks) (Some lo ∷ (Some hi ∷ ws)) rs e =
+    before_exact k ks (record { is_array = k.is_array; range = record { lo = lo; hi = hi } }) (slots_of ks ws) ws rs (λ qs i. slots_exact ks ws qs i) e
+
+word_is : (n : ℕ) (w : Option ℤ) → is_number n w ≡ true → w ≡ Some (pos n)
+word_is n None e = absurd cc
+word_is n (Some (negsuc m)) e = absurd cc
+word_is n (Some (pos m)) e = by_test n m (λ c. c ≡ true → Some (pos m) ≡ Some (pos n)) (λ k e. ap (λ n. Some (pos n)) (sym k)) (λ k e. absurd cc) e
+
+abbrev IsTold : List Layout → List (Option ℤ) → Intervals → Type 0
+IsTold ls ws s = (fits s ls ≡ true) × (told s ≡ ws)
+
+empty_exact : (ls : List Layout) (ws : List (Option ℤ)) (s : Intervals) → empty_of ws ≡ Some s → IsTold ls (Some (pos 0) ∷ ws) s
+unfolding fits
+empty_exact ls [] s e = subst (IsTold ls (Some (pos 0) ∷ [])) (some_inj Empty s e) (refl, refl)
+empty_exact ls (w ∷ ws) s e = absurd cc
+
+within_exact : (ls : List Layout) (ws : List (Option ℤ)) (s : Intervals) → within_of ls ws ≡ Some s → IsTold ls (Some (pos 1) ∷ ws) s
+unfolding fits
+within_exact [] ws s e = absurd cc
+within_exact (l ∷ ls) ws s e =
+    let c = changed Within (slots_of l.numbers ws) s e in
+    let x = slots_exact l.numbers ws c.from c.was in
+    subst (IsTold (l ∷ ls) (Some (pos 1) ∷ ws)) c.is (x.0, ap (λ ws. Some (pos 1) ∷ ws) x.1)
+
+told_exact : (ls : List Layout) (ws : List (Option ℤ)) (s : Intervals) → state_of ls ws ≡ Some s → IsTold ls ws s
+told_exact ls [] s e = absurd cc
+told_exact ls (w ∷ ws) s e =
+    by_bool (is_number 0 w)
+    (λ k. subst (λ w. IsTold ls (w ∷ ws) s) (sym (word_is 0 w k)) (empty_exact ls ws s (sym (ap (λ c. if c then empty_of ws else (if is_number 1 w then within_of ls ws else None)) k) ∙ e)))
+    (λ k.
+    let g : (if is_number 1 w then within_of ls ws else None) ≡ Some s = sym (ap (λ c. if c then empty_of ws else (if is_number 1 w then within_of ls ws else None)) k) ∙ e in
+    by_bool (is_number 1 w)
+    (λ i. subst (λ w. IsTold ls (w ∷ ws) s) (sym (word_is 1 w i)) (within_exact ls ws s (sym (ap (λ c. if c then within_of ls ws else None) i) ∙ g)))
+    (λ i. let j : None ≡ Some s = sym (ap (λ c. if c then within_of ls ws else None) i) ∙ g in absurd cc))
+
+pub interval_words_are : AreWords intervals told state_of
+interval_words_are = record { some = told_some; small = told_small; back = told_back; exact = told_exact }
