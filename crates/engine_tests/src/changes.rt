@@ -1,18 +1,14 @@
 //! Which statements a change touches.
-ghost use Rattle.std.specs.Prelude.{◌≡◌, ℕ, List, IfOk};
+ghost use Rattle.std.specs.Prelude.{◌≡◌, List, IfOk};
 ghost use Rattle.imp_syntax.specs.Plain.{Procedure};
 ghost use Rattle.imp_check.specs.Changes.{AreFalling, Makes};
 ghost use Rattle.imp_check.specs.Fine.{IsFine};
 ghost use Rattle.imp_check.specs.Programs.{AreNumbered};
-ghost use Rattle.imp_check.specs.Slots.{routines_of};
-ghost use Rattle.call_contexts.specs.Settings.{setting_of};
 
-use crate::texts::{read, table_of};
-use call_contexts::Setting;
+use crate::texts::{read, setting_of, table_of};
 use imp_check::{Change, Table, check_table};
 use imp_flow::points_changed;
 use imp_syntax::Program;
-use program_chains::Widening;
 use std::alloc::Global;
 use std::test::Fail;
 
@@ -31,26 +27,32 @@ fn change_to(alloc: Global, table: &Table, program: &Program) -> Result<Change, 
     Ok(new.into_change(alloc, table, below as u32)?)
 }
 
-/// The numbers of the statements that a change to another program touches, with a budget of 100 and a delay of 1.
-fn touched(alloc: Global, table: &Table, program: &Program) -> Result<Vec<u32>, Fail>
-    requires numbered { AreNumbered program.now }
+/// The numbers of the statements that a change to a program touches, with a budget of 100 and a delay of 1.
+fn touched(
+    alloc: Global,
+    table: &Table,
+    change: &Change,
+    program: &Program,
+) -> Result<Vec<u32>, Fail>
+    ghost new: { List Procedure }
+    requires is { new ≡ program.now }
+    requires makes { Makes table.now.program change.now new }
+    requires fine { IsFine new }
+    requires falling { AreFalling change.now.entries.items }
 {
-    let change = change_to(alloc, table, program)?;
-    let widening = Widening {
-        delay: 1,
-        thresholds: true,
-    };
-    let before = Setting::new(alloc, &table.view(), 100, widening)?;
-    let after = before.after(alloc, table, &change)?;
-    Ok(points_changed(alloc, table, &change, &before, &after)?)
+    let _program = program.procs();
+    let before = setting_of(alloc, table)?;
+    let after = before.after(alloc, table, change)?;
+    Ok(points_changed(alloc, table, change, &before, &after)?)
 }
 
 /// The same for programs from texts, as a text.
 fn shown(alloc: Global, before: &str, after: &str) -> Result<String, Fail> {
     let program = read(alloc, after)?;
     let table = table_of(alloc, before)?;
+    let change = change_to(alloc, &table, &program)?;
     let mut text = String::new(alloc);
-    for stmt in &touched(alloc, &table, &program)? {
+    for stmt in &touched(alloc, &table, &change, &program)? {
         text.push_str(&format!(in alloc; " {stmt}")?)?;
     }
     Ok(text)

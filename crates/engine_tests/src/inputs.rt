@@ -1,28 +1,12 @@
 //! The inputs of names.
-ghost use Rattle.std.specs.Prelude.{◌≡◌, ◌<◌, length, IfOk};
-ghost use Rattle.imp_check.specs.Slots.{routines_of};
-ghost use Rattle.call_contexts.specs.Settings.{setting_of};
+ghost use Rattle.std.specs.Prelude.{◌<◌, length, IfOk};
 
-use crate::texts::table_of;
-use call_contexts::Setting;
+use crate::texts::{setting_of, table_of};
 use cell_names::{Frame, Name, Names, PathId, Point};
-use imp_check::Table;
 use imp_flow::{Flow, Input, Row, Way};
 use imp_syntax::StmtId;
-use program_chains::Widening;
 use std::alloc::Global;
 use std::test::Fail;
-
-/// The setting of a program, with a budget of 100 and a delay of 1.
-fn setting_of(alloc: Global, table: &Table) -> Result<Setting, Fail>
-    ensures is { IfOk result (λ setting. setting ≡ setting_of setting.engine (routines_of table.now.program)) }
-{
-    let widening = Widening {
-        delay: 1,
-        thresholds: true,
-    };
-    Ok(Setting::new(alloc, &table.view(), 100, widening)?)
-}
 
 fn shown_point(alloc: Global, point: Point) -> Result<String, Fail> {
     match point {
@@ -38,12 +22,18 @@ fn shown_point(alloc: Global, point: Point) -> Result<String, Fail> {
     }
 }
 
+fn shown_frame(alloc: Global, frame: Frame) -> Result<String, Fail> {
+    match frame {
+        Frame::InCall(n) => Ok(format!(in alloc; "call {}", n.number())?),
+        Frame::InLoop(n, k) => Ok(format!(in alloc; "round {} {k}", n.number())?),
+    }
+}
+
 fn shown_way(alloc: Global, way: Way) -> Result<String, Fail> {
     match way {
         Way::Here => Ok(String::from_str(alloc, "here")?),
         Way::Out => Ok(String::from_str(alloc, "out")?),
-        Way::Into(Frame::InCall(n)) => Ok(format!(in alloc; "call {}", n.number())?),
-        Way::Into(Frame::InLoop(n, k)) => Ok(format!(in alloc; "round {} {k}", n.number())?),
+        Way::Into(frame) => shown_frame(alloc, frame),
     }
 }
 

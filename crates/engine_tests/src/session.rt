@@ -6,7 +6,7 @@ ghost use Rattle.imp_syntax.specs.declared.edit.Edit.{Edit as AnEdit};
 ghost use Rattle.imp_check.specs.Changes.{AreFalling, AreWithin, Makes};
 ghost use Rattle.imp_check.specs.Fine.{IsFine};
 ghost use Rattle.imp_check.specs.Slots.{routines_of};
-ghost use Rattle.imp_edit.specs.Edited.{Continues};
+ghost use Rattle.imp_edit.specs.Edited.{Continues, edited};
 ghost use Rattle.call_contexts.specs.Settings.{setting_of};
 ghost use Rattle.daig_query.specs.Right.{IsRight};
 ghost use Rattle.edits_keep_cells.specs.Claims.{IsEdited};
@@ -169,21 +169,30 @@ impl<D: Domain> Session<D> {
         ensures ready { IfOk result (λ _. IsReady (D.operations self.new.engine.domain) self.new.setting self.new.table.program self.new.engine.store self.new.next) }
     {
         self.table.procs();
-        let Edited { change, next } = apply(alloc, &self.table, edit, self.next)?;
-        self.exchange(alloc, change, next)
+        let made = apply(alloc, &self.table, edit, self.next)?;
+        let Edited { change, next } = made;
+        self.exchange(alloc, edit, change, next)
     }
 
-    /// Takes what the change empties away, and puts the change in.
-    fn exchange(&mut self, alloc: Global, mut change: Change, next: u32) -> Result<usize, Fail>
+    /// Takes what the change that an edit makes empties away, and puts the change in.
+    fn exchange(
+        &mut self,
+        alloc: Global,
+        edit: &Edit,
+        mut change: Change,
+        next: u32,
+    ) -> Result<usize, Fail>
         ghost program: { List Procedure }
+        requires is { program ≡ edited edit.now self.old.table.program }
         requires ready { IsReady (D.operations self.old.engine.domain) self.old.setting self.old.table.program self.old.engine.store self.old.next }
-        requires edited { IsEdited self.old.table.program program }
+        requires one { IsEdited self.old.table.program program }
         requires makes { Makes self.old.table.program change program }
         requires within { AreWithin next change.entries.items }
         requires positive { 0 < next }
         requires below { All (λ (n : ℕ). n < next) (program_numbers program) }
         ensures ready { IfOk result (λ _. IsReady (D.operations self.new.engine.domain) self.new.setting self.new.table.program self.new.engine.store self.new.next) }
     {
+        let _edit = edit;
         edits_leave_kept::<D, daig_query::Held>();
         cells_stay_right::<D>();
         let mut setting = self.setting.after(alloc, &self.table, &change)?;

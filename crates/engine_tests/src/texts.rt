@@ -1,11 +1,15 @@
 //! Programs from texts.
-ghost use Rattle.std.specs.Prelude.{◌<◌, ◌^◌, length, IfOk};
+ghost use Rattle.std.specs.Prelude.{◌≡◌, ◌<◌, ◌^◌, length, IfOk};
 ghost use Rattle.imp_check.specs.Programs.{AreNumbered};
+ghost use Rattle.imp_check.specs.Slots.{routines_of};
+ghost use Rattle.call_contexts.specs.Settings.{setting_of};
 
+use call_contexts::Setting;
 use imp_check::{Table, check_table, is_numbered};
 use imp_parse::parse_program;
 use imp_syntax::{Location, Program, StmtId};
 use plain_values::Text;
+use program_chains::Widening;
 use std::alloc::Global;
 use std::test::Fail;
 
@@ -37,6 +41,17 @@ pub(crate) fn read(alloc: Global, text: &str) -> Result<Program, Fail>
 pub(crate) fn table_of(alloc: Global, text: &str) -> Result<Table, Fail> {
     let program = read(alloc, text)?;
     Ok(check_table(alloc, &program)?)
+}
+
+/// The setting of a program, with a budget of 100 and a delay of 1.
+pub(crate) fn setting_of(alloc: Global, table: &Table) -> Result<Setting, Fail>
+    ensures is { IfOk result (λ setting. setting ≡ setting_of setting.engine (routines_of table.now.program)) }
+{
+    let widening = Widening {
+        delay: 1,
+        thresholds: true,
+    };
+    Ok(Setting::new(alloc, &table.view(), 100, widening)?)
 }
 
 /// `before 3`, `after 3`, `head 3`, or the end of a procedure by its name.
