@@ -1,5 +1,5 @@
 -- The frames in which a statement stands under a chain.
-use Rattle.std.specs.Prelude.{ℕ, List, [], ◌∷◌, map, slice_get, Option, Some, None}
+use Rattle.std.specs.Prelude.{ℕ, List, map, slice_get, Option, Some, None}
 use Rattle.imp_slots.specs.Plain.{Layout, Routine}
 use Rattle.concrete_sem.specs.WellFormed.{layout_at}
 use Rattle.program_chains.specs.Chains.{holder}

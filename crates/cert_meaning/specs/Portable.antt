@@ -1,5 +1,5 @@
 -- States that can be written as a text and read back, and compared.
-use Rattle.std.specs.Prelude.{◌≡◌, ℕ, ℤ, List, Option, Some, None, Bool, true}
+use Rattle.std.specs.Prelude.{◌≡◌, ◌<◌, ◌^◌, ℕ, ℤ, List, length, Option, Some, None, Bool, true}
 use Rattle.imp_slots.specs.Plain.{Layout}
 use Rattle.concrete_sem.specs.Values.{Variables, Heap}
 use Rattle.concrete_sem.specs.Proper.{IsProper}
@@ -19,10 +19,11 @@ abbrev pub IsSoundOrder : {S : Type 0} → Operations S → (S → Heap → List
 IsSoundOrder {S} dom covers leq =
     (ls : List Layout) (s t : S) (h : Heap) (vs : List Variables) → dom.fits s ls ≡ true → dom.fits t ls ≡ true → IsProper h vs ls → leq s t ≡ true → covers s h vs → covers t h vs
 
--- What is put is taken back, what has no state is refused, and the order is sound.
+-- What is put is taken back, what has no state is refused, and the order is sound. Texts have fewer than 2^64 bytes, as
+-- all have that memory holds.
 pub record PortableLaws {S : Type 0} (dom : Operations S) (covers : S → Heap → List Variables → Type 0) (port : Portable S) : Type 0 where
-  pub back : (ls : List Layout) (s : S) → dom.fits s ls ≡ true → port.take ls (port.put s) ≡ Some s
-  pub refused : (ls : List Layout) (t : List ℕ) (s : S) → port.take ls t ≡ None → dom.fits s ls ≡ true → port.put s ≡ t → ⊥
+  pub back : (ls : List Layout) (s : S) → dom.fits s ls ≡ true → length (port.put s) < 2 ^ 64 → port.take ls (port.put s) ≡ Some s
+  pub refused : (ls : List Layout) (t : List ℕ) (s : S) → length t < 2 ^ 64 → port.take ls t ≡ None → dom.fits s ls ≡ true → port.put s ≡ t → ⊥
   pub taken : (ls : List Layout) (t : List ℕ) (s : S) → port.take ls t ≡ Some s → (dom.fits s ls ≡ true) × (port.put s ≡ t)
   pub below : IsSoundOrder dom covers port.leq
 
