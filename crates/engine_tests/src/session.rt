@@ -50,6 +50,22 @@ fn next_of(table: &Table) -> Result<u32, Fail>
     }
 }
 
+/// What an edit that is accepted changes.
+fn applied(alloc: Global, table: &Table, edit: &Edit, next: u32) -> Result<Edited, Fail>
+    requires positive { 0 < next }
+    requires below { All (λ (n : ℕ). n < next) (program_numbers table.now.program) }
+    requires continues { Continues edit.now next }
+    ensures one { IfOk result (λ _. IsEdited table.now.program (edited edit.now table.now.program)) }
+    ensures makes { IfOk result (λ e. Makes table.now.program e.change (edited edit.now table.now.program)) }
+    ensures within { IfOk result (λ e. AreWithin e.next e.change.entries.items) }
+    ensures positive { IfOk result (λ e. 0 < e.next) }
+    ensures below { IfOk result (λ e. All (λ (n : ℕ). n < e.next) (program_numbers (edited edit.now table.now.program))) }
+{
+    table.procs();
+    let made = apply(alloc, table, edit, next)?;
+    Ok(made)
+}
+
 /// The cells that the change empties.
 fn planned<D: Domain>(
     alloc: Global,
@@ -168,8 +184,7 @@ impl<D: Domain> Session<D> {
         requires continues { Continues edit.now self.old.next }
         ensures ready { IfOk result (λ _. IsReady (D.operations self.new.engine.domain) self.new.setting self.new.table.program self.new.engine.store self.new.next) }
     {
-        self.table.procs();
-        let made = apply(alloc, &self.table, edit, self.next)?;
+        let made = applied(alloc, &self.table, edit, self.next)?;
         let Edited { change, next } = made;
         self.exchange(alloc, edit, change, next)
     }
