@@ -1,4 +1,3 @@
 pub mod Words
 pub mod Ordered
 pub mod Texts
-pub mod Slots
