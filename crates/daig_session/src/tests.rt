@@ -1,0 +1,7 @@
+//! Tests.
+
+#[cfg(test)]
+mod tests {
+    #[test]
+    fn nothing() {}
+}
