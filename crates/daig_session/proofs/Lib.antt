@@ -1,0 +1,7 @@
+pub mod Tickets
+pub mod Waiting
+pub mod Ordered
+pub mod Asked
+pub mod Filled
+pub mod Moved
+pub mod Counted
