@@ -66,7 +66,7 @@ module _ {S : Type 0} (dom : Operations S) (book : Book) (store new : Store S) w
         let ms = missing dom ts (machine_of book xs) in
         let e : ts ≡ targets_of (machine_of book xs) l string = sym (targets_are (machine_of book xs) l string ts a) in
         let is : (x : CellName) → kept new x ≡ member same_name (xs ++ take count ms) x =
-              λ x. f.adds x ∙ (ap (λ b. b || member same_name (take count (engine.missing dom (flow_in book) ts store)) x) (k x) ∙ (ap (λ ys. member same_name xs x || member same_name (take count ys) x) (missing_is xs ts k) ∙ sym (member-append same_name xs (take count ms) x))) in
+        λ x. f.adds x ∙ (ap (λ b. b || member same_name (take count (engine.missing dom (flow_in book) ts store)) x) (k x) ∙ (ap (λ ys. member same_name xs x || member same_name (take count ys) x) (missing_is xs ts k) ∙ sym (member-append same_name xs (take count ms) x))) in
         record {
           same = λ x. subst (λ us. kept new x ≡ member same_name (xs ++ take count (missing dom us (machine_of book xs))) x) e (is x);
           cells = subst (λ us. AreKept dom book.setting.engine (routines_of book.history.now) (xs ++ take count (missing dom us (machine_of book xs)))) e (law (machine_of book xs) a.place l string ts count checked a.are are);

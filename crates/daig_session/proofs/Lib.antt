@@ -1,4 +1,4 @@
-pub mod Tickets
+pub mod TicketLemmas
 pub mod Waiting
 pub mod Ordered
 pub mod Asked

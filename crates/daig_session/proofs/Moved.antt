@@ -46,7 +46,7 @@ use Rattle.daig_session.specs.Going.{AreWaiting}
 use Rattle.daig_session.specs.Holds.{Holds, IsReady}
 use Rattle.daig_session.specs.Moves.{Empties, IsMoving, IsMovingTo, IsPlanned, Leaves}
 use Rattle.daig_session.proofs.Ordered.{below_more, behind_more, behind_take, turned_order}
-use Rattle.daig_session.proofs.Tickets.{tickets_anew}
+use Rattle.daig_session.proofs.TicketLemmas.{tickets_anew}
 use Rattle.daig_session.proofs.Waiting.{waiting_anew}
 
 both_ways : (a b : Bool) → (a ≡ true → b ≡ true) → (b ≡ true → a ≡ true) → a ≡ b

@@ -10,7 +10,7 @@ use Rattle.edits_keep_cells.specs.Claims.{IsEdited}
 use Rattle.open_tickets.specs.Tickets.{number, AreOpen}
 use Rattle.daig_session.specs.declared.book.Book.{Book}
 use Rattle.daig_session.specs.Books.{AreBelow, AreBehind, AreAhead, IsInOrder, IsSame, IsSet, IsTurned}
-use Rattle.daig_session.proofs.Tickets.{still_open, numbers_anew}
+use Rattle.daig_session.proofs.TicketLemmas.{still_open, numbers_anew}
 
 pub set_again : (s : Setting) (e : Engine) (rs : List Routine) → s ≡ setting_of e rs → s ≡ setting_of s.engine rs
 set_again s e rs h = h ∙ ap (λ (x : Engine). setting_of x rs) (sym (ap (λ (z : Setting). z.engine) h))

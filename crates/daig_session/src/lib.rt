@@ -25,10 +25,11 @@ mod moving;
 mod queries;
 mod session;
 mod stepping;
+mod tests;
 mod tickets;
 mod times;
-mod tests;
 
+pub use edits::Prepared;
 pub use error::{AskError, QueryError, StepError, UndoError};
 pub use session::Session;
 pub use stepping::Turn;

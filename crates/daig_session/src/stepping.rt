@@ -111,14 +111,7 @@ impl<D: Domain> Session<D> {
             IfOk result (λ turn. steps.new ≤ steps.old + D.counted self.old.engine.domain * work_of (D.operations self.old.engine.domain) m (ticket o) turn) }
     {
         questions_keep_cells::<D>();
-        let progress = fill_some(
-            alloc,
-            &mut self.engine,
-            &self.book,
-            &mut going,
-            most,
-            steps,
-        )?;
+        let progress = fill_some(alloc, &mut self.engine, &self.book, &mut going, most, steps)?;
         let filled = progress.filled;
         if !progress.done {
             put_going(self.book.tickets.open_ones.as_mut_slice(), place, going);

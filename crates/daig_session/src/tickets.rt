@@ -59,12 +59,7 @@ impl<D: Domain> Session<D> {
     /// The first of these causes: the call string has more than two calls; [`AskError::Full`] where sixteen tickets are
     /// open; the program refuses the question, as [`Session::query`] says. [`AskError::Memory`] for want of memory. The
     /// session is then as it was.
-    pub fn ask(
-        &mut self,
-        alloc: Global,
-        at: Location,
-        string: Items<u32>,
-    ) -> Result<u64, AskError>
+    pub fn ask(&mut self, alloc: Global, at: Location, string: Items<u32>) -> Result<u64, AskError>
         requires ready { IsReady (D.operations self.old.engine.domain) self.old.engine.store self.old.book }
         requires room { self.old.book.tickets.next < 2 ^ 63 }
         ensures ready { IsReady (D.operations self.new.engine.domain) self.new.engine.store self.new.book }
