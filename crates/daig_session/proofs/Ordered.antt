@@ -44,7 +44,7 @@ turned_order old new program past future next o t fine some below behind ahead =
       subst (λ n. AreAhead n new.history.now new.history.future) (sym t.next_is) (
       subst (λ p. AreAhead next p new.history.future) (sym t.now) (
       subst (AreAhead next program) (sym t.future_is) ahead));
-  open = still_open old.tickets new.tickets o.open (ap (map number) t.anew_all ∙ numbers_anew old.tickets.open_ones.items) t.next_ticket;
+  are_open = still_open old.tickets new.tickets o.are_open (ap (map number) t.anew_all ∙ numbers_anew old.tickets.open_ones.items) t.next_ticket;
 }
 
 -- the same but for room
@@ -62,5 +62,5 @@ same_order old new o t = record {
       subst (λ n. AreAhead n new.history.now new.history.future) (sym t.next_is) (
       subst (λ p. AreAhead old.next p new.history.future) (sym t.now) (
       subst (AreAhead old.next old.history.now) (sym t.future_is) o.ahead));
-  open = subst AreOpen (sym t.tickets_are) o.open;
+  are_open = subst AreOpen (sym t.tickets_are) o.are_open;
 }

@@ -45,7 +45,7 @@ pub record IsInOrder (b : Book) : Type 0 where
   pub below : AreBelow b.next b.history.now
   pub behind : AreBehind b.next b.history.now b.history.past
   pub ahead : AreAhead b.next b.history.now b.history.future
-  pub open : AreOpen b.tickets
+  pub are_open : AreOpen b.tickets
 
 -- the machine with these kept names
 abbrev pub machine_of : Book → (kept : List CellName) → Machine
