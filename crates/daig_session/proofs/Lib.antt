@@ -5,3 +5,6 @@ pub mod Asked
 pub mod Filled
 pub mod Moved
 pub mod Counted
+pub mod Beginning
+pub mod Answering
+pub mod Ticketed

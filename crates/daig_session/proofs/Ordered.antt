@@ -47,20 +47,24 @@ turned_order old new program past future next o t fine some below behind ahead =
   are_open = still_open old.tickets new.tickets o.are_open (ap (map number) t.anew_all ∙ numbers_anew old.tickets.open_ones.items) t.next_ticket;
 }
 
+-- with the same programs, setting and next number
+pub order_like : (old new : Book) → IsInOrder old → new.history.now ≡ old.history.now → new.history.past ≡ old.history.past → new.history.future ≡ old.history.future → new.setting ≡ old.setting → new.next ≡ old.next → AreOpen new.tickets → IsInOrder new
+order_like old new o now past future setting next are = record {
+  set = subst (λ (p : List Procedure). new.setting ≡ setting_of new.setting.engine (routines_of p)) (sym now) (subst (λ (s : Setting). s ≡ setting_of s.engine (routines_of old.history.now)) (sym setting) o.set);
+  fine = subst IsFine (sym now) o.fine;
+  some = subst (λ n. 0 < n) (sym next) o.some;
+  below = subst (λ n. AreBelow n new.history.now) (sym next) (subst (AreBelow old.next) (sym now) o.below);
+  behind =
+      subst (λ n. AreBehind n new.history.now new.history.past) (sym next) (
+      subst (λ p. AreBehind old.next p new.history.past) (sym now) (
+      subst (AreBehind old.next old.history.now) (sym past) o.behind));
+  ahead =
+      subst (λ n. AreAhead n new.history.now new.history.future) (sym next) (
+      subst (λ p. AreAhead old.next p new.history.future) (sym now) (
+      subst (AreAhead old.next old.history.now) (sym future) o.ahead));
+  are_open = are;
+}
+
 -- the same but for room
 pub same_order : (old new : Book) → IsInOrder old → IsSame old new → IsInOrder new
-same_order old new o t = record {
-  set = subst (λ (p : List Procedure). new.setting ≡ setting_of new.setting.engine (routines_of p)) (sym t.now) (subst (λ (s : Setting). s ≡ setting_of s.engine (routines_of old.history.now)) (sym t.setting) o.set);
-  fine = subst IsFine (sym t.now) o.fine;
-  some = subst (λ n. 0 < n) (sym t.next_is) o.some;
-  below = subst (λ n. AreBelow n new.history.now) (sym t.next_is) (subst (AreBelow old.next) (sym t.now) o.below);
-  behind =
-      subst (λ n. AreBehind n new.history.now new.history.past) (sym t.next_is) (
-      subst (λ p. AreBehind old.next p new.history.past) (sym t.now) (
-      subst (AreBehind old.next old.history.now) (sym t.past_is) o.behind));
-  ahead =
-      subst (λ n. AreAhead n new.history.now new.history.future) (sym t.next_is) (
-      subst (λ p. AreAhead old.next p new.history.future) (sym t.now) (
-      subst (AreAhead old.next old.history.now) (sym t.future_is) o.ahead));
-  are_open = subst AreOpen (sym t.tickets_are) o.are_open;
-}
+same_order old new o t = order_like old new o t.now t.past_is t.future_is t.setting t.next_is (subst AreOpen (sym t.tickets_are) o.are_open)
