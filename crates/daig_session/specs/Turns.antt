@@ -64,17 +64,17 @@ module _ {S : Type 0} (dom : Operations S) (m : Machine) (stands : Machine → T
       pub refused : answer_at dom t.at t.string m ≡ Refuses why
       pub after : stands (closed t.number m)
 
-    abbrev pub Steps : Result (Turn S) StepError → Type 0
-    Steps (Ok (Pending n)) = IsPending n
-    Steps (Ok (Done v)) = IsDone v
-    Steps (Err step.NoTicket) = ⊥
-    Steps (Err step.Gone) = IsGone
-    Steps (Err step.Memory) = IsBetween (missing_at dom t.at t.string m) m stands
+    abbrev pub IsStep : Result (Turn S) StepError → Type 0
+    IsStep (Ok (Pending n)) = IsPending n
+    IsStep (Ok (Done v)) = IsDone v
+    IsStep (Err step.NoTicket) = ⊥
+    IsStep (Err step.Gone) = IsGone
+    IsStep (Err step.Memory) = IsBetween (missing_at dom t.at t.string m) m stands
 
   -- A step of a ticket, or of none.
-  abbrev pub StepsOf : (most : ℕ) → Option Ticket → Result (Turn S) StepError → Type 0
-  StepsOf most None r = (r ≡ Err step.NoTicket) × stands m
-  StepsOf most (Some t) r = Steps t most r
+  abbrev pub IsStepOf : (most : ℕ) → Option Ticket → Result (Turn S) StepError → Type 0
+  IsStepOf most None r = (r ≡ Err step.NoTicket) × stands m
+  IsStepOf most (Some t) r = IsStep t most r
 
 -- how many cells a step fills, and twice the chains for an answer
 abbrev pub work_of : {S : Type 0} → Operations S → Machine → Ticket → Turn S → ℕ

@@ -19,7 +19,7 @@ use std::alloc::Global;
 
 /// All that an accepted edit needs.
 #[derive(Drop)]
-pub(crate) struct Planned {
+pub struct Planned {
     pub(crate) edited: Edited,
     pub(crate) moving: Moving,
 }
@@ -65,9 +65,9 @@ impl<D: Domain> Session<D> {
 
 /// An edit that is accepted and worked out, with the session that it is for.
 #[derive(Drop)]
-pub struct Prepared<'a, D: Domain> {
+pub struct Prepared<'a, D: Domain, P = Planned> {
     session: &'a mut Session<D>,
-    planned: Planned,
+    planned: P,
 }
 
 impl<D: Domain> Session<D> {
@@ -101,7 +101,7 @@ impl<D: Domain> Session<D> {
     }
 }
 
-impl<D: Domain> Prepared<'_, D> {
+impl<D: Domain> Prepared<'_, D, Planned> {
     /// The number of the next new statement once the edit is made.
     pub fn next(&self) -> u32
         ensures is { (e : AnyEdit) → IsPlanned self.now.session.now.engine.store self.now.session.now.book e self.now.planned → result ≡ next_after e self.now.session.now.book.next }

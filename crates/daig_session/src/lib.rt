@@ -29,7 +29,7 @@ mod tests;
 mod tickets;
 mod times;
 
-pub use edits::Prepared;
+pub use edits::{Planned, Prepared};
 pub use error::{AskError, QueryError, StepError, UndoError};
 pub use session::Session;
 pub use stepping::Turn;

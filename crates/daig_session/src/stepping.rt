@@ -13,7 +13,7 @@ ghost use Rattle.daig_session.specs.Books.{flow_in, IsWithout};
 ghost use Rattle.daig_session.specs.Going.{IsGoing, IsRefused};
 ghost use Rattle.open_tickets.specs.Tickets.{ticket};
 ghost use Rattle.daig_session.specs.Holds.{Holds, IsAtPlace, IsReady};
-ghost use Rattle.daig_session.specs.Turns.{work_of, CoversDone, Steps, StepsOf};
+ghost use Rattle.daig_session.specs.Turns.{work_of, CoversDone, IsStep, IsStepOf};
 
 use crate::asking::{begun, read_answer};
 use crate::book::{Book, Going};
@@ -103,7 +103,7 @@ impl<D: Domain> Session<D> {
         ensures ready { IsReady (D.operations self.new.engine.domain) self.new.engine.store self.new.book }
         ensures domain { self.new.engine.domain ≡ self.old.engine.domain }
         ensures steps { (m : Machine) (o : AnyOpen AnyGoing) → Holds (D.operations self.old.engine.domain) self.old.engine.store self.old.book m → slice_get self.old.book.tickets.open_ones.items place ≡ Some o →
-            Steps (D.operations self.old.engine.domain) m (Holds (D.operations self.new.engine.domain) self.new.engine.store self.new.book) (ticket o) most result }
+            IsStep (D.operations self.old.engine.domain) m (Holds (D.operations self.new.engine.domain) self.new.engine.store self.new.book) (ticket o) most result }
         ensures sound { (o : AnyOpen AnyGoing) → slice_get self.old.book.tickets.open_ones.items place ≡ Some o →
             IfOk result (CoversDone (D.covers self.old.engine.domain) (routines_of self.old.book.history.now) (ticket o)) }
         ensures least { steps.old ≤ steps.new }
@@ -144,7 +144,7 @@ impl<D: Domain> Session<D> {
         ensures ready { IsReady (D.operations self.new.engine.domain) self.new.engine.store self.new.book }
         ensures domain { self.new.engine.domain ≡ self.old.engine.domain }
         ensures steps { (m : Machine) → Holds (D.operations self.old.engine.domain) self.old.engine.store self.old.book m →
-            StepsOf (D.operations self.old.engine.domain) m (Holds (D.operations self.new.engine.domain) self.new.engine.store self.new.book) most (ticket_of ticket m.tickets) result }
+            IsStepOf (D.operations self.old.engine.domain) m (Holds (D.operations self.new.engine.domain) self.new.engine.store self.new.book) most (ticket_of ticket m.tickets) result }
         ensures sound { (m : Machine) → Holds (D.operations self.old.engine.domain) self.old.engine.store self.old.book m →
             IfOk result (λ turn. IfSome (ticket_of ticket m.tickets) (λ t. CoversDone (D.covers self.old.engine.domain) (routines_of self.old.book.history.now) t turn)) }
         ensures least { steps.old ≤ steps.new }
