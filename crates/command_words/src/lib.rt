@@ -24,6 +24,3 @@ mod values;
 pub use error::WordsError;
 pub use job::{DomainName, FileName, Job, Settings};
 pub use reading::read_words;
-
-#[cfg(test)]
-mod tests;

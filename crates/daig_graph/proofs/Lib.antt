@@ -11,4 +11,3 @@ pub mod Agreeing
 pub mod CellFilled
 pub mod CellGone
 pub mod Owning
-pub mod TestLemmas

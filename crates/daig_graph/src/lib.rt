@@ -27,6 +27,3 @@ pub use graph::{Graph, Use};
 pub use inputs::Inputs;
 pub use value::{SharedChain, Value};
 pub use walk::Walk;
-
-#[cfg(test)]
-mod tests;

@@ -51,6 +51,3 @@ pub fn close_of_law()
     ensures only { CloseOfIsOnly }
     ensures keeps { CloseOfKeeps }
 {}
-
-#[cfg(test)]
-mod tests;

@@ -44,6 +44,3 @@ pub fn tables_law()
     ensures entries { TablesHaveEntries }
     ensures only { TablesDetermine }
 {}
-
-#[cfg(test)]
-mod tests;

@@ -23,6 +23,3 @@ mod widening;
 pub use domain::Interval;
 pub use interval_meaning::SlotRange;
 pub use state::IntervalState;
-
-#[cfg(test)]
-mod tests;

@@ -25,6 +25,3 @@ mod verdicts;
 
 pub use domain::ListSeg;
 pub use state::SegmentState;
-
-#[cfg(test)]
-mod tests;

@@ -31,6 +31,3 @@ mod verdicts;
 
 pub use domain::Octagon;
 pub use state::OctagonState;
-
-#[cfg(test)]
-mod tests;

@@ -12,6 +12,3 @@
 mod pair;
 
 pub use pair::Pair;
-
-#[cfg(test)]
-mod tests;

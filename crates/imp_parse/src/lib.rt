@@ -27,8 +27,6 @@ mod parse;
 mod procedure;
 mod simple;
 mod statement;
-#[cfg(test)]
-mod tests;
 
 pub use error::ParseError;
 pub use parse::{

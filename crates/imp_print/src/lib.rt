@@ -16,7 +16,5 @@ mod expressions;
 mod lines;
 mod programs;
 mod statements;
-#[cfg(test)]
-mod tests;
 
 pub use programs::{numbered_text, program_text, stmt_text};

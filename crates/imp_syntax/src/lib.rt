@@ -78,6 +78,3 @@ pub use plain_values::Number;
 pub use program::{Proc, Program};
 pub use stmt::{Block, Stmt, StmtNode};
 pub use words::{Declaration, Kind, Operator, Relation};
-
-#[cfg(test)]
-mod tests;

@@ -13,8 +13,6 @@ mod adapters;
 mod memory;
 mod plan;
 mod sure;
-#[cfg(test)]
-mod tests;
 mod traits;
 
 pub use adapters::{DiskFiles, InputSource, OutputSink};

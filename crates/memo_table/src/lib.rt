@@ -16,6 +16,3 @@ mod operation;
 pub use equality::{equality_decides, results_stay};
 pub use memo::{Key, Memo};
 pub use operation::Operation;
-
-#[cfg(test)]
-mod tests;

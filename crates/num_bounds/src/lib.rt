@@ -13,6 +13,3 @@ mod range;
 mod wide;
 
 pub use range::Range;
-
-#[cfg(test)]
-mod tests;

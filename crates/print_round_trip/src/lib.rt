@@ -17,8 +17,6 @@ ghost use Rattle.print_round_trip.specs.ReadBack.{PrintingIsReadBack, ReadBodyIs
 
 mod again;
 mod error;
-#[cfg(test)]
-mod tests;
 
 pub use again::read_back;
 pub use error::ReadBackError;

@@ -30,6 +30,3 @@ pub use reading::read_request;
 pub use reply::{ProgramFault, Refusal, Reply};
 pub use request::{Query, Request};
 pub use writing::reply_line;
-
-#[cfg(test)]
-mod tests;
