@@ -8,6 +8,7 @@ use Rattle.imp_check.specs.Fine.{IsFine}
 use Rattle.imp_check.specs.Slots.{routines_of}
 use Rattle.imp_check.specs.Changes.{AreWithin, Makes}
 use Rattle.imp_check.specs.declared.change.Change.{Change}
+use Rattle.imp_check.specs.declared.change.Put.{Put}
 use Rattle.imp_edit.specs.Edited.{edited, next_after, Continues}
 use Rattle.domain_laws.specs.Operations.{Operations}
 use Rattle.batch_meaning.specs.Batch.{Engine}
@@ -26,7 +27,7 @@ use Rattle.edit_history.proofs.AfterLemmas.{after_is}
 use Rattle.edit_invalidate.specs.Claims.{edit_of}
 use Rattle.edits_keep_cells.specs.Claims.{AreOneApart, IsEdited, flow_of}
 use Rattle.edits_keep_cells.proofs.Apart.{leave_kept}
-use Rattle.cell_removal.specs.Removal.{without}
+use Rattle.cell_removal.specs.Removal.{without, IsOrder}
 use Rattle.daig_query.specs.declared.held.Held.{Held}
 use Rattle.daig_query.specs.declared.store.Store.{Store}
 use Rattle.daig_query.specs.Claims.{Lessens}
@@ -111,14 +112,16 @@ module _ {S : Type 0} (dom : Operations S) where
     pub moved_holds : (m : Machine) → Holds dom store old m → Holds dom new_store new (moved dom program past future next m)
     moved_holds m h = subst (λ z. Holds dom new_store new (moved dom program past future next z)) h.is (moved_of m.kept h.same (subst (KeepsCells dom) (sym h.is) h.cells))
 
-  -- An edit is made.
-  module _ (store new_store : Store S) (old new : Book) (p : Planned) (ed : Edit) (r : IsReady dom store old) (pl : IsPlanned store old ed p) (t : IsTurned old (after old.history.now p.edited.change) (take 64 (old.history.now ∷ old.history.past)) [] p.edited.next new) (leave : Leaves dom (flow_of old.setting.engine old.history.now) (flow_of old.setting.engine (edited ed old.history.now)) store new_store) where
+  -- An edit is planned.
+  module _ (store : Store S) (old : Book) (p : Planned) (ed : Edit) (r : IsReady dom store old) (pl : IsPlanned store old ed p) where
     edit_fine : IsFine (edited ed old.history.now)
     edit_fine = subst IsFine pl.makes pl.leads.fine
 
     pub edit_apart : IsEdited old.history.now (edited ed old.history.now)
     edit_apart = record { edit = ed; next = old.next; fine = r.order.fine; after = edit_fine; below = r.order.below; continues = pl.continues; makes = refl }
 
+  -- It is made.
+  module _ (store new_store : Store S) (old new : Book) (p : Planned) (ed : Edit) (r : IsReady dom store old) (pl : IsPlanned store old ed p) (t : IsTurned old (after old.history.now p.edited.change) (take 64 (old.history.now ∷ old.history.past)) [] p.edited.next new) (leave : Leaves dom (flow_of old.setting.engine old.history.now) (flow_of old.setting.engine (edited ed old.history.now)) store new_store) where
     turned : IsTurned old (edited ed old.history.now) (take 64 (old.history.now ∷ old.history.past)) [] p.edited.next new
     turned = subst (λ (q : List Procedure). IsTurned old q (take 64 (old.history.now ∷ old.history.past)) [] p.edited.next new) pl.makes t
 
@@ -129,9 +132,9 @@ module _ {S : Type 0} (dom : Operations S) where
     edit_ready =
         let less = no_less in
         let some = r.order.some in
-        moved_ready store new_store old new (edited ed old.history.now) (take 64 (old.history.now ∷ old.history.past)) [] p.edited.next r turned leave edit_fine
+        moved_ready store new_store old new (edited ed old.history.now) (take 64 (old.history.now ∷ old.history.past)) [] p.edited.next r turned leave (edit_fine store old p ed r pl)
         (omega arith) pl.below
-        (behind_take 64 p.edited.next (edited ed old.history.now) (old.history.now ∷ old.history.past) (edit_apart, below_more old.next p.edited.next old.history.now less r.order.below, behind_more old.next p.edited.next less old.history.now old.history.past r.order.behind))
+        (behind_take 64 p.edited.next (edited ed old.history.now) (old.history.now ∷ old.history.past) (edit_apart store old p ed r pl, below_more old.next p.edited.next old.history.now less r.order.below, behind_more old.next p.edited.next less old.history.now old.history.past r.order.behind))
         tt
 
     pub edit_holds : (m : Machine) → Holds dom store old m → Holds dom new_store new (committed dom ed m)
@@ -139,7 +142,7 @@ module _ {S : Type 0} (dom : Operations S) where
         subst (Holds dom new_store new) (
         ap (λ n. moved dom (edited ed old.history.now) (take 64 (old.history.now ∷ old.history.past)) [] n m) pl.next
         ∙ ap (λ (z : Machine). moved dom (edited ed z.program) (take 64 (z.program ∷ z.past)) [] (next_after ed z.next) m) h.is
-        ) (moved_holds store new_store old new (edited ed old.history.now) (take 64 (old.history.now ∷ old.history.past)) [] p.edited.next r turned leave edit_fine m h)
+        ) (moved_holds store new_store old new (edited ed old.history.now) (take 64 (old.history.now ∷ old.history.past)) [] p.edited.next r turned leave (edit_fine store old p ed r pl) m h)
 
   -- The program behind is the present one.
   module _ (store new_store : Store S) (old new : Book) (r : IsReady dom store old) (past_is : new.history.now ∷ new.history.past ≡ old.history.past) where
@@ -184,6 +187,38 @@ module _ {S : Type 0} (dom : Operations S) where
           ap (λ (z : Machine). moved dom new.history.now (z.program ∷ z.past) new.history.future z.next m) h.is
           ∙ ap (λ side. on_to dom side m) (future_is ∙ ap (λ (z : Machine). z.future) h.is)
           ) (moved_holds store new_store old new new.history.now (old.history.now ∷ old.history.past) new.history.future old.next r t leave a.0.after m h)
+
+-- the numbers of a change are places of a longer table
+pub within_more : (n m : ℕ) (puts : List Put) → n ≤ m → AreWithin n puts → AreWithin m puts
+within_more n m puts h w = record { falling = w.falling; below = λ i d l. (let b = w.below i d l in omega arith) }
+
+-- An edit is worked out over a table of the present program, which then gets room.
+module _ (ed : Edit) (room later : ℕ) (now t : List Procedure) (change : Change) (same : t ≡ now) (makes : Makes t change (edited ed t)) (fine : IsFine (edited ed t)) (within : AreWithin later change.entries.items) (more : later ≤ room) where
+  makes_now : Makes now change (edited ed now)
+  makes_now = subst (λ (z : List Procedure). Makes z change (edited ed z)) same makes
+
+  fine_now : IsFine (edited ed now)
+  fine_now = subst (λ (z : List Procedure). IsFine (edited ed z)) same fine
+
+  pub plan_leads : Leads room now change
+  plan_leads = leads_to room now change (edited ed now) makes_now fine_now (within_more later room change.entries.items more within)
+
+  pub plan_after : after now change ≡ edited ed now
+  plan_after = after_is now change (edited ed now) makes_now fine_now
+
+-- The nearest change leads to a move to the nearest program.
+pub moving_first : {S : Type 0} (store : Store S) (e : Engine) (room : ℕ) (now : List Procedure) (c : Change) (side : List (List Procedure)) (m : Moving) → LeadsOn room now c side → IsMoving store e now (after now c) m → IsMovingTo store e now side m
+moving_first store e room now c [] m h i = absurd h
+moving_first store e room now c (qs ∷ more) m h i = subst (λ (z : List Procedure). IsMoving store e now z m) (after_is now c qs h.makes h.fine) i
+
+-- There is one.
+pub moving_some : {S : Type 0} (store : Store S) (e : Engine) (old : List Procedure) (side : List (List Procedure)) (m : Moving) → IsMovingTo store e old side m → 0 < length side
+moving_some store e old [] m h = absurd h
+moving_some store e old (p ∷ ps) m h = omega arith
+
+pub moving_order : {S : Type 0} (store : Store S) (e : Engine) (old : List Procedure) (side : List (List Procedure)) (m : Moving) → IsMovingTo store e old side m → IsOrder store.graph.cells m.plan
+moving_order store e old [] m h = absurd h
+moving_order store e old (p ∷ ps) m h = h.empties.removes.order
 
 -- a move to the first of some programs
 pub first_move : {S : Type 0} (store : Store S) (e : Engine) (old p : List Procedure) (ps side : List (List Procedure)) (m : Moving) → p ∷ ps ≡ side → IsMovingTo store e old side m → IsMoving store e old p m
