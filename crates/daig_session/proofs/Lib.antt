@@ -8,3 +8,4 @@ pub mod Counted
 pub mod Beginning
 pub mod Answering
 pub mod Ticketed
+pub mod Unchanged
