@@ -9,3 +9,4 @@ pub mod Beginning
 pub mod Answering
 pub mod Ticketed
 pub mod Unchanged
+pub mod Stepped

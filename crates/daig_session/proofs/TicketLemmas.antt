@@ -1,5 +1,5 @@
 -- Tickets that keep their numbers.
-use Rattle.std.proofs.Common.{◌≡◌, ℕ, zero, suc, ◌+◌, ◌<◌, ◌≤◌, List, [], ◌∷◌, ◌++◌, map, length, take, drop, Some, None, slice_get, slice_set, refl, sym, ap, subst, ◌∙◌, arith}
+use Rattle.std.proofs.Common.{◌≡◌, ℕ, zero, suc, ◌+◌, ◌<◌, ◌≤◌, List, [], ◌∷◌, ◌++◌, map, length, take, drop, Some, None, slice_get, slice_set, get_or, refl, sym, ap, subst, ◌∙◌, arith}
 use Rattle.std.proofs.lemmas.List.{length-map}
 use Rattle.plain_values.proofs.Cases.{some_inj}
 use Rattle.imp_slots.specs.Fits.{Distinct}
@@ -63,3 +63,9 @@ module _ {G : Type 0} where
   within_there [] k h = absurd (omega arith)
   within_there (x ∷ xs) zero h = (x, refl)
   within_there (x ∷ xs) (suc k) h = within_there xs k (omega arith)
+
+  -- what is read at a place
+  pub read_is : (us : List (Open G)) (k : ℕ) (x y : Open G) → x ≡ get_or us k x → slice_get us k ≡ Some y → x ≡ y
+  read_is [] k x y e s = absurd cc
+  read_is (u ∷ us) zero x y e s = e ∙ some_inj u y s
+  read_is (u ∷ us) (suc k) x y e s = read_is us k x y e s

@@ -52,7 +52,7 @@ fn resumed<D: Domain>(
     ensures refused { (o : AnyOpen AnyGoing) → slice_get book.old.tickets.open_ones.items place ≡ Some o →
         IfErr result (IsRefused (answer (D.operations engine.now.domain) book.old.setting.engine (routines_of book.old.history.now) o.at o.string)) }
 {
-    match take_going(book.tickets.open_ones.as_mut_slice(), place) {
+    match take_going(&mut book.tickets.open_ones, place) {
         Some(going) => Ok(going),
         None => {
             let flow = book.flow();
@@ -114,7 +114,7 @@ impl<D: Domain> Session<D> {
         let progress = fill_some(alloc, &mut self.engine, &self.book, &mut going, most, steps)?;
         let filled = progress.filled;
         if !progress.done {
-            put_going(self.book.tickets.open_ones.as_mut_slice(), place, going);
+            put_going(&mut self.book.tickets.open_ones, place, going);
             self.book.cost = filled as u64;
             return Ok(Turn::Pending(filled));
         }
@@ -156,7 +156,7 @@ impl<D: Domain> Session<D> {
         };
         match resumed(alloc, &self.engine, &mut self.book, place) {
             Ok(going) => self.step_on(alloc, place, going, most as usize, steps),
-            Err(QueryError::Refused(_)) => {
+            Err(QueryError::Refused(_why)) => {
                 self.book.tickets.close(place);
                 Err(StepError::Gone)
             }

@@ -19,19 +19,19 @@ use plain_values::Items;
 use std::alloc::Global;
 
 /// Takes what a ticket has come to: it is to begin anew.
-pub(crate) fn take_going(open_ones: &mut [Open<Going>], place: usize) -> Option<Going>
-    requires there { place < length open_ones.old }
-    ensures taken { (o : AnyOpen AnyGoing) → slice_get open_ones.old place ≡ Some o → result ≡ o.going }
-    ensures left { (o : AnyOpen AnyGoing) → slice_get open_ones.old place ≡ Some o → open_ones.new ≡ slice_set open_ones.old place (anew o) }
+pub(crate) fn take_going(open_ones: &mut Vec<Open<Going>>, place: usize) -> Option<Going>
+    requires there { place < length open_ones.old.items }
+    ensures taken { (o : AnyOpen AnyGoing) → slice_get open_ones.old.items place ≡ Some o → result ≡ o.going }
+    ensures left { (o : AnyOpen AnyGoing) → slice_get open_ones.old.items place ≡ Some o → open_ones.new.items ≡ slice_set open_ones.old.items place (anew o) }
 {
     let one = &mut open_ones[place];
     one.going.take()
 }
 
 /// Puts back what a ticket has come to.
-pub(crate) fn put_going(open_ones: &mut [Open<Going>], place: usize, going: Going)
-    requires there { place < length open_ones.old }
-    ensures put { (o : AnyOpen AnyGoing) → slice_get open_ones.old place ≡ Some o → open_ones.new ≡ slice_set open_ones.old place (record o { going = Some going }) }
+pub(crate) fn put_going(open_ones: &mut Vec<Open<Going>>, place: usize, going: Going)
+    requires there { place < length open_ones.old.items }
+    ensures put { (o : AnyOpen AnyGoing) → slice_get open_ones.old.items place ≡ Some o → open_ones.new.items ≡ slice_set open_ones.old.items place (record o { going = Some going }) }
 {
     let one = &mut open_ones[place];
     one.going = Some(going);

@@ -29,8 +29,8 @@ pub returns-in_err-going-clause-answers : goal.returns-in_err-going-clause-answe
 returns-in_err-going-clause-answers g c = λ m h.
     let s = c.args.self.now in
     let dom = g.D.Domain.operations s.engine.domain in
-    let is = subst (λ (p : Plan). IsRefused (answer dom p.engine p.program c.args.at.now c.args.string.now) c.in_err-going.field-0) c.flow-flow.ensures.is c.in_err-going.ensures.refused in
-    rw c.from_residual.ensures (refused_turn dom s.book s.engine.store m c.args.at.now c.args.string.now c.in_err-going.field-0 h is)
+    let is = subst (λ (p : Plan). IsRefused (answer dom p.engine p.program c.args.at.now c.args.string.now) c.in_err-going.field-0.0) c.flow-flow.ensures.is c.in_err-going.ensures.refused in
+    rw c.from_residual.ensures (refused_turn dom s.book s.engine.store m c.args.at.now c.args.string.now c.in_err-going.field-0.0 h is)
 
 pub returns-in_err-filled-clause-ready : goal.returns-in_err-filled-clause-ready
 returns-in_err-filled-clause-ready g c =
