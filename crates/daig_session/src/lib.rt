@@ -25,7 +25,6 @@ mod moving;
 mod queries;
 mod session;
 mod stepping;
-mod tests;
 mod tickets;
 mod times;
 

@@ -1,7 +1,0 @@
-//! Tests.
-
-#[cfg(test)]
-mod tests {
-    #[test]
-    fn nothing() {}
-}
