@@ -43,8 +43,8 @@ returns-in_err-going-clause-opens g c = λ m h.
     let dom = g.D.Domain.operations s.engine.domain in
     let few : length s.book.tickets.open_ones.items < 16 = grind (arith, nat_tests, c.if-is_full.false, c.is_full.ensures.is) in
     let is =
-            subst (λ (p : Plan). IsRefused (answer dom p.engine p.program c.args.at c.args.string) c.in_err-going.field-0.0) c.flow-flow.ensures.is (
-            subst (λ (xs : List ℕ). IsRefused (answer dom c.flow-flow.result.engine c.flow-flow.result.program c.args.at xs) c.in_err-going.field-0.0) c.as_slice.ensures.same c.in_err-going.ensures.refused) in
+    subst (λ (p : Plan). IsRefused (answer dom p.engine p.program c.args.at c.args.string) c.in_err-going.field-0.0) c.flow-flow.ensures.is (
+    subst (λ (xs : List ℕ). IsRefused (answer dom c.flow-flow.result.engine c.flow-flow.result.program c.args.at xs) c.in_err-going.field-0.0) c.as_slice.ensures.same c.in_err-going.ensures.refused) in
     let p = err_from_is_err_and c.from_residual.result c.from_residual.ensures.1 in
     rw (p.1, p.2) (ask_refused dom s.book s.engine.store m c.args.at c.args.string c.in_err-going.field-0.0 h few is)
 
@@ -72,8 +72,8 @@ returns-clause-ready g c =
     let s = c.args.self.now in
     let dom = g.D.Domain.operations s.engine.domain in
     let going =
-            subst (λ (p : Plan). IsGoing dom p s.engine.store c.args.at c.args.string c.in_ok-going.going) c.flow-flow.ensures.is (
-            subst (λ (xs : List ℕ). IsGoing dom c.flow-flow.result s.engine.store c.args.at xs c.in_ok-going.going) c.as_slice.ensures.same c.in_ok-going.ensures.going) in
+    subst (λ (p : Plan). IsGoing dom p s.engine.store c.args.at c.args.string c.in_ok-going.going) c.flow-flow.ensures.is (
+    subst (λ (xs : List ℕ). IsGoing dom c.flow-flow.result s.engine.store c.args.at xs c.in_ok-going.going) c.as_slice.ensures.same c.in_ok-going.ensures.going) in
     opened_ready dom s.book s.engine.store c.add.new.self c.args.at c.args.string (map target_of c.in_ok-going.going.targets) c.in_ok-going.going c.requires.ready c.add.ensures.tickets going c.in_ok-number.ensures.added
 
 pub returns-clause-opens : goal.returns-clause-opens
@@ -84,9 +84,8 @@ returns-clause-opens g c = λ m h.
     let few : length s.book.tickets.open_ones.items < 16 = grind (arith, nat_tests, c.if-is_full.false, c.is_full.ensures.is) in
     let n = tickets_count dom s.engine.store s.book m h in
     let going =
-            subst (λ (p : Plan). IsGoing dom p s.engine.store c.args.at c.args.string c.in_ok-going.going) c.flow-flow.ensures.is (
-            subst (λ (xs : List ℕ). IsGoing dom c.flow-flow.result s.engine.store c.args.at xs c.in_ok-going.going) c.as_slice.ensures.same c.in_ok-going.ensures.going) in
-    (
+    subst (λ (p : Plan). IsGoing dom p s.engine.store c.args.at c.args.string c.in_ok-going.going) c.flow-flow.ensures.is (
+    subst (λ (xs : List ℕ). IsGoing dom c.flow-flow.result s.engine.store c.args.at xs c.in_ok-going.going) c.as_slice.ensures.same c.in_ok-going.ensures.going) in (
       c.in_ok-number.ensures.number ∙ ap (λ (z : Machine). z.next_ticket) h.is,
       omega (arith, few, n),
       subst IsAnswered (answer_here dom s.book s.engine.store m c.args.at c.args.string h) (asked_answered dom flow.engine flow.program c.args.at c.args.string (map target_of c.in_ok-going.going.targets) c.requires.ready.right.checked going.asked),

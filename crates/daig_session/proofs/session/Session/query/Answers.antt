@@ -1,4 +1,4 @@
-use Rattle.std.proofs.Common.{◌≡◌, ◌*◌, ◌+◌, ◌≤◌, length, map, Some, sym, ap, subst, ◌∙◌}
+use Rattle.std.proofs.Common.{◌≡◌, ◌*◌, ◌+◌, ◌≤◌, length, map, Some, Err, rules, sym, ap, subst, ◌∙◌}
 use Rattle.std.proofs.lemmas.Result.{err_from_is_err_and}
 use Rattle.imp_check.specs.Slots.{routines_of}
 use Rattle.imp_flow.specs.Plans.{Plan}
@@ -11,6 +11,7 @@ use Rattle.session_machine.specs.Turns.{asked, missing_at, IsBetween}
 use Rattle.daig_session.specs.Books.{flow_in}
 use Rattle.daig_session.specs.Going.{IsGoing, IsRefused}
 use Rattle.daig_session.specs.Holds.{Holds, IsReady}
+use Rattle.daig_session.specs.Turns.{Questions}
 use Rattle.daig_session.proofs.Answering.{between_some, refused_turn, says_here, work_both, work_here}
 use Rattle.daig_session.proofs.Filled.{asked_holds, fills_ready, missing_here}
 use Rattle.daig_session.proofs.session.Session.query.Goals as goal
@@ -30,7 +31,8 @@ returns-in_err-going-clause-answers g c = λ m h.
     let s = c.args.self.now in
     let dom = g.D.Domain.operations s.engine.domain in
     let is = subst (λ (p : Plan). IsRefused (answer dom p.engine p.program c.args.at.now c.args.string.now) c.in_err-going.field-0.0) c.flow-flow.ensures.is c.in_err-going.ensures.refused in
-    rw c.from_residual.ensures (refused_turn dom s.book s.engine.store m c.args.at.now c.args.string.now c.in_err-going.field-0.0 h is)
+    let e : c.from_residual.result ≡ Err c.in_err-going.field-0.0 = search rules in
+    subst (Questions dom m (Holds dom s.engine.store s.book) c.args.at.now c.args.string.now) (sym e) (refused_turn dom s.book s.engine.store m c.args.at.now c.args.string.now c.in_err-going.field-0.0 h is)
 
 pub returns-in_err-filled-clause-ready : goal.returns-in_err-filled-clause-ready
 returns-in_err-filled-clause-ready g c =
@@ -122,11 +124,10 @@ returns-clause-answers g c = λ m h.
     let going = subst (λ (p : Plan). IsGoing dom p s.engine.store l string c.in_ok-going.going) c.flow-flow.ensures.is c.in_ok-going.ensures.going in
     let filled = subst (λ d. AreFilled (ops d) new c.fill_all.new.going.walk (flow_in s.book) ts) (sym c.fill_all.ensures.domain) c.in_ok-filled.ensures.filled in
     let says = subst (λ d. Says (answer (ops d) (flow_in s.book).engine (flow_in s.book).program l string) (Some v)) c.fill_all.ensures.domain (c.in_ok-value.ensures.says (flow_in s.book) l string ts going.asked filled) in
-    let e = c.in_ok-filled.ensures.all ∙ ap length (missing_here dom s.book s.engine.store new m l string ts h going.asked) in
-    (
+    let e = c.in_ok-filled.ensures.all ∙ ap length (missing_here dom s.book s.engine.store new m l string ts h going.asked) in (
       says_here dom s.book s.engine.store m l string v h says,
       subst (λ d. Holds (ops d) new (record s.book { cost = n }) (asked dom l string m)) (sym c.fill_all.ensures.domain) (
-      asked_holds dom s.book s.engine.store new l string ts (added s.engine.store new) c.requires.ready.right.checked going.asked c.fill_all.ensures.fills (c.questions_keep_cells.ensures.question s.engine.domain) m n h e (sym c.in_ok-filled.ensures.counted ∙ e)),
+          asked_holds dom s.book s.engine.store new l string ts (added s.engine.store new) c.requires.ready.right.checked going.asked c.fill_all.ensures.fills (c.questions_keep_cells.ensures.question s.engine.domain) m n h e (sym c.in_ok-filled.ensures.counted ∙ e)),
     )
 
 pub returns-clause-sound : goal.returns-clause-sound

@@ -14,16 +14,16 @@ returns-clause-ready g c =
     let book : Book = record { history = c.in_ok-history.history; setting = c.in_ok-setting.setting; next = c.args.next; tickets = c.new-tickets.result; cost = 0 } in
     let fine : IsFine program = record { faultless = c.procs.ensures.faultless; numbered = c.procs.ensures.numbered; fit = c.procs.ensures.fit } in
     let first : IsFirst book program e c.args.next = record {
-          now = c.in_ok-history.ensures.now;
-          past_is = c.in_ok-history.ensures.past;
-          future_is = c.in_ok-history.ensures.future;
-          set = c.in_ok-setting.ensures.is ∙ ap (λ (p : List Procedure). setting_of e (routines_of p)) c.view.ensures.is;
-          next_is = refl;
-          none = c.new-tickets.ensures.none;
-          first = c.new-tickets.ensures.first;
-          are_open = c.new-tickets.ensures.is;
-          cost = refl;
-        } in
+      now = c.in_ok-history.ensures.now;
+      past_is = c.in_ok-history.ensures.past;
+      future_is = c.in_ok-history.ensures.future;
+      set = c.in_ok-setting.ensures.is ∙ ap (λ (p : List Procedure). setting_of e (routines_of p)) c.view.ensures.is;
+      next_is = refl;
+      none = c.new-tickets.ensures.none;
+      first = c.new-tickets.ensures.first;
+      are_open = c.new-tickets.ensures.is;
+      cost = refl;
+    } in
     begin_ready (g.D.Domain.operations c.in_ok-engine.engine.domain) c.in_ok-engine.engine.store book program e c.args.next first fine c.requires.some c.requires.below c.in_ok-engine.ensures.right
 
 pub returns-clause-begins : goal.returns-clause-begins
@@ -33,14 +33,14 @@ returns-clause-begins g c =
     let book : Book = record { history = c.in_ok-history.history; setting = c.in_ok-setting.setting; next = c.args.next; tickets = c.new-tickets.result; cost = 0 } in
     let fine : IsFine program = record { faultless = c.procs.ensures.faultless; numbered = c.procs.ensures.numbered; fit = c.procs.ensures.fit } in
     let first : IsFirst book program e c.args.next = record {
-          now = c.in_ok-history.ensures.now;
-          past_is = c.in_ok-history.ensures.past;
-          future_is = c.in_ok-history.ensures.future;
-          set = c.in_ok-setting.ensures.is ∙ ap (λ (p : List Procedure). setting_of e (routines_of p)) c.view.ensures.is;
-          next_is = refl;
-          none = c.new-tickets.ensures.none;
-          first = c.new-tickets.ensures.first;
-          are_open = c.new-tickets.ensures.is;
-          cost = refl;
-        } in
+      now = c.in_ok-history.ensures.now;
+      past_is = c.in_ok-history.ensures.past;
+      future_is = c.in_ok-history.ensures.future;
+      set = c.in_ok-setting.ensures.is ∙ ap (λ (p : List Procedure). setting_of e (routines_of p)) c.view.ensures.is;
+      next_is = refl;
+      none = c.new-tickets.ensures.none;
+      first = c.new-tickets.ensures.first;
+      are_open = c.new-tickets.ensures.is;
+      cost = refl;
+    } in
     begin_holds (g.D.Domain.operations c.in_ok-engine.engine.domain) c.in_ok-engine.engine.store book program e c.args.next first fine c.in_ok-engine.ensures.empty

@@ -6,7 +6,7 @@ use Rattle.imp_flow.specs.Plans.{Plan}
 use Rattle.session_machine.specs.Machine.{ticket_of}
 use Rattle.session_machine.specs.Turns.{missing_at}
 use Rattle.open_tickets.specs.Tickets.{anew, ticket, tickets, IsAt}
-use Rattle.daig_session.specs.declared.error.StepError.TheVariants.{NoTicket}
+use Rattle.daig_session.specs.declared.error.StepError.TheVariants.{Gone, Memory, NoTicket}
 use Rattle.daig_session.specs.Going.{IsGoing}
 use Rattle.daig_session.specs.Holds.{Holds}
 use Rattle.daig_session.specs.Turns.{work_of, CoversDone, IsStepOf}
@@ -99,7 +99,7 @@ returns-in-Err-Refused-clause-steps g c = λ m h.
     let at = c.in-Some.ensures.is in
     let w = c.resumed.ensures.left in
     let there = without_there dom s.engine.store c.in-Some.place s.book c.resumed.new.book w at.one at.there in
-    subst (λ o. IsStepOf dom m (Holds dom s.engine.store (record c.resumed.new.book { tickets = c.close.new.self })) c.args.most o (Err _)) (sym (ticket_here dom s.engine.store s.book m c.args.ticket c.in-Some.place at.one h c.requires.ready.order.are_open at.there at.same)) (record {
+    subst (λ o. IsStepOf dom m (Holds dom s.engine.store (record c.resumed.new.book { tickets = c.close.new.self })) c.args.most o (Err Gone)) (sym (ticket_here dom s.engine.store s.book m c.args.ticket c.in-Some.place at.one h c.requires.ready.order.are_open at.there at.same)) (record {
       why = c.in-Err-Refused._why;
       refused = sym (answer_here dom s.book s.engine.store m at.one.at at.one.string h) ∙ (rw c.in-Err-Refused.field-0-is at (c.in-Err-Refused.ensures.refused at.one at.there));
       after = closed_holds dom c.resumed.new.book s.engine.store c.close.new.self at.one.number m (without_holds dom s.engine.store c.in-Some.place s.book c.resumed.new.book w at.one at.there m h) (c.close.ensures.closed at.one.number (record { one = anew at.one; there = there; same = refl })) c.close.ensures.next;
@@ -117,5 +117,5 @@ returns-in-Err-Memory-clause-steps g c = λ m h.
     let dom = g.D.Domain.operations s.engine.domain in
     let at = c.in-Some.ensures.is in
     let w = c.resumed.ensures.left in
-    subst (λ o. IsStepOf dom m (Holds dom s.engine.store c.resumed.new.book) c.args.most o (Err _)) (sym (ticket_here dom s.engine.store s.book m c.args.ticket c.in-Some.place at.one h c.requires.ready.order.are_open at.there at.same)) (
+    subst (λ o. IsStepOf dom m (Holds dom s.engine.store c.resumed.new.book) c.args.most o (Err Memory)) (sym (ticket_here dom s.engine.store s.book m c.args.ticket c.in-Some.place at.one h c.requires.ready.order.are_open at.there at.same)) (
     between_none (missing_at dom at.one.at at.one.string m) m (Holds dom s.engine.store c.resumed.new.book) (without_holds dom s.engine.store c.in-Some.place s.book c.resumed.new.book w at.one at.there m h))

@@ -63,7 +63,7 @@ returns-then-not-progress-clause-ready g c =
     let waits = waiting_get dom (flow_in s.book) new os c.args.place one r.waiting there in
     let t = record s.book.tickets { open_ones = c.put_going.new.open_ones } in
     let q = ticketed_ready dom new s.book t r (still_open s.book.tickets t r.order.are_open (ap (map number) items ∙ numbers_set os c.args.place one more there refl) refl)
-            (subst (AreWaiting dom (flow_in s.book) new) (sym items) (waiting_set dom (flow_in s.book) new os c.args.place more r.waiting (record { short = waits.short; going = c.fill_some.ensures.going one.at one.string c.requires.there.going }))) in
+    (subst (AreWaiting dom (flow_in s.book) new) (sym items) (waiting_set dom (flow_in s.book) new os c.args.place more r.waiting (record { short = waits.short; going = c.fill_some.ensures.going one.at one.string c.requires.there.going }))) in
     subst (λ d. IsReady (ops d) new (record s.book { tickets = t; cost = c.in_ok-progress.progress.filled })) (sym c.fill_some.ensures.domain) (record {
       right = q.right;
       order = record { set = q.order.set; fine = q.order.fine; some = q.order.some; below = q.order.below; behind = q.order.behind; ahead = q.order.ahead; are_open = q.order.are_open };

@@ -32,8 +32,7 @@ returns-clause-goes g c = λ m h.
     let after = c.back.new.self in
     let move = first_move s.engine.store s.book.setting.engine s.book.history.now after.history.now after.history.past s.book.history.past c.in_ok-setting.field-0 c.back.ensures.past c.in_ok-setting.ensures.moving in
     let turned = c.back.ensures.turned move.set in
-    let left = c.leave.ensures.leaves s.book.setting.engine s.book.history.now after.history.now (undo_apart (ops s.engine.domain) s.engine.store c.leave.new.engine.store s.book after c.requires.ready c.back.ensures.past) c.requires.ready.right move.empties in
-    (
+    let left = c.leave.ensures.leaves s.book.setting.engine s.book.history.now after.history.now (undo_apart (ops s.engine.domain) s.engine.store c.leave.new.engine.store s.book after c.requires.ready c.back.ensures.past) c.requires.ready.right move.empties in (
       subst (λ (z : Machine). 0 < length z.past) h.is (moving_some s.engine.store s.book.setting.engine s.book.history.now s.book.history.past c.in_ok-setting.field-0 c.in_ok-setting.ensures.moving),
       turned.next_is ∙ ap (λ (z : Machine). z.next) h.is,
       subst (λ d. Holds (ops d) c.leave.new.engine.store after (undone (ops s.engine.domain) m)) (sym c.leave.ensures.domain) (undo_holds (ops s.engine.domain) s.engine.store c.leave.new.engine.store s.book after c.requires.ready c.back.ensures.past turned left m h),
