@@ -1,0 +1,58 @@
+-- What a question answers is the machine's.
+use Rattle.std.proofs.Common.{◌≡◌, ℕ, ◌+◌, ◌*◌, ◌≤◌, List, [], ◌∷◌, ◌++◌, take, length, Some, Ok, Err, refl, sym, ap, subst, ◌∙◌, arith}
+use Rattle.imp_syntax.specs.declared.edit.Location.{Location}
+use Rattle.imp_slots.specs.Fits.{IsChecked}
+use Rattle.imp_check.specs.Slots.{routines_of}
+use Rattle.domain_laws.specs.Operations.{Operations}
+use Rattle.batch_meaning.specs.Answers.{answer}
+use Rattle.cell_names.specs.Paths.{CellName}
+use Rattle.cell_rows.specs.Targets.{Target}
+use Rattle.imp_flow.specs.Plans.{Plan}
+use Rattle.daig_graph.specs.declared.value.Value.{Value}
+use Rattle.daig_query.specs.declared.store.Store.{Store}
+use Rattle.daig_query.specs.Answered.{Says}
+use Rattle.daig_query.specs.Filled.{Fills}
+use Rattle.session_machine.specs.Machine.{Machine, keeping}
+use Rattle.session_machine.specs.Turns.{IsBetween, added, answer_at, asked, missing_at, targets_of}
+use Rattle.session_machine.specs.Claims.{FillingKeeps}
+use Rattle.daig_session.specs.declared.book.Book.{Book}
+use Rattle.daig_session.specs.declared.error.QueryError.{QueryError}
+use Rattle.daig_session.specs.declared.error.QueryError.TheVariants.{Refused, Memory}
+use Rattle.daig_session.specs.Books.{flow_in, machine_of}
+use Rattle.daig_session.specs.Going.{IsAsked, IsRefused}
+use Rattle.daig_session.specs.Holds.{Holds, IsReady}
+use Rattle.daig_session.specs.Turns.{Questions}
+use Rattle.daig_session.proofs.Filled.{added_holds, as_many, missing_here}
+
+append_none : {A : Type 0} (xs : List A) → xs ++ [] ≡ xs
+append_none [] = refl
+append_none (x ∷ xs) = ap (λ ys. x ∷ ys) (append_none xs)
+
+-- nothing was filled
+pub between_none : (xs : List CellName) (m : Machine) (stands : Machine → Type 0) → stands m → IsBetween xs m stands
+between_none xs m stands h = record { count = 0; some = subst stands (ap (λ ks. keeping ks m.cost m) (sym (append_none m.kept))) h }
+
+-- bounds of work
+pub work_both : (s t u each n k : ℕ) → t ≤ s + each * n → u ≤ t + each * k → u ≤ s + each * (n + k)
+work_both s t u each n k h g = omega arith
+
+module _ {S : Type 0} (dom : Operations S) (book : Book) (store : Store S) where
+  -- the answer of the flow is that of the machine
+  pub answer_here : (m : Machine) (l : Location) (string : List ℕ) → Holds dom store book m → answer dom (flow_in book).engine (flow_in book).program l string ≡ answer_at dom l string m
+  answer_here m l string h = ap (λ (z : Machine). answer_at dom l string z) h.is
+
+  pub refused_turn : (m : Machine) (l : Location) (string : List ℕ) (e : QueryError) → Holds dom store book m → IsRefused (answer dom (flow_in book).engine (flow_in book).program l string) e → Questions dom m (Holds dom store book) l string (Err e)
+  refused_turn m l string (Refused r) h is = (sym (answer_here m l string h) ∙ is, h)
+  refused_turn m l string Memory h is = between_none (missing_at dom l string m) m (Holds dom store book) h
+
+  pub says_here : (m : Machine) (l : Location) (string : List ℕ) (v : Value S) → Holds dom store book m → Says (answer dom (flow_in book).engine (flow_in book).program l string) (Some v) → Says (answer_at dom l string m) (Some v)
+  says_here m l string v h s = subst (λ a. Says a (Some v)) (answer_here m l string h) s
+
+  module _ (new : Store S) (l : Location) (string : List ℕ) (ts : List Target) (count : ℕ) (checked : IsChecked (flow_in book).program) (a : IsAsked (flow_in book).program l string ts) (f : Fills dom (flow_in book) ts store new count) (law : FillingKeeps dom) where
+    -- for want of memory some was filled
+    pub between_some : (m : Machine) → Holds dom store book m → IsBetween (missing_at dom l string m) m (Holds dom new book)
+    between_some m h = record { count = count; some = added_holds dom book store new l string ts count checked a f law m h }
+
+  pub work_here : (m : Machine) (l : Location) (string : List ℕ) (ts : List Target) (s u each n : ℕ) → Holds dom store book m → IsAsked (flow_in book).program l string ts → n ≡ length (missing_at dom l string m) → u ≤ s + each * (n + 2 * length ts) → u ≤ s + each * (length (missing_at dom l string m) + 2 * length (targets_of m l string))
+  work_here m l string ts s u each n h a e w =
+      subst (λ k. u ≤ s + each * (length (missing_at dom l string m) + 2 * k)) (as_many dom book store store m l string ts h a) (subst (λ k. u ≤ s + each * (k + 2 * length ts)) e w)

@@ -1,0 +1,12 @@
+pub mod TicketLemmas
+pub mod Waiting
+pub mod Ordered
+pub mod Asked
+pub mod Filled
+pub mod Moved
+pub mod Counted
+pub mod Beginning
+pub mod Answering
+pub mod Ticketed
+pub mod Unchanged
+pub mod Stepped

@@ -1,0 +1,225 @@
+-- Moves to other programs.
+use Rattle.std.proofs.Common.{◌≡◌, ◌↔◌, ℕ, ◌<◌, ◌≤◌, Bool, true, false, List, [], ◌∷◌, map, take, filter, length, inl, inr, refl, sym, ap, subst, ◌∙◌, arith}
+use Rattle.imp_syntax.specs.Plain.{Procedure}
+use Rattle.imp_syntax.specs.declared.edit.Edit.{Edit}
+use Rattle.imp_slots.specs.Fits.{IsChecked}
+use Rattle.imp_slots.specs.Plain.{Routine}
+use Rattle.imp_check.specs.Fine.{IsFine}
+use Rattle.imp_check.specs.Slots.{routines_of}
+use Rattle.imp_check.specs.Changes.{AreWithin, Makes}
+use Rattle.imp_check.specs.declared.change.Change.{Change}
+use Rattle.imp_check.specs.declared.change.Put.{Put}
+use Rattle.imp_edit.specs.Edited.{edited, next_after, Continues}
+use Rattle.domain_laws.specs.Operations.{Operations}
+use Rattle.batch_meaning.specs.Batch.{Engine}
+use Rattle.call_contexts.specs.Settings.{Setting}
+use Rattle.cell_names.specs.Paths.{CellName}
+use Rattle.demand_order.specs.Order.{member}
+use Rattle.kept_set.specs.Touched as touched
+use Rattle.kept_set.specs.Touched.{IsKept}
+use Rattle.kept_after.specs.After.{kept_after}
+use Rattle.named_cells.specs.Same.{same_name}
+use Rattle.named_cells.specs.Holds.{HoldsCells}
+use Rattle.named_cells.specs.Named as named
+use Rattle.imp_flow.specs.Plans.{Plan}
+use Rattle.edit_history.specs.After.{after, Leads, LeadsOn}
+use Rattle.edit_history.proofs.AfterLemmas.{after_is}
+use Rattle.edit_invalidate.specs.Claims.{edit_of}
+use Rattle.edits_keep_cells.specs.Claims.{AreOneApart, IsEdited, flow_of}
+use Rattle.edits_keep_cells.proofs.Apart.{leave_kept}
+use Rattle.cell_removal.specs.Removal.{without, IsOrder}
+use Rattle.daig_query.specs.declared.held.Held.{Held}
+use Rattle.daig_query.specs.declared.store.Store.{Store}
+use Rattle.daig_query.specs.Claims.{Lessens}
+use Rattle.daig_query.specs.Kept.{kept}
+use Rattle.daig_query.specs.Right.{found, IsRight}
+use Rattle.daig_query.proofs.Holding.{right_holds, rest_is_right}
+use Rattle.open_tickets.specs.Tickets.{ticket}
+use Rattle.session_machine.specs.Machine.{Machine, turned_to}
+use Rattle.session_machine.specs.Turns.{back_to, committed, is_kept, moved, on_to, redone, undone}
+use Rattle.session_machine.specs.Claims.{AreKept, KeepsCells}
+use Rattle.session_machine.proofs.Moving.{left_is, move_keeps}
+use Rattle.daig_session.specs.declared.book.Book.{Book}
+use Rattle.daig_session.specs.declared.edits.Planned.{Planned}
+use Rattle.daig_session.specs.declared.moving.Moving.{Moving}
+use Rattle.daig_session.specs.Books.{flow_in, machine_of, AreBelow, AreBehind, AreAhead, IsTurned}
+use Rattle.daig_session.specs.Going.{AreWaiting}
+use Rattle.daig_session.specs.Holds.{Holds, IsReady}
+use Rattle.daig_session.specs.Moves.{Empties, IsMoving, IsMovingTo, IsPlanned, Leaves}
+use Rattle.daig_session.proofs.Ordered.{below_more, behind_more, behind_take, turned_order}
+use Rattle.daig_session.proofs.TicketLemmas.{tickets_anew}
+use Rattle.daig_session.proofs.Waiting.{waiting_anew}
+
+both_ways : (a b : Bool) → (a ≡ true → b ≡ true) → (b ≡ true → a ≡ true) → a ≡ b
+both_ways true true f g = refl
+both_ways true false f g = absurd (let e = f refl in cc)
+both_ways false true f g = absurd (let e = g refl in cc)
+both_ways false false f g = refl
+
+-- a change that makes a program leads to it
+pub leads_to : (room : ℕ) (ps : List Procedure) (c : Change) (qs : List Procedure) → Makes ps c qs → IsFine qs → AreWithin room c.entries.items → Leads room ps c
+leads_to room ps c qs makes fine within =
+    let e = after_is ps c qs makes fine in
+    record { makes = subst (λ (zs : List Procedure). Makes ps c zs) (sym e) makes; fine = subst IsFine (sym e) fine; within = within }
+
+-- and so does the nearest one of a history
+pub leads_first : (room : ℕ) (ps : List Procedure) (c : Change) (side : List (List Procedure)) → LeadsOn room ps c side → Leads room ps c
+leads_first room ps c [] h = absurd h
+leads_first room ps c (qs ∷ more) h = leads_to room ps c qs h.makes h.fine h.within
+
+module _ {S : Type 0} (dom : Operations S) where
+  -- Cells that are planned are taken away.
+  pub leaves : (e : Engine) (old new : List Procedure) (before after : Store S) (plan : List ℕ) → AreOneApart old new → IsRight dom (flow_of e old) before → Empties (flow_of e old) (flow_of e new) before plan → Lessens before after → after.graph.cells ≡ without before.graph.cells plan → Leaves dom (flow_of e old) (flow_of e new) before after
+  unfolding found
+  leaves e old new before after plan apart right empties less gone =
+      let names = before.names.names in
+      let l = leave_kept dom e old new names before.graph.cells empties.stmts plan apart (right_holds dom (flow_of e old) before right) empties.changed empties.removes in
+      let same_names : after.names.names ≡ names = ap (λ k. k.names) less.names in
+      let kept_is : (x : CellName) → kept after x ≡ named.kept (without before.graph.cells plan) names x = λ x i. named.kept (gone i) (same_names i) x in
+      record {
+        right =
+            rest_is_right dom (flow_of e old) (flow_of e new) before after right less
+            (subst (λ cs. HoldsCells dom (flow_of e new) after.names.names cs) (sym gone) (subst (λ ns. HoldsCells dom (flow_of e new) ns (without before.graph.cells plan)) (sym same_names) l.holds))
+            (λ x t. l.found x (sym (kept_is x) ∙ t));
+        names = λ x. (λ t. (l.kept x).0 (sym (kept_is x) ∙ t), λ k. kept_is x ∙ (l.kept x).1 k);
+      }
+
+  module _ (store new_store : Store S) (old new : Book) (program : List Procedure) (past future : List (List Procedure)) (next : ℕ) (r : IsReady dom store old) (t : IsTurned old program past future next new) (leave : Leaves dom (flow_of old.setting.engine old.history.now) (flow_of old.setting.engine program) store new_store) (fine : IsFine program) where
+    engine_is : new.setting.engine ≡ old.setting.engine
+    engine_is = ap (λ (s : Setting). s.engine) t.set
+
+    pub moved_ready : 0 < next → AreBelow next program → AreBehind next program past → AreAhead next program future → IsReady dom new_store new
+    moved_ready some below behind ahead = record {
+      right = subst (λ p. IsRight dom (flow_of new.setting.engine p) new_store) (sym t.now) (subst (λ e. IsRight dom (flow_of e program) new_store) (sym engine_is) leave.right);
+      order = turned_order old new program past future next r.order t fine some below behind ahead;
+      waiting = subst (AreWaiting dom (flow_in new) new_store) (sym t.anew_all) (waiting_anew dom (flow_in old) (flow_in new) store new_store old.tickets.open_ones.items r.waiting);
+    }
+
+    moved_of : (xs : List CellName) → ((x : CellName) → kept store x ≡ member same_name xs x) → AreKept dom old.setting.engine (routines_of old.history.now) xs → Holds dom new_store new (moved dom program past future next (machine_of old xs))
+    moved_of xs k are =
+        let edit : touched.Edit = record { engine = old.setting.engine; old = routines_of old.history.now; new = routines_of program } in
+        let fun : kept store ≡ member same_name xs = λ i x. k x i in
+        let tickets_are = ap (map ticket) t.anew_all ∙ tickets_anew old.tickets.open_ones.items in
+        let ys = filter (kept_after dom edit same_name (member same_name xs)) xs in
+        record {
+          is = λ i. record { program = t.now i; engine = (t.set i).engine; next = t.next_is i; tickets = tickets_are i; next_ticket = t.next_ticket i; kept = ys; cost = t.cost i; past = t.past_is i; future = t.future_is i };
+          same = λ x. both_ways (kept new_store x) (member same_name ys x)
+              (λ h. (left_is dom edit r.order.fine.fit fine.fit xs are x).1 (subst (λ f. IsKept dom edit same_name f x) fun ((leave.names x).0 h)))
+              (λ h. (leave.names x).1 (subst (λ f. IsKept dom edit same_name f x) (sym fun) ((left_is dom edit r.order.fine.fit fine.fit xs are x).0 h)));
+          cells = move_keeps dom edit r.order.fine.fit fine.fit xs are;
+        }
+
+    pub moved_holds : (m : Machine) → Holds dom store old m → Holds dom new_store new (moved dom program past future next m)
+    moved_holds m h = subst (λ z. Holds dom new_store new (moved dom program past future next z)) h.is (moved_of m.kept h.same (subst (KeepsCells dom) (sym h.is) h.cells))
+
+  -- An edit is planned.
+  module _ (store : Store S) (old : Book) (p : Planned) (ed : Edit) (r : IsReady dom store old) (pl : IsPlanned store old ed p) where
+    edit_fine : IsFine (edited ed old.history.now)
+    edit_fine = subst IsFine pl.makes pl.leads.fine
+
+    pub edit_apart : IsEdited old.history.now (edited ed old.history.now)
+    edit_apart = record { edit = ed; next = old.next; fine = r.order.fine; after = edit_fine; below = r.order.below; continues = pl.continues; makes = refl }
+
+  -- It is made.
+  module _ (store new_store : Store S) (old new : Book) (p : Planned) (ed : Edit) (r : IsReady dom store old) (pl : IsPlanned store old ed p) (t : IsTurned old (after old.history.now p.edited.change) (take 64 (old.history.now ∷ old.history.past)) [] p.edited.next new) (leave : Leaves dom (flow_of old.setting.engine old.history.now) (flow_of old.setting.engine (edited ed old.history.now)) store new_store) where
+    turned : IsTurned old (edited ed old.history.now) (take 64 (old.history.now ∷ old.history.past)) [] p.edited.next new
+    turned = subst (λ (q : List Procedure). IsTurned old q (take 64 (old.history.now ∷ old.history.past)) [] p.edited.next new) pl.makes t
+
+    no_less : old.next ≤ p.edited.next
+    no_less = let n = pl.next in omega arith
+
+    pub edit_ready : IsReady dom new_store new
+    edit_ready =
+        let less = no_less in
+        let some = r.order.some in
+        moved_ready store new_store old new (edited ed old.history.now) (take 64 (old.history.now ∷ old.history.past)) [] p.edited.next r turned leave (edit_fine store old p ed r pl)
+        (omega arith) pl.below
+        (behind_take 64 p.edited.next (edited ed old.history.now) (old.history.now ∷ old.history.past) (edit_apart store old p ed r pl, below_more old.next p.edited.next old.history.now less r.order.below, behind_more old.next p.edited.next less old.history.now old.history.past r.order.behind))
+        tt
+
+    pub edit_holds : (m : Machine) → Holds dom store old m → Holds dom new_store new (committed dom ed m)
+    edit_holds m h =
+        subst (Holds dom new_store new) (
+        ap (λ n. moved dom (edited ed old.history.now) (take 64 (old.history.now ∷ old.history.past)) [] n m) pl.next
+        ∙ ap (λ (z : Machine). moved dom (edited ed z.program) (take 64 (z.program ∷ z.past)) [] (next_after ed z.next) m) h.is
+        ) (moved_holds store new_store old new (edited ed old.history.now) (take 64 (old.history.now ∷ old.history.past)) [] p.edited.next r turned leave (edit_fine store old p ed r pl) m h)
+
+  -- The program behind is the present one.
+  module _ (store new_store : Store S) (old new : Book) (r : IsReady dom store old) (past_is : new.history.now ∷ new.history.past ≡ old.history.past) where
+    behind_is : AreBehind old.next old.history.now (new.history.now ∷ new.history.past)
+    behind_is = subst (AreBehind old.next old.history.now) (sym past_is) r.order.behind
+
+    pub undo_apart : AreOneApart old.history.now new.history.now
+    undo_apart = inr behind_is.0
+
+    module _ (t : IsTurned old new.history.now new.history.past (old.history.now ∷ old.history.future) old.next new) (leave : Leaves dom (flow_of old.setting.engine old.history.now) (flow_of old.setting.engine new.history.now) store new_store) where
+      pub undo_ready : IsReady dom new_store new
+      undo_ready =
+          let b = behind_is in
+          moved_ready store new_store old new new.history.now new.history.past (old.history.now ∷ old.history.future) old.next r t leave b.0.fine r.order.some b.1 b.2 (b.0, r.order.below, r.order.ahead)
+
+      pub undo_holds : (m : Machine) → Holds dom store old m → Holds dom new_store new (undone dom m)
+      undo_holds m h =
+          let b = behind_is in
+          subst (Holds dom new_store new) (
+          ap (λ (z : Machine). moved dom new.history.now new.history.past (z.program ∷ z.future) z.next m) h.is
+          ∙ ap (λ side. back_to dom side m) (past_is ∙ ap (λ (z : Machine). z.past) h.is)
+          ) (moved_holds store new_store old new new.history.now new.history.past (old.history.now ∷ old.history.future) old.next r t leave b.0.fine m h)
+
+  -- The program ahead is.
+  module _ (store new_store : Store S) (old new : Book) (r : IsReady dom store old) (future_is : new.history.now ∷ new.history.future ≡ old.history.future) where
+    ahead_is : AreAhead old.next old.history.now (new.history.now ∷ new.history.future)
+    ahead_is = subst (AreAhead old.next old.history.now) (sym future_is) r.order.ahead
+
+    pub redo_apart : AreOneApart old.history.now new.history.now
+    redo_apart = inl ahead_is.0
+
+    module _ (t : IsTurned old new.history.now (old.history.now ∷ old.history.past) new.history.future old.next new) (leave : Leaves dom (flow_of old.setting.engine old.history.now) (flow_of old.setting.engine new.history.now) store new_store) where
+      pub redo_ready : IsReady dom new_store new
+      redo_ready =
+          let a = ahead_is in
+          moved_ready store new_store old new new.history.now (old.history.now ∷ old.history.past) new.history.future old.next r t leave a.0.after r.order.some a.1 (a.0, r.order.below, r.order.behind) a.2
+
+      pub redo_holds : (m : Machine) → Holds dom store old m → Holds dom new_store new (redone dom m)
+      redo_holds m h =
+          let a = ahead_is in
+          subst (Holds dom new_store new) (
+          ap (λ (z : Machine). moved dom new.history.now (z.program ∷ z.past) new.history.future z.next m) h.is
+          ∙ ap (λ side. on_to dom side m) (future_is ∙ ap (λ (z : Machine). z.future) h.is)
+          ) (moved_holds store new_store old new new.history.now (old.history.now ∷ old.history.past) new.history.future old.next r t leave a.0.after m h)
+
+-- the numbers of a change are places of a longer table
+pub within_more : (n m : ℕ) (puts : List Put) → n ≤ m → AreWithin n puts → AreWithin m puts
+within_more n m puts h w = record { falling = w.falling; below = λ i d l. (let b = w.below i d l in omega arith) }
+
+-- An edit is worked out over a table of the present program, which then gets room.
+module _ (ed : Edit) (room later : ℕ) (now t : List Procedure) (change : Change) (same : t ≡ now) (makes : Makes t change (edited ed t)) (fine : IsFine (edited ed t)) (within : AreWithin later change.entries.items) (more : later ≤ room) where
+  makes_now : Makes now change (edited ed now)
+  makes_now = subst (λ (z : List Procedure). Makes z change (edited ed z)) same makes
+
+  fine_now : IsFine (edited ed now)
+  fine_now = subst (λ (z : List Procedure). IsFine (edited ed z)) same fine
+
+  pub plan_leads : Leads room now change
+  plan_leads = leads_to room now change (edited ed now) makes_now fine_now (within_more later room change.entries.items more within)
+
+  pub plan_after : after now change ≡ edited ed now
+  plan_after = after_is now change (edited ed now) makes_now fine_now
+
+-- The nearest change leads to a move to the nearest program.
+pub moving_first : {S : Type 0} (store : Store S) (e : Engine) (room : ℕ) (now : List Procedure) (c : Change) (side : List (List Procedure)) (m : Moving) → LeadsOn room now c side → IsMoving store e now (after now c) m → IsMovingTo store e now side m
+moving_first store e room now c [] m h i = absurd h
+moving_first store e room now c (qs ∷ more) m h i = subst (λ (z : List Procedure). IsMoving store e now z m) (after_is now c qs h.makes h.fine) i
+
+-- There is one.
+pub moving_some : {S : Type 0} (store : Store S) (e : Engine) (old : List Procedure) (side : List (List Procedure)) (m : Moving) → IsMovingTo store e old side m → 0 < length side
+moving_some store e old [] m h = absurd h
+moving_some store e old (p ∷ ps) m h = omega arith
+
+pub moving_order : {S : Type 0} (store : Store S) (e : Engine) (old : List Procedure) (side : List (List Procedure)) (m : Moving) → IsMovingTo store e old side m → IsOrder store.graph.cells m.plan
+moving_order store e old [] m h = absurd h
+moving_order store e old (p ∷ ps) m h = h.empties.removes.order
+
+-- a move to the first of some programs
+pub first_move : {S : Type 0} (store : Store S) (e : Engine) (old p : List Procedure) (ps side : List (List Procedure)) (m : Moving) → p ∷ ps ≡ side → IsMovingTo store e old side m → IsMoving store e old p m
+first_move store e old p ps side m is h = subst (λ z. IsMovingTo store e old z m) (sym is) h

@@ -1,0 +1,55 @@
+use Rattle.std.proofs.Common.{◌≡◌, List, ℕ, refl, sym, ap, subst, ◌∙◌}
+use Rattle.imp_syntax.specs.Plain.{Procedure}
+use Rattle.imp_check.specs.Slots.{routines_of}
+use Rattle.imp_edit.specs.Edited.{edited}
+use Rattle.call_contexts.specs.Settings.{setting_of}
+use Rattle.edit_history.specs.After.{after, Leads}
+use Rattle.edits_keep_cells.specs.Claims.{flow_of}
+use Rattle.daig_query.specs.Right.{IsRight}
+use Rattle.daig_session.specs.Books.{AreBelow}
+use Rattle.daig_session.specs.Moves.{IsMoving}
+use Rattle.daig_session.proofs.Moved.{plan_after, plan_leads}
+use Rattle.daig_session.proofs.session.Session.planned.Goals as goal
+
+pub apply-requires-clause-positive : goal.apply-requires-clause-positive
+apply-requires-clause-positive g c = c.requires.ready.order.some
+
+pub apply-requires-clause-below : goal.apply-requires-clause-below
+apply-requires-clause-below g c = subst (AreBelow c.args.self.now.book.next) (sym c.table.ensures.is) c.requires.ready.order.below
+
+pub planned_move-requires-clause-right : goal.planned_move-requires-clause-right
+planned_move-requires-clause-right g c =
+    let s = c.args.self.now in
+    subst (λ (p : List Procedure). IsRight (g.D.Domain.operations s.engine.domain) (flow_of s.book.setting.engine p) s.engine.store) (sym (c.table-2.ensures.is ∙ c.make_room.ensures.now)) c.requires.ready.right
+
+pub planned_move-requires-clause-leads : goal.planned_move-requires-clause-leads
+planned_move-requires-clause-leads g c =
+    let e = c.in_ok-edited.edited in
+    let h = c.make_room.new.self in
+    let leads = plan_leads c.args.edit.now h.room e.next h.now c.table.result.now.program e.change (c.table.ensures.is ∙ sym c.make_room.ensures.now) c.in_ok-edited.ensures.makes c.in_ok-edited.ensures.fine c.in_ok-edited.ensures.within c.in_ok-make_room.ensures.room in
+    subst (λ r. Leads r c.table-2.result.now.program e.change) (sym c.table-2.ensures.room) (
+    subst (λ (p : List Procedure). Leads h.room p e.change) (sym c.table-2.ensures.is) leads)
+
+pub planned_move-requires-clause-set : goal.planned_move-requires-clause-set
+planned_move-requires-clause-set g c =
+    let b = c.args.self.now.book in
+    subst (λ (p : List Procedure). b.setting ≡ setting_of b.setting.engine (routines_of p)) (sym (c.table-2.ensures.is ∙ c.make_room.ensures.now)) c.requires.ready.order.set
+
+pub returns-clause-planned : goal.returns-clause-planned
+returns-clause-planned g c =
+    let s = c.args.self.now in
+    let e = c.in_ok-edited.edited in
+    let h = c.make_room.new.self in
+    let ed = c.args.edit.now in
+    let same = c.table.ensures.is ∙ sym c.make_room.ensures.now in
+    let is = plan_after ed h.room e.next h.now c.table.result.now.program e.change same c.in_ok-edited.ensures.makes c.in_ok-edited.ensures.fine c.in_ok-edited.ensures.within c.in_ok-make_room.ensures.room in
+    record {
+      leads = plan_leads ed h.room e.next h.now c.table.result.now.program e.change same c.in_ok-edited.ensures.makes c.in_ok-edited.ensures.fine c.in_ok-edited.ensures.within c.in_ok-make_room.ensures.room;
+      makes = is;
+      continues = c.requires.continues;
+      next = c.in_ok-edited.ensures.numbers;
+      below = subst (λ (p : List Procedure). AreBelow e.next (edited ed p)) same c.in_ok-edited.ensures.still_below;
+      moving =
+          subst (λ (q : List Procedure). IsMoving s.engine.store s.book.setting.engine h.now q c.in_ok-moving.moving) is (
+          subst (λ (p : List Procedure). IsMoving s.engine.store s.book.setting.engine p (after p e.change) c.in_ok-moving.moving) c.table-2.ensures.is c.in_ok-moving.ensures.moving);
+    }

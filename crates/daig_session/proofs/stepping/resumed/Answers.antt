@@ -1,0 +1,51 @@
+use Rattle.std.proofs.Common.{◌≡◌, List, ℕ, Some, slice_get, sym, subst, ◌∙◌, arith}
+use Rattle.std.specs.Prelude.{IfErr, IfOk, IfSome}
+use Rattle.imp_flow.specs.Plans.{Plan}
+use Rattle.batch_meaning.specs.Answers.{answer}
+use Rattle.open_tickets.specs.declared.tickets.Open.{Open}
+use Rattle.open_tickets.specs.Tickets.{anew}
+use Rattle.daig_session.specs.declared.book.Going.{Going}
+use Rattle.daig_session.specs.Books.{flow_in}
+use Rattle.daig_session.specs.Going.{IsGoing, IsRefused}
+use Rattle.daig_session.proofs.TicketLemmas.{read_is, set_there, there_within, within_there}
+use Rattle.daig_session.proofs.Waiting.{waiting_get}
+use Rattle.daig_session.proofs.stepping.resumed.Goals as goal
+
+pub index-one-requires : goal.index-one-requires
+index-one-requires g c =
+    let os = c.args.book.now.tickets.open_ones.items in
+    let p = within_there os c.args.place c.requires.there in
+    let there = subst (λ us. slice_get us c.args.place ≡ Some (anew p.0)) (sym (c.take_going.ensures.left p.0 p.1)) (set_there os c.args.place p.0 (anew p.0) p.1) in
+    let within = there_within c.take_going.new.open_ones.items c.args.place (anew p.0) there in
+    omega (arith, within, c.take_going.new.open_ones.ok.0)
+
+pub returns-in-Some-clause-going : goal.returns-in-Some-clause-going
+returns-in-Some-clause-going g c = λ o e.
+    let dom = g.D.Domain.operations c.args.engine.now.domain in
+    let book = c.args.book.now in
+    let store = c.args.engine.now.store in
+    let waits = waiting_get dom (flow_in book) store book.tickets.open_ones.items c.args.place o c.requires.ready.waiting e in
+    subst (λ x. IfSome x (IsGoing dom (flow_in book) store o.at o.string)) (sym (c.take_going.ensures.taken o e) ∙ c.in-Some.is) waits.going
+
+pub returns-in-None-clause-going : goal.returns-in-None-clause-going
+returns-in-None-clause-going g c = λ o e.
+    let dom = g.D.Domain.operations c.args.engine.now.domain in
+    let book = c.args.book.now in
+    let store = c.args.engine.now.store in
+    let one = c.index-one.result.now in
+    let there = subst (λ us. slice_get us c.args.place ≡ Some (anew o)) (sym (c.take_going.ensures.left o e)) (set_there book.tickets.open_ones.items c.args.place o (anew o) e) in
+    let is = read_is c.take_going.new.open_ones.items c.args.place one (anew o) c.index-one.ensures there in
+    subst (λ (x : Open Going). IfOk c.begun.result (IsGoing dom (flow_in book) store x.at x.string)) is (
+    subst (λ (p : Plan). IfOk c.begun.result (IsGoing dom p store one.at one.string)) c.flow-flow.ensures.is (
+    subst (λ (xs : List ℕ). IfOk c.begun.result (IsGoing dom c.flow-flow.result store one.at xs)) c.as_slice.ensures.same c.begun.ensures.going))
+
+pub returns-in-None-clause-refused : goal.returns-in-None-clause-refused
+returns-in-None-clause-refused g c = λ o e.
+    let dom = g.D.Domain.operations c.args.engine.now.domain in
+    let book = c.args.book.now in
+    let one = c.index-one.result.now in
+    let there = subst (λ us. slice_get us c.args.place ≡ Some (anew o)) (sym (c.take_going.ensures.left o e)) (set_there book.tickets.open_ones.items c.args.place o (anew o) e) in
+    let is = read_is c.take_going.new.open_ones.items c.args.place one (anew o) c.index-one.ensures there in
+    subst (λ (x : Open Going). IfErr c.begun.result (IsRefused (answer dom (flow_in book).engine (flow_in book).program x.at x.string))) is (
+    subst (λ (p : Plan). IfErr c.begun.result (IsRefused (answer dom p.engine p.program one.at one.string))) c.flow-flow.ensures.is (
+    subst (λ (xs : List ℕ). IfErr c.begun.result (IsRefused (answer dom c.flow-flow.result.engine c.flow-flow.result.program one.at xs))) c.as_slice.ensures.same c.begun.ensures.refused))

@@ -1,0 +1,92 @@
+-- What a session keeps beside its engine.
+use Rattle.std.specs.Prelude.{◌≡◌, ℕ, ◌<◌, List, [], ◌∷◌, map, Some, slice_get, slice_set}
+use Rattle.std.specs.List.{All}
+use Rattle.imp_syntax.specs.Plain.{Procedure, program_numbers}
+use Rattle.imp_check.specs.Fine.{IsFine}
+use Rattle.imp_check.specs.Slots.{routines_of}
+use Rattle.call_contexts.specs.Settings.{setting_of}
+use Rattle.cell_names.specs.Paths.{CellName}
+use Rattle.imp_flow.specs.Plans.{Plan}
+use Rattle.edits_keep_cells.specs.Claims.{IsEdited, flow_of}
+use Rattle.session_machine.specs.Machine.{Machine}
+use Rattle.open_tickets.specs.Tickets.{anew, tickets, AreOpen}
+use Rattle.open_tickets.specs.declared.tickets.Open.{Open}
+use Rattle.daig_session.specs.declared.book.Book.{Book}
+use Rattle.daig_session.specs.declared.book.Going.{Going}
+
+-- the present program as the layers below see it
+abbrev pub flow_in : Book → Plan
+flow_in b = flow_of b.setting.engine b.history.now
+
+-- the setting is that of the present program
+abbrev pub IsSet : Book → Type 0
+IsSet b = b.setting ≡ setting_of b.setting.engine (routines_of b.history.now)
+
+-- the numbers of a program are below the next one
+abbrev pub AreBelow : (next : ℕ) → List Procedure → Type 0
+AreBelow next program = All (λ (n : ℕ). n < next) (program_numbers program)
+
+-- Each program is made by an edit of the one behind it, ..
+abbrev pub AreBehind : (next : ℕ) → List Procedure → List (List Procedure) → Type 0
+AreBehind next now [] = Unit {0}
+AreBehind next now (p ∷ ps) = IsEdited p now × AreBelow next p × AreBehind next p ps
+
+-- .. and each one ahead by an edit of the one before it.
+abbrev pub AreAhead : (next : ℕ) → List Procedure → List (List Procedure) → Type 0
+AreAhead next now [] = Unit {0}
+AreAhead next now (p ∷ ps) = IsEdited now p × AreBelow next p × AreAhead next p ps
+
+-- The setting is that of the present program, which has no fault; the numbers of all programs are below the next one;
+-- edits lead from each program to the next; and each ticket has a number of its own.
+pub record IsInOrder (b : Book) : Type 0 where
+  pub set : IsSet b
+  pub fine : IsFine b.history.now
+  pub some : 0 < b.next
+  pub below : AreBelow b.next b.history.now
+  pub behind : AreBehind b.next b.history.now b.history.past
+  pub ahead : AreAhead b.next b.history.now b.history.future
+  pub are_open : AreOpen b.tickets
+
+-- the machine with these kept names
+abbrev pub machine_of : Book → (kept : List CellName) → Machine
+machine_of b kept = record {
+  program = b.history.now;
+  engine = b.setting.engine;
+  next = b.next;
+  tickets = tickets b.tickets;
+  next_ticket = b.tickets.next;
+  kept = kept;
+  cost = b.cost;
+  past = b.history.past;
+  future = b.history.future;
+}
+
+-- Another program is the present one, with these behind it and ahead of it; the tickets begin anew.
+pub record IsTurned (old : Book) (program : List Procedure) (past future : List (List Procedure)) (next : ℕ) (new : Book) : Type 0 where
+  pub now : new.history.now ≡ program
+  pub past_is : new.history.past ≡ past
+  pub future_is : new.history.future ≡ future
+  pub set : new.setting ≡ setting_of old.setting.engine (routines_of program)
+  pub next_is : new.next ≡ next
+  pub anew_all : new.tickets.open_ones.items ≡ map anew old.tickets.open_ones.items
+  pub next_ticket : new.tickets.next ≡ old.tickets.next
+  pub cost : new.cost ≡ old.cost
+
+-- The ticket at a place begins anew; all else is as it was.
+pub record IsWithout (place : ℕ) (old new : Book) : Type 0 where
+  pub history : new.history ≡ old.history
+  pub setting : new.setting ≡ old.setting
+  pub next_is : new.next ≡ old.next
+  pub next_ticket : new.tickets.next ≡ old.tickets.next
+  pub cost : new.cost ≡ old.cost
+  pub left : (o : Open Going) → slice_get old.tickets.open_ones.items place ≡ Some o → new.tickets.open_ones.items ≡ slice_set old.tickets.open_ones.items place (anew o)
+
+-- The same but for room.
+pub record IsSame (old new : Book) : Type 0 where
+  pub now : new.history.now ≡ old.history.now
+  pub past_is : new.history.past ≡ old.history.past
+  pub future_is : new.history.future ≡ old.history.future
+  pub setting : new.setting ≡ old.setting
+  pub next_is : new.next ≡ old.next
+  pub tickets_are : new.tickets ≡ old.tickets
+  pub cost : new.cost ≡ old.cost

@@ -1,0 +1,5 @@
+pub mod Books
+pub mod Going
+pub mod Holds
+pub mod Moves
+pub mod Turns

@@ -1,0 +1,105 @@
+-- What calls answer, and the machines that stand after them.
+use Rattle.std.specs.Prelude.{◌≡◌, ◌⊎◌, ℕ, ◌+◌, ◌*◌, ◌<◌, ◌≤◌, nat_lt, List, [], length, Option, Some, None, Result, Ok, Err, false}
+use Rattle.imp_syntax.specs.Plain.{Procedure}
+use Rattle.imp_syntax.specs.declared.edit.Location.{Location}
+use Rattle.analysis_words.specs.declared.refusal.Refusal.{Refusal}
+use Rattle.analysis_words.specs.declared.refusal.Refusal.TheVariants.{LongString}
+use Rattle.imp_slots.specs.Plain.{Routine}
+use Rattle.concrete_sem.specs.Values.{Variables, Heap}
+use Rattle.domain_laws.specs.Operations.{Operations}
+use Rattle.batch_meaning.specs.Answers.{Refuses}
+use Rattle.daig_graph.specs.declared.value.Value.{Value}
+use Rattle.daig_query.specs.Answered.{Covers, Says}
+use Rattle.open_tickets.specs.declared.tickets.NoTicket.{NoTicket}
+use Rattle.session_machine.specs.Machine.{Machine, Ticket, ticket_of}
+use Rattle.session_machine.specs.Turns.{IsBetween, answer_at, asked, closed, ended, missing_at, opened, stepped, targets_of}
+use Rattle.daig_session.specs.declared.error.QueryError.{QueryError}
+use Rattle.daig_session.specs.declared.error.QueryError.TheVariants as query
+use Rattle.daig_session.specs.declared.error.AskError.{AskError}
+use Rattle.daig_session.specs.declared.error.AskError.TheVariants as ask
+use Rattle.daig_session.specs.declared.error.StepError.{StepError}
+use Rattle.daig_session.specs.declared.error.StepError.TheVariants as step
+use Rattle.daig_session.specs.declared.error.UndoError.{UndoError}
+use Rattle.daig_session.specs.declared.error.UndoError.TheVariants as undo
+use Rattle.daig_session.specs.declared.stepping.Turn.{Turn}
+use Rattle.daig_session.specs.declared.stepping.Turn.TheVariants.{Pending, Done}
+use Rattle.daig_session.specs.Going.{IsAnswered}
+
+-- why no ticket is opened for a question that has no answer
+abbrev pub ask_error : QueryError → AskError
+ask_error (query.Refused r) = ask.Refused r
+ask_error query.Memory = ask.Memory
+
+-- what answers are of a machine, and which machine stands after them
+module _ {S : Type 0} (dom : Operations S) (m : Machine) (stands : Machine → Type 0) where
+  -- A question: the answer of the present program, interpreted from scratch; what was missing is kept.
+  abbrev pub Questions : Location → (string : List ℕ) → Result (Value S) QueryError → Type 0
+  Questions l string (Ok v) = Says (answer_at dom l string m) (Some v) × stands (asked dom l string m)
+  Questions l string (Err (query.Refused r)) = (answer_at dom l string m ≡ Refuses r) × stands m
+  Questions l string (Err query.Memory) = IsBetween (missing_at dom l string m) m stands
+
+  -- A ticket is opened, exactly where fewer than sixteen are and the program has an answer.
+  abbrev pub Opens : Location → (string : List ℕ) → Result ℕ AskError → Type 0
+  Opens l string (Ok n) = (n ≡ m.next_ticket) × (length m.tickets < 16) × IsAnswered (answer_at dom l string m) × stands (opened l string m)
+  Opens l string (Err (ask.Refused r)) = (answer_at dom l string m ≡ Refuses r) × ((r ≡ LongString) ⊎ (length m.tickets < 16)) × stands m
+  Opens l string (Err ask.Full) = (nat_lt 2 (length string) ≡ false) × (16 ≤ length m.tickets) × stands m
+  Opens l string (Err ask.Memory) = stands m
+
+  module _ (t : Ticket) (most : ℕ) where
+    -- More than so many names were missing, of which the first are kept now.
+    pub record IsPending (n : ℕ) : Type 0 where
+      pub filled : n ≡ most
+      pub more : most < length (missing_at dom t.at t.string m)
+      pub after : stands (stepped dom t most m)
+
+    -- All that was missing is kept now; the ticket is closed.
+    pub record IsDone (v : Value S) : Type 0 where
+      pub few : length (missing_at dom t.at t.string m) ≤ most
+      pub says : Says (answer_at dom t.at t.string m) (Some v)
+      pub after : stands (ended dom t m)
+
+    -- The present program has no such location, or no chain to it; the ticket is closed.
+    pub record IsGone : Type 0 where
+      pub why : Refusal
+      pub refused : answer_at dom t.at t.string m ≡ Refuses why
+      pub after : stands (closed t.number m)
+
+    abbrev pub IsStep : Result (Turn S) StepError → Type 0
+    IsStep (Ok (Pending n)) = IsPending n
+    IsStep (Ok (Done v)) = IsDone v
+    IsStep (Err step.NoTicket) = ⊥
+    IsStep (Err step.Gone) = IsGone
+    IsStep (Err step.Memory) = IsBetween (missing_at dom t.at t.string m) m stands
+
+  -- A step of a ticket, or of none.
+  abbrev pub IsStepOf : (most : ℕ) → Option Ticket → Result (Turn S) StepError → Type 0
+  IsStepOf most None r = (r ≡ Err step.NoTicket) × stands m
+  IsStepOf most (Some t) r = IsStep t most r
+
+-- how many cells a step fills, and twice the chains for an answer
+abbrev pub work_of : {S : Type 0} → Operations S → Machine → Ticket → Turn S → ℕ
+work_of dom m t (Pending n) = n
+work_of dom m t (Done v) = length (missing_at dom t.at t.string m) + 2 * length (targets_of m t.at t.string)
+
+-- A state that a step answers covers every run there.
+abbrev pub CoversDone : {S : Type 0} → (S → Heap → List Variables → Type 0) → List Routine → Ticket → Turn S → Type 0
+CoversDone covers program t (Pending n) = Unit {0}
+CoversDone covers program t (Done v) = Covers covers program t.at t.string (Some v)
+
+-- A ticket is closed, if one of this number is open.
+abbrev pub Cancels : (m : Machine) → (stands : Machine → Type 0) → (number : ℕ) → Option Ticket → Result (Unit {0}) NoTicket → Type 0
+Cancels m stands number None (Ok done) = ⊥
+Cancels m stands number None (Err none) = stands m
+Cancels m stands number (Some t) (Ok done) = stands (closed number m)
+Cancels m stands number (Some t) (Err none) = ⊥
+
+-- A move to the nearest of some programs, if there is one.
+abbrev pub Goes : (m : Machine) → (stands : Machine → Type 0) → (side : List (List Procedure)) → (there : Machine) → Result ℕ UndoError → Type 0
+Goes m stands side there (Ok n) = (0 < length side) × (n ≡ m.next) × stands there
+Goes m stands side there (Err undo.Nothing) = (side ≡ []) × stands m
+Goes m stands side there (Err undo.Memory) = stands m
+
+-- why there is no such move
+abbrev pub IsStopped : List (List Procedure) → UndoError → Type 0
+IsStopped side undo.Nothing = side ≡ []
+IsStopped side undo.Memory = Unit {0}

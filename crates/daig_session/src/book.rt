@@ -1,0 +1,76 @@
+//! What a session keeps beside its engine.
+ghost use Rattle.std.specs.Prelude.{◌≡◌, ◌<◌, [], ◌∷◌, length, take};
+ghost use Rattle.imp_check.specs.Slots.{routines_of};
+ghost use Rattle.call_contexts.specs.Settings.{setting_of};
+ghost use Rattle.edit_history.specs.After.{after, Leads};
+ghost use Rattle.daig_session.specs.Books.{flow_in, IsSet, IsTurned};
+
+use call_contexts::Setting;
+use daig_query::Walk;
+use edit_history::History;
+use imp_check::Change;
+use imp_flow::{Flow, Target};
+use open_tickets::Tickets;
+use plain_values::Items;
+
+/// How far a ticket has come: its targets in the present program, and the walk along them.
+#[derive(Drop)]
+pub(crate) struct Going {
+    pub(crate) targets: Items<Target>,
+    pub(crate) walk: Walk,
+}
+
+/// The program with those behind it and ahead of it, how its loops are interpreted, the next number of a statement, the
+/// open tickets, and how many cells the last question filled.
+#[derive(Drop)]
+pub(crate) struct Book {
+    pub(crate) history: History,
+    pub(crate) setting: Setting,
+    pub(crate) next: u32,
+    pub(crate) tickets: Tickets<Going>,
+    pub(crate) cost: u64,
+}
+
+impl Book {
+    /// The flow of the present program. It takes constant time.
+    pub(crate) fn flow(&self) -> Flow<'_>
+        requires set { IsSet self.now }
+        ensures is { result ≡ flow_in self.now }
+    {
+        Flow::new(self.history.table().view(), &self.setting)
+    }
+
+    /// Puts a change in, with the setting of the program that it makes and the next number.
+    pub(crate) fn remember(&mut self, change: Change, next: u32, setting: Setting)
+        requires leads { Leads self.old.history.room self.old.history.now change }
+        requires set { setting ≡ setting_of self.old.setting.engine (routines_of (after self.old.history.now change)) }
+        ensures turned { IsTurned self.old (after self.old.history.now change) (take 64 (self.old.history.now ∷ self.old.history.past)) [] next self.new }
+    {
+        self.history.remember(change);
+        self.setting = setting;
+        self.next = next;
+        self.tickets.begin_anew();
+    }
+
+    /// Goes back to the program behind, which has this setting.
+    pub(crate) fn back(&mut self, setting: Setting)
+        requires there { 0 < length self.old.history.past }
+        ensures past { self.new.history.now ∷ self.new.history.past ≡ self.old.history.past }
+        ensures turned { setting ≡ setting_of self.old.setting.engine (routines_of self.new.history.now) → IsTurned self.old self.new.history.now self.new.history.past (self.old.history.now ∷ self.old.history.future) self.old.next self.new }
+    {
+        self.history.back();
+        self.setting = setting;
+        self.tickets.begin_anew();
+    }
+
+    /// Goes on to the program ahead, which has this setting.
+    pub(crate) fn forth(&mut self, setting: Setting)
+        requires there { 0 < length self.old.history.future }
+        ensures future { self.new.history.now ∷ self.new.history.future ≡ self.old.history.future }
+        ensures turned { setting ≡ setting_of self.old.setting.engine (routines_of self.new.history.now) → IsTurned self.old self.new.history.now (self.old.history.now ∷ self.old.history.past) self.new.history.future self.old.next self.new }
+    {
+        self.history.forth();
+        self.setting = setting;
+        self.tickets.begin_anew();
+    }
+}

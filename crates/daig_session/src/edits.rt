@@ -1,0 +1,125 @@
+//! Edits.
+ghost use Rattle.std.specs.Prelude.{◌≡◌, IfOk, IfErr};
+ghost use Rattle.std.specs.Borrow.{sem, RestsIfErr};
+ghost use Rattle.imp_syntax.specs.declared.edit.Edit.{Edit as AnyEdit};
+ghost use Rattle.imp_edit.specs.Edited.{next_after, Continues};
+ghost use Rattle.imp_edit.specs.Refusals.{edit_refusal, IsRefusal};
+ghost use Rattle.session_machine.specs.Machine.{Machine};
+ghost use Rattle.session_machine.specs.Turns.{committed};
+ghost use Rattle.daig_session.specs.Books.{IsSame};
+ghost use Rattle.daig_session.specs.Holds.{Holds, IsReady};
+ghost use Rattle.daig_session.specs.Moves.{IsPlanned};
+
+use crate::moving::{Moving, leave, planned_move};
+use crate::session::Session;
+use domain_laws::Domain;
+use imp_edit::{EditError, Edited, apply};
+use imp_syntax::Edit;
+use std::alloc::Global;
+
+/// All that an accepted edit needs.
+#[derive(Drop)]
+pub struct Planned {
+    pub(crate) edited: Edited,
+    pub(crate) moving: Moving,
+}
+
+impl<D: Domain> Session<D> {
+    /// Works out an edit beside what stands: nothing is changed but for room.
+    fn planned(&mut self, alloc: Global, edit: &Edit) -> Result<Planned, EditError>
+        requires ready { IsReady (D.operations self.old.engine.domain) self.old.engine.store self.old.book }
+        requires continues { Continues edit.now self.old.book.next }
+        ensures engine { self.new.engine ≡ self.old.engine }
+        ensures same { IsSame self.old.book self.new.book }
+        ensures planned { IfOk result (IsPlanned self.new.engine.store self.new.book edit.now) }
+        ensures refused { IfErr result (IsRefusal (edit_refusal edit.now self.old.book.history.now self.old.book.next)) }
+    {
+        let edited = apply(alloc, self.book.history.table(), edit, self.book.next)?;
+        self.book.history.make_room(edited.next)?;
+        let moving = planned_move(
+            alloc,
+            &self.engine,
+            self.book.history.table(),
+            &edited.change,
+            &self.book.setting,
+        )?;
+        Ok(Planned { edited, moving })
+    }
+
+    /// Makes a planned edit.
+    fn make(&mut self, planned: Planned)
+        requires ready { IsReady (D.operations self.old.engine.domain) self.old.engine.store self.old.book }
+        requires planned { (e : AnyEdit) × IsPlanned self.old.engine.store self.old.book e planned }
+        ensures ready { IsReady (D.operations self.new.engine.domain) self.new.engine.store self.new.book }
+        ensures domain { self.new.engine.domain ≡ self.old.engine.domain }
+        ensures committed { (e : AnyEdit) (m : Machine) → IsPlanned self.old.engine.store self.old.book e planned → Holds (D.operations self.old.engine.domain) self.old.engine.store self.old.book m →
+            Holds (D.operations self.new.engine.domain) self.new.engine.store self.new.book (committed (D.operations self.old.engine.domain) e m) }
+    {
+        let Planned { edited, moving } = planned;
+        let Edited { change, next } = edited;
+        let Moving { setting, plan } = moving;
+        leave(&mut self.engine, plan);
+        self.book.remember(change, next, setting);
+    }
+}
+
+/// An edit that is accepted and worked out, with the session that it is for.
+#[derive(Drop)]
+pub struct Prepared<'a, D: Domain, P = Planned> {
+    session: &'a mut Session<D>,
+    planned: P,
+}
+
+impl<D: Domain> Session<D> {
+    /// Works out an edit beside what stands, and lends the session out with it. Its statements carry the numbers from the
+    /// next one on, in the order of the text. Nothing is changed until [`Prepared::commit`]; where it is dropped, nothing
+    /// is changed at all.
+    ///
+    /// It takes time linear in the program and in the next number, in the cells of the statements that the edit changes,
+    /// and in the cells that it empties with their inputs.
+    ///
+    /// # Errors
+    ///
+    /// The first refusal of the edit: where it goes, then whether the numbers suffice, then the first fault of the new
+    /// program; or [`EditError::Memory`] for want of memory. The session is then as it was.
+    pub fn prepare(&mut self, alloc: Global, edit: &Edit) -> Result<Prepared<'_, D>, EditError>
+        requires ready { IsReady (D.operations self.old.engine.domain) self.old.engine.store self.old.book }
+        requires continues { Continues edit.now self.old.book.next }
+        ensures same_reference { IfOk result (λ p. p.session.ghost_name ≡ self.entry.ghost_name) }
+        ensures ready { IfOk result (λ p. IsReady (D.operations p.session.now.engine.domain) p.session.now.engine.store p.session.now.book) }
+        ensures planned { IfOk result (λ p. IsPlanned p.session.now.engine.store p.session.now.book edit.now p.planned) }
+        ensures holds { (m : Machine) → Holds (D.operations self.old.engine.domain) self.old.engine.store self.old.book m →
+            IfOk result (λ p. Holds (D.operations p.session.now.engine.domain) p.session.now.engine.store p.session.now.book m) }
+        ensures domain { IfOk result (λ p. p.session.now.engine.domain ≡ self.old.engine.domain) }
+        ensures refused { IfErr result (IsRefusal (edit_refusal edit.now self.old.book.history.now self.old.book.next)) }
+    {
+        let planned = self.planned(alloc, edit)?;
+        Ok(Prepared {
+            session: self,
+            planned,
+        })
+    }
+}
+
+impl<D: Domain> Prepared<'_, D, Planned> {
+    /// The number of the next new statement once the edit is made.
+    pub fn next(&self) -> u32
+        ensures is { (e : AnyEdit) → IsPlanned self.now.session.now.engine.store self.now.session.now.book e self.now.planned → result ≡ next_after e self.now.session.now.book.next }
+    {
+        self.planned.edited.next
+    }
+
+    /// Makes the edit: of the kept cells those are kept that it leaves, and all tickets begin anew. It takes no memory and
+    /// cannot fail.
+    pub fn commit(self)
+        requires ready { IsReady (D.operations self.session.now.engine.domain) self.session.now.engine.store self.session.now.book }
+        requires planned { (e : AnyEdit) × IsPlanned self.session.now.engine.store self.session.now.book e self.planned }
+        ensures ready { IsReady (D.operations self.exit.0.now.engine.domain) self.exit.0.now.engine.store self.exit.0.now.book }
+        ensures domain { self.exit.0.now.engine.domain ≡ self.entry.session.now.engine.domain }
+        ensures committed { (e : AnyEdit) (m : Machine) → IsPlanned self.entry.session.now.engine.store self.entry.session.now.book e self.entry.planned → Holds (D.operations self.entry.session.now.engine.domain) self.entry.session.now.engine.store self.entry.session.now.book m →
+            Holds (D.operations self.exit.0.now.engine.domain) self.exit.0.now.engine.store self.exit.0.now.book (committed (D.operations self.entry.session.now.engine.domain) e m) }
+    {
+        let Prepared { session, planned } = self;
+        session.make(planned);
+    }
+}

@@ -1,0 +1,34 @@
+//! Sessions: a program that is edited, and questions about it that are answered from cells.
+//!
+//! A [`Session`] has an engine of demands (`daig_query`) and a program with those behind it and ahead of it
+//! (`edit_history`). It stands for a machine (`session_machine`), which has no state of a domain: of what was computed it
+//! has the names alone, and it answers by interpreting the present program from scratch. Each call is a turn of that
+//! machine, exactly (`specs/Turns.antt`): what it answers, and which machine the session then stands for (`Holds`).
+//!
+//! A caller keeps `IsReady` of a session from [`Session::start`] on: each call asks for it, and gives it again.
+//!
+//! - [`Session::query`] fills what is missing for one question, and answers it. [`Session::ask`] opens a ticket for a
+//!   question, [`Session::step`] fills a few cells for it at a time, [`Session::cancel`] closes it. A ticket keeps how far
+//!   it has come until the program is another one.
+//! - [`Session::prepare`] works an edit out beside what stands. [`Prepared::commit`] makes it: it takes no memory and
+//!   cannot fail. [`Session::undo`] and [`Session::redo`] go back and forth.
+//!
+//! For want of memory a query or a step leaves some of the missing cells filled, the first of them, and all else as it
+//! was; any other call leaves the session as it was.
+#![tactic(auto)]
+
+mod asking;
+mod book;
+mod edits;
+mod error;
+mod moving;
+mod queries;
+mod session;
+mod stepping;
+mod tickets;
+mod times;
+
+pub use edits::{Planned, Prepared};
+pub use error::{AskError, QueryError, StepError, UndoError};
+pub use session::Session;
+pub use stepping::Turn;

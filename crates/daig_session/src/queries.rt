@@ -1,0 +1,91 @@
+//! Queries.
+ghost use Rattle.std.specs.Prelude.{◌≡◌, ℕ, ◌+◌, ◌*◌, ◌≤◌, List, length, map, Some, IfOk, OnOk};
+ghost use Rattle.imp_syntax.specs.declared.edit.Location.{Location};
+ghost use Rattle.imp_check.specs.Slots.{routines_of};
+ghost use Rattle.cell_rows.specs.Targets.{Target as PlainTarget};
+ghost use Rattle.imp_flow.specs.Reached.{target_of};
+ghost use Rattle.daig_query.specs.Answered.{AreFilled, Covers};
+ghost use Rattle.daig_query.specs.Filled.{added, missing, Fills};
+ghost use Rattle.session_machine.specs.Machine.{Machine};
+ghost use Rattle.session_machine.specs.Turns.{missing_at, targets_of};
+ghost use Rattle.daig_session.specs.Books.{flow_in};
+ghost use Rattle.daig_session.specs.Going.{IsGoing};
+ghost use Rattle.daig_session.specs.Holds.{Holds, IsReady};
+ghost use Rattle.daig_session.specs.Turns.{Questions};
+
+use crate::asking::{begun, read_answer};
+use crate::book::{Book, Going};
+use crate::error::QueryError;
+use crate::session::Session;
+use daig_graph::Value;
+use daig_query::Engine;
+use domain_laws::{Domain, Steps};
+use imp_syntax::Location;
+use plain_values::Memory;
+use session_machine::questions_keep_cells;
+use std::alloc::Global;
+use std::sync::ledger::Ledger;
+
+/// Fills what is missing for a question.
+fn fill_all<D: Domain, L: Ledger>(
+    alloc: Global,
+    engine: &mut Engine<D>,
+    book: &Book,
+    going: &mut Going,
+    steps: &mut Steps<L>,
+) -> Result<usize, Memory>
+    requires ready { IsReady (D.operations engine.old.domain) engine.old.store book.now }
+    requires going { (l : Location) × (string : List ℕ) × IsGoing (D.operations engine.old.domain) (flow_in book.now) engine.old.store l string going.old }
+    ensures domain { engine.new.domain ≡ engine.old.domain }
+    ensures targets { going.new.targets ≡ going.old.targets }
+    ensures fills { Fills (D.operations engine.old.domain) (flow_in book.now) (map target_of going.old.targets) engine.old.store engine.new.store (added engine.old.store engine.new.store) }
+    ensures counted { IfOk result (λ n. n ≡ added engine.old.store engine.new.store) }
+    ensures all { IfOk result (λ n. n ≡ length (missing (D.operations engine.old.domain) (flow_in book.now) (map target_of going.old.targets) engine.old.store)) }
+    ensures filled { OnOk result (AreFilled (D.operations engine.old.domain) engine.new.store going.new.walk (flow_in book.now) (map target_of going.old.targets)) }
+    ensures least { steps.old ≤ steps.new }
+    ensures ticked { IfOk result (λ n. steps.new ≤ steps.old + D.counted engine.old.domain * n) }
+{
+    let flow = book.flow();
+    let Going { targets, walk } = going;
+    engine.demand(alloc, &flow, targets.as_slice(), walk, steps)
+}
+
+impl<D: Domain> Session<D> {
+    /// What the domain knows at a location under a call string, which has the outermost call first: the answer of the
+    /// present program, interpreted from scratch. A state covers each configuration that a run reaches there.
+    ///
+    /// Only what is missing is computed; it is kept, and `cost` tells how many cells that were. It ticks at most once an
+    /// operation of the domain for each of these, and twice for each chain.
+    ///
+    /// # Errors
+    ///
+    /// [`QueryError::Refused`] for the first of these causes: the string has more than two calls; the program has no such
+    /// procedure, no such statement, no such loop; no chain ends in the string. The session is then as it was.
+    /// [`QueryError::Memory`] for want of memory: some of what was missing may be kept then, the first of it, and all else
+    /// is as it was.
+    pub fn query<L: Ledger>(
+        &mut self,
+        alloc: Global,
+        at: &Location,
+        string: &[u32],
+        steps: &mut Steps<L>,
+    ) -> Result<Value<D::State>, QueryError>
+        requires ready { IsReady (D.operations self.old.engine.domain) self.old.engine.store self.old.book }
+        ensures ready { IsReady (D.operations self.new.engine.domain) self.new.engine.store self.new.book }
+        ensures domain { self.new.engine.domain ≡ self.old.engine.domain }
+        ensures answers { (m : Machine) → Holds (D.operations self.old.engine.domain) self.old.engine.store self.old.book m →
+            Questions (D.operations self.old.engine.domain) m (Holds (D.operations self.new.engine.domain) self.new.engine.store self.new.book) at.now string.now result }
+        ensures sound { IfOk result (λ v. Covers (D.covers self.old.engine.domain) (routines_of self.old.book.history.now) at.now string.now (Some v)) }
+        ensures least { steps.old ≤ steps.new }
+        ensures ticked { (m : Machine) → Holds (D.operations self.old.engine.domain) self.old.engine.store self.old.book m →
+            IfOk result (λ _. steps.new ≤ steps.old + D.counted self.old.engine.domain * (length (missing_at (D.operations self.old.engine.domain) at.now string.now m) + 2 * length (targets_of m at.now string.now))) }
+    {
+        questions_keep_cells::<D>();
+        let flow = self.book.flow();
+        let mut going = begun(alloc, &self.engine, &flow, at, string)?;
+        let filled = fill_all(alloc, &mut self.engine, &self.book, &mut going, steps)?;
+        let value = read_answer(alloc, &self.engine, &going.walk, steps)?;
+        self.book.cost = filled as u64;
+        Ok(value)
+    }
+}

@@ -1,0 +1,113 @@
+//! Sessions.
+ghost use Rattle.std.specs.Prelude.{◌≡◌, ◌<◌, length, IfOk};
+ghost use Rattle.call_contexts.specs.Settings.{engine_of};
+ghost use Rattle.session_machine.specs.Machine.{beginning, Machine};
+ghost use Rattle.daig_session.specs.Books.{AreBelow};
+ghost use Rattle.daig_session.specs.Holds.{Holds, IsReady};
+
+use crate::book::Book;
+use call_contexts::Setting;
+use daig_query::Engine;
+use domain_laws::Domain;
+use edit_history::History;
+use imp_check::Table;
+use open_tickets::Tickets;
+use plain_values::Memory;
+use program_chains::Widening;
+use std::alloc::Global;
+
+/// A session with a program.
+#[derive(Drop)]
+pub struct Session<D: Domain> {
+    pub(crate) engine: Engine<D>,
+    pub(crate) book: Book,
+}
+
+impl<D: Domain + Drop> Session<D> {
+    /// A session with a program, whose loops take at most `budget` rounds and are widened so. New statements carry the
+    /// numbers from `next` on. At most `memo` results of operations are remembered.
+    ///
+    /// It takes time linear in the program's marks, and the memory for going back and forth.
+    ///
+    /// # Errors
+    ///
+    /// [`Memory`] alone.
+    pub fn start(
+        alloc: Global,
+        domain: D,
+        table: Table,
+        next: u32,
+        budget: u32,
+        widening: Widening,
+        memo: usize,
+    ) -> Result<Session<D>, Memory>
+        requires some { 0 < next }
+        requires below { AreBelow next table.program }
+        requires memo { 0 < memo }
+        ensures ready { IfOk result (λ s. IsReady (D.operations s.engine.domain) s.engine.store s.book) }
+        ensures domain { IfOk result (λ s. s.engine.domain ≡ domain) }
+        ensures begins { IfOk result (λ s. Holds (D.operations s.engine.domain) s.engine.store s.book (beginning table.program (engine_of budget widening) next)) }
+    {
+        table.procs();
+        let setting = Setting::new(alloc, &table.view(), budget, widening)?;
+        let engine = Engine::new(alloc, domain, memo)?;
+        let history = History::new(alloc, table)?;
+        let tickets = Tickets::new(alloc);
+        let cost = 0;
+        Ok(Session {
+            engine,
+            book: Book {
+                history,
+                setting,
+                next,
+                tickets,
+                cost,
+            },
+        })
+    }
+}
+
+impl<D: Domain> Session<D> {
+    /// The domain that the session began with.
+    pub fn domain(&self) -> &D
+        ensures is { result.now ≡ self.now.engine.domain }
+    {
+        self.engine.domain()
+    }
+
+    /// The present program.
+    pub fn program(&self) -> &Table
+        ensures is { (m : Machine) → Holds (D.operations self.now.engine.domain) self.now.engine.store self.now.book m → result.now.program ≡ m.program }
+    {
+        self.book.history.table()
+    }
+
+    /// The number of the next new statement.
+    pub fn next(&self) -> u32
+        ensures is { (m : Machine) → Holds (D.operations self.now.engine.domain) self.now.engine.store self.now.book m → result ≡ m.next }
+    {
+        self.book.next
+    }
+
+    /// How many cells the last question filled that was answered: a query, a step or a report.
+    pub fn cost(&self) -> u64
+        ensures is { (m : Machine) → Holds (D.operations self.now.engine.domain) self.now.engine.store self.now.book m → result ≡ m.cost }
+    {
+        self.book.cost
+    }
+
+    /// How many cells are kept.
+    pub fn kept_count(&self) -> usize
+        requires ready { IsReady (D.operations self.now.engine.domain) self.now.engine.store self.now.book }
+        ensures is { (m : Machine) → Holds (D.operations self.now.engine.domain) self.now.engine.store self.now.book m → result ≡ length m.kept }
+    {
+        self.engine.kept_count()
+    }
+
+    /// The number of the next ticket.
+    pub fn next_ticket(&self) -> u64
+        ensures is { (m : Machine) → Holds (D.operations self.now.engine.domain) self.now.engine.store self.now.book m → result ≡ m.next_ticket }
+    {
+        self.book.tickets.next
+    }
+}

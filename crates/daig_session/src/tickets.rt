@@ -1,0 +1,102 @@
+//! Tickets: questions that are answered in steps.
+ghost use Rattle.std.specs.Prelude.{◌≡◌, ◌<◌, ◌^◌, length, Some, slice_get, slice_set};
+ghost use Rattle.session_machine.specs.Machine.{Machine, ticket_of};
+ghost use Rattle.open_tickets.specs.declared.tickets.Open.{Open as AnyOpen};
+ghost use Rattle.open_tickets.specs.Tickets.{anew};
+ghost use Rattle.daig_session.specs.declared.book.Going.{Going as AnyGoing};
+ghost use Rattle.daig_session.specs.Holds.{Holds, IsReady};
+ghost use Rattle.daig_session.specs.Turns.{Cancels, Opens};
+
+use crate::asking::begun;
+use crate::book::Going;
+use crate::error::{AskError, QueryError};
+use crate::session::Session;
+use batch_meaning::Refusal;
+use domain_laws::Domain;
+use imp_syntax::Location;
+use open_tickets::{NoTicket, Open};
+use plain_values::Items;
+use std::alloc::Global;
+
+/// Takes what a ticket has come to: it is to begin anew.
+pub(crate) fn take_going(open_ones: &mut Vec<Open<Going>>, place: usize) -> Option<Going>
+    requires there { place < length open_ones.old.items }
+    ensures taken { (o : AnyOpen AnyGoing) → slice_get open_ones.old.items place ≡ Some o → result ≡ o.going }
+    ensures left { (o : AnyOpen AnyGoing) → slice_get open_ones.old.items place ≡ Some o → open_ones.new.items ≡ slice_set open_ones.old.items place (anew o) }
+{
+    let one = &mut open_ones[place];
+    one.going.take()
+}
+
+/// Puts back what a ticket has come to.
+pub(crate) fn put_going(open_ones: &mut Vec<Open<Going>>, place: usize, going: Going)
+    requires there { place < length open_ones.old.items }
+    ensures put { (o : AnyOpen AnyGoing) → slice_get open_ones.old.items place ≡ Some o → open_ones.new.items ≡ slice_set open_ones.old.items place (record o { going = Some going }) }
+{
+    let one = &mut open_ones[place];
+    one.going = Some(going);
+}
+
+impl From<QueryError> for AskError {
+    ghost use Rattle.std.specs.Prelude.{◌≡◌};
+    ghost use Rattle.daig_session.specs.Turns.{ask_error};
+
+    ghost from_gives = { λ q e. e ≡ ask_error q };
+
+    fn from(error: QueryError) -> AskError {
+        match error {
+            QueryError::Refused(why) => AskError::Refused(why),
+            QueryError::Memory => AskError::Memory,
+        }
+    }
+}
+
+impl<D: Domain> Session<D> {
+    /// Opens a ticket for a question, and gives its number. Nothing is computed yet.
+    ///
+    /// # Errors
+    ///
+    /// The first of these causes: the call string has more than two calls; [`AskError::Full`] where sixteen tickets are
+    /// open; the program refuses the question, as [`Session::query`] says. [`AskError::Memory`] for want of memory. The
+    /// session is then as it was.
+    pub fn ask(&mut self, alloc: Global, at: Location, string: Items<u32>) -> Result<u64, AskError>
+        requires ready { IsReady (D.operations self.old.engine.domain) self.old.engine.store self.old.book }
+        requires room { self.old.book.tickets.next < 2 ^ 63 }
+        ensures ready { IsReady (D.operations self.new.engine.domain) self.new.engine.store self.new.book }
+        ensures domain { self.new.engine.domain ≡ self.old.engine.domain }
+        ensures opens { (m : Machine) → Holds (D.operations self.old.engine.domain) self.old.engine.store self.old.book m →
+            Opens (D.operations self.old.engine.domain) m (Holds (D.operations self.new.engine.domain) self.new.engine.store self.new.book) at string result }
+    {
+        if string.len() > 2 {
+            return Err(AskError::Refused(Refusal::LongString));
+        }
+        if self.book.tickets.is_full() {
+            return Err(AskError::Full);
+        }
+        let flow = self.book.flow();
+        let going = begun(alloc, &self.engine, &flow, &at, string.as_slice())?;
+        let number = self.book.tickets.add(at, string, going)?;
+        Ok(number)
+    }
+
+    /// Closes a ticket. It takes no memory.
+    ///
+    /// # Errors
+    ///
+    /// [`NoTicket`] exactly where no ticket of this number is open.
+    pub fn cancel(&mut self, ticket: u64) -> Result<(), NoTicket>
+        requires ready { IsReady (D.operations self.old.engine.domain) self.old.engine.store self.old.book }
+        ensures ready { IsReady (D.operations self.new.engine.domain) self.new.engine.store self.new.book }
+        ensures domain { self.new.engine.domain ≡ self.old.engine.domain }
+        ensures cancels { (m : Machine) → Holds (D.operations self.old.engine.domain) self.old.engine.store self.old.book m →
+            Cancels m (Holds (D.operations self.new.engine.domain) self.new.engine.store self.new.book) ticket (ticket_of ticket m.tickets) result }
+    {
+        match self.book.tickets.place_of(ticket) {
+            None => Err(NoTicket),
+            Some(place) => {
+                self.book.tickets.close(place);
+                Ok(())
+            }
+        }
+    }
+}

@@ -1,0 +1,82 @@
+//! Undo and redo.
+ghost use Rattle.std.specs.Prelude.{◌≡◌, IfOk, IfErr};
+ghost use Rattle.session_machine.specs.Machine.{Machine};
+ghost use Rattle.session_machine.specs.Turns.{redone, undone};
+ghost use Rattle.daig_session.specs.Holds.{Holds, IsReady};
+ghost use Rattle.daig_session.specs.Moves.{IsMovingTo};
+ghost use Rattle.daig_session.specs.Turns.{Goes, IsStopped};
+
+use crate::error::UndoError;
+use crate::moving::{Moving, leave, planned_move};
+use crate::session::Session;
+use domain_laws::Domain;
+use std::alloc::Global;
+
+impl<D: Domain> Session<D> {
+    /// The move to the program behind.
+    fn moving_back(&self, alloc: Global) -> Result<Moving, UndoError>
+        requires ready { IsReady (D.operations self.now.engine.domain) self.now.engine.store self.now.book }
+        ensures moving { IfOk result (IsMovingTo self.now.engine.store self.now.book.setting.engine self.now.book.history.now self.now.book.history.past) }
+        ensures stopped { IfErr result (IsStopped self.now.book.history.past) }
+    {
+        let Some(change) = self.book.history.behind() else {
+            return Err(UndoError::Nothing);
+        };
+        let table = self.book.history.table();
+        let moving = planned_move(alloc, &self.engine, table, change, &self.book.setting)?;
+        Ok(moving)
+    }
+
+    /// The move to the program ahead.
+    fn moving_on(&self, alloc: Global) -> Result<Moving, UndoError>
+        requires ready { IsReady (D.operations self.now.engine.domain) self.now.engine.store self.now.book }
+        ensures moving { IfOk result (IsMovingTo self.now.engine.store self.now.book.setting.engine self.now.book.history.now self.now.book.history.future) }
+        ensures stopped { IfErr result (IsStopped self.now.book.history.future) }
+    {
+        let Some(change) = self.book.history.ahead() else {
+            return Err(UndoError::Nothing);
+        };
+        let table = self.book.history.table();
+        let moving = planned_move(alloc, &self.engine, table, change, &self.book.setting)?;
+        Ok(moving)
+    }
+
+    /// Goes back to the program before the last edit, and gives the next number of a statement, which stays. The kept cells
+    /// change as by an edit that leads there.
+    ///
+    /// # Errors
+    ///
+    /// [`UndoError::Nothing`] exactly where no program is behind, and [`UndoError::Memory`] for want of memory. The session
+    /// is then as it was.
+    pub fn undo(&mut self, alloc: Global) -> Result<u32, UndoError>
+        requires ready { IsReady (D.operations self.old.engine.domain) self.old.engine.store self.old.book }
+        ensures ready { IsReady (D.operations self.new.engine.domain) self.new.engine.store self.new.book }
+        ensures domain { self.new.engine.domain ≡ self.old.engine.domain }
+        ensures goes { (m : Machine) → Holds (D.operations self.old.engine.domain) self.old.engine.store self.old.book m →
+            Goes m (Holds (D.operations self.new.engine.domain) self.new.engine.store self.new.book) m.past (undone (D.operations self.old.engine.domain) m) result }
+    {
+        let Moving { setting, plan } = self.moving_back(alloc)?;
+        leave(&mut self.engine, plan);
+        self.book.back(setting);
+        Ok(self.book.next)
+    }
+
+    /// Goes on to the program that the last undo left, as [`Session::undo`] goes back.
+    ///
+    /// # Errors
+    ///
+    /// [`UndoError::Nothing`] exactly where no program is ahead, and [`UndoError::Memory`] for want of memory. The session
+    /// is then as it was.
+    pub fn redo(&mut self, alloc: Global) -> Result<u32, UndoError>
+        requires ready { IsReady (D.operations self.old.engine.domain) self.old.engine.store self.old.book }
+        ensures ready { IsReady (D.operations self.new.engine.domain) self.new.engine.store self.new.book }
+        ensures domain { self.new.engine.domain ≡ self.old.engine.domain }
+        ensures goes { (m : Machine) → Holds (D.operations self.old.engine.domain) self.old.engine.store self.old.book m →
+            Goes m (Holds (D.operations self.new.engine.domain) self.new.engine.store self.new.book) m.future (redone (D.operations self.old.engine.domain) m) result }
+    {
+        let Moving { setting, plan } = self.moving_on(alloc)?;
+        leave(&mut self.engine, plan);
+        self.book.forth(setting);
+        Ok(self.book.next)
+    }
+}
