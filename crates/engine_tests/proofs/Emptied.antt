@@ -1,5 +1,5 @@
 -- What is right for a program once an edit's cells are taken away.
-use Rattle.std.proofs.Common.{◌≡◌, ℕ, ◌<◌, true, List, inl, sym, ap, subst}
+use Rattle.std.proofs.Common.{◌≡◌, ℕ, ◌<◌, ◌≤◌, true, List, inl, sym, ap, subst, arith}
 use Rattle.std.specs.List.{All}
 use Rattle.imp_syntax.specs.Plain.{Procedure, program_numbers}
 use Rattle.imp_check.specs.Slots.{routines_of}

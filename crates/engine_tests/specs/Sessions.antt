@@ -4,7 +4,10 @@ use Rattle.std.specs.List.{All}
 use Rattle.imp_syntax.specs.Plain.{Procedure, Statement, Ends, Starts, numbers, program_numbers}
 use Rattle.imp_check.specs.Programs.{block_count}
 use Rattle.imp_check.specs.Slots.{routines_of}
+use Rattle.imp_edit.specs.Edited.{edited}
+use Rattle.imp_syntax.specs.declared.edit.Edit.{Edit}
 use Rattle.domain_laws.specs.Operations.{Operations}
+use Rattle.batch_meaning.specs.Batch.{Engine}
 use Rattle.call_contexts.specs.Settings.{Setting, setting_of}
 use Rattle.cell_removal.specs.Removal.{Removes}
 use Rattle.edit_invalidate.specs.Touched.{IsTouched}
