@@ -111,10 +111,16 @@ fn long_line(alloc: Global) -> Result<Vec<u8>, Memory>
 }
 
 impl<D: Named> Answerer for Server<D> {
+    ghost use Rattle.std.specs.Prelude.{◌≡◌};
     ghost use Rattle.daig_server.specs.Domains.{meaning_of};
+    ghost use Rattle.daig_server.specs.Held.{Held};
     ghost use Rattle.daig_server.specs.Reply.{server};
 
+    ghost State = { Held };
+
     ghost machine = { server (meaning_of D.name).operations };
+
+    ghost stands = { λ held m. held ≡ m };
 
     fn answer<L: Ledger>(
         &mut self,
