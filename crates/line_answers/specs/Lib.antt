@@ -1,0 +1,5 @@
+pub mod Readings
+pub mod Edits
+pub mod Refusals
+pub mod Turns
+pub mod Lines

@@ -1,0 +1,8 @@
+//! What lines are replied, and what each makes of the machine that a session with a program is.
+//!
+//! The machine holds the present program and what has been done with it; each answer comes from interpreting the program
+//! from scratch. `line_turn` of `specs/Lines.antt` reads a line as a request and turns to the request's own definition in
+//! `specs/Turns.antt`: questions, reports, runs, edits, tickets, undo and redo. A request that is refused leaves the
+//! machine, but one for a step whose location is gone closes its ticket. `specs/Edits.antt` makes the edit of a request,
+//! whose text is read by the grammar, and `specs/Refusals.antt` says what an edit that is refused is replied.
+#![tactic(auto)]
