@@ -1,0 +1,4 @@
+mod Numbered
+mod Continued
+mod Places
+mod Read

@@ -1,5 +1,5 @@
 -- The edit that a request asks for.
-use Rattle.std.specs.Prelude.{ℕ, List, Result, Ok, Err}
+use Rattle.std.specs.Prelude.{◌≡◌, ℕ, List, Result, Ok, Err}
 use Rattle.imp_syntax.specs.Plain.{Condition, Statement, Statements, Procedure}
 use Rattle.imp_syntax.specs.declared.edit.Edit.{Edit}
 use Rattle.imp_syntax.specs.declared.edit.Edit.TheVariants as edit
@@ -8,6 +8,8 @@ use Rattle.imp_syntax.specs.declared.words.Kind.{Kind}
 use Rattle.imp_parse.specs.declared.error.ParseError.{ParseError}
 use Rattle.request_json.specs.declared.reply.Refusal.{Refusal}
 use Rattle.line_replies.specs.Refusals.{text_refusal}
+use Rattle.line_answers.specs.declared.edits.TextError.{TextError}
+use Rattle.line_answers.specs.declared.edits.TextError.TheVariants as t
 use Rattle.line_answers.specs.Readings.{Readings}
 
 -- what is made of the tree of a text, or the refusal of a text that is not read
@@ -38,3 +40,8 @@ declare_of proc name kind = Ok (edit.Declare proc (record { name = name; kind = 
 
 abbrev pub drop_of : (proc : List ℕ) → Result Edit Refusal
 drop_of proc = Ok (edit.DropProc proc)
+
+-- the error is why the text gives no edit, or want of memory
+abbrev pub IsTextError : Result Edit Refusal → TextError → Type 0
+IsTextError edit (t.Refused why) = edit ≡ Err why
+IsTextError edit t.Memory = Unit {0}
