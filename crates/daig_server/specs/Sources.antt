@@ -2,6 +2,7 @@
 use Rattle.std.specs.Prelude.{◌≡◌, ℕ, List, Option, Some, None, Result, Ok, Err}
 use Rattle.imp_syntax.specs.Plain.{Procedure}
 use Rattle.imp_parse.specs.declared.error.ParseError.{ParseError}
+use Rattle.imp_parse.specs.Answer.{IsAnswer}
 use Rattle.imp_parse.specs.Languages.{ProgramText}
 use Rattle.imp_parse.specs.Limits.{outside}
 use Rattle.imp_check.specs.declared.fault.Found.{Found}
@@ -14,7 +15,7 @@ use Rattle.daig_server.specs.declared.source.SourceError.TheVariants as s
 
 -- The reading of the texts of programs by the grammar.
 abbrev pub Reading : Type 0
-Reading = ReadingOf ProgramText outside
+Reading = ReadingOf (IsAnswer ProgramText outside)
 
 -- a program, unless it has a fault
 abbrev pub unless_faulty : List Procedure → Option Found → Result (List Procedure) Refusal

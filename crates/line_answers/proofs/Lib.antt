@@ -2,3 +2,4 @@ mod Numbered
 mod Continued
 mod Places
 mod Read
+mod Refused

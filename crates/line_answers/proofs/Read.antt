@@ -3,30 +3,33 @@ use Rattle.std.proofs.Common.{◌≡◌, ◌⊎◌, inl, inr, ℕ, List, Result,
 use Rattle.imp_syntax.specs.declared.edit.Edit.{Edit}
 use Rattle.imp_parse.specs.declared.error.ParseError.{ParseError}
 use Rattle.imp_parse.specs.declared.error.ParseError.TheVariants.{Memory}
-use Rattle.imp_parse.specs.declared.limits.Place.{Place}
-use Rattle.imp_parse.specs.Language.{Language}
-use Rattle.imp_parse.specs.Answer.{IsAnswer, IsOnlyAnswer}
 use Rattle.line_replies.specs.Readings.{ReadingOf}
 use Rattle.line_replies.specs.Refusals.{text_refusal}
 use Rattle.line_answers.specs.Edits.{if_read}
 
-tree_no_memory : {A : Type 0} (tree : A) → Ok tree ≡ Err Memory → ⊥
-tree_no_memory tree is = cc
+-- all other answers of a text are this one, unless memory is wanting
+abbrev pub IsOnly : {A : Type 0} → (List ℕ → Result A ParseError → Type 0) → List ℕ → Result A ParseError → Type 0
+IsOnly {A} is text answer = (other : Result A ParseError) → is text other → (answer ≡ other) ⊎ (answer ≡ Err Memory)
 
-error_no_memory : {A : Type 0} (error : ParseError) → (error ≡ Memory → ⊥) → (r : Result A ParseError) → r ≡ Err error → r ≡ Err Memory → ⊥
+ok_no_memory : {A : Type 0} (tree : A) (r : Result A ParseError) → r ≡ Ok tree → r ≡ Err Memory → ⊥
+ok_no_memory tree r is none = cc
 
-only_tree : {A : Type 0} (G : Language A) (start : Place) (r : ReadingOf G start) (text : List ℕ) (tree : A) → IsOnlyAnswer G start text (Ok tree) → r.answer text ≡ Ok tree
-only_tree G start r text tree only = elim (only (r.answer text) (r.exact text)) [ inl same ↦ sym same | inr none ↦ absurd (tree_no_memory tree none) ]
+err_no_memory : {A : Type 0} (error : ParseError) (r : Result A ParseError) → r ≡ Err error → r ≡ Err Memory → error ≡ Memory
+err_no_memory error r is none = cc
 
-only_error : {A : Type 0} (G : Language A) (start : Place) (r : ReadingOf G start) (text : List ℕ) (error : ParseError) → (error ≡ Memory → ⊥) → IsOnlyAnswer {A = A} G start text (Err error) → r.answer text ≡ Err error
-only_error G start r text error not only =
-    elim (only (r.answer text) (r.exact text)) [ inl same ↦ sym same | inr none ↦ absurd (not (let e : error ≡ Memory = cc in e)) ]
+-- so the edit is made of its tree, or its text is refused
+pub read_tree : {A : Type 0} (is : List ℕ → Result A ParseError → Type 0) (r : ReadingOf is) (made : A → Edit) (text : List ℕ) (answer : Result A ParseError) (tree : A) →
+    answer ≡ Ok tree → IsOnly is text answer → if_read made (r.answer text) ≡ Ok (made tree)
+read_tree is r made text answer tree same only =
+    elim (only (r.answer text) (r.exact text)) [
+      | inl equal ↦ ap (if_read made) (sym equal) ∙ ap (if_read made) same
+      | inr none ↦ absurd (ok_no_memory tree answer same none)
+    ]
 
--- so the edit is made of it, or its text is refused
-pub read_tree : {A : Type 0} (G : Language A) (start : Place) (r : ReadingOf G start) (made : A → Edit) (text : List ℕ) (tree : A) →
-    IsOnlyAnswer G start text (Ok tree) → if_read made (r.answer text) ≡ Ok (made tree)
-read_tree G start r made text tree only = ap (if_read made) (only_tree G start r text tree only)
-
-pub read_error : {A : Type 0} (G : Language A) (start : Place) (r : ReadingOf G start) (made : A → Edit) (text : List ℕ) (error : ParseError) →
-    (error ≡ Memory → ⊥) → IsOnlyAnswer {A = A} G start text (Err error) → if_read made (r.answer text) ≡ Err (text_refusal error)
-read_error G start r made text error not only = ap (if_read made) (only_error G start r text error not only)
+pub read_error : {A : Type 0} (is : List ℕ → Result A ParseError → Type 0) (r : ReadingOf is) (made : A → Edit) (text : List ℕ) (answer : Result A ParseError) (error : ParseError) →
+    answer ≡ Err error → (error ≡ Memory → ⊥) → IsOnly is text answer → if_read made (r.answer text) ≡ Err (text_refusal error)
+read_error is r made text answer error same not only =
+    elim (only (r.answer text) (r.exact text)) [
+      | inl equal ↦ ap (if_read made) (sym equal) ∙ ap (if_read made) same
+      | inr none ↦ absurd (not (err_no_memory error answer same none))
+    ]

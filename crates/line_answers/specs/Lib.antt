@@ -3,3 +3,4 @@ pub mod Edits
 pub mod Refusals
 pub mod Turns
 pub mod Lines
+pub mod Claims

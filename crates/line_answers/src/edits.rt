@@ -41,12 +41,7 @@ const MOST_TEXT: usize = 1 << 30;
 ///
 /// [`TextError::Refused`] exactly where the text is not a simple statement, with its first fault. [`TextError::Memory`]
 /// for want of memory, also where the text has more than 2^30 bytes.
-pub fn replace_of(
-    alloc: Global,
-    id: StmtId,
-    text: &[u8],
-    next: u32,
-) -> Result<Edit, TextError>
+pub fn replace_of(alloc: Global, id: StmtId, text: &[u8], next: u32) -> Result<Edit, TextError>
     requires low { next ≤ 1000001 }
     ensures made { IfOk result (λ e. (readings : Readings) → replace_of readings next id text.now ≡ Ok e) }
     ensures refused { IfErr result (λ e. (readings : Readings) → IsTextError (replace_of readings next id text.now) e) }
@@ -67,12 +62,7 @@ pub fn replace_of(
 /// # Errors
 ///
 /// As [`replace_of`], of a text of statements.
-pub fn insert_of(
-    alloc: Global,
-    place: Place,
-    text: &[u8],
-    next: u32,
-) -> Result<Edit, TextError>
+pub fn insert_of(alloc: Global, place: Place, text: &[u8], next: u32) -> Result<Edit, TextError>
     requires low { next ≤ 1000001 }
     ensures made { IfOk result (λ e. (readings : Readings) → insert_of readings next place text.now ≡ Ok e) }
     ensures refused { IfErr result (λ e. (readings : Readings) → IsTextError (insert_of readings next place text.now) e) }

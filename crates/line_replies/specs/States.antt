@@ -1,5 +1,5 @@
 -- The reply to a question for a state.
-use Rattle.std.specs.Prelude.{ℕ, List, [], reverse, slice_get, Option, Some, None, option_map}
+use Rattle.std.specs.Prelude.{List, [], reverse, slice_get, Option, Some, None, option_map}
 use Rattle.imp_syntax.specs.declared.edit.Location.{Location}
 use Rattle.imp_slots.specs.Plain.{Layout, Routine}
 use Rattle.domain_laws.specs.Operations.{Operations}

@@ -1,0 +1,21 @@
+-- What is written for a line, and which machine stands after it.
+use Rattle.std.specs.Prelude.{◌≡◌, ℕ, List, Result, Ok, Err, IfOk}
+use Rattle.session_machine.specs.Machine.{Machine}
+use Rattle.request_json.specs.declared.error.ReadError.{ReadError}
+use Rattle.request_json.specs.declared.request.Request.{Request}
+use Rattle.request_json.specs.declared.request.Request.TheVariants as q
+use Rattle.request_json.specs.Replies.{reply_text}
+use Rattle.line_answers.specs.Turns.{Turn}
+
+-- The reply of a turn is written, and what stands is its machine.
+pub record Follows (turn : Turn) (stands : Machine → Type 0) (line : List ℕ) : Type 0 where
+  pub reply : line ≡ reply_text turn.reply
+  pub machine : stands turn.machine
+
+-- a request that fills names: after want of memory some of them may be filled, and all else is as it was
+abbrev pub Fills : Result Request ReadError → Type 0
+Fills (Err error) = ⊥
+Fills (Ok (q.State query)) = Unit {0}
+Fills (Ok q.Report) = Unit {0}
+Fills (Ok (q.Step ticket n)) = Unit {0}
+Fills (Ok request) = ⊥
