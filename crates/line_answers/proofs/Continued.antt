@@ -1,6 +1,6 @@
 -- The statements that an edit brings carry the numbers from the next one on.
-use Rattle.std.proofs.Common.{◌≡◌, ℕ, ◌+◌, List, [], ◌++◌, append-nil, ap, ◌∙◌, subst, sym, arith}
-use Rattle.imp_syntax.specs.Plain.{Statement, Statements, Ends, Starts, Procedure, numbers, numbers_in}
+use Rattle.std.proofs.Common.{◌≡◌, ℕ, ◌+◌, List, append-nil, ap, ◌∙◌, subst, arith}
+use Rattle.imp_syntax.specs.Plain.{Statement, Statements, Procedure, numbers, numbers_in}
 use Rattle.imp_syntax.specs.declared.edit.Edit.TheVariants as edit
 use Rattle.imp_syntax.specs.declared.edit.Place.{Place}
 use Rattle.imp_check.specs.Programs.{statement_count, block_count}

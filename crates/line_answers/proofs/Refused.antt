@@ -1,5 +1,5 @@
 -- Turns that refuse leave the machine.
-use Rattle.std.proofs.Common.{◌≡◌, inl, inr, ℕ, nat_le, nat_lt, Bool, true, false, List, [], ◌∷◌, length, Option, Some, None, Result, Ok, Err, if◌then◌else◌, refl, sym, ◌∙◌}
+use Rattle.std.proofs.Common.{◌≡◌, inl, inr, ℕ, nat_le, nat_lt, Bool, true, false, List, [], ◌∷◌, length, Option, Some, None, Result, Ok, Err, if◌then◌else◌, refl}
 use Rattle.imp_syntax.specs.Plain.{Procedure}
 use Rattle.imp_syntax.specs.declared.edit.Edit.{Edit}
 use Rattle.imp_syntax.specs.declared.edit.Location.{Location}
@@ -21,8 +21,8 @@ use Rattle.request_json.specs.declared.reply.Refusal.TheVariants as refusal
 use Rattle.request_json.specs.Requests.{request_of}
 use Rattle.line_answers.specs.Readings.{Readings}
 use Rattle.line_answers.specs.Edits.{replace_of, insert_of, delete_of, guard_of, declare_of, add_of, drop_of}
-use Rattle.line_answers.specs.Turns.{Turn, goes, refused, told, cancel_by, cancel_turn, move_turn, state_by, state_turn, ask_by, ask_turn, step_by, step_of, step_turn, edit_by, edit_turn, report_turn, undo_turn, redo_turn}
-use Rattle.line_answers.specs.Lines.{request_turn, read_turn, line_turn}
+use Rattle.line_answers.specs.Turns.{Turn, goes, told, cancel_by, move_turn, state_by, ask_by, step_by, step_of, edit_by, edit_turn}
+use Rattle.line_answers.specs.Lines.{request_turn, read_turn}
 use Rattle.line_answers.specs.Claims.{IsSafe, RefusalsAreSafe}
 
 -- where the machine stays, and where the reply is no refusal
@@ -40,9 +40,9 @@ cancel_safe : (t : Option Ticket) (m : Machine) → IsSafe (cancel_by t m) m
 cancel_safe None m = stays (r.Refused refusal.NoTicket) m
 cancel_safe (Some t) m = λ why is. cc
 
-move_safe : (side : List (List Procedure)) (none : Refusal) (there m : Machine) → IsSafe (move_turn side none there m) m
-move_safe [] none there m = stays (r.Refused none) m
-move_safe (p ∷ ps) none there m = λ why is. cc
+move_safe : (side : List (List Procedure)) (otherwise : Refusal) (there m : Machine) → IsSafe (move_turn side otherwise there m) m
+move_safe [] otherwise there m = stays (r.Refused otherwise) m
+move_safe (p ∷ ps) otherwise there m = λ why is. cc
 
 state_safe : {S : Type 0} (dom : Operations S) (query : Query) (a : Answer S) (m : Machine) → IsSafe (state_by dom query a m) m
 state_safe dom query (Refuses w) m = stays (r.Refused (refusal.Query w)) m

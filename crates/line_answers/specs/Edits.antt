@@ -1,6 +1,6 @@
 -- The edit that a request asks for.
 use Rattle.std.specs.Prelude.{◌≡◌, ℕ, List, Result, Ok, Err}
-use Rattle.imp_syntax.specs.Plain.{Condition, Statement, Statements, Procedure}
+use Rattle.imp_syntax.specs.Plain.{Statement, Statements, Procedure}
 use Rattle.imp_syntax.specs.declared.edit.Edit.{Edit}
 use Rattle.imp_syntax.specs.declared.edit.Edit.TheVariants as edit
 use Rattle.imp_syntax.specs.declared.edit.Place.{Place}

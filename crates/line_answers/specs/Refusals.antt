@@ -7,6 +7,7 @@ use Rattle.imp_syntax.specs.declared.edit.Place.{Place}
 use Rattle.imp_syntax.specs.declared.edit.Place.TheVariants as place
 use Rattle.analysis_words.specs.declared.refusal.Refusal.TheVariants as why
 use Rattle.imp_check.specs.declared.entry.Entry.{Entry}
+use Rattle.imp_check.specs.declared.entry.Head.{Head}
 use Rattle.imp_check.specs.Entries.{entries_of, entry_of}
 use Rattle.imp_edit.specs.declared.error.EditError.{EditError}
 use Rattle.imp_edit.specs.declared.error.EditError.TheVariants.{NoProcedure, NoStatement, WrongStatement, IsMain, StillCalled, Numbers, Fault, Memory}
@@ -14,7 +15,12 @@ use Rattle.request_json.specs.declared.reply.Refusal.{Refusal}
 use Rattle.request_json.specs.declared.reply.Refusal.TheVariants as refusal
 use Rattle.line_replies.specs.Refusals.{fault_refusal}
 
--- the name of the procedure at a place of the program, and of the one that holds a statement; where there is none, no name
+-- the name of a procedure, of the one at a place of the program, and of the one that holds a statement; where there is none,
+-- no name
+abbrev pub name_of_head : Option Head → List ℕ
+name_of_head None = []
+name_of_head (Some h) = h.bare.name
+
 abbrev pub name_at : List Procedure → (place : ℕ) → List ℕ
 name_at [] k = []
 name_at (p ∷ ps) zero = p.name

@@ -61,9 +61,9 @@ cancel_turn ticket m = cancel_by (ticket_of ticket m.tickets) m
 -- ---- the program before an edit, and after it
 
 -- The move to the nearest program on a side, if there is one. The next number stays.
-abbrev pub move_turn : (side : List (List Procedure)) → (none : Refusal) → (there : Machine) → Machine → Turn
-move_turn [] none there m = refused none m
-move_turn (p ∷ ps) none there m = goes (r.Next m.next) there
+abbrev pub move_turn : (side : List (List Procedure)) → (otherwise : Refusal) → (there : Machine) → Machine → Turn
+move_turn [] otherwise there m = refused otherwise m
+move_turn (p ∷ ps) otherwise there m = goes (r.Next m.next) there
 
 module _ {S : Type 0} (dom : Operations S) where
   abbrev pub undo_turn : Machine → Turn

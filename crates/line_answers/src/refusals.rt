@@ -1,9 +1,11 @@
 //! The refusal of an edit, as that of a reply: `specs/Refusals.antt`.
-ghost use Rattle.std.specs.Prelude.{◌≡◌, IfOk};
-ghost use Rattle.line_answers.specs.Refusals.{name_at, holder_of, procedure_at, procedure_edited, refusal_of};
+ghost use Rattle.std.specs.Prelude.{◌≡◌, slice_get, IfOk};
+ghost use Rattle.std.specs.Option.{option_copied};
+ghost use Rattle.imp_check.specs.Entries.{heads_of};
+ghost use Rattle.line_answers.specs.Refusals.{name_of_head, name_at, holder_of, procedure_at, procedure_edited, refusal_of};
 
 use batch_meaning::Refusal as QueryRefusal;
-use imp_check::Table;
+use imp_check::{Head, Table};
 use imp_edit::EditError;
 use imp_syntax::{Edit, Place, ProcId, StmtId};
 use line_replies::fault_refusal;
@@ -11,15 +13,28 @@ use plain_values::{Memory, Text};
 use request_json::{ProgramFault, Refusal};
 use std::alloc::Global;
 
-/// The name of the procedure at a place of the program; no name where there is none.
-#[tactic(auto, using(crate::proofs::Places::head_named))]
-fn name_at(alloc: Global, table: &Table, place: ProcId) -> Result<Text, Memory>
-    ensures name { IfOk result (λ name. name ≡ name_at table.now.program place) }
+/// The name of a procedure; no name where there is none.
+fn name_of_head(alloc: Global, head: Option<&Head>) -> Result<Text, Memory>
+    ensures name { IfOk result (λ name. name ≡ name_of_head (option_copied head.entry)) }
 {
-    match table.procs().get(place.place() as usize) {
+    match head {
         Some(head) => Ok(head.bare.name().clone()?),
         None => Ok(Text::new(alloc)),
     }
+}
+
+/// The procedure at a place of the program, if there is one.
+fn head_at(table: &Table, place: ProcId) -> Option<&Head>
+    ensures head { option_copied result ≡ slice_get (heads_of table.now.program) place }
+{
+    table.procs().get(place.place() as usize)
+}
+
+/// The name of the procedure at a place of the program; no name where there is none.
+fn name_at(alloc: Global, table: &Table, place: ProcId) -> Result<Text, Memory>
+    ensures name { IfOk result (λ name. name ≡ name_at table.now.program place) }
+{
+    name_of_head(alloc, head_at(table, place))
 }
 
 /// The name of the procedure that holds a statement; no name where there is no such statement.
