@@ -1,4 +1,4 @@
-use Rattle.std.proofs.Common.{Err, ap}
+use Rattle.std.proofs.Common.{Err, ap, refl}
 use Rattle.script_loop.specs.Lines.{all_lines}
 use Rattle.daig_server.specs.Domains.{meaning_of}
 use Rattle.daig_server.proofs.LineLemmas.{wrote_whole}
@@ -7,4 +7,4 @@ use Rattle.daig_server.proofs.run.serve_program.Goals as goal
 pub returns-in-Err-Memory-clause-wrote : goal.returns-in-Err-Memory-clause-wrote
 returns-in-Err-Memory-clause-wrote g c = λ text taken told_text told_taken.
     wrote_whole (meaning_of g.D.Named.name).operations c.args.server (all_lines text) taken _
-    ((c.in-Err-Memory.ensures {u = tt}).memory_lines (ap Err c.in-Err-Memory.field-0-is) text taken told_text told_taken)
+    ((c.in-Err-Memory.ensures {u = tt}).memory_lines (ap Err c.in-Err-Memory.field-0-is) c.args.server refl text taken told_text told_taken)
