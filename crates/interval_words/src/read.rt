@@ -1,8 +1,9 @@
 //! The state of a text.
 ghost use Rattle.std.specs.Prelude.{◌≡◌, ◌≤ℤ◌, pos, ◌++◌, unsigned_abs, IfOk};
 ghost use Rattle.std.specs.Option.{option_map};
+ghost use Rattle.interval_meaning.specs.Ranges.{extremes};
 ghost use Rattle.interval_words.specs.Words as meant;
-ghost use Rattle.interval_words.specs.Slots.{slots_in, slot_with, slot_if};
+ghost use Rattle.interval_words.specs.Slots.{slots_in, slot_with, slot_if, within_extremes};
 
 use cert_words::words_of;
 use imp_slots::{Layout, NumericSlot};
@@ -11,14 +12,23 @@ use num_bounds::Range;
 use plain_values::Memory;
 use std::alloc::{AllocError, Global};
 
+/// Whether the numbers from lo to hi are some, all within a slot's extremes.
+fn is_within(is_array: bool, lo: i128, hi: i128) -> bool
+    ensures exact { result ≡ within_extremes (extremes is_array) lo hi }
+{
+    if is_array {
+        return 0 <= lo && lo <= hi && hi <= 1_000_000;
+    }
+    i128::from(i64::MIN) <= lo && lo <= hi && hi <= i128::from(i64::MAX)
+}
+
 /// The slot with these ends, where it fits.
+#[tactic(auto, using(crate::proofs::Slots::slot_within, crate::proofs::Slots::slot_without, crate::proofs::Slots::ordered_within))]
 fn slot_of(number: &NumericSlot, lo: i128, hi: i128) -> Option<SlotRange>
     ensures exact { result ≡ slot_if number.now (slot_with number.now lo hi) }
 {
     let is_array = number.is_array();
-    let least = if is_array { 0 } else { i128::from(i64::MIN) };
-    let greatest = if is_array { 1_000_000 } else { i128::from(i64::MAX) };
-    if lo < least || hi < lo || hi > greatest {
+    if !is_within(is_array, lo, hi) {
         return None;
     }
     Some(SlotRange {
@@ -36,21 +46,27 @@ fn slots_of(
 ) -> Result<Option<Vec<SlotRange>>, AllocError>
     ensures exact { IfOk result (λ found. option_map (λ v. v.items) found ≡ option_map (λ more. slots.items ++ more) (meant.slots_of numbers.now words.now)) }
 {
-    match (numbers, words) {
-        ([], []) => Ok(Some(slots)),
-        ([], [_, ..]) => Ok(None),
-        ([_, ..], []) => Ok(None),
-        ([_, ..], [None, ..]) => Ok(None),
-        ([_, ..], [Some(_)]) => Ok(None),
-        ([_, ..], [Some(_), None, ..]) => Ok(None),
-        ([number, numbers @ ..], [Some(lo), Some(hi), words @ ..]) => {
-            let Some(slot) = slot_of(number, *lo, *hi) else {
-                return Ok(None);
-            };
-            let mut slots = slots;
-            slots.push(slot)?;
-            slots_of(numbers, words, slots)
-        }
+    match numbers {
+        [] => match words {
+            [] => Ok(Some(slots)),
+            [_first, _rest @ ..] => Ok(None),
+        },
+        [number, numbers @ ..] => match words {
+            [] => Ok(None),
+            [None, _rest @ ..] => Ok(None),
+            [Some(lo), more @ ..] => match more {
+                [] => Ok(None),
+                [None, _rest @ ..] => Ok(None),
+                [Some(hi), rest @ ..] => {
+                    let Some(slot) = slot_of(number, *lo, *hi) else {
+                        return Ok(None);
+                    };
+                    let mut slots = slots;
+                    slots.push(slot)?;
+                    slots_of(numbers, rest, slots)
+                }
+            },
+        },
     }
 }
 
