@@ -6,6 +6,7 @@ ghost use Rattle.imp_edit.specs.Edited.{next_after, Continues};
 ghost use Rattle.imp_edit.specs.Refusals.{edit_refusal, IsRefusal};
 ghost use Rattle.session_machine.specs.Machine.{Machine};
 ghost use Rattle.session_machine.specs.Turns.{committed};
+ghost use Rattle.daig_session.specs.contracts.session.Session.{the_row};
 ghost use Rattle.daig_session.specs.Books.{IsSame};
 ghost use Rattle.daig_session.specs.Holds.{Holds, IsReady};
 ghost use Rattle.daig_session.specs.Moves.{IsPlanned};
@@ -85,6 +86,7 @@ impl<D: Domain> Session<D> {
     pub fn prepare(&mut self, alloc: Global, edit: &Edit) -> Result<Prepared<'_, D>, EditError>
         requires ready { IsReady (D.operations self.old.engine.domain) self.old.engine.store self.old.book }
         requires continues { Continues edit.now self.old.book.next }
+        ensures* rests { sem 𝓛 (RestsIfErr (the_row D.row D.State.row D.State.PartialEq (record { hash_input = D.State.Hash.hash_input })) self.entry (λ p. p.session.ghost_name) result (λ s. (s.engine ≡ self.old.engine) × IsSame self.old.book s.book)) }
         ensures same_reference { IfOk result (λ p. p.session.ghost_name ≡ self.entry.ghost_name) }
         ensures ready { IfOk result (λ p. IsReady (D.operations p.session.now.engine.domain) p.session.now.engine.store p.session.now.book) }
         ensures planned { IfOk result (λ p. IsPlanned p.session.now.engine.store p.session.now.book edit.now p.planned) }

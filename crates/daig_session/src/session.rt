@@ -89,7 +89,7 @@ impl<D: Domain> Session<D> {
         self.book.next
     }
 
-    /// How many cells the last question filled that was answered: a query, a step or a report.
+    /// How many cells the last question filled that was answered: a query or a step.
     pub fn cost(&self) -> u64
         ensures is { (m : Machine) → Holds (D.operations self.now.engine.domain) self.now.engine.store self.now.book m → result ≡ m.cost }
     {
