@@ -11,9 +11,10 @@ use Rattle.batch_interp.specs.Answered.{IsRefused}
 use Rattle.request_json.specs.declared.request.Query.{Query}
 use Rattle.request_json.specs.declared.reply.Reply.{Reply}
 use Rattle.request_json.specs.declared.reply.Reply.TheVariants as r
+use Rattle.line_replies.specs.States.{answer_reply, layout_at, value_reply}
 use Rattle.daig_server.specs.Held.{Held}
 use Rattle.daig_server.specs.Questions.{refusal_of}
-use Rattle.daig_server.specs.Reply.{answer_reply, layout_at, state_reply, value_reply}
+use Rattle.daig_server.specs.Reply.{state_reply}
 
 -- the reply for a value is that for the answer that it is
 pub state_by : {S E : Type 0} (dom : Operations S) (held : Held) (query : Query) (v : Value S) (reply : Result Reply E) →

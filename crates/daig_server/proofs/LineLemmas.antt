@@ -8,8 +8,9 @@ use Rattle.request_json.specs.declared.reply.Reply.TheVariants.{Refused}
 use Rattle.request_json.specs.declared.reply.Refusal.TheVariants.{LongLine}
 use Rattle.serde_json.specs.Written.{compact_text}
 use Rattle.request_json.specs.Replies.{object_of, reply_fields, reply_text}
+use Rattle.line_replies.specs.Texts.{long_reply}
 use Rattle.daig_server.specs.Held.{Held}
-use Rattle.daig_server.specs.Reply.{server, long_reply, line_reply}
+use Rattle.daig_server.specs.Reply.{server, line_reply}
 use Rattle.daig_server.specs.Ends.{IsWholeLines, WroteWholeLines}
 
 reply_whole : (reply : Reply) → IsWholeLines (reply_text reply)

@@ -12,7 +12,8 @@ use Rattle.request_json.specs.declared.request.Request.TheVariants as q
 use Rattle.request_json.specs.declared.reply.Reply.TheVariants as r
 use Rattle.request_json.specs.Requests.{request_of}
 use Rattle.daig_server.specs.Held.{Held}
-use Rattle.daig_server.specs.Reply.{layout_at, line_reply, request_reply, state_reply}
+use Rattle.line_replies.specs.States.{layout_at}
+use Rattle.daig_server.specs.Reply.{line_reply, request_reply, state_reply}
 use Rattle.daig_server.specs.Sound.{IsSound, IsReportSound}
 
 -- the reply to a line that asks for a state, where the answer is one

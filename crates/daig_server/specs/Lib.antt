@@ -1,5 +1,4 @@
 pub mod Sources
-pub mod Names
 pub mod Questions
 pub mod Held
 pub mod Reply

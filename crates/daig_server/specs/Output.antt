@@ -11,12 +11,13 @@ use Rattle.request_json.specs.Replies.{reply_text}
 use Rattle.command_words.specs.declared.job.DomainName.{DomainName}
 use Rattle.command_words.specs.declared.job.Job.{Job}
 use Rattle.command_words.specs.declared.job.Settings.{Settings}
+use Rattle.line_replies.specs.Texts.{listing}
 use Rattle.daig_server.specs.declared.task.Task.{Task}
 use Rattle.daig_server.specs.declared.task.Task.TheVariants.{Serve, Batch}
 use Rattle.daig_server.specs.Sources.{Reading, source_of}
 use Rattle.daig_server.specs.Domains.{meaning_of}
 use Rattle.daig_server.specs.Held.{Held}
-use Rattle.daig_server.specs.Reply.{server, listing, report_reply}
+use Rattle.daig_server.specs.Reply.{server, report_reply}
 use Rattle.daig_server.specs.Jobs.{task_of, settings_of, file_of, engine_of}
 
 -- the line that is written where the words are not taken

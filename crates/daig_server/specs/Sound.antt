@@ -15,10 +15,11 @@ use Rattle.batch_sound.specs.Theorem.{IsFindingSound}
 use Rattle.request_json.specs.declared.request.Request.TheVariants as q
 use Rattle.request_json.specs.declared.reply.Reply.TheVariants as r
 use Rattle.request_json.specs.Requests.{request_of}
+use Rattle.line_replies.specs.States.{layout_at}
 use Rattle.command_words.specs.declared.job.DomainName.{DomainName}
 use Rattle.daig_server.specs.Domains.{meaning_of}
 use Rattle.daig_server.specs.Held.{Held}
-use Rattle.daig_server.specs.Reply.{layout_at, line_reply}
+use Rattle.daig_server.specs.Reply.{line_reply}
 
 -- The line is answered by the text of this state, and the state describes each configuration that a run of the program
 -- reaches at the location, with call sites of which the string is a suffix: its last frame alone, under any inputs.

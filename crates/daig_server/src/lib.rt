@@ -12,7 +12,7 @@
 
 mod answers;
 mod domains;
-mod replies;
+mod programs;
 mod run;
 mod server;
 mod serving;

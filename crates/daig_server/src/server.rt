@@ -4,18 +4,18 @@ ghost use Rattle.std.specs.Prelude.{◌≡◌, IfOk};
 ghost use Rattle.request_json.specs.Replies.{reply_text};
 ghost use Rattle.daig_server.specs.Domains.{meaning_of};
 ghost use Rattle.daig_server.specs.Reply as of_reply;
-ghost use Rattle.daig_server.specs.Reply.{long_reply};
 ghost use Rattle.daig_server.specs.Jobs.{engine_of};
 ghost use Rattle.daig_server.specs.Output.{batch_bytes};
 
 use crate::answers::{line_reply, report_reply};
 use crate::domains::Named;
-use crate::replies::listing;
+use crate::programs::listing;
 use call_contexts::Setting;
 use command_words::Settings;
 use imp_check::Checked;
+use line_replies::long_line;
 use plain_values::Memory;
-use request_json::{Refusal, Reply, reply_line};
+use request_json::reply_line;
 use script_loop::Answerer;
 use std::alloc::Global;
 use std::marker::Model;
@@ -102,19 +102,17 @@ impl<D: Named> Server<D> {
     }
 }
 
-/// The reply to a line that is too long.
-#[tactic(auto, unfolding(crate::specs::Reply::long_reply))]
-fn long_line(alloc: Global) -> Result<Vec<u8>, Memory>
-    ensures reply { IfOk result (λ v. v.items ≡ long_reply) }
-{
-    reply_line(alloc, &Reply::Refused(Refusal::LongLine))
-}
-
 impl<D: Named> Answerer for Server<D> {
+    ghost use Rattle.std.specs.Prelude.{◌≡◌};
     ghost use Rattle.daig_server.specs.Domains.{meaning_of};
+    ghost use Rattle.daig_server.specs.Held.{Held};
     ghost use Rattle.daig_server.specs.Reply.{server};
 
+    ghost State = { Held };
+
     ghost machine = { server (meaning_of D.name).operations };
+
+    ghost stands = { λ held m. held ≡ m };
 
     fn answer<L: Ledger>(
         &mut self,

@@ -1,5 +1,5 @@
 -- Lines and replies of texts that are put together.
-use Rattle.std.proofs.Common.{◌≡◌, ℕ, ◌==◌, ◌+◌, ◌<◌, ◌++◌, List, [], ◌∷◌, length, take, drop, slice_index_or, Option, Some, Result, Ok, Err, OnOk, true, false, if◌then◌else◌, append_assoc, append-nil, add-one, sym, ◌∙◌, ap, refl}
+use Rattle.std.proofs.Common.{◌≡◌, ℕ, ◌==◌, ◌+◌, ◌<◌, ◌++◌, List, [], ◌∷◌, length, take, drop, slice_index_or, Option, Some, Result, Ok, Err, OnOk, true, false, if◌then◌else◌, append_assoc, append-nil, add-one, sym, ◌∙◌, ap, subst, refl}
 use Rattle.std.proofs.Math.Seq.{take-suc}
 use Rattle.std.proofs.lemmas.List.{take-append-drop}
 use Rattle.script_loop.specs.Lines.{whole_lines, last_part, kept}
@@ -65,52 +65,45 @@ regroup : {X : Type 0} (a b c d : List X) → (a ++ (b ++ c)) ++ d ≡ (a ++ b) 
 regroup a b c d = simp append_assoc
 
 -- a prefix of the replies to some lines, behind the replies to those before
-pub prefix_behind : {M : Type 0} (machine : Machine M) (first m : M) (before lines rest all : List (List ℕ)) (taken : List ℕ) (output : Option (List ℕ)) →
-    m ≡ after machine first before → all ≡ (before ++ lines) ++ rest →
-    WrotePrefix (replies machine m lines) (taken ++ replies machine first before) output →
-    WrotePrefix (replies machine first all) taken output
-prefix_behind machine first m before lines rest all taken output is split wrote = record {
-  sent = replies machine first before ++ wrote.sent;
-  unsent = wrote.unsent ++ replies machine (after machine first (before ++ lines)) rest;
+pub prefix_behind : {M : Type 0} (machine : Machine M) (m : M) (before lines rest all : List (List ℕ)) (taken : List ℕ) (output : Option (List ℕ)) →
+    all ≡ (before ++ lines) ++ rest →
+    WrotePrefix (replies machine (after machine m before) lines) (taken ++ replies machine m before) output →
+    WrotePrefix (replies machine m all) taken output
+prefix_behind machine m before lines rest all taken output split wrote = record {
+  sent = replies machine m before ++ wrote.sent;
+  unsent = wrote.unsent ++ replies machine (after machine m (before ++ lines)) rest;
   split =
-      ap (replies machine first) split
-      ∙ replies-append machine first (before ++ lines) rest
-      ∙ ap (λ xs. xs ++ replies machine (after machine first (before ++ lines)) rest)
-      (replies-append machine first before lines
-      ∙ ap (λ k. replies machine first before ++ replies machine k lines) (sym is)
-      ∙ ap (λ xs. replies machine first before ++ xs) wrote.split)
-      ∙ regroup (replies machine first before) wrote.sent wrote.unsent (replies machine (after machine first (before ++ lines)) rest);
-  written = wrote.written ∙ ap Some (append_assoc taken (replies machine first before) wrote.sent);
-}
-
--- whole replies to some lines, behind the replies to those before
-pub lines_behind : {M : Type 0} (machine : Machine M) (first m : M) (before lines rest all : List (List ℕ)) (taken : List ℕ) (output : Option (List ℕ)) →
-    m ≡ after machine first before → all ≡ (before ++ lines) ++ rest →
-    WroteLines machine m lines (taken ++ replies machine first before) output →
-    WroteLines machine first all taken output
-lines_behind machine first m before lines rest all taken output is split wrote = record {
-  answered = before ++ wrote.answered;
-  unanswered = wrote.unanswered ++ rest;
-  split = split ∙ ap (λ ls. (before ++ ls) ++ rest) wrote.split ∙ regroup before wrote.answered wrote.unanswered rest;
-  written = wrote.written
-      ∙ ap Some (append_assoc taken (replies machine first before) (replies machine m wrote.answered)
-      ∙ ap (λ k. taken ++ (replies machine first before ++ replies machine k wrote.answered)) is
-      ∙ ap (λ xs. taken ++ xs) (sym (replies-append machine first before wrote.answered)));
+      ap (replies machine m) split
+      ∙ replies-append machine m (before ++ lines) rest
+      ∙ ap (λ xs. xs ++ replies machine (after machine m (before ++ lines)) rest)
+      (replies-append machine m before lines ∙ ap (λ xs. replies machine m before ++ xs) wrote.split)
+      ∙ regroup (replies machine m before) wrote.sent wrote.unsent (replies machine (after machine m (before ++ lines)) rest);
+  written = wrote.written ∙ ap Some (append_assoc taken (replies machine m before) wrote.sent);
 }
 
 -- all replies to some lines, behind the replies to those before
-pub replies_behind : {M : Type 0} (machine : Machine M) (first m : M) (before lines : List (List ℕ)) (taken : List ℕ) →
-    m ≡ after machine first before →
-    (taken ++ replies machine first before) ++ replies machine m lines ≡ taken ++ replies machine first (before ++ lines)
-replies_behind machine first m before lines taken is =
-    append_assoc taken (replies machine first before) (replies machine m lines)
-    ∙ ap (λ k. taken ++ (replies machine first before ++ replies machine k lines)) is
-    ∙ ap (λ xs. taken ++ xs) (sym (replies-append machine first before lines))
+pub replies_behind : {M : Type 0} (machine : Machine M) (m : M) (before lines : List (List ℕ)) (taken : List ℕ) →
+    (taken ++ replies machine m before) ++ replies machine (after machine m before) lines ≡ taken ++ replies machine m (before ++ lines)
+replies_behind machine m before lines taken =
+    append_assoc taken (replies machine m before) (replies machine (after machine m before) lines)
+    ∙ ap (λ xs. taken ++ xs) (sym (replies-append machine m before lines))
 
--- the machine behind some lines, behind those before
-pub after_behind : {M : Type 0} (machine : Machine M) (first m next : M) (before lines : List (List ℕ)) →
-    m ≡ after machine first before → next ≡ after machine m lines → next ≡ after machine first (before ++ lines)
-after_behind machine first m next before lines is goes = goes ∙ ap (λ k. after machine k lines) is ∙ sym (after-append machine first before lines)
+-- whole replies to some lines, behind the replies to those before
+pub lines_behind : {M : Type 0} (machine : Machine M) (m : M) (before lines rest all : List (List ℕ)) (taken : List ℕ) (output : Option (List ℕ)) →
+    all ≡ (before ++ lines) ++ rest →
+    WroteLines machine (after machine m before) lines (taken ++ replies machine m before) output →
+    WroteLines machine m all taken output
+lines_behind machine m before lines rest all taken output split wrote = record {
+  answered = before ++ wrote.answered;
+  unanswered = wrote.unanswered ++ rest;
+  split = split ∙ ap (λ ls. (before ++ ls) ++ rest) wrote.split ∙ regroup before wrote.answered wrote.unanswered rest;
+  written = wrote.written ∙ ap Some (replies_behind machine m before wrote.answered taken);
+}
+
+-- what holds of the machine after some lines, and then those behind them
+pub holds_behind : {M : Type 0} (machine : Machine M) (holds : M → Type 0) (m : M) (before lines all : List (List ℕ)) → before ++ lines ≡ all →
+    holds (after machine (after machine m before) lines) → holds (after machine m all)
+holds_behind machine holds m before lines all is here = subst holds (sym (after-append machine m before lines) ∙ ap (after machine m) is) here
 
 -- no reply was written
 pub wrote_no_line : {M : Type 0} (machine : Machine M) (m : M) (lines : List (List ℕ)) (taken : List ℕ) (output : Option (List ℕ)) →

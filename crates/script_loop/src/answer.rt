@@ -1,4 +1,4 @@
-//! A machine that answers line by line.
+//! What answers line by line.
 ghost use Rattle.std.specs.Prelude.{◌≡◌, IfOk, OnOk};
 ghost use Rattle.script_loop.specs.Replies.{Machine};
 
@@ -7,23 +7,32 @@ use std::alloc::Global;
 use std::sync::ledger::Ledger;
 use step_counter::Steps;
 
-/// A machine that answers line by line.
+/// What answers line by line, as a machine that it stands for does.
+///
+/// It may hold more than a state of the machine, as results that it can use again, and several
+/// states of its own may stand for one of the machine's. So its replies show the machine alone.
 pub trait Answerer {
-    /// Its reply to a line, and what it is after it.
-    ghost machine: { Machine Self };
+    /// The states of the machine.
+    ghost State: { Type 0 };
 
-    /// The reply to the line, which comes without its LF; `steps` is lent for what the machine
-    /// counts. After an error the machine is in some state that its type allows.
+    /// The machine's reply to a line, and its state after it.
+    ghost machine: { Machine State };
+
+    /// It stands for the machine in this state.
+    ghost stands: { Self → State → Type 0 };
+
+    /// The reply to the line, which comes without its LF; `steps` is lent for what is counted.
+    /// After an error it stands for no state that is known.
     fn answer<L: Ledger>(
         &mut self,
         alloc: Global,
         line: &[u8],
         steps: &mut Steps<L>,
     ) -> Result<Vec<u8>, Memory>
-        ensures reply { IfOk result (λ v. v.items ≡ machine.reply self.old line.now) }
-        ensures next { OnOk result (self.new ≡ machine.next self.old line.now) };
+        ensures reply { IfOk result (λ v. (m : State) → stands self.old m → v.items ≡ machine.reply m line.now) }
+        ensures next { OnOk result ((m : State) → stands self.old m → stands self.new (machine.next m line.now)) };
 
-    /// The reply to a line that is too long. It leaves the machine as it is.
+    /// The reply to a line that is too long. It leaves the machine in its state.
     fn answer_long(&self, alloc: Global) -> Result<Vec<u8>, Memory>
         ensures reply { IfOk result (λ v. v.items ≡ machine.long) };
 }

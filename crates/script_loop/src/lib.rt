@@ -1,6 +1,7 @@
 //! Answers the lines of a script, each as soon as its end is read.
 //!
-//! A machine answers a line by a reply and goes on to its next state ([`Answerer`]). [`answer_script`]
+//! A machine answers a line by a reply and goes on to its next state; an [`Answerer`] stands for a
+//! machine in a state, before each line and after it, and replies as it does. [`answer_script`]
 //! reads the script in blocks, cuts it into lines wherever the blocks end, and writes each reply
 //! before it reads on, so that an editor that waits for a reply before it sends the next line is
 //! answered. What is written is a stated function of what is read (`specs/Replies.antt`), whatever

@@ -27,8 +27,8 @@ fn reply_to<A: Answerer, L: Ledger>(
     line: &Pending,
     steps: &mut Steps<L>,
 ) -> Result<Vec<u8>, Memory>
-    ensures reply { IfOk result (λ v. v.items ≡ reply_to A.machine answerer.old line.now) }
-    ensures next { OnOk result (answerer.new ≡ next_to A.machine answerer.old line.now) }
+    ensures reply { IfOk result (λ v. (m : A.State) → A.stands answerer.old m → v.items ≡ reply_to A.machine m line.now) }
+    ensures next { OnOk result ((m : A.State) → A.stands answerer.old m → A.stands answerer.new (next_to A.machine m line.now)) }
 {
     match line.part() {
         Some(part) => answerer.answer(alloc, part, steps),
@@ -44,9 +44,9 @@ fn answer_line<A: Answerer, O: Sink, L: Ledger>(
     out: &mut O,
     steps: &mut Steps<L>,
 ) -> Result<(), Stop>
-    ensures next { OnOk result (answerer.new ≡ next_to A.machine answerer.old line.now) }
-    ensures written { OnOk result ((taken : List ℕ) → O.told out.old ≡ Some taken → O.told out.new ≡ Some (taken ++ reply_to A.machine answerer.old line.now)) }
-    ensures prefix { IsErrOf result Stop.Sink → (taken : List ℕ) → O.told out.old ≡ Some taken → WrotePrefix (reply_to A.machine answerer.old line.now) taken (O.told out.new) }
+    ensures next { OnOk result ((m : A.State) → A.stands answerer.old m → A.stands answerer.new (next_to A.machine m line.now)) }
+    ensures written { OnOk result ((m : A.State) → A.stands answerer.old m → (taken : List ℕ) → O.told out.old ≡ Some taken → O.told out.new ≡ Some (taken ++ reply_to A.machine m line.now)) }
+    ensures prefix { IsErrOf result Stop.Sink → (m : A.State) → A.stands answerer.old m → (taken : List ℕ) → O.told out.old ≡ Some taken → WrotePrefix (reply_to A.machine m line.now) taken (O.told out.new) }
     ensures failed { IsErrOf result Stop.Sink → Rose (O.faults out.old) (O.faults out.new) }
     ensures nothing_written { IsErrOf result Stop.Memory → O.told out.new ≡ O.told out.old }
     ensures causes { IfErr result (λ e. (e ≡ Stop.Sink) ⊎ (e ≡ Stop.Memory)) }
@@ -89,14 +89,14 @@ fn answer_byte<A: Answerer, O: Sink, L: Ledger>(
     steps: &mut Steps<L>,
 ) -> Result<(), Stop>
     ensures pending { OnOk result ((part : List ℕ) → pending.old ≡ kept part → pending.new ≡ kept (last_part part (byte ∷ []))) }
-    ensures next { OnOk result ((part : List ℕ) → pending.old ≡ kept part → answerer.new ≡ after A.machine answerer.old (whole_lines part (byte ∷ []))) }
-    ensures written { OnOk result ((part taken : List ℕ) → pending.old ≡ kept part → O.told out.old ≡ Some taken
-        → O.told out.new ≡ Some (taken ++ replies A.machine answerer.old (whole_lines part (byte ∷ [])))) }
-    ensures prefix { IsErrOf result Stop.Sink → (part taken : List ℕ) → pending.old ≡ kept part → O.told out.old ≡ Some taken
-        → WrotePrefix (replies A.machine answerer.old (whole_lines part (byte ∷ []))) taken (O.told out.new) }
+    ensures next { OnOk result ((m : A.State) → A.stands answerer.old m → (part : List ℕ) → pending.old ≡ kept part → A.stands answerer.new (after A.machine m (whole_lines part (byte ∷ [])))) }
+    ensures written { OnOk result ((m : A.State) → A.stands answerer.old m → (part taken : List ℕ) → pending.old ≡ kept part → O.told out.old ≡ Some taken
+        → O.told out.new ≡ Some (taken ++ replies A.machine m (whole_lines part (byte ∷ [])))) }
+    ensures prefix { IsErrOf result Stop.Sink → (m : A.State) → A.stands answerer.old m → (part taken : List ℕ) → pending.old ≡ kept part → O.told out.old ≡ Some taken
+        → WrotePrefix (replies A.machine m (whole_lines part (byte ∷ []))) taken (O.told out.new) }
     ensures failed { IsErrOf result Stop.Sink → Rose (O.faults out.old) (O.faults out.new) }
-    ensures lines { IsErrOf result Stop.Memory → (part taken : List ℕ) → pending.old ≡ kept part → O.told out.old ≡ Some taken
-        → WroteLines A.machine answerer.old (whole_lines part (byte ∷ [])) taken (O.told out.new) }
+    ensures lines { IsErrOf result Stop.Memory → (m : A.State) → A.stands answerer.old m → (part taken : List ℕ) → pending.old ≡ kept part → O.told out.old ≡ Some taken
+        → WroteLines A.machine m (whole_lines part (byte ∷ [])) taken (O.told out.new) }
     ensures causes { IfErr result (λ e. (e ≡ Stop.Sink) ⊎ (e ≡ Stop.Memory)) }
     ensures never_falls { O.faults out.old ≤ O.faults out.new }
 {
@@ -127,14 +127,14 @@ fn answer_block<A: Answerer, O: Sink, L: Ledger>(
     steps: &mut Steps<L>,
 ) -> Result<(), Stop>
     ensures pending { OnOk result ((part : List ℕ) → pending.old ≡ kept part → pending.new ≡ kept (last_part part block.now)) }
-    ensures next { OnOk result ((part : List ℕ) → pending.old ≡ kept part → answerer.new ≡ after A.machine answerer.old (whole_lines part block.now)) }
-    ensures written { OnOk result ((part taken : List ℕ) → pending.old ≡ kept part → O.told out.old ≡ Some taken
-        → O.told out.new ≡ Some (taken ++ replies A.machine answerer.old (whole_lines part block.now))) }
-    ensures prefix { IsErrOf result Stop.Sink → (part taken : List ℕ) → pending.old ≡ kept part → O.told out.old ≡ Some taken
-        → WrotePrefix (replies A.machine answerer.old (whole_lines part block.now)) taken (O.told out.new) }
+    ensures next { OnOk result ((m : A.State) → A.stands answerer.old m → (part : List ℕ) → pending.old ≡ kept part → A.stands answerer.new (after A.machine m (whole_lines part block.now))) }
+    ensures written { OnOk result ((m : A.State) → A.stands answerer.old m → (part taken : List ℕ) → pending.old ≡ kept part → O.told out.old ≡ Some taken
+        → O.told out.new ≡ Some (taken ++ replies A.machine m (whole_lines part block.now))) }
+    ensures prefix { IsErrOf result Stop.Sink → (m : A.State) → A.stands answerer.old m → (part taken : List ℕ) → pending.old ≡ kept part → O.told out.old ≡ Some taken
+        → WrotePrefix (replies A.machine m (whole_lines part block.now)) taken (O.told out.new) }
     ensures failed { IsErrOf result Stop.Sink → Rose (O.faults out.old) (O.faults out.new) }
-    ensures lines { IsErrOf result Stop.Memory → (part taken : List ℕ) → pending.old ≡ kept part → O.told out.old ≡ Some taken
-        → WroteLines A.machine answerer.old (whole_lines part block.now) taken (O.told out.new) }
+    ensures lines { IsErrOf result Stop.Memory → (m : A.State) → A.stands answerer.old m → (part taken : List ℕ) → pending.old ≡ kept part → O.told out.old ≡ Some taken
+        → WroteLines A.machine m (whole_lines part block.now) taken (O.told out.new) }
     ensures causes { IfErr result (λ e. (e ≡ Stop.Sink) ⊎ (e ≡ Stop.Memory)) }
     ensures never_falls { O.faults out.old ≤ O.faults out.new }
 {
@@ -155,13 +155,13 @@ fn answer_rest<A: Answerer, O: Sink, L: Ledger>(
     out: &mut O,
     steps: &mut Steps<L>,
 ) -> Result<(), Stop>
-    ensures written { OnOk result ((part taken : List ℕ) → pending.now ≡ kept part → O.told out.old ≡ Some taken
-        → O.told out.new ≡ Some (taken ++ replies A.machine answerer.old (last_line part))) }
-    ensures prefix { IsErrOf result Stop.Sink → (part taken : List ℕ) → pending.now ≡ kept part → O.told out.old ≡ Some taken
-        → WrotePrefix (replies A.machine answerer.old (last_line part)) taken (O.told out.new) }
+    ensures written { OnOk result ((m : A.State) → A.stands answerer.old m → (part taken : List ℕ) → pending.now ≡ kept part → O.told out.old ≡ Some taken
+        → O.told out.new ≡ Some (taken ++ replies A.machine m (last_line part))) }
+    ensures prefix { IsErrOf result Stop.Sink → (m : A.State) → A.stands answerer.old m → (part taken : List ℕ) → pending.now ≡ kept part → O.told out.old ≡ Some taken
+        → WrotePrefix (replies A.machine m (last_line part)) taken (O.told out.new) }
     ensures failed { IsErrOf result Stop.Sink → Rose (O.faults out.old) (O.faults out.new) }
-    ensures lines { IsErrOf result Stop.Memory → (part taken : List ℕ) → pending.now ≡ kept part → O.told out.old ≡ Some taken
-        → WroteLines A.machine answerer.old (last_line part) taken (O.told out.new) }
+    ensures lines { IsErrOf result Stop.Memory → (m : A.State) → A.stands answerer.old m → (part taken : List ℕ) → pending.now ≡ kept part → O.told out.old ≡ Some taken
+        → WroteLines A.machine m (last_line part) taken (O.told out.new) }
     ensures causes { IfErr result (λ e. (e ≡ Stop.Sink) ⊎ (e ≡ Stop.Memory)) }
     ensures never_falls { O.faults out.old ≤ O.faults out.new }
 {
@@ -175,7 +175,8 @@ fn answer_rest<A: Answerer, O: Sink, L: Ledger>(
 /// end of the script. A line of more than 65,536 bytes gets the reply to a long line. Reads at most
 /// 2^40 bytes.
 ///
-/// What was written when it stops short: at [`Stop::Script`] and [`Stop::Long`] the replies to the
+/// What is written are the replies of the machine from each state that the answerer stood for at the
+/// start. What was written when it stops short: at [`Stop::Script`] and [`Stop::Long`] the replies to the
 /// lines whose LF was read, at [`Stop::Sink`] a prefix of the replies, at [`Stop::Memory`] a prefix
 /// of them in whole lines.
 pub fn answer_script<A: Answerer, I: Source, O: Sink, L: Ledger>(
@@ -186,19 +187,19 @@ pub fn answer_script<A: Answerer, I: Source, O: Sink, L: Ledger>(
     steps: &mut Steps<L>,
 ) -> Result<(), Stop>
     ensures ended { OnOk result ((text : List ℕ) → I.told script.old ≡ Some text → ReadToEnd text (I.told script.new)) }
-    ensures answered { OnOk result ((text taken : List ℕ) → I.told script.old ≡ Some text → O.told out.old ≡ Some taken
-        → O.told out.new ≡ Some (taken ++ replies A.machine answerer.old (all_lines text))) }
+    ensures answered { OnOk result ((m : A.State) → A.stands answerer.old m → (text taken : List ℕ) → I.told script.old ≡ Some text → O.told out.old ≡ Some taken
+        → O.told out.new ≡ Some (taken ++ replies A.machine m (all_lines text))) }
     ensures script_failed { IsErrOf result Stop.Script → Rose (I.faults script.old) (I.faults script.new) }
-    ensures script_lines { IsErrOf result Stop.Script → (text taken : List ℕ) → I.told script.old ≡ Some text → O.told out.old ≡ Some taken
-        → AnsweredRead A.machine answerer.old text taken (I.told script.new) (O.told out.new) }
+    ensures script_lines { IsErrOf result Stop.Script → (m : A.State) → A.stands answerer.old m → (text taken : List ℕ) → I.told script.old ≡ Some text → O.told out.old ≡ Some taken
+        → AnsweredRead A.machine m text taken (I.told script.new) (O.told out.new) }
     ensures sink_failed { IsErrOf result Stop.Sink → Rose (O.faults out.old) (O.faults out.new) }
-    ensures sink_prefix { IsErrOf result Stop.Sink → (text taken : List ℕ) → I.told script.old ≡ Some text → O.told out.old ≡ Some taken
-        → WrotePrefix (replies A.machine answerer.old (all_lines text)) taken (O.told out.new) }
-    ensures memory_lines { IsErrOf result Stop.Memory → (text taken : List ℕ) → I.told script.old ≡ Some text → O.told out.old ≡ Some taken
-        → WroteLines A.machine answerer.old (all_lines text) taken (O.told out.new) }
+    ensures sink_prefix { IsErrOf result Stop.Sink → (m : A.State) → A.stands answerer.old m → (text taken : List ℕ) → I.told script.old ≡ Some text → O.told out.old ≡ Some taken
+        → WrotePrefix (replies A.machine m (all_lines text)) taken (O.told out.new) }
+    ensures memory_lines { IsErrOf result Stop.Memory → (m : A.State) → A.stands answerer.old m → (text taken : List ℕ) → I.told script.old ≡ Some text → O.told out.old ≡ Some taken
+        → WroteLines A.machine m (all_lines text) taken (O.told out.new) }
     ensures long { IsErrOf result Stop.Long → (text : List ℕ) → I.told script.old ≡ Some text → ReadBytes (2 ^ 40) text (I.told script.new) }
-    ensures long_lines { IsErrOf result Stop.Long → (text taken : List ℕ) → I.told script.old ≡ Some text → O.told out.old ≡ Some taken
-        → AnsweredRead A.machine answerer.old text taken (I.told script.new) (O.told out.new) }
+    ensures long_lines { IsErrOf result Stop.Long → (m : A.State) → A.stands answerer.old m → (text taken : List ℕ) → I.told script.old ≡ Some text → O.told out.old ≡ Some taken
+        → AnsweredRead A.machine m text taken (I.told script.new) (O.told out.new) }
     ensures script_never_falls { I.faults script.old ≤ I.faults script.new }
     ensures sink_never_falls { O.faults out.old ≤ O.faults out.new }
 {

@@ -7,8 +7,9 @@ use Rattle.script_loop.proofs.read.answer_block.Given as goal
 abbrev pub invariant-loop-byte : goal.invariant-loop-byte
 invariant-loop-byte g l = record {
   pending : (part : List ℕ) → l.initial.pending ≡ kept part → l.pending ≡ kept (last_part part (take l.byte-index l.block));
-  next : (part : List ℕ) → l.initial.pending ≡ kept part → l.answerer ≡ after g.A.Answerer.machine l.initial.answerer (whole_lines part (take l.byte-index l.block));
+  next : (m : g.A.Answerer.State) → g.A.Answerer.stands l.initial.answerer m → (part : List ℕ) → l.initial.pending ≡ kept part →
+      g.A.Answerer.stands l.answerer (after g.A.Answerer.machine m (whole_lines part (take l.byte-index l.block)));
   rises : g.O.Sink.faults l.initial.out ≤ g.O.Sink.faults l.out;
-  written : (part taken : List ℕ) → l.initial.pending ≡ kept part → g.O.Sink.told l.initial.out ≡ Some taken →
-      g.O.Sink.told l.out ≡ Some (taken ++ replies g.A.Answerer.machine l.initial.answerer (whole_lines part (take l.byte-index l.block)));
+  written : (m : g.A.Answerer.State) → g.A.Answerer.stands l.initial.answerer m → (part taken : List ℕ) → l.initial.pending ≡ kept part → g.O.Sink.told l.initial.out ≡ Some taken →
+      g.O.Sink.told l.out ≡ Some (taken ++ replies g.A.Answerer.machine m (whole_lines part (take l.byte-index l.block)));
 }

@@ -1,5 +1,5 @@
 use Rattle.std.proofs.Common.{◌≡◌, take}
-use Rattle.daig_server.proofs.answers.numbers_of.Given as goal
+use Rattle.line_replies.proofs.states.numbers_of.Given as goal
 
 -- the numbers so far
 abbrev pub invariant-loop-site : goal.invariant-loop-site

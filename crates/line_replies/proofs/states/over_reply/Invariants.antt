@@ -1,5 +1,5 @@
 use Rattle.std.proofs.Common.{◌≡◌, take}
-use Rattle.daig_server.proofs.answers.over_reply.Given as goal
+use Rattle.line_replies.proofs.states.over_reply.Given as goal
 
 -- the call statements so far
 abbrev pub invariant-loop-site : goal.invariant-loop-site

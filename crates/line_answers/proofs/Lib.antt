@@ -1,0 +1,5 @@
+mod Numbered
+mod Continued
+mod Places
+mod Read
+mod Refused

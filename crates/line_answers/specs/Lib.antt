@@ -1,0 +1,6 @@
+pub mod Readings
+pub mod Edits
+pub mod Refusals
+pub mod Turns
+pub mod Lines
+pub mod Claims

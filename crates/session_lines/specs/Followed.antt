@@ -1,0 +1,41 @@
+-- What is written for a line, and which machine stands after it.
+use Rattle.std.specs.Prelude.{◌≡◌, ℕ, List, Result, Ok, Err, IfOk}
+use Rattle.session_machine.specs.Machine.{Machine}
+use Rattle.request_json.specs.declared.error.ReadError.{ReadError}
+use Rattle.request_json.specs.declared.request.Request.{Request}
+use Rattle.request_json.specs.declared.request.Request.TheVariants as q
+use Rattle.request_json.specs.declared.reply.Refusal.{Refusal}
+use Rattle.request_json.specs.Replies.{reply_text}
+use Rattle.imp_syntax.specs.declared.edit.Edit.{Edit}
+use Rattle.line_answers.specs.Edits.{IsTextError}
+use Rattle.line_answers.specs.declared.edits.TextError.{TextError}
+use Rattle.line_answers.specs.Turns.{Turn}
+
+-- The reply of a turn is written, and what stands is its machine.
+pub record Follows (turn : Turn) (stands : Machine → Type 0) (line : List ℕ) : Type 0 where
+  pub reply : line ≡ reply_text turn.reply
+  pub machine : stands turn.machine
+
+-- a request that fills names: after want of memory some of them may be filled, and all else is as it was
+abbrev pub Fills : Result Request ReadError → Type 0
+Fills (Err error) = ⊥
+Fills (Ok (q.State query)) = Unit {0}
+Fills (Ok q.Report) = Unit {0}
+Fills (Ok (q.Step ticket n)) = Unit {0}
+Fills (Ok request) = ⊥
+
+-- a request for an edit
+abbrev pub Edits : Request → Type 0
+Edits (q.Replace id text) = Unit {0}
+Edits (q.Insert place text) = Unit {0}
+Edits (q.Delete id) = Unit {0}
+Edits (q.Guard id text) = Unit {0}
+Edits (q.Declare proc name kind) = Unit {0}
+Edits (q.Add before text) = Unit {0}
+Edits (q.Drop proc) = Unit {0}
+Edits request = ⊥
+
+-- what is made of a text is this edit, or why the text gives none
+abbrev pub Makes : Result Edit Refusal → Result Edit TextError → Type 0
+Makes e (Ok edit) = e ≡ Ok edit
+Makes e (Err error) = IsTextError e error

@@ -1,0 +1,84 @@
+//! The answer to a line.
+ghost use Rattle.std.specs.Prelude.{◌≡◌, ◌≤◌, ◌<◌, ◌^◌, Ok, IfOk, IfErr};
+ghost use Rattle.session_machine.specs.Machine.{Machine};
+ghost use Rattle.daig_session.specs.Holds.{Holds, IsReady};
+ghost use Rattle.request_json.specs.Requests.{request_of};
+ghost use Rattle.line_answers.specs.Readings.{Readings};
+ghost use Rattle.line_answers.specs.Lines.{line_turn, request_turn};
+ghost use Rattle.session_lines.specs.Followed.{Fills, Follows};
+
+use crate::edits::edit_request;
+use crate::questions::{report_line, state_line};
+use crate::tickets::{ask_line, cancel_line, redo_line, step_line, undo_line};
+use crate::told::{cost_line, listing_line, program_line, run_line};
+use crate::written::refused;
+use daig_session::Session;
+use domain_laws::{Domain, Steps};
+use line_replies::line_refusal;
+use plain_values::Memory;
+use request_json::{Refusal, Request, read_request, reply_line};
+use std::alloc::Global;
+use std::sync::ledger::Ledger;
+
+/// The answer to a request.
+fn request_line<D: Domain, L: Ledger>(
+    alloc: Global,
+    session: &mut Session<D>,
+    request: Request,
+    steps: &mut Steps<L>,
+) -> Result<Vec<u8>, Memory>
+    requires ready { IsReady (D.operations session.old.engine.domain) session.old.engine.store session.old.book }
+    requires low { session.old.book.next ≤ 1000001 }
+    requires room { session.old.book.tickets.next < 2 ^ 63 }
+    ensures ready { IsReady (D.operations session.new.engine.domain) session.new.engine.store session.new.book }
+    ensures domain { session.new.engine.domain ≡ session.old.engine.domain }
+    ensures turn { (readings : Readings) (m : Machine) → Holds (D.operations session.old.engine.domain) session.old.engine.store session.old.book m →
+        IfOk result (λ v. Follows (request_turn readings (D.operations session.old.engine.domain) request m) (Holds (D.operations session.new.engine.domain) session.new.engine.store session.new.book) v.items) }
+    ensures unchanged { (m : Machine) → Holds (D.operations session.old.engine.domain) session.old.engine.store session.old.book m → (Fills (Ok request) → ⊥) →
+        IfErr result (λ _. Holds (D.operations session.new.engine.domain) session.new.engine.store session.new.book m) }
+{
+    match request {
+        Request::State(query) => state_line(alloc, session, &query, steps),
+        Request::Report => report_line(alloc, session, steps),
+        Request::Cost => cost_line(alloc, session),
+        Request::Program => program_line(alloc, session),
+        Request::Listing => listing_line(alloc, session),
+        Request::Run { inputs, fuel, at } => {
+            run_line(alloc, session, inputs.as_slice(), fuel, at.as_ref())
+        }
+        Request::Why(_) => refused(alloc, Refusal::NoRequest),
+        Request::Undo => undo_line(alloc, session),
+        Request::Redo => redo_line(alloc, session),
+        Request::Ask(query) => ask_line(alloc, session, query),
+        Request::Step { ticket, n } => step_line(alloc, session, ticket, n, steps),
+        Request::Cancel { ticket } => cancel_line(alloc, session, ticket),
+        edit => edit_request(alloc, session, edit),
+    }
+}
+
+/// The answer to a line: what the machine that the session stands for replies, and the session then stands for the machine
+/// after it. It fails for want of memory alone; on a line that fills no cells the session is then as it was.
+pub fn answer_line<D: Domain, L: Ledger>(
+    alloc: Global,
+    session: &mut Session<D>,
+    line: &[u8],
+    steps: &mut Steps<L>,
+) -> Result<Vec<u8>, Memory>
+    requires ready { IsReady (D.operations session.old.engine.domain) session.old.engine.store session.old.book }
+    requires low { session.old.book.next ≤ 1000001 }
+    requires room { session.old.book.tickets.next < 2 ^ 63 }
+    ensures ready { IsReady (D.operations session.new.engine.domain) session.new.engine.store session.new.book }
+    ensures domain { session.new.engine.domain ≡ session.old.engine.domain }
+    ensures turn { (readings : Readings) (m : Machine) → Holds (D.operations session.old.engine.domain) session.old.engine.store session.old.book m →
+        IfOk result (λ v. Follows (line_turn readings (D.operations session.old.engine.domain) line.now m) (Holds (D.operations session.new.engine.domain) session.new.engine.store session.new.book) v.items) }
+    ensures unchanged { (m : Machine) → Holds (D.operations session.old.engine.domain) session.old.engine.store session.old.book m → (Fills (request_of line.now) → ⊥) →
+        IfErr result (λ _. Holds (D.operations session.new.engine.domain) session.new.engine.store session.new.book m) }
+{
+    match read_request(alloc, line) {
+        Ok(request) => request_line(alloc, session, request, steps),
+        Err(error) => {
+            let reply = line_refusal(error)?;
+            reply_line(alloc, &reply)
+        }
+    }
+}

@@ -1,0 +1,82 @@
+//! Questions, and steps of tickets.
+ghost use Rattle.std.specs.Prelude.{◌≡◌, IfOk, Some};
+ghost use Rattle.batch_meaning.specs.Answers.{Answer};
+ghost use Rattle.daig_query.specs.Answered.{Says};
+ghost use Rattle.session_machine.specs.Machine.{Machine};
+ghost use Rattle.daig_session.specs.Holds.{Holds, IsReady};
+ghost use Rattle.request_json.specs.Replies.{reply_text};
+ghost use Rattle.line_replies.specs.States.{answer_reply, layout_at};
+ghost use Rattle.imp_check.specs.Slots.{routines_of};
+ghost use Rattle.line_answers.specs.Turns.{report_turn, state_turn};
+ghost use Rattle.session_lines.specs.Followed.{Follows};
+
+use crate::written::{line_of, refused};
+use daig_graph::Value;
+use daig_session::{QueryError, Session};
+use domain_laws::{Domain, Steps};
+use imp_syntax::Location;
+use line_replies::{numbers_of, over_reply, state_reply};
+use plain_values::Memory;
+use request_json::{Query, Refusal, Reply};
+use std::alloc::Global;
+use std::sync::ledger::Ledger;
+
+/// The reply for what is known at a location.
+pub(crate) fn value_line<D: Domain>(
+    alloc: Global,
+    session: &Session<D>,
+    at: &Location,
+    value: &Value<D::State>,
+) -> Result<Vec<u8>, Memory>
+    ensures line { (m : Machine) (a : Answer D.State) → Holds (D.operations session.now.engine.domain) session.now.engine.store session.now.book m → Says a (Some value.now) →
+        IfOk result (λ v. v.items ≡ reply_text (answer_reply (D.operations session.now.engine.domain) (layout_at (routines_of m.program) at.now) a)) }
+{
+    let reply = match value {
+        Value::State(state) => state_reply(
+            alloc,
+            session.domain(),
+            &session.program().view(),
+            at,
+            state,
+        )?,
+        Value::Over { head, chain } => over_reply(alloc, *head, chain.chain())?,
+    };
+    line_of(alloc, reply)
+}
+
+/// The state at a location under a call string.
+pub(crate) fn state_line<D: Domain, L: Ledger>(
+    alloc: Global,
+    session: &mut Session<D>,
+    query: &Query,
+    steps: &mut Steps<L>,
+) -> Result<Vec<u8>, Memory>
+    requires ready { IsReady (D.operations session.old.engine.domain) session.old.engine.store session.old.book }
+    ensures ready { IsReady (D.operations session.new.engine.domain) session.new.engine.store session.new.book }
+    ensures domain { session.new.engine.domain ≡ session.old.engine.domain }
+    ensures turn { (m : Machine) → Holds (D.operations session.old.engine.domain) session.old.engine.store session.old.book m →
+        IfOk result (λ v. Follows (state_turn (D.operations session.old.engine.domain) query.now m) (Holds (D.operations session.new.engine.domain) session.new.engine.store session.new.book) v.items) }
+{
+    let string = numbers_of(alloc, &query.string)?;
+    match session.query(alloc, &query.at, string.as_slice(), steps) {
+        Ok(value) => value_line(alloc, session, &query.at, &value),
+        Err(QueryError::Refused(why)) => refused(alloc, Refusal::Query(why)),
+        Err(QueryError::Memory) => Err(Memory),
+    }
+}
+
+/// The findings of all checks.
+pub(crate) fn report_line<D: Domain, L: Ledger>(
+    alloc: Global,
+    session: &mut Session<D>,
+    steps: &mut Steps<L>,
+) -> Result<Vec<u8>, Memory>
+    requires ready { IsReady (D.operations session.old.engine.domain) session.old.engine.store session.old.book }
+    ensures ready { IsReady (D.operations session.new.engine.domain) session.new.engine.store session.new.book }
+    ensures domain { session.new.engine.domain ≡ session.old.engine.domain }
+    ensures turn { (m : Machine) → Holds (D.operations session.old.engine.domain) session.old.engine.store session.old.book m →
+        IfOk result (λ v. Follows (report_turn (D.operations session.old.engine.domain) m) (Holds (D.operations session.new.engine.domain) session.new.engine.store session.new.book) v.items) }
+{
+    let findings = session.report(alloc, steps)?;
+    line_of(alloc, Reply::Report(findings))
+}

@@ -1,0 +1,145 @@
+//! Tickets, and going back and forth. Each reply is made before the session is changed.
+ghost use Rattle.std.specs.Prelude.{◌≡◌, ◌<◌, ◌^◌, IfOk, IfErr};
+ghost use Rattle.session_machine.specs.Machine.{Machine};
+ghost use Rattle.daig_session.specs.Holds.{Holds, IsReady};
+ghost use Rattle.line_answers.specs.Turns.{ask_turn, cancel_turn, redo_turn, step_turn, undo_turn};
+ghost use Rattle.session_lines.specs.Followed.{Follows};
+
+use crate::questions::value_line;
+use crate::written::{line_of, refused};
+use daig_session::{AskError, Session, StepError, Turn, UndoError};
+use domain_laws::{Domain, Steps};
+use imp_syntax::Location;
+use line_replies::numbers_of;
+use plain_values::Memory;
+use request_json::{Query, Refusal, Reply};
+use std::alloc::Global;
+use std::sync::ledger::Ledger;
+
+/// A ticket for the state at a location.
+pub(crate) fn ask_line<D: Domain>(
+    alloc: Global,
+    session: &mut Session<D>,
+    query: Query,
+) -> Result<Vec<u8>, Memory>
+    requires ready { IsReady (D.operations session.old.engine.domain) session.old.engine.store session.old.book }
+    requires room { session.old.book.tickets.next < 2 ^ 63 }
+    ensures ready { IsReady (D.operations session.new.engine.domain) session.new.engine.store session.new.book }
+    ensures domain { session.new.engine.domain ≡ session.old.engine.domain }
+    ensures turn { (m : Machine) → Holds (D.operations session.old.engine.domain) session.old.engine.store session.old.book m →
+        IfOk result (λ v. Follows (ask_turn (D.operations session.old.engine.domain) query m) (Holds (D.operations session.new.engine.domain) session.new.engine.store session.new.book) v.items) }
+    ensures unchanged { (m : Machine) → Holds (D.operations session.old.engine.domain) session.old.engine.store session.old.book m →
+        IfErr result (λ _. Holds (D.operations session.new.engine.domain) session.new.engine.store session.new.book m) }
+{
+    let line = line_of(alloc, Reply::Ticket(session.next_ticket()))?;
+    let Query { at, string } = query;
+    let string = numbers_of(alloc, &string)?;
+    match session.ask(alloc, at, string) {
+        Ok(_) => Ok(line),
+        Err(AskError::Refused(why)) => refused(alloc, Refusal::Query(why)),
+        Err(AskError::Full) => refused(alloc, Refusal::ManyTickets),
+        Err(AskError::Memory) => Err(Memory),
+    }
+}
+
+/// A copy of a location.
+fn copied(at: &Location) -> Result<Location, Memory>
+    ensures same { IfOk result (λ copy. copy ≡ at.now) }
+{
+    match at {
+        Location::Before(n) => Ok(Location::Before(*n)),
+        Location::After(n) => Ok(Location::After(*n)),
+        Location::Head(n) => Ok(Location::Head(*n)),
+        Location::End(name) => Ok(Location::End(name.clone()?)),
+    }
+}
+
+/// A step of a ticket. Where it ends the ticket, the answer is told by the variables at the ticket's location.
+pub(crate) fn step_line<D: Domain, L: Ledger>(
+    alloc: Global,
+    session: &mut Session<D>,
+    ticket: u64,
+    n: u32,
+    steps: &mut Steps<L>,
+) -> Result<Vec<u8>, Memory>
+    requires ready { IsReady (D.operations session.old.engine.domain) session.old.engine.store session.old.book }
+    ensures ready { IsReady (D.operations session.new.engine.domain) session.new.engine.store session.new.book }
+    ensures domain { session.new.engine.domain ≡ session.old.engine.domain }
+    ensures turn { (m : Machine) → Holds (D.operations session.old.engine.domain) session.old.engine.store session.old.book m →
+        IfOk result (λ v. Follows (step_turn (D.operations session.old.engine.domain) ticket n m) (Holds (D.operations session.new.engine.domain) session.new.engine.store session.new.book) v.items) }
+{
+    let Some(at) = session.ticket_at(ticket) else {
+        return refused(alloc, Refusal::NoTicket);
+    };
+    let at = copied(at)?;
+    match session.step(alloc, ticket, n, steps) {
+        Ok(Turn::Pending(filled)) => line_of(alloc, Reply::Pending(filled as u64)),
+        Ok(Turn::Done(value)) => value_line(alloc, session, &at, &value),
+        Err(StepError::NoTicket) => refused(alloc, Refusal::NoTicket),
+        Err(StepError::Gone) => refused(alloc, Refusal::Gone),
+        Err(StepError::Memory) => Err(Memory),
+    }
+}
+
+/// A ticket is given up.
+pub(crate) fn cancel_line<D: Domain>(
+    alloc: Global,
+    session: &mut Session<D>,
+    ticket: u64,
+) -> Result<Vec<u8>, Memory>
+    requires ready { IsReady (D.operations session.old.engine.domain) session.old.engine.store session.old.book }
+    ensures ready { IsReady (D.operations session.new.engine.domain) session.new.engine.store session.new.book }
+    ensures domain { session.new.engine.domain ≡ session.old.engine.domain }
+    ensures turn { (m : Machine) → Holds (D.operations session.old.engine.domain) session.old.engine.store session.old.book m →
+        IfOk result (λ v. Follows (cancel_turn ticket m) (Holds (D.operations session.new.engine.domain) session.new.engine.store session.new.book) v.items) }
+    ensures unchanged { (m : Machine) → Holds (D.operations session.old.engine.domain) session.old.engine.store session.old.book m →
+        IfErr result (λ _. Holds (D.operations session.new.engine.domain) session.new.engine.store session.new.book m) }
+{
+    let line = line_of(alloc, Reply::Cancelled(ticket))?;
+    match session.cancel(ticket) {
+        Ok(()) => Ok(line),
+        Err(_) => refused(alloc, Refusal::NoTicket),
+    }
+}
+
+/// The program before the last edit.
+pub(crate) fn undo_line<D: Domain>(
+    alloc: Global,
+    session: &mut Session<D>,
+) -> Result<Vec<u8>, Memory>
+    requires ready { IsReady (D.operations session.old.engine.domain) session.old.engine.store session.old.book }
+    ensures ready { IsReady (D.operations session.new.engine.domain) session.new.engine.store session.new.book }
+    ensures domain { session.new.engine.domain ≡ session.old.engine.domain }
+    ensures turn { (m : Machine) → Holds (D.operations session.old.engine.domain) session.old.engine.store session.old.book m →
+        IfOk result (λ v. Follows (undo_turn (D.operations session.old.engine.domain) m) (Holds (D.operations session.new.engine.domain) session.new.engine.store session.new.book) v.items) }
+    ensures unchanged { (m : Machine) → Holds (D.operations session.old.engine.domain) session.old.engine.store session.old.book m →
+        IfErr result (λ _. Holds (D.operations session.new.engine.domain) session.new.engine.store session.new.book m) }
+{
+    let line = line_of(alloc, Reply::Next(session.next()))?;
+    match session.undo(alloc) {
+        Ok(_) => Ok(line),
+        Err(UndoError::Nothing) => refused(alloc, Refusal::NothingToUndo),
+        Err(UndoError::Memory) => Err(Memory),
+    }
+}
+
+/// The program before the last undo.
+pub(crate) fn redo_line<D: Domain>(
+    alloc: Global,
+    session: &mut Session<D>,
+) -> Result<Vec<u8>, Memory>
+    requires ready { IsReady (D.operations session.old.engine.domain) session.old.engine.store session.old.book }
+    ensures ready { IsReady (D.operations session.new.engine.domain) session.new.engine.store session.new.book }
+    ensures domain { session.new.engine.domain ≡ session.old.engine.domain }
+    ensures turn { (m : Machine) → Holds (D.operations session.old.engine.domain) session.old.engine.store session.old.book m →
+        IfOk result (λ v. Follows (redo_turn (D.operations session.old.engine.domain) m) (Holds (D.operations session.new.engine.domain) session.new.engine.store session.new.book) v.items) }
+    ensures unchanged { (m : Machine) → Holds (D.operations session.old.engine.domain) session.old.engine.store session.old.book m →
+        IfErr result (λ _. Holds (D.operations session.new.engine.domain) session.new.engine.store session.new.book m) }
+{
+    let line = line_of(alloc, Reply::Next(session.next()))?;
+    match session.redo(alloc) {
+        Ok(_) => Ok(line),
+        Err(UndoError::Nothing) => refused(alloc, Refusal::NothingToRedo),
+        Err(UndoError::Memory) => Err(Memory),
+    }
+}
