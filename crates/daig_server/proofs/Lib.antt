@@ -2,5 +2,3 @@ pub mod NumberingLemmas
 pub mod FewLemmas
 pub mod LineLemmas
 pub mod ServeLemmas
-pub mod SoundLemmas
-pub mod AnswerLemmas

@@ -15,7 +15,7 @@ engine_of settings = record { budget = settings.budget; widening = settings.wide
 
 -- what a job does, how, and for the program of which file
 abbrev pub task_of : Job → Task
-task_of (job.Serve settings memo file) = Serve
+task_of (job.Serve settings memo file) = Serve memo
 task_of (job.Batch settings file) = Batch
 
 abbrev pub settings_of : Job → Settings
@@ -26,10 +26,15 @@ abbrev pub file_of : Job → List ℕ
 file_of (job.Serve settings memo file) = file
 file_of (job.Batch settings file) = file
 
--- the words name a job that does this
-abbrev pub Asks : Task → Option Job → Type 0
-Asks task None = ⊥
-Asks task (Some job) = task_of job ≡ task
+-- the lines of a script are answered
+abbrev pub Serves : Task → Type 0
+Serves (Serve memo) = Unit {0}
+Serves Batch = ⊥
+
+-- the words name a job that does so
+abbrev pub AsksToServe : Option Job → Type 0
+AsksToServe None = ⊥
+AsksToServe (Some job) = Serves (task_of job)
 
 -- how loops are interpreted for a job; without one nothing is
 abbrev pub engine_in : Option Job → Engine

@@ -1,9 +1,7 @@
 pub mod Sources
-pub mod Questions
-pub mod Held
-pub mod Reply
 pub mod Domains
 pub mod Jobs
 pub mod Output
+pub mod Works
+pub mod Told
 pub mod Ends
-pub mod Sound

@@ -10,12 +10,14 @@ use Rattle.imp_check.specs.Programs.{check_fault}
 use Rattle.request_json.specs.declared.reply.Refusal.{Refusal}
 use Rattle.line_replies.specs.Readings.{ReadingOf}
 use Rattle.line_replies.specs.Refusals.{text_refusal, fault_refusal}
+use Rattle.line_answers.specs.Readings.{Readings}
 use Rattle.daig_server.specs.declared.source.SourceError.{SourceError}
 use Rattle.daig_server.specs.declared.source.SourceError.TheVariants as s
 
--- The reading of the texts of programs by the grammar.
-abbrev pub Reading : Type 0
-Reading = ReadingOf (IsAnswer ProgramText outside)
+-- The reading of texts by the grammar: of sources, and of the texts of edits.
+pub record Reading : Type 0 where
+  pub source : ReadingOf (IsAnswer ProgramText outside)
+  pub edits : Readings
 
 -- a program, unless it has a fault
 abbrev pub unless_faulty : List Procedure → Option Found → Result (List Procedure) Refusal
@@ -28,7 +30,7 @@ checked (Ok ps) = unless_faulty ps (check_fault ps)
 
 -- The program without faults that a source is, or why it is refused.
 abbrev pub source_of : Reading → List ℕ → Result (List Procedure) Refusal
-source_of reading source = checked (reading.answer source)
+source_of reading source = checked (reading.source.answer source)
 
 -- the error is why the source is refused, or want of memory
 abbrev pub IsSourceError : Result (List Procedure) Refusal → SourceError → Type 0
