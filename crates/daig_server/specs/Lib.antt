@@ -4,4 +4,5 @@ pub mod Jobs
 pub mod Output
 pub mod Works
 pub mod Told
+pub mod Sound
 pub mod Ends

@@ -1,13 +1,12 @@
 -- What the program writes, and the status that it ends with.
-use Rattle.std.specs.Prelude.{◌≡◌, ◌≤◌, ℕ, ◌+◌, nat_le, List, [], ◌∷◌, ◌++◌, length, Option, Some, None, Result, Ok, Err, codes, if◌then◌else◌}
-use Rattle.imp_syntax.specs.Plain.{Procedure, program_numbers}
+use Rattle.std.specs.Prelude.{◌≡◌, ◌≤◌, ℕ, nat_le, List, [], ◌∷◌, ◌++◌, length, Option, Some, None, Result, Ok, Err, codes, if◌then◌else◌}
+use Rattle.imp_syntax.specs.Plain.{Procedure}
 use Rattle.imp_check.specs.Slots.{routines_of}
 use Rattle.batch_meaning.specs.Batch.{Engine}
 use Rattle.batch_meaning.specs.Report.{report}
 use Rattle.io_edge.specs.Outside.{Lacks}
 use Rattle.script_loop.specs.Lines.{all_lines}
 use Rattle.script_loop.specs.Replies.{replies}
-use Rattle.session_machine.specs.Machine.{beginning}
 use Rattle.request_json.specs.declared.reply.Reply.TheVariants as r
 use Rattle.request_json.specs.declared.reply.Refusal.{Refusal}
 use Rattle.request_json.specs.Replies.{reply_text}
@@ -15,10 +14,12 @@ use Rattle.command_words.specs.declared.job.DomainName.{DomainName}
 use Rattle.command_words.specs.declared.job.Job.{Job}
 use Rattle.command_words.specs.declared.job.Settings.{Settings}
 use Rattle.line_replies.specs.Texts.{listing}
+use Rattle.line_answers.specs.Readings.{Readings}
 use Rattle.line_answers.specs.Lines.{Served, server}
+use Rattle.line_answers.specs.Fine.{opening}
 use Rattle.daig_server.specs.declared.task.Task.{Task}
 use Rattle.daig_server.specs.declared.task.Task.TheVariants.{Serve, Batch}
-use Rattle.daig_server.specs.Sources.{Reading, source_of}
+use Rattle.daig_server.specs.Sources.{source_of}
 use Rattle.daig_server.specs.Domains.{meaning_of}
 use Rattle.daig_server.specs.Jobs.{task_of, settings_of, file_of, engine_of}
 
@@ -35,14 +36,6 @@ pub record Output : Type 0 where
   pub status : ℕ
   pub bytes : List ℕ
 
--- the next statement number of a source, which is one more than it has statements
-abbrev pub next_number : List Procedure → ℕ
-next_number program = length (program_numbers program) + 1
-
--- the machine that a program is served by, at first
-abbrev pub served : Reading → Engine → List Procedure → Served
-served reading engine program = record { readings = reading.edits; machine = beginning program engine (next_number program) }
-
 -- the replies to the lines of a script
 abbrev pub served_bytes : DomainName → Served → List ℕ → List ℕ
 served_bytes domain first script = replies (server (meaning_of domain).operations) first (all_lines script)
@@ -52,36 +45,36 @@ unfoldable pub batch_bytes : DomainName → Engine → List Procedure → List �
 batch_bytes domain engine program = listing program ++ reply_text (r.Report (report (meaning_of domain).operations engine (routines_of program)))
 
 -- serve: the replies to the lines of the script; batch: the listing and the report; both by the domain of this name
-abbrev pub program_bytes : Reading → DomainName → Engine → Task → List Procedure → List ℕ → List ℕ
-program_bytes reading domain engine (Serve memo) program script = served_bytes domain (served reading engine program) script
-program_bytes reading domain engine Batch program script = batch_bytes domain engine program
+abbrev pub program_bytes : Readings → DomainName → Engine → Task → List Procedure → List ℕ → List ℕ
+program_bytes readings domain engine (Serve memo) program script = served_bytes domain (opening readings engine program) script
+program_bytes readings domain engine Batch program script = batch_bytes domain engine program
 
 -- a source that is refused, or a program
-abbrev pub source_output : Reading → Task → Settings → Result (List Procedure) Refusal → List ℕ → Output
-source_output reading task settings (Err why) script = record { status = 3; bytes = reply_text (r.Refused why) }
-source_output reading task settings (Ok program) script =
-    record { status = 0; bytes = program_bytes reading settings.domain (engine_of settings) task program script }
+abbrev pub source_output : Readings → Task → Settings → Result (List Procedure) Refusal → List ℕ → Output
+source_output readings task settings (Err why) script = record { status = 3; bytes = reply_text (r.Refused why) }
+source_output readings task settings (Ok program) script =
+    record { status = 0; bytes = program_bytes readings settings.domain (engine_of settings) task program script }
 
 -- a file that is absent, too long, or a source
-abbrev pub file_output : Reading → Task → Settings → Option (List ℕ) → List ℕ → Output
-file_output reading task settings None script = record { status = 7; bytes = [] }
-file_output reading task settings (Some source) script =
-    if nat_le (length source) most_source then source_output reading task settings (source_of reading source) script else record { status = 9; bytes = [] }
+abbrev pub file_output : Readings → Task → Settings → Option (List ℕ) → List ℕ → Output
+file_output readings task settings None script = record { status = 7; bytes = [] }
+file_output readings task settings (Some source) script =
+    if nat_le (length source) most_source then source_output readings task settings (source_of readings source) script else record { status = 9; bytes = [] }
 
 -- What the job that the words name, the files and the script give. How many results are remembered gives nothing.
-abbrev pub output : Reading → Option Job → (List ℕ → Option (List ℕ)) → List ℕ → Output
-output reading None files script = record { status = 2; bytes = usage }
-output reading (Some job) files script = file_output reading (task_of job) (settings_of job) (files (file_of job)) script
+abbrev pub output : Readings → Option Job → (List ℕ → Option (List ℕ)) → List ℕ → Output
+output readings None files script = record { status = 2; bytes = usage }
+output readings (Some job) files script = file_output readings (task_of job) (settings_of job) (files (file_of job)) script
 
 -- the file is there, and the program without faults that it is
-abbrev pub IsProgram : Reading → Option (List ℕ) → List Procedure → Type 0
-IsProgram reading None program = ⊥
-IsProgram reading (Some source) program = (length source ≤ most_source) × (source_of reading source ≡ Ok program)
+abbrev pub IsProgram : Readings → Option (List ℕ) → List Procedure → Type 0
+IsProgram readings None program = ⊥
+IsProgram readings (Some source) program = (length source ≤ most_source) × (source_of readings source ≡ Ok program)
 
 -- the words name a job, and its file is this program
-abbrev pub IsAccepted : Reading → Option Job → (List ℕ → Option (List ℕ)) → List Procedure → Type 0
-IsAccepted reading None files program = ⊥
-IsAccepted reading (Some job) files program = IsProgram reading (files (file_of job)) program
+abbrev pub IsAccepted : Readings → Option Job → (List ℕ → Option (List ℕ)) → List Procedure → Type 0
+IsAccepted readings None files program = ⊥
+IsAccepted readings (Some job) files program = IsProgram readings (files (file_of job)) program
 
 -- the files are told, and the job's file is not among them
 abbrev pub LacksFile : Option (List ℕ → Option (List ℕ)) → Option Job → Type 0

@@ -4,7 +4,7 @@ use Rattle.imp_syntax.specs.Plain.{Procedure}
 use Rattle.command_words.specs.declared.job.Job.{Job}
 use Rattle.command_words.specs.Jobs.{job_of}
 use Rattle.daig_server.specs.Jobs.{AsksToServe}
-use Rattle.daig_server.specs.Sources.{Reading}
+use Rattle.line_answers.specs.Readings.{Readings}
 use Rattle.daig_server.specs.Output.{Output, output, IsAccepted}
 
 -- the job that the words name
@@ -23,15 +23,15 @@ TellsFiles None files folder = Unit {0}
 TellsFiles (Some job) files folder = files ≡ Some folder
 
 -- the script is told, where an accepted program is served
-abbrev pub TellsScript : Reading → Option Job → (List ℕ → Option (List ℕ)) → Option (List ℕ) → List ℕ → Type 0
-TellsScript reading job folder script text = AsksToServe job → (program : List Procedure) → IsAccepted reading job folder program → script ≡ Some text
+abbrev pub TellsScript : Readings → Option Job → (List ℕ → Option (List ℕ)) → Option (List ℕ) → List ℕ → Type 0
+TellsScript readings job folder script text = AsksToServe job → (program : List Procedure) → IsAccepted readings job folder program → script ≡ Some text
 
 -- All that the output depends on is told, and what the sink took.
-pub record Tells (reading : Reading) (job : Option Job) (files : Option (List ℕ → Option (List ℕ))) (script sink : Option (List ℕ)) (told : Told) : Type 0 where
+pub record Tells (readings : Readings) (job : Option Job) (files : Option (List ℕ → Option (List ℕ))) (script sink : Option (List ℕ)) (told : Told) : Type 0 where
   pub files_are : TellsFiles job files told.folder
-  pub script_is : TellsScript reading job told.folder script told.script
+  pub script_is : TellsScript readings job told.folder script told.script
   pub sink_is : sink ≡ Some told.taken
 
 -- the output of the job
-abbrev pub given : Reading → Option Job → Told → Output
-given reading job told = output reading job told.folder told.script
+abbrev pub given : Readings → Option Job → Told → Output
+given readings job told = output readings job told.folder told.script

@@ -6,7 +6,7 @@ use Rattle.daig_server.specs.declared.task.Task.{Task}
 use Rattle.daig_server.specs.declared.task.Task.TheVariants as task
 use Rattle.daig_server.specs.declared.task.Work.{Work}
 use Rattle.daig_server.specs.declared.task.Work.TheVariants.{Serve, Batch}
-use Rattle.daig_server.specs.Output.{next_number}
+use Rattle.line_answers.specs.Fine.{next_number}
 
 -- the task, and the program
 abbrev pub task_in : Work → Task

@@ -1,16 +1,18 @@
 //! The domains that the words name, each with the code that computes it.
-ghost use Rattle.batch_sound.specs.Theorem.{AreAnswersSound, AreReportsSound};
+ghost use Rattle.batch_sound.specs.Theorem.{AreReportsSound};
 ghost use Rattle.command_words.specs.declared.job.DomainName.{DomainName as Name};
 ghost use Rattle.listseg_meaning.specs.Domain.{segments};
 ghost use Rattle.product_meaning.specs.Product.{product};
+ghost use Rattle.line_answers.specs.Sound.{MomentsAreSound};
 ghost use Rattle.daig_server.specs.Domains.{AnswersAs, meaning_of};
 
-use batch_sound::{answers_are_sound, reports_are_sound};
+use batch_sound::reports_are_sound;
 use dom_interval::Interval;
 use dom_listseg::ListSeg;
 use dom_octagon::Octagon;
 use dom_product::Pair;
 use domain_laws::Domain;
+use line_answers::replies_are_sound;
 
 /// A domain that the words name: lines and reports are answered by it as by what the name means.
 pub trait Named: Domain + Drop {
@@ -80,18 +82,18 @@ impl<A: NamedWithLists> Named for Pair<A, ListSeg> {
     ghost answers = { λ d. A.product_answers d.first };
 }
 
-/// Answers and reports are sound by a domain.
+/// Replies to lines and reports are sound by a domain.
 fn domain_is_sound<D: Domain>()
-    ensures answers { (d : D) → AreAnswersSound (D.operations d) (D.covers d) }
+    ensures moments { (d : D) → MomentsAreSound (D.operations d) (D.covers d) }
     ensures reports { (d : D) → AreReportsSound (D.operations d) }
 {
-    answers_are_sound::<D>();
+    replies_are_sound::<D>();
     reports_are_sound::<D>();
 }
 
-/// Answers and reports are sound by each domain that the words name.
+/// Replies to lines and reports are sound by each domain that the words name.
 pub(crate) fn named_domains_are_sound()
-    ensures answers { (name : Name) → AreAnswersSound (meaning_of name).operations (meaning_of name).covers }
+    ensures moments { (name : Name) → MomentsAreSound (meaning_of name).operations (meaning_of name).covers }
     ensures reports { (name : Name) → AreReportsSound (meaning_of name).operations }
 {
     domain_is_sound::<Interval>();

@@ -22,5 +22,5 @@ mod status;
 mod task;
 mod work;
 
+pub use line_answers::texts_are_read;
 pub use serving::serve;
-pub use source::texts_are_read;

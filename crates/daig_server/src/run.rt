@@ -6,7 +6,8 @@ ghost use Rattle.imp_syntax.specs.Plain.{Procedure};
 ghost use Rattle.request_json.specs.declared.reply.Reply.TheVariants as r;
 ghost use Rattle.request_json.specs.Replies.{reply_text};
 ghost use Rattle.script_loop.specs.Replies.{ReadToEnd, ReadBytes};
-ghost use Rattle.daig_server.specs.Sources.{Reading, source_of};
+ghost use Rattle.line_answers.specs.Readings.{Readings};
+ghost use Rattle.daig_server.specs.Sources.{source_of};
 ghost use Rattle.daig_server.specs.Jobs.{AsksToServe, Serves};
 ghost use Rattle.daig_server.specs.Output.{file_output, output, source_output, usage, IsProgram, LacksFile};
 ghost use Rattle.daig_server.specs.Ends.{Fits, Wrote};
@@ -75,9 +76,9 @@ fn run_source<I: Source, O: Sink, L: Ledger>(
 ) -> Status
     requires short { length source.now < 2 ^ 31 }
     requires remembers { Remembers task }
-    ensures fits { (reading : Reading) (text : List ℕ) → Fits result (source_output reading task settings.now (source_of reading source.now) text).status }
-    ensures wrote { (reading : Reading) (text taken : List ℕ) → (Serves task → (program : List Procedure) → source_of reading source.now ≡ Ok program → I.told script.old ≡ Some text) → O.told out.old ≡ Some taken
-        → Wrote result (source_output reading task settings.now (source_of reading source.now) text) text taken (I.told script.new) (O.told out.new) }
+    ensures fits { (readings : Readings) (text : List ℕ) → Fits result (source_output readings task settings.now (source_of readings source.now) text).status }
+    ensures wrote { (readings : Readings) (text taken : List ℕ) → (Serves task → (program : List Procedure) → source_of readings source.now ≡ Ok program → I.told script.old ≡ Some text) → O.told out.old ≡ Some taken
+        → Wrote result (source_output readings task settings.now (source_of readings source.now) text) text taken (I.told script.new) (O.told out.new) }
     ensures ended { result ≡ Status.Done → Serves task → (text : List ℕ) → I.told script.old ≡ Some text → ReadToEnd text (I.told script.new) }
     ensures unread { (Serves task → ⊥) → script.new ≡ script.old }
     ensures long { result ≡ Status.LongScript → Serves task × ((text : List ℕ) → I.told script.old ≡ Some text → ReadBytes (2 ^ 40) text (I.told script.new)) }
@@ -106,11 +107,11 @@ fn run_file<F: Files, I: Source, O: Sink, L: Ledger>(
     steps: &mut Steps<L>,
 ) -> Status
     requires remembers { Remembers task }
-    ensures fits { (reading : Reading) (folder : List ℕ → Option (List ℕ)) (text : List ℕ) → F.told files.old ≡ Some folder
-        → Fits result (file_output reading task settings.now (folder name.now) text).status }
-    ensures wrote { (reading : Reading) (folder : List ℕ → Option (List ℕ)) (text taken : List ℕ) → F.told files.old ≡ Some folder
-        → (Serves task → (program : List Procedure) → IsProgram reading (folder name.now) program → I.told script.old ≡ Some text) → O.told out.old ≡ Some taken
-        → Wrote result (file_output reading task settings.now (folder name.now) text) text taken (I.told script.new) (O.told out.new) }
+    ensures fits { (readings : Readings) (folder : List ℕ → Option (List ℕ)) (text : List ℕ) → F.told files.old ≡ Some folder
+        → Fits result (file_output readings task settings.now (folder name.now) text).status }
+    ensures wrote { (readings : Readings) (folder : List ℕ → Option (List ℕ)) (text taken : List ℕ) → F.told files.old ≡ Some folder
+        → (Serves task → (program : List Procedure) → IsProgram readings (folder name.now) program → I.told script.old ≡ Some text) → O.told out.old ≡ Some taken
+        → Wrote result (file_output readings task settings.now (folder name.now) text) text taken (I.told script.new) (O.told out.new) }
     ensures ended { result ≡ Status.Done → Serves task → (text : List ℕ) → I.told script.old ≡ Some text → ReadToEnd text (I.told script.new) }
     ensures unread { (Serves task → ⊥) → script.new ≡ script.old }
     ensures long { result ≡ Status.LongScript → Serves task × ((text : List ℕ) → I.told script.old ≡ Some text → ReadBytes (2 ^ 40) text (I.told script.new)) }
@@ -140,11 +141,11 @@ pub(crate) fn run<F: Files, I: Source, O: Sink, L: Ledger>(
 ) -> Status
     ensures words_taken { asked words.now ≡ None → (result ≡ Status.Words) ⊎ (result ≡ Status.Sink) ⊎ (result ≡ Status.Memory) }
     ensures words_refused { result ≡ Status.Words → asked words.now ≡ None }
-    ensures fits { (reading : Reading) (folder : List ℕ → Option (List ℕ)) (text : List ℕ) → TellsFiles (asked words.now) (F.told files.old) folder
-        → Fits result (output reading (asked words.now) folder text).status }
-    ensures wrote { (reading : Reading) (folder : List ℕ → Option (List ℕ)) (text taken : List ℕ) → TellsFiles (asked words.now) (F.told files.old) folder
-        → TellsScript reading (asked words.now) folder (I.told script.old) text → O.told out.old ≡ Some taken
-        → Wrote result (output reading (asked words.now) folder text) text taken (I.told script.new) (O.told out.new) }
+    ensures fits { (readings : Readings) (folder : List ℕ → Option (List ℕ)) (text : List ℕ) → TellsFiles (asked words.now) (F.told files.old) folder
+        → Fits result (output readings (asked words.now) folder text).status }
+    ensures wrote { (readings : Readings) (folder : List ℕ → Option (List ℕ)) (text taken : List ℕ) → TellsFiles (asked words.now) (F.told files.old) folder
+        → TellsScript readings (asked words.now) folder (I.told script.old) text → O.told out.old ≡ Some taken
+        → Wrote result (output readings (asked words.now) folder text) text taken (I.told script.new) (O.told out.new) }
     ensures ended { result ≡ Status.Done → AsksToServe (asked words.now) → (text : List ℕ) → I.told script.old ≡ Some text → ReadToEnd text (I.told script.new) }
     ensures unread { (AsksToServe (asked words.now) → ⊥) → script.new ≡ script.old }
     ensures long { result ≡ Status.LongScript → AsksToServe (asked words.now) × ((text : List ℕ) → I.told script.old ≡ Some text → ReadBytes (2 ^ 40) text (I.told script.new)) }

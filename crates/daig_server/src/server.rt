@@ -3,7 +3,7 @@ ghost use Rattle.std.specs.Prelude.{◌≡◌, ◌<◌, ◌≤◌, ◌+◌, ◌^
 ghost use Rattle.session_machine.specs.Machine.{beginning};
 ghost use Rattle.daig_session.specs.Holds.{Holds, IsReady};
 ghost use Rattle.daig_server.specs.Jobs.{engine_of};
-ghost use Rattle.daig_server.specs.Output.{next_number};
+ghost use Rattle.line_answers.specs.Fine.{next_number};
 ghost use Rattle.daig_server.specs.Works.{IsNumbered};
 
 use crate::domains::Named;

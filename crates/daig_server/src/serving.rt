@@ -1,18 +1,23 @@
 //! The top call [`serve`], with all that is claimed of it.
 ghost use Rattle.std.specs.Prelude.{◌≡◌, ◌≢◌, ◌<◌, ◌^◌, ◌⊎◌, ℕ, List, Option, Some, None, length};
 ghost use Rattle.io_edge.specs.Outside.{Rose};
+ghost use Rattle.imp_syntax.specs.Plain.{Procedure};
 ghost use Rattle.command_words.specs.declared.job.Settings.{Settings};
 ghost use Rattle.command_words.specs.declared.job.Job.TheVariants as job;
 ghost use Rattle.script_loop.specs.Replies.{ReadBytes, ReadToEnd};
-ghost use Rattle.daig_server.specs.Sources.{Reading};
-ghost use Rattle.daig_server.specs.Jobs.{AsksToServe};
-ghost use Rattle.daig_server.specs.Output.{LacksFile, output};
+ghost use Rattle.line_answers.specs.Readings.{Readings};
+ghost use Rattle.daig_server.specs.Domains.{meaning_of};
+ghost use Rattle.daig_server.specs.Jobs.{AsksToServe, domain_in, engine_in};
+ghost use Rattle.daig_server.specs.Output.{IsAccepted, LacksFile, output};
+ghost use Rattle.daig_server.specs.Sound.{IsBatchSound, IsSoundAfter};
 ghost use Rattle.daig_server.specs.Ends.{Fits, IsStatus, Wrote, WroteAll, status_of};
 ghost use Rattle.daig_server.specs.Told.{asked, given, Tells, TellsFiles, Told};
 
 use crate::domains::named_domains_are_sound;
 use crate::run::run;
+use dom_interval::Interval;
 use io_edge::{Files, Sink, Source};
+use line_answers::machines_stay_fine;
 use std::alloc::Global;
 use std::sync::ledger::Ledger;
 use step_counter::Steps;
@@ -43,13 +48,13 @@ pub fn serve<F: Files, I: Source, O: Sink, L: Ledger>(
 ) -> u8
     ensures named { IsStatus result }
     // Where nothing failed and the script is short, exactly the output goes out, unless memory runs out.
-    ensures complete { (reading : Reading) (told : Told) → Tells reading (asked words.now) (F.told files.old) (I.told script.old) (O.told out.old) told
+    ensures complete { (readings : Readings) (told : Told) → Tells readings (asked words.now) (F.told files.old) (I.told script.old) (O.told out.old) told
         → ((Rose (F.faults files.old) (F.faults files.new)) ⊎ (Rose (I.faults script.old) (I.faults script.new)) ⊎ (Rose (O.faults out.old) (O.faults out.new)) → ⊥)
-        → length told.script < 2 ^ 40 → result ≢ 6 → WroteAll result (given reading (asked words.now) told) told.taken (O.told out.new) }
+        → length told.script < 2 ^ 40 → result ≢ 6 → WroteAll result (given readings (asked words.now) told) told.taken (O.told out.new) }
     // Which status the output then has, and what was written, at each status; so it is even where something failed.
-    ensures exactly { (reading : Reading) (told : Told) → TellsFiles (asked words.now) (F.told files.old) told.folder → Fits (status_of result) (given reading (asked words.now) told).status }
-    ensures written { (reading : Reading) (told : Told) → Tells reading (asked words.now) (F.told files.old) (I.told script.old) (O.told out.old) told
-        → Wrote (status_of result) (given reading (asked words.now) told) told.script told.taken (I.told script.new) (O.told out.new) }
+    ensures exactly { (readings : Readings) (told : Told) → TellsFiles (asked words.now) (F.told files.old) told.folder → Fits (status_of result) (given readings (asked words.now) told).status }
+    ensures written { (readings : Readings) (told : Told) → Tells readings (asked words.now) (F.told files.old) (I.told script.old) (O.told out.old) told
+        → Wrote (status_of result) (given readings (asked words.now) told) told.script told.taken (I.told script.new) (O.told out.new) }
     ensures words_exactly { (result ≡ 2 → asked words.now ≡ None) × (asked words.now ≡ None → (result ≡ 2) ⊎ (result ≡ 5) ⊎ (result ≡ 6)) }
     ensures read_to_end { result ≡ 0 → AsksToServe (asked words.now) → (text : List ℕ) → I.told script.old ≡ Some text → ReadToEnd text (I.told script.new) }
     ensures script_unread { (AsksToServe (asked words.now) → ⊥) → script.new ≡ script.old }
@@ -58,9 +63,18 @@ pub fn serve<F: Files, I: Source, O: Sink, L: Ledger>(
     ensures files_failed { result ≡ 7 → (Rose (F.faults files.old) (F.faults files.new)) ⊎ (LacksFile (F.told files.old) (asked words.now)) }
     ensures long_script { result ≡ 8 → AsksToServe (asked words.now) × ((text : List ℕ) → I.told script.old ≡ Some text → ReadBytes (2 ^ 40) text (I.told script.new)) }
     ensures nothing_written { (result ≡ 7) ⊎ (result ≡ 9) → O.told out.new ≡ O.told out.old }
-    ensures memo_unseen { (reading : Reading) (settings : Settings) (memo other : ℕ) (file : List ℕ) (folder : List ℕ → Option (List ℕ)) (text : List ℕ)
-        → output reading (Some (job.Serve settings memo file)) folder text ≡ output reading (Some (job.Serve settings other file)) folder text }
+    // At each moment of each script: a line that is answered by a state, as a question or as a step of a ticket, describes
+    // every configuration that a run of the program present then reaches there; in a report no run fails a check that is
+    // safe, none comes to a statement that is dead.
+    ensures sound { (readings : Readings) (folder : List ℕ → Option (List ℕ)) (program : List Procedure) (before : List (List ℕ)) (line : List ℕ) → IsAccepted readings (asked words.now) folder program
+        → IsSoundAfter (meaning_of (domain_in (asked words.now))) readings (engine_in (asked words.now)) program before line }
+    ensures reports_sound { (readings : Readings) (folder : List ℕ → Option (List ℕ)) (program : List Procedure) → IsAccepted readings (asked words.now) folder program
+        → IsBatchSound (meaning_of (domain_in (asked words.now))) (engine_in (asked words.now)) program }
+    // No byte depends on how many results are remembered.
+    ensures memo_unseen { (readings : Readings) (settings : Settings) (memo other : ℕ) (file : List ℕ) (folder : List ℕ → Option (List ℕ)) (text : List ℕ)
+        → output readings (Some (job.Serve settings memo file)) folder text ≡ output readings (Some (job.Serve settings other file)) folder text }
 {
     named_domains_are_sound();
+    machines_stay_fine::<Interval>();
     run(alloc, words, files, script, out, steps).code()
 }

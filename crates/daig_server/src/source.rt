@@ -1,15 +1,18 @@
 //! From the bytes of a file to a program without faults, or the refusal: `source_of` of
 //! `specs/Sources.antt`.
-ghost use Rattle.std.specs.Prelude.{◌≡◌, ◌<◌, ◌^◌, ℕ, List, length, IfOk, IfErr, None, Ok};
+ghost use Rattle.std.specs.Prelude.{◌≡◌, ◌<◌, ◌^◌, length, IfOk, IfErr, None, Ok};
 ghost use Rattle.imp_check.specs.Programs.{AreNumbered, check_fault};
-ghost use Rattle.daig_server.specs.Sources.{Reading, source_of, unless_faulty, IsSourceError};
+ghost use Rattle.line_answers.specs.Readings.{Readings};
+ghost use Rattle.daig_server.specs.Sources.{source_of, unless_faulty, IsSourceError};
 ghost use Rattle.daig_server.specs.Works.{program_in, task_in, IsNumbered};
 ghost use Rattle.daig_server.specs.declared.source.SourceError.TheVariants.{Memory as of_memory};
 
 use crate::task::{Task, Work};
+use dom_interval::Interval;
 use imp_check::{CheckError, Checked, Table, check, check_table};
-use imp_parse::{ParseError, each_text_has_one_answer, parse_program};
+use imp_parse::{ParseError, parse_program};
 use imp_syntax::Program;
+use line_answers::{machines_stay_fine, texts_are_read};
 use line_replies::{fault_refusal, text_refusal};
 use plain_values::Memory;
 use request_json::Refusal;
@@ -66,10 +69,9 @@ fn checked(alloc: Global, program: Program) -> Result<Checked, SourceError>
 /// The program of a text, whose faults are not yet known.
 fn read_program(alloc: Global, source: &[u8]) -> Result<Program, SourceError>
     requires short { length source.now < 2 ^ 31 }
-    ensures read { IfOk result (λ p. (reading : Reading) → reading.source.answer source.now ≡ Ok p) }
+    ensures read { IfOk result (λ p. (readings : Readings) → readings.program.answer source.now ≡ Ok p) }
     ensures numbered { IfOk result AreNumbered }
-    ensures below { IfOk result IsNumbered }
-    ensures refused { IfErr result (λ e. (reading : Reading) → IsSourceError (source_of reading source.now) e) }
+    ensures refused { IfErr result (λ e. (readings : Readings) → IsSourceError (source_of readings source.now) e) }
 {
     match parse_program(alloc, source) {
         Ok(program) => Ok(program),
@@ -106,21 +108,13 @@ fn work_for(alloc: Global, task: Task, program: Program) -> Result<Work, SourceE
 /// [`SourceError::Memory`] for want of memory.
 pub(crate) fn read_source(alloc: Global, task: Task, source: &[u8]) -> Result<Work, SourceError>
     requires short { length source.now < 2 ^ 31 }
-    ensures accepted { IfOk result (λ w. (reading : Reading) → source_of reading source.now ≡ Ok (program_in w)) }
+    ensures accepted { IfOk result (λ w. (readings : Readings) → source_of readings source.now ≡ Ok (program_in w)) }
     ensures task { IfOk result (λ w. task_in w ≡ task) }
     ensures numbered { IfOk result (λ w. IsNumbered (program_in w)) }
-    ensures refused { IfErr result (λ e. (reading : Reading) → IsSourceError (source_of reading source.now) e) }
+    ensures refused { IfErr result (λ e. (readings : Readings) → IsSourceError (source_of readings source.now) e) }
 {
+    texts_are_read();
+    machines_stay_fine::<Interval>();
     let program = read_program(alloc, source)?;
     work_for(alloc, task, program)
-}
-
-/// Texts are read in one way and no other, so what the clauses of [`serve`](crate::serve) say of every
-/// reading is said of a reading that is there.
-pub fn texts_are_read()
-    ensures there { Reading }
-    ensures only { (a b : Reading) (text : List ℕ) → a.source.answer text ≡ b.source.answer text }
-{
-    each_text_has_one_answer();
-    line_answers::texts_are_read();
 }

@@ -4,8 +4,9 @@ ghost use Rattle.io_edge.specs.Outside.{Rose};
 ghost use Rattle.script_loop.specs.Replies.{ReadToEnd, ReadBytes};
 ghost use Rattle.daig_server.specs.Ends.{Fits, Wrote};
 ghost use Rattle.daig_server.specs.Jobs.{engine_of, Serves};
-ghost use Rattle.daig_server.specs.Output.{batch_bytes, program_bytes, served, served_bytes};
-ghost use Rattle.daig_server.specs.Sources.{Reading};
+ghost use Rattle.daig_server.specs.Output.{batch_bytes, program_bytes, served_bytes};
+ghost use Rattle.line_answers.specs.Readings.{Readings};
+ghost use Rattle.line_answers.specs.Fine.{opening};
 ghost use Rattle.daig_server.specs.Works.{program_in, task_in, IsNumbered, Remembers};
 
 use crate::batch::listed;
@@ -39,8 +40,8 @@ fn serve_program<D: Named, I: Source, O: Sink, L: Ledger>(
     requires memo { 0 < memo }
     requires numbered { IsNumbered table.program }
     ensures fits { Fits result 0 }
-    ensures wrote { (reading : Reading) (text taken : List ℕ) → I.told script.old ≡ Some text → O.told out.old ≡ Some taken
-        → Wrote result (record { status = 0; bytes = served_bytes D.name (served reading (engine_of settings.now) table.program) text }) text taken (I.told script.new) (O.told out.new) }
+    ensures wrote { (readings : Readings) (text taken : List ℕ) → I.told script.old ≡ Some text → O.told out.old ≡ Some taken
+        → Wrote result (record { status = 0; bytes = served_bytes D.name (opening readings (engine_of settings.now) table.program) text }) text taken (I.told script.new) (O.told out.new) }
     ensures ended { result ≡ Status.Done → (text : List ℕ) → I.told script.old ≡ Some text → ReadToEnd text (I.told script.new) }
     ensures long { result ≡ Status.LongScript → (text : List ℕ) → I.told script.old ≡ Some text → ReadBytes (2 ^ 40) text (I.told script.new) }
     ensures script_failed { result ≡ Status.Script → Rose (I.faults script.old) (I.faults script.new) }
@@ -99,8 +100,8 @@ fn work_by<D: Named, I: Source, O: Sink, L: Ledger>(
     requires remembers { Remembers (task_in work) }
     requires numbered { IsNumbered (program_in work) }
     ensures fits { Fits result 0 }
-    ensures wrote { (reading : Reading) (text taken : List ℕ) → (Serves (task_in work) → I.told script.old ≡ Some text) → O.told out.old ≡ Some taken
-        → Wrote result (record { status = 0; bytes = program_bytes reading settings.now.domain (engine_of settings.now) (task_in work) (program_in work) text }) text taken (I.told script.new) (O.told out.new) }
+    ensures wrote { (readings : Readings) (text taken : List ℕ) → (Serves (task_in work) → I.told script.old ≡ Some text) → O.told out.old ≡ Some taken
+        → Wrote result (record { status = 0; bytes = program_bytes readings settings.now.domain (engine_of settings.now) (task_in work) (program_in work) text }) text taken (I.told script.new) (O.told out.new) }
     ensures ended { result ≡ Status.Done → Serves (task_in work) → (text : List ℕ) → I.told script.old ≡ Some text → ReadToEnd text (I.told script.new) }
     ensures unread { (Serves (task_in work) → ⊥) → script.new ≡ script.old }
     ensures long { result ≡ Status.LongScript → Serves (task_in work) × ((text : List ℕ) → I.told script.old ≡ Some text → ReadBytes (2 ^ 40) text (I.told script.new)) }
@@ -130,8 +131,8 @@ pub(crate) fn do_work<I: Source, O: Sink, L: Ledger>(
     requires remembers { Remembers (task_in work) }
     requires numbered { IsNumbered (program_in work) }
     ensures fits { Fits result 0 }
-    ensures wrote { (reading : Reading) (text taken : List ℕ) → (Serves (task_in work) → I.told script.old ≡ Some text) → O.told out.old ≡ Some taken
-        → Wrote result (record { status = 0; bytes = program_bytes reading settings.now.domain (engine_of settings.now) (task_in work) (program_in work) text }) text taken (I.told script.new) (O.told out.new) }
+    ensures wrote { (readings : Readings) (text taken : List ℕ) → (Serves (task_in work) → I.told script.old ≡ Some text) → O.told out.old ≡ Some taken
+        → Wrote result (record { status = 0; bytes = program_bytes readings settings.now.domain (engine_of settings.now) (task_in work) (program_in work) text }) text taken (I.told script.new) (O.told out.new) }
     ensures ended { result ≡ Status.Done → Serves (task_in work) → (text : List ℕ) → I.told script.old ≡ Some text → ReadToEnd text (I.told script.new) }
     ensures unread { (Serves (task_in work) → ⊥) → script.new ≡ script.old }
     ensures long { result ≡ Status.LongScript → Serves (task_in work) × ((text : List ℕ) → I.told script.old ≡ Some text → ReadBytes (2 ^ 40) text (I.told script.new)) }
