@@ -87,6 +87,7 @@ impl<D: Domain> Session<D> {
     /// The number of the next new statement.
     pub fn next(&self) -> u32
         ensures is { (m : Machine) → Holds (D.operations self.now.engine.domain) self.now.engine.store self.now.book m → result ≡ m.next }
+        ensures same { result ≡ self.now.book.next }
     {
         self.book.next
     }
