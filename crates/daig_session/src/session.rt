@@ -110,6 +110,7 @@ impl<D: Domain> Session<D> {
     /// The number of the next ticket.
     pub fn next_ticket(&self) -> u64
         ensures is { (m : Machine) → Holds (D.operations self.now.engine.domain) self.now.engine.store self.now.book m → result ≡ m.next_ticket }
+        ensures same { result ≡ self.now.book.tickets.next }
     {
         self.book.tickets.next
     }
