@@ -1,3 +1,4 @@
 pub mod WriteLemmas
 pub mod LineLemmas
 pub mod ScriptLemmas
+pub mod LastLemmas

@@ -1,5 +1,5 @@
 //! What answers line by line.
-ghost use Rattle.std.specs.Prelude.{◌≡◌, IfOk, OnOk};
+ghost use Rattle.std.specs.Prelude.{◌≡◌, ℕ, suc, IfOk, OnOk};
 ghost use Rattle.script_loop.specs.Replies.{Machine};
 
 use plain_values::Memory;
@@ -21,6 +21,9 @@ pub trait Answerer {
     /// It stands for the machine in this state.
     ghost stands: { Self → State → Type 0 };
 
+    /// It can answer so many lines more: what it counts by does not run out before.
+    ghost lasts: { Self → ℕ → Type 0 };
+
     /// The reply to the line, which comes without its LF; `steps` is lent for what is counted.
     /// After an error it stands for no state that is known.
     fn answer<L: Ledger>(
@@ -29,8 +32,10 @@ pub trait Answerer {
         line: &[u8],
         steps: &mut Steps<L>,
     ) -> Result<Vec<u8>, Memory>
+        requires lasts { (n : ℕ) × lasts self.old (suc n) }
         ensures reply { IfOk result (λ v. (m : State) → stands self.old m → v.items ≡ machine.reply m line.now) }
-        ensures next { OnOk result ((m : State) → stands self.old m → stands self.new (machine.next m line.now)) };
+        ensures next { OnOk result ((m : State) → stands self.old m → stands self.new (machine.next m line.now)) }
+        ensures lasts { OnOk result ((n : ℕ) → lasts self.old (suc n) → lasts self.new n) };
 
     /// The reply to a line that is too long. It leaves the machine in its state.
     fn answer_long(&self, alloc: Global) -> Result<Vec<u8>, Memory>

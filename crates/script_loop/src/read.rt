@@ -1,6 +1,7 @@
 //! Reading a script and answering its lines.
-ghost use Rattle.std.specs.Prelude.{◌≡◌, ◌≤◌, ◌<◌, ◌^◌, ◌++◌, ◌⊎◌, ℕ, List, [], ◌∷◌, length, Some, IfOk, IfErr, OnOk, OnErr, IsErrOf, IfSome};
+ghost use Rattle.std.specs.Prelude.{◌≡◌, ◌≤◌, ◌<◌, ◌^◌, ◌++◌, ◌⊎◌, ◌+◌, ℕ, suc, List, [], ◌∷◌, length, Some, IfOk, IfErr, OnOk, OnErr, IsErrOf, IfSome};
 ghost use Rattle.io_edge.specs.Outside.{Rose, HandsOut};
+ghost use Rattle.script_loop.specs.Lasts.{LastsFor};
 ghost use Rattle.script_loop.specs.Lines.{whole_lines, last_part, last_line, all_lines, kept};
 ghost use Rattle.script_loop.specs.Replies.{reply_to, next_to, replies, after, ReadToEnd, AnsweredRead, ReadBytes, WrotePrefix, WroteLines};
 
@@ -27,8 +28,10 @@ fn reply_to<A: Answerer, L: Ledger>(
     line: &Pending,
     steps: &mut Steps<L>,
 ) -> Result<Vec<u8>, Memory>
+    requires lasts { LastsFor (A.lasts answerer.old) 1 }
     ensures reply { IfOk result (λ v. (m : A.State) → A.stands answerer.old m → v.items ≡ reply_to A.machine m line.now) }
     ensures next { OnOk result ((m : A.State) → A.stands answerer.old m → A.stands answerer.new (next_to A.machine m line.now)) }
+    ensures lasts { OnOk result ((n : ℕ) → LastsFor (A.lasts answerer.old) (suc n) → LastsFor (A.lasts answerer.new) n) }
 {
     match line.part() {
         Some(part) => answerer.answer(alloc, part, steps),
@@ -44,7 +47,9 @@ fn answer_line<A: Answerer, O: Sink, L: Ledger>(
     out: &mut O,
     steps: &mut Steps<L>,
 ) -> Result<(), Stop>
+    requires lasts { LastsFor (A.lasts answerer.old) 1 }
     ensures next { OnOk result ((m : A.State) → A.stands answerer.old m → A.stands answerer.new (next_to A.machine m line.now)) }
+    ensures lasts { OnOk result ((n : ℕ) → LastsFor (A.lasts answerer.old) (suc n) → LastsFor (A.lasts answerer.new) n) }
     ensures written { OnOk result ((m : A.State) → A.stands answerer.old m → (taken : List ℕ) → O.told out.old ≡ Some taken → O.told out.new ≡ Some (taken ++ reply_to A.machine m line.now)) }
     ensures prefix { IsErrOf result Stop.Sink → (m : A.State) → A.stands answerer.old m → (taken : List ℕ) → O.told out.old ≡ Some taken → WrotePrefix (reply_to A.machine m line.now) taken (O.told out.new) }
     ensures failed { IsErrOf result Stop.Sink → Rose (O.faults out.old) (O.faults out.new) }
@@ -88,8 +93,10 @@ fn answer_byte<A: Answerer, O: Sink, L: Ledger>(
     out: &mut O,
     steps: &mut Steps<L>,
 ) -> Result<(), Stop>
+    requires lasts { LastsFor (A.lasts answerer.old) 1 }
     ensures pending { OnOk result ((part : List ℕ) → pending.old ≡ kept part → pending.new ≡ kept (last_part part (byte ∷ []))) }
     ensures next { OnOk result ((m : A.State) → A.stands answerer.old m → (part : List ℕ) → pending.old ≡ kept part → A.stands answerer.new (after A.machine m (whole_lines part (byte ∷ [])))) }
+    ensures lasts { OnOk result ((n : ℕ) → LastsFor (A.lasts answerer.old) (suc n) → LastsFor (A.lasts answerer.new) n) }
     ensures written { OnOk result ((m : A.State) → A.stands answerer.old m → (part taken : List ℕ) → pending.old ≡ kept part → O.told out.old ≡ Some taken
         → O.told out.new ≡ Some (taken ++ replies A.machine m (whole_lines part (byte ∷ [])))) }
     ensures prefix { IsErrOf result Stop.Sink → (m : A.State) → A.stands answerer.old m → (part taken : List ℕ) → pending.old ≡ kept part → O.told out.old ≡ Some taken
@@ -126,8 +133,10 @@ fn answer_block<A: Answerer, O: Sink, L: Ledger>(
     out: &mut O,
     steps: &mut Steps<L>,
 ) -> Result<(), Stop>
+    requires lasts { LastsFor (A.lasts answerer.old) (length block.now) }
     ensures pending { OnOk result ((part : List ℕ) → pending.old ≡ kept part → pending.new ≡ kept (last_part part block.now)) }
     ensures next { OnOk result ((m : A.State) → A.stands answerer.old m → (part : List ℕ) → pending.old ≡ kept part → A.stands answerer.new (after A.machine m (whole_lines part block.now))) }
+    ensures lasts { OnOk result ((n : ℕ) → LastsFor (A.lasts answerer.old) (length block.now + n) → LastsFor (A.lasts answerer.new) n) }
     ensures written { OnOk result ((m : A.State) → A.stands answerer.old m → (part taken : List ℕ) → pending.old ≡ kept part → O.told out.old ≡ Some taken
         → O.told out.new ≡ Some (taken ++ replies A.machine m (whole_lines part block.now))) }
     ensures prefix { IsErrOf result Stop.Sink → (m : A.State) → A.stands answerer.old m → (part taken : List ℕ) → pending.old ≡ kept part → O.told out.old ≡ Some taken
@@ -155,6 +164,7 @@ fn answer_rest<A: Answerer, O: Sink, L: Ledger>(
     out: &mut O,
     steps: &mut Steps<L>,
 ) -> Result<(), Stop>
+    requires lasts { LastsFor (A.lasts answerer.old) 1 }
     ensures written { OnOk result ((m : A.State) → A.stands answerer.old m → (part taken : List ℕ) → pending.now ≡ kept part → O.told out.old ≡ Some taken
         → O.told out.new ≡ Some (taken ++ replies A.machine m (last_line part))) }
     ensures prefix { IsErrOf result Stop.Sink → (m : A.State) → A.stands answerer.old m → (part taken : List ℕ) → pending.now ≡ kept part → O.told out.old ≡ Some taken
@@ -173,7 +183,7 @@ fn answer_rest<A: Answerer, O: Sink, L: Ledger>(
 
 /// Answers each line of the script as soon as its end is read, and a last line without LF at the
 /// end of the script. A line of more than 65,536 bytes gets the reply to a long line. Reads at most
-/// 2^40 bytes.
+/// 2^40 bytes, so at most so many lines.
 ///
 /// What is written are the replies of the machine from each state that the answerer stood for at the
 /// start. What was written when it stops short: at [`Stop::Script`] and [`Stop::Long`] the replies to the
@@ -186,6 +196,7 @@ pub fn answer_script<A: Answerer, I: Source, O: Sink, L: Ledger>(
     out: &mut O,
     steps: &mut Steps<L>,
 ) -> Result<(), Stop>
+    requires lasts { A.lasts answerer.old (2 ^ 40) }
     ensures ended { OnOk result ((text : List ℕ) → I.told script.old ≡ Some text → ReadToEnd text (I.told script.new)) }
     ensures answered { OnOk result ((m : A.State) → A.stands answerer.old m → (text taken : List ℕ) → I.told script.old ≡ Some text → O.told out.old ≡ Some taken
         → O.told out.new ≡ Some (taken ++ replies A.machine m (all_lines text))) }

@@ -5,11 +5,17 @@ pub returns-clause-there : goal.returns-clause-there
 returns-clause-there c =
     let one = c.each_text_has_one_answer.ensures in
     record {
+      program = record { answer = λ text. (one.program text).0; exact = λ text. (one.program text).1 };
       simple = λ next. record { answer = λ text. (one.simple next text).0; exact = λ text. (one.simple next text).1 };
       statements = λ next. record { answer = λ text. (one.body next text).0; exact = λ text. (one.body next text).1 };
       condition = record { answer = λ text. (one.condition text).0; exact = λ text. (one.condition text).1 };
       procedure = λ next. record { answer = λ text. (one.procedure next text).0; exact = λ text. (one.procedure next text).1 };
     }
+
+pub returns-clause-only_program : goal.returns-clause-only_program
+returns-clause-only_program c = λ a b text.
+    let one = c.each_text_has_one_answer.ensures.program text in
+    one.2 (a.program.answer text) (a.program.exact text) ∙ sym (one.2 (b.program.answer text) (b.program.exact text))
 
 pub returns-clause-only_simple : goal.returns-clause-only_simple
 returns-clause-only_simple c = λ a b next text.

@@ -1,8 +1,17 @@
-use Rattle.std.proofs.Common.{◌+◌, ◌++◌, ◌∙◌, [], ◌∷◌, Some, take, drop, slice_index_or, ap, refl, arith}
+use Rattle.std.proofs.Common.{◌+◌, ◌++◌, ◌∙◌, [], ◌∷◌, Some, suc, length, take, drop, slice_index_or, ap, refl, arith}
 use Rattle.script_loop.specs.Lines.{whole_lines, last_part, kept}
 use Rattle.script_loop.specs.Replies.{replies, after}
+use Rattle.script_loop.proofs.LastLemmas.{fewer}
 use Rattle.script_loop.proofs.LineLemmas.{lines_around, prefix_behind, lines_behind, replies_behind, holds_behind, part_more, lines_more}
 use Rattle.script_loop.proofs.read.answer_block.Goals as goal
+
+pub answer_byte-requires : goal.answer_byte-requires
+answer_byte-requires g c = record {
+  lasts = c.loop-byte.invariant.lasts 1 (fewer (length c.args.block.now) (c.loop-byte.byte-index + 1) (omega arith) c.requires.lasts);
+}
+
+pub returns-clause-lasts : goal.returns-clause-lasts
+returns-clause-lasts g c = λ n for. c.loop-byte.invariant.lasts n (fewer (length c.args.block.now + n) (c.loop-byte.byte-index + n) (omega arith) for)
 
 pub returns-in-Err-clause-prefix : goal.returns-in-Err-clause-prefix
 returns-in-Err-clause-prefix g c = λ sink m stands part taken is told.
@@ -43,6 +52,7 @@ loop-byte-preserved g c =
           holds_behind machine (g.A.Answerer.stands _) m (whole_lines part (take i block)) (whole_lines (last_part part (take i block)) (b ∷ [])) (whole_lines part (take (i + 1) block))
           (lines_more part (last_part part (take i block)) block i b c.loop-byte-test.true refl refl)
           (call.next (after machine m (whole_lines part (take i block))) (c.loop-byte.invariant.next m stands part is) (last_part part (take i block)) (c.loop-byte.invariant.pending part is));
+      lasts = λ n for. call.lasts n (c.loop-byte.invariant.lasts (suc n) (fewer (i + 1 + n) (i + suc n) (omega arith) for));
       rises = omega arith;
       written = λ m stands part taken is told.
           call.written (after machine m (whole_lines part (take i block))) (c.loop-byte.invariant.next m stands part is) (last_part part (take i block)) (taken ++ replies machine m (whole_lines part (take i block)))

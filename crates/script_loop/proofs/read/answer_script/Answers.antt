@@ -1,9 +1,35 @@
-use Rattle.std.proofs.Common.{◌≡◌, ◌++◌, take, refl, arith, ap, sym, ◌∙◌}
+use Rattle.std.proofs.Common.{◌≡◌, ℕ, Some, append-nil, ◌++◌, ◌+◌, ◌-◌, length, length-take, take, refl, arith, ap, sym, ◌∙◌}
 use Rattle.script_loop.specs.Lines.{kept}
 use Rattle.script_loop.specs.Replies.{replies, after}
+use Rattle.script_loop.proofs.LastLemmas.{fewer}
 use Rattle.script_loop.proofs.LineLemmas.{on_ok}
-use Rattle.script_loop.proofs.ScriptLemmas.{lines_read, part_read, handed_out, stands_more, part_on, holds_more, written_more, block_prefix, block_lines, read_to_end, all_answered, end_prefix, end_lines, read_so_far, read_bytes}
+use Rattle.script_loop.proofs.ScriptLemmas.{stands_first, lines_read, part_read, handed_out, stands_more, part_on, holds_more, written_more, block_prefix, block_lines, read_to_end, all_answered, end_prefix, end_lines, read_so_far, read_bytes}
 use Rattle.script_loop.proofs.read.answer_script.Goals as goal
+
+pub loop-total-init : goal.loop-total-init
+loop-total-init g c = record {
+  few = omega arith;
+  lasts = record { most = 1099511627776; enough = omega arith; held = c.requires.lasts };
+  stands = λ text told. stands_first text _ told;
+  pending = λ text told. c.new-pending.ensures.empty;
+  next = λ m stands text told. stands;
+  written = λ m stands text taken told_text told_taken. told_taken ∙ ap Some (sym (append-nil taken));
+  script_rises = omega arith;
+  sink_rises = omega arith;
+}
+
+pub answer_rest-requires : goal.answer_rest-requires
+answer_rest-requires g c = record {
+  lasts = fewer (1099511627776 - c.loop-total.total) 1 (omega arith) c.loop-total.invariant.lasts;
+}
+
+pub answer_block-requires : goal.answer_block-requires
+answer_block-requires g c = record {
+  lasts =
+      let more = (c.in-Ok.ensures {u = tt}).no_more in
+      fewer (1099511627776 - c.loop-total.total) (length (take c.in-Ok.count c.read_block.new.block))
+      (omega (arith, more, length-take {A = ℕ})) c.loop-total.invariant.lasts;
+}
 
 pub returns-in-Err-clause-script_lines : goal.returns-in-Err-clause-script_lines
 returns-in-Err-clause-script_lines g c = λ _ m stands text taken told_text told_taken.
@@ -44,6 +70,11 @@ loop-total-preserved g c =
     let machine = g.A.Answerer.machine in
     let block = c.in-Ok-answer_block.ensures {u = tt} in
     record {
+      lasts =
+          let more = (c.in-Ok.ensures {u = tt}).no_more in
+          block.lasts (1099511627776 - (c.loop-total.total + c.in-Ok.count))
+          (fewer (1099511627776 - c.loop-total.total) (length (take c.in-Ok.count c.read_block.new.block) + (1099511627776 - (c.loop-total.total + c.in-Ok.count)))
+          (omega (arith, more, length-take {A = ℕ})) c.loop-total.invariant.lasts);
       few = let more = (c.in-Ok.ensures {u = tt}).no_more in omega (arith, more);
       stands = λ text told_text.
           stands_more text c.loop-total.total _ c.in-Ok.count _

@@ -1,4 +1,5 @@
 use Rattle.std.proofs.Common.{◌≡◌, ◌≤◌, ◌++◌, ◌-◌, List, ℕ, Some}
+use Rattle.script_loop.specs.Lasts.{LastsFor}
 use Rattle.script_loop.specs.Lines.{kept}
 use Rattle.script_loop.specs.Replies.{replies, after}
 use Rattle.script_loop.proofs.ScriptLemmas.{Stands, lines_read, part_read}
@@ -8,6 +9,7 @@ use Rattle.script_loop.proofs.read.answer_script.Given as goal
 abbrev pub invariant-loop-total : goal.invariant-loop-total
 invariant-loop-total g l = record {
   few : l.total ≤ 1099511627776;
+  lasts : LastsFor (g.A.Answerer.lasts l.answerer) (1099511627776 - l.total);
   stands : (text : List ℕ) → g.I.Source.told l.initial.script ≡ Some text → Stands text l.total (g.I.Source.told l.script);
   pending : (text : List ℕ) → g.I.Source.told l.initial.script ≡ Some text → l.pending ≡ kept (part_read text l.total);
   next : (m : g.A.Answerer.State) → g.A.Answerer.stands l.initial.answerer m → (text : List ℕ) → g.I.Source.told l.initial.script ≡ Some text →
