@@ -16,7 +16,7 @@ not_false : (b : Bool) → false ≡ not b → b ≡ true
 not_false true e = refl
 not_false false e = absurd (false≢true e)
 
-pub number_is : (least most n : ℕ) (text : List ℕ) → n < 2 ^ 32 → text ≡ decimal n → least ≤ n → n ≤ most → number_in least most text ≡ Some n
+pub number_is : (least most n : ℕ) (text : List ℕ) → n < 2 ^ 64 → text ≡ decimal n → least ≤ n → n ≤ most → number_in least most text ≡ Some n
 unfolding number_in
 number_is least most n text small is low high =
     let value : digits_value 10 text ≡ n = ap (digits_value 10) is ∙ (decimal_is_IsNumeral n (omega arith)).1 in
@@ -44,10 +44,10 @@ number_none least most text never =
     (λ all. let parts = number_parts least most n text all in never n parts.0 parts.1 parts.2)
 
 -- where a text is read, whatever number within the bounds it is was read
-pub number_not_read : {E : Type 0} (least most : ℕ) (text : List ℕ) (r : Result ℕ E) → most < 2 ^ 32 → ParsesUnsigned 32 10 text r →
+pub number_not_read : {E : Type 0} (least most : ℕ) (text : List ℕ) (r : Result ℕ E) → most < 2 ^ 64 → ParsesUnsigned 64 10 text r →
     ((n : ℕ) → r ≡ Ok n → text ≡ decimal n → least ≤ n → n ≤ most → ⊥) → number_in least most text ≡ None
 number_not_read least most text r small reads never =
-    number_none least most text (λ n is low high. never n (parse-decimal 32 n text r (omega arith) (omega arith) is reads) is low high)
+    number_none least most text (λ n is low high. never n (parse-decimal 64 n text r (omega arith) (omega arith) is reads) is low high)
 
 -- a text that is not written as the number, and one that is
 pub written_otherwise : (written text : List ℕ) → true ≡ not (bytes_eq written text) → written ≡ text → ⊥

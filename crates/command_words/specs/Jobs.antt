@@ -45,12 +45,25 @@ serve_in rows =
 abbrev pub batch_in : List Row → Option Job
 batch_in rows = both job.Batch (settings_in rows) (file_in rows)
 
+-- the most that a seed is: 2^63 - 1
+abbrev pub most_seed : ℕ
+most_seed = 9223372036854775807
+
+abbrev pub gen_with : DomainName → (seed size : ℕ) → Job
+gen_with domain seed size = job.Gen seed size domain
+
+abbrev pub gen_in : List Row → Option Job
+gen_in rows =
+    option_and_then (λ domain. both (gen_with domain) (value_in (number_in 0 most_seed) (codes "seed") rows) (value_in (number_in 1 1000) (codes "size") rows))
+    (value_in domain_of (codes "domain") rows)
+
 -- the job of a command that was named, by the values of its arguments
 unfoldable pub job_in : Text × List Row → Option Job
 job_in command =
     if bytes_eq command.0 (codes "serve") then serve_in command.1
     else (if bytes_eq command.0 (codes "batch") then batch_in command.1
-    else None)
+    else (if bytes_eq command.0 (codes "gen") then gen_in command.1
+    else None))
 
 -- The job of the words, of which the first is the program's own name: that of the command that they name, where
 -- `clap` finds no fault in them and each value is in form.

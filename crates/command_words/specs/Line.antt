@@ -8,6 +8,10 @@ use Rattle.clap.specs.declared.builder.action.ArgAction.TheVariants.{Set}
 abbrev pub option_of : Text → Text → Rule
 option_of name default = record (new_rule name) { long = Some name; action = Some Set; defaults = default ∷ [] }
 
+-- an option that has a value and has to be there
+abbrev pub needed_of : Text → Rule
+needed_of name = record (new_rule name) { long = Some name; action = Some Set; required = true }
+
 abbrev pub domain_rule : Rule
 domain_rule = option_of (codes "domain") (codes "interval")
 
@@ -23,19 +27,28 @@ budget_rule = option_of (codes "budget") (codes "100")
 abbrev pub memo_rule : Rule
 memo_rule = option_of (codes "memo") (codes "1024")
 
+abbrev pub seed_rule : Rule
+seed_rule = needed_of (codes "seed")
+
+abbrev pub size_rule : Rule
+size_rule = needed_of (codes "size")
+
 -- the file, which has to be there
 abbrev pub file_rule : Rule
 file_rule = record (new_rule (codes "FILE")) { action = Some Set; required = true }
 
--- the two commands, and the program
+-- the three commands, and the program
 abbrev pub serve_shape : Shape
 serve_shape = record (new_shape (codes "serve")) { rules = domain_rule ∷ widening_rule ∷ delay_rule ∷ budget_rule ∷ memo_rule ∷ file_rule ∷ [] }
 
 abbrev pub batch_shape : Shape
 batch_shape = record (new_shape (codes "batch")) { rules = domain_rule ∷ widening_rule ∷ delay_rule ∷ budget_rule ∷ file_rule ∷ [] }
 
+abbrev pub gen_shape : Shape
+gen_shape = record (new_shape (codes "gen")) { rules = domain_rule ∷ seed_rule ∷ size_rule ∷ [] }
+
 abbrev pub daig_app : App
 daig_app = record {
   top = record (new_shape (codes "daig")) { is_leaf = false; disable_help_flag = true; disable_help_subcommand = true };
-  subs = serve_shape ∷ batch_shape ∷ [];
+  subs = serve_shape ∷ batch_shape ∷ gen_shape ∷ [];
 }

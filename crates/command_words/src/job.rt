@@ -26,6 +26,15 @@ pub enum Job {
         /// The program's file.
         file: FileName,
     },
+    /// A generated script over a generated program, summed up.
+    Gen {
+        /// What the draws begin with, below 2^63.
+        seed: u64,
+        /// How many pieces and turns are drawn, 1 to 1,000.
+        size: u32,
+        /// What is known of variables.
+        domain: DomainName,
+    },
 }
 
 /// How a program is analysed.

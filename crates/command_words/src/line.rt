@@ -4,7 +4,7 @@ ghost use Rattle.std.specs.Prelude.{◌≡◌, IfOk, codes, false};
 ghost use Rattle.clap.specs.Walk.{rule_of};
 ghost use Rattle.clap.specs.Simple.{app_of, shape_of, with_rule, with_subcommand};
 ghost use Rattle.clap.specs.declared.builder.command.Command.TheViews.{out-Command as fields_of};
-ghost use Rattle.command_words.specs.Line.{option_of, domain_rule, widening_rule, delay_rule, budget_rule, memo_rule, file_rule, serve_shape, batch_shape, daig_app};
+ghost use Rattle.command_words.specs.Line.{option_of, needed_of, domain_rule, widening_rule, delay_rule, budget_rule, memo_rule, seed_rule, size_rule, file_rule, serve_shape, batch_shape, gen_shape, daig_app};
 
 use clap::{Arg, ArgAction, Command};
 use plain_values::Memory;
@@ -19,6 +19,17 @@ fn option_of<'a>(alloc: Global, name: &'a str, default: &'a str) -> Arg<'a>
         .long(name)
         .action(ArgAction::Set)
         .default_value(default)
+}
+
+/// An option that has a value and has to be there.
+fn needed_of<'a>(alloc: Global, name: &'a str) -> Arg<'a>
+    ensures rule { rule_of result ≡ needed_of name.entry.now }
+    ensures local { result.global ≡ false }
+{
+    Arg::new(alloc, name)
+        .long(name)
+        .required(true)
+        .action(ArgAction::Set)
 }
 
 /// The file.
@@ -42,6 +53,19 @@ fn with_option<'a>(
     ensures local { IfOk result (λ made. (fields_of made).has_globals ≡ (fields_of command.entry).has_globals) }
 {
     let command = command.arg(option_of(alloc, name, default))?;
+    Ok(command)
+}
+
+/// The command with one more option that has to be there.
+fn with_needed<'a>(
+    alloc: Global,
+    command: Command<'a>,
+    name: &'a str,
+) -> Result<Command<'a>, Memory>
+    ensures app { IfOk result (λ made. app_of made ≡ with_rule (app_of command.entry) (needed_of name.entry.now)) }
+    ensures local { IfOk result (λ made. (fields_of made).has_globals ≡ (fields_of command.entry).has_globals) }
+{
+    let command = command.arg(needed_of(alloc, name))?;
     Ok(command)
 }
 
@@ -84,6 +108,16 @@ fn batch<'a>(alloc: Global) -> Result<Command<'a>, Memory>
     with_file(alloc, command)
 }
 
+/// The command `gen`.
+fn generates<'a>(alloc: Global) -> Result<Command<'a>, Memory>
+    ensures shape { IfOk result (λ made. shape_of made ≡ gen_shape) }
+    ensures local { IfOk result (λ made. (fields_of made).has_globals ≡ false) }
+{
+    let command = with_option(alloc, Command::new(alloc, "gen"), "domain", "interval")?;
+    let command = with_needed(alloc, command, "seed")?;
+    with_needed(alloc, command, "size")
+}
+
 /// The command with one more command below it.
 fn with_command<'a>(command: Command<'a>, below: Command<'a>) -> Result<Command<'a>, Memory>
     requires local { (fields_of below).has_globals ≡ false }
@@ -101,5 +135,6 @@ pub(crate) fn daig<'a>(alloc: Global) -> Result<Command<'a>, Memory>
         .disable_help_flag(true)
         .disable_help_subcommand(true);
     let command = with_command(command, serve(alloc)?)?;
-    with_command(command, batch(alloc)?)
+    let command = with_command(command, batch(alloc)?)?;
+    with_command(command, generates(alloc)?)
 }

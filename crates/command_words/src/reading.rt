@@ -1,5 +1,5 @@
 //! From what `clap` finds in words to the job: the clauses of [`read_words`].
-ghost use Rattle.std.specs.Prelude.{◌≡◌, IfOk, IfErr, Some, None, [], false, codes, map, option_and_then};
+ghost use Rattle.std.specs.Prelude.{◌≡◌, ◌≤◌, IfOk, IfErr, IfSome, Some, None, [], false, codes, map, option_and_then};
 ghost use Rattle.std.specs.String.{string_bytes};
 ghost use Rattle.std.specs.Option.{option_copied};
 ghost use Rattle.clap.specs.Walk.{first_of, is_empty, rows_of};
@@ -8,7 +8,7 @@ ghost use Rattle.clap.specs.Faults.{fault_of};
 ghost use Rattle.clap.specs.Matches.{found_of};
 ghost use Rattle.command_words.specs.Line.{daig_app};
 ghost use Rattle.command_words.specs.Values.{number_in, domain_of, thresholds_of};
-ghost use Rattle.command_words.specs.Jobs.{value_in, widening_in, settings_in, file_in, serve_in, batch_in, job_in, job_of};
+ghost use Rattle.command_words.specs.Jobs.{value_in, widening_in, settings_in, file_in, serve_in, batch_in, gen_in, job_in, job_of};
 
 use crate::error::WordsError;
 use crate::job::{DomainName, FileName, Job, Settings};
@@ -20,6 +20,9 @@ use plain_values::Memory;
 use program_chains::Widening;
 use std::alloc::Global;
 
+/// The greatest seed.
+const MOST_SEED: u64 = 9_223_372_036_854_775_807;
+
 /// The first value of an argument.
 #[tactic(auto, using(crate::proofs::MatchLemmas::first_by_rows))]
 fn value_at<'a>(matches: &ArgMatches<'a>, name: &str) -> Option<&'a str>
@@ -29,11 +32,22 @@ fn value_at<'a>(matches: &ArgMatches<'a>, name: &str) -> Option<&'a str>
 }
 
 /// The number that is the value of an option, where it is within the bounds.
-fn number_at(matches: &ArgMatches<'_>, name: &str, least: u32, most: u32) -> Option<u32>
+fn long_number_at(matches: &ArgMatches<'_>, name: &str, least: u64, most: u64) -> Option<u64>
     ensures number { result ≡ value_in (number_in least most) name.now (rows_of (found_of matches.now)) }
+    ensures within { IfSome result (λ n. n ≤ most) }
 {
     match value_at(matches, name) {
         Some(text) => number_in(text, least, most),
+        None => None,
+    }
+}
+
+/// The same for bounds of 32 bits.
+fn number_at(matches: &ArgMatches<'_>, name: &str, least: u32, most: u32) -> Option<u32>
+    ensures number { result ≡ value_in (number_in least most) name.now (rows_of (found_of matches.now)) }
+{
+    match long_number_at(matches, name, least as u64, most as u64) {
+        Some(number) => Some(number as u32),
         None => None,
     }
 }
@@ -134,6 +148,22 @@ fn batch_at(alloc: Global, matches: &ArgMatches<'_>) -> Result<Option<Job>, Memo
     }
 }
 
+/// The job of `gen`.
+fn gen_at(matches: &ArgMatches<'_>) -> Option<Job>
+    ensures job { result ≡ gen_in (rows_of (found_of matches.now)) }
+{
+    let Some(domain) = domain_at(matches) else {
+        return None;
+    };
+    let Some(seed) = long_number_at(matches, "seed", 0, MOST_SEED) else {
+        return None;
+    };
+    match number_at(matches, "size", 1, 1_000) {
+        Some(size) => Some(Job::Gen { seed, size, domain }),
+        None => None,
+    }
+}
+
 /// The job of the command of this name.
 #[tactic(auto, unfolding(crate::specs::Jobs::job_in))]
 fn job_at(alloc: Global, name: &str, matches: &ArgMatches<'_>) -> Result<Option<Job>, Memory>
@@ -142,6 +172,7 @@ fn job_at(alloc: Global, name: &str, matches: &ArgMatches<'_>) -> Result<Option<
     match name {
         "serve" => serve_at(alloc, matches),
         "batch" => batch_at(alloc, matches),
+        "gen" => Ok(gen_at(matches)),
         _ => Ok(None),
     }
 }

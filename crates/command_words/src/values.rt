@@ -1,6 +1,6 @@
 //! The values of options from their texts: which numbers, domains and widenings
 //! [`read_words`](crate::read_words) takes.
-ghost use Rattle.std.specs.Prelude.{◌≡◌, codes};
+ghost use Rattle.std.specs.Prelude.{◌≡◌, ◌≤◌, codes, IfSome};
 ghost use Rattle.command_words.specs.Values.{number_in, domain_of, thresholds_of};
 
 use crate::job::DomainName;
@@ -8,10 +8,11 @@ use itoa::Buffer;
 
 /// The number that the text is, as decimal digits without a sign or a leading zero, where it is
 /// within the bounds.
-pub(crate) fn number_in(text: &str, least: u32, most: u32) -> Option<u32>
+pub(crate) fn number_in(text: &str, least: u64, most: u64) -> Option<u64>
     ensures number { result ≡ number_in least most text.now }
+    ensures within { IfSome result (λ n. n ≤ most) }
 {
-    let Ok(number) = text.parse::<u32>() else {
+    let Ok(number) = text.parse::<u64>() else {
         return None;
     };
     if number < least || number > most {

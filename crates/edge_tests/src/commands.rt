@@ -54,6 +54,10 @@ fn words_that_are_taken(rt: HostRuntime) -> Result<(), Fail> {
             "daig batch --delay 7 -- --budget",
             r#"Batch { settings: Settings { domain: Interval, widening: Widening { delay: 7, thresholds: true }, budget: 100 }, file: FileName { text: "--budget" } }"#,
         ),
+        (
+            "daig gen --seed 9223372036854775807 --size 1000 --domain listseg",
+            r#"Gen { seed: 9223372036854775807, size: 1000, domain: ListSeg }"#,
+        ),
     ];
     for (line, want) in table {
         let found = shown(rt.alloc(), line)?;
@@ -98,6 +102,11 @@ fn words_that_are_refused(rt: HostRuntime) -> Result<(), Fail> {
         "daig serve --domain listseg+interval a",
         "daig serve --domain interval+listseg+listseg a",
         "daig serve --cubes a",
+        "daig gen --seed 1",
+        "daig gen --size 1",
+        "daig gen --seed 9223372036854775808 --size 1",
+        "daig gen --seed 1 --size 1001",
+        "daig gen --seed 1 --size 1 a",
     ] {
         let found = shown(rt.alloc(), line)?;
         assert_eq!(rt; found.as_str(), "Refused", "at {line}");
