@@ -2,6 +2,7 @@
 use Rattle.std.specs.Prelude.{◌≡◌, ℕ, List, Option, Some, None, map, String, string_bytes}
 use Rattle.imp_syntax.specs.Plain.{Procedure}
 use Rattle.command_words.specs.declared.job.Job.{Job}
+use Rattle.command_words.specs.declared.job.Job.TheVariants as job
 use Rattle.command_words.specs.Jobs.{job_of}
 use Rattle.daig_server.specs.Jobs.{AsksToServe}
 use Rattle.line_answers.specs.Readings.{Readings}
@@ -20,7 +21,9 @@ pub record Told : Type 0 where
 -- the files are told, where the job has one
 abbrev pub TellsFiles : Option Job → Option (List ℕ → Option (List ℕ)) → (List ℕ → Option (List ℕ)) → Type 0
 TellsFiles None files folder = Unit {0}
-TellsFiles (Some job) files folder = files ≡ Some folder
+TellsFiles (Some (job.Serve settings memo file)) files folder = files ≡ Some folder
+TellsFiles (Some (job.Batch settings file)) files folder = files ≡ Some folder
+TellsFiles (Some (job.Gen seed size domain)) files folder = Unit {0}
 
 -- the script is told, where an accepted program is served
 abbrev pub TellsScript : Readings → Option Job → (List ℕ → Option (List ℕ)) → Option (List ℕ) → List ℕ → Type 0

@@ -14,6 +14,7 @@
 
 mod batch;
 mod domains;
+mod gen;
 mod run;
 mod server;
 mod serving;

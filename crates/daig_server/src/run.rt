@@ -1,6 +1,6 @@
 //! From words to a status, one step after another: what is written, and when each status comes, for
 //! the clauses of [`serve`](crate::serve).
-ghost use Rattle.std.specs.Prelude.{◌≡◌, ◌^◌, ◌<◌, ◌⊎◌, ℕ, List, length, Option, Some, None, Ok};
+ghost use Rattle.std.specs.Prelude.{◌≡◌, ◌^◌, ◌<◌, ◌≤◌, ◌⊎◌, ℕ, List, length, Option, Some, None, Ok};
 ghost use Rattle.io_edge.specs.Outside.{Rose, Lacks};
 ghost use Rattle.imp_syntax.specs.Plain.{Procedure};
 ghost use Rattle.request_json.specs.declared.reply.Reply.TheVariants as r;
@@ -8,18 +8,21 @@ ghost use Rattle.request_json.specs.Replies.{reply_text};
 ghost use Rattle.script_loop.specs.Replies.{ReadToEnd, ReadBytes};
 ghost use Rattle.line_answers.specs.Readings.{Readings};
 ghost use Rattle.daig_server.specs.Sources.{source_of};
-ghost use Rattle.daig_server.specs.Jobs.{AsksToServe, Serves};
-ghost use Rattle.daig_server.specs.Output.{file_output, output, source_output, usage, IsProgram, LacksFile};
+ghost use Rattle.daig_server.specs.Jobs.{AsksToGenerate, AsksToServe, Serves};
+ghost use Rattle.daig_server.specs.Output.{file_output, generated_output, output, source_output, usage, IsProgram, LacksFile};
 ghost use Rattle.daig_server.specs.Ends.{Fits, Wrote};
 ghost use Rattle.daig_server.specs.Told.{asked, TellsFiles, TellsScript};
 ghost use Rattle.daig_server.specs.Works.{Remembers};
 
 use crate::source::{SourceError, read_source};
 use crate::status::Status;
-use crate::task::Task;
+use crate::task::{Drawn, Task};
 use crate::work::do_work;
-use command_words::{Job, Settings, WordsError, read_words};
+use command_words::{DomainName, Job, Settings, WordsError, read_words};
+use generated_sources::sources_are_accepted;
 use io_edge::{Failed, Files, LoadFault, Sink, Source};
+use line_answers::texts_are_read;
+use program_chains::Widening;
 use request_json::{Refusal, Reply, reply_line};
 use script_loop::write_all;
 use std::alloc::Global;
@@ -130,6 +133,40 @@ fn run_file<F: Files, I: Source, O: Sink, L: Ledger>(
     }
 }
 
+/// Generates a source and sums up what its script comes to, by this domain, as loops are interpreted by default.
+fn run_generated<I: Source, O: Sink, L: Ledger>(
+    alloc: Global,
+    drawn: Drawn,
+    domain: DomainName,
+    script: &mut I,
+    out: &mut O,
+    steps: &mut Steps<L>,
+) -> Status
+    requires few { drawn.size ≤ 1000 }
+    ensures status { (result ≡ Status.Done) ⊎ ((result ≡ Status.Sink) ⊎ (result ≡ Status.Memory)) }
+    ensures fits { (readings : Readings) (text : List ℕ) → Fits result (generated_output readings drawn domain text).status }
+    ensures wrote { (readings : Readings) (text taken : List ℕ) → O.told out.old ≡ Some taken
+        → Wrote result (generated_output readings drawn domain text) text taken (I.told script.new) (O.told out.new) }
+    ensures unread { script.new ≡ script.old }
+    ensures sink_failed { result ≡ Status.Sink → Rose (O.faults out.old) (O.faults out.new) }
+{
+    sources_are_accepted();
+    texts_are_read();
+    let Ok(source) = daig_gen::source(alloc, drawn.seed, drawn.size) else {
+        return Status::Memory;
+    };
+    let settings = Settings {
+        domain,
+        widening: Widening {
+            delay: 0,
+            thresholds: true,
+        },
+        budget: 100,
+    };
+    let source = source.as_slice();
+    run_source(alloc, Task::Gen(drawn), &settings, source, script, out, steps)
+}
+
 /// Goes from the words to the status.
 pub(crate) fn run<F: Files, I: Source, O: Sink, L: Ledger>(
     alloc: Global,
@@ -168,6 +205,10 @@ pub(crate) fn run<F: Files, I: Source, O: Sink, L: Ledger>(
         Ok(Job::Batch { settings, file }) => {
             let name = file.as_str();
             run_file(alloc, Task::Batch, &settings, name, files, script, out, steps)
+        }
+        Ok(Job::Gen { seed, size, domain }) => {
+            let drawn = Drawn { seed, size };
+            run_generated(alloc, drawn, domain, script, out, steps)
         }
         Err(WordsError::Refused) => refuse_words(out),
         Err(WordsError::Memory) => Status::Memory,

@@ -1,6 +1,6 @@
 //! The server of one program, which answers each line as the machine `server` of `line_answers` does.
 ghost use Rattle.std.specs.Prelude.{◌≡◌, ◌<◌, ◌≤◌, ◌+◌, ◌^◌, IfOk};
-ghost use Rattle.session_machine.specs.Machine.{beginning};
+ghost use Rattle.session_machine.specs.Machine.{beginning, Machine};
 ghost use Rattle.daig_session.specs.Holds.{Holds, IsReady};
 ghost use Rattle.daig_server.specs.Jobs.{engine_of};
 ghost use Rattle.line_answers.specs.Fine.{next_number};
@@ -61,6 +61,15 @@ impl<D: Named> Server<D> {
             memo as usize,
         )?;
         Ok(Server { session })
+    }
+}
+
+impl<D: Named> Server<D> {
+    /// How many cells the last question filled.
+    pub(crate) fn cost(&self) -> u64
+        ensures is { (m : Machine) → Holds (D.operations self.now.session.engine.domain) self.now.session.engine.store self.now.session.book m → result ≡ m.cost }
+    {
+        self.session.cost()
     }
 }
 

@@ -7,7 +7,7 @@ ghost use Rattle.command_words.specs.declared.job.Job.TheVariants as job;
 ghost use Rattle.script_loop.specs.Replies.{ReadBytes, ReadToEnd};
 ghost use Rattle.line_answers.specs.Readings.{Readings};
 ghost use Rattle.daig_server.specs.Domains.{meaning_of};
-ghost use Rattle.daig_server.specs.Jobs.{AsksToServe, domain_in, engine_in};
+ghost use Rattle.daig_server.specs.Jobs.{AsksToGenerate, AsksToServe, domain_in, engine_in};
 ghost use Rattle.daig_server.specs.Output.{IsAccepted, LacksFile, output};
 ghost use Rattle.daig_server.specs.Sound.{IsBatchSound, IsSoundAfter};
 ghost use Rattle.daig_server.specs.Ends.{Fits, IsStatus, Wrote, WroteAll, status_of};
@@ -57,6 +57,7 @@ pub fn serve<F: Files, I: Source, O: Sink, L: Ledger>(
         → Wrote (status_of result) (given readings (asked words.now) told) told.script told.taken (I.told script.new) (O.told out.new) }
     ensures words_exactly { (result ≡ 2 → asked words.now ≡ None) × (asked words.now ≡ None → (result ≡ 2) ⊎ (result ≡ 5) ⊎ (result ≡ 6)) }
     ensures read_to_end { result ≡ 0 → AsksToServe (asked words.now) → (text : List ℕ) → I.told script.old ≡ Some text → ReadToEnd text (I.told script.new) }
+    ensures gen_ends { AsksToGenerate (asked words.now) → (result ≡ 0) ⊎ (result ≡ 5) ⊎ (result ≡ 6) }
     ensures script_unread { (AsksToServe (asked words.now) → ⊥) → script.new ≡ script.old }
     ensures script_failed { result ≡ 4 → AsksToServe (asked words.now) × Rose (I.faults script.old) (I.faults script.new) }
     ensures sink_failed { result ≡ 5 → Rose (O.faults out.old) (O.faults out.new) }

@@ -97,6 +97,10 @@ fn work_for(alloc: Global, task: Task, program: Program) -> Result<Work, SourceE
             let program = checked(alloc, program)?;
             Ok(Work::Batch { program })
         }
+        Task::Gen(drawn) => {
+            let table = tabled(alloc, &program)?;
+            Ok(Work::Gen { table, drawn })
+        }
     }
 }
 

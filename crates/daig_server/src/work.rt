@@ -4,16 +4,17 @@ ghost use Rattle.io_edge.specs.Outside.{Rose};
 ghost use Rattle.script_loop.specs.Replies.{ReadToEnd, ReadBytes};
 ghost use Rattle.daig_server.specs.Ends.{Fits, Wrote};
 ghost use Rattle.daig_server.specs.Jobs.{engine_of, Serves};
-ghost use Rattle.daig_server.specs.Output.{batch_bytes, program_bytes, served_bytes};
+ghost use Rattle.daig_server.specs.Output.{batch_bytes, gen_bytes, program_bytes, served_bytes};
 ghost use Rattle.line_answers.specs.Readings.{Readings};
 ghost use Rattle.line_answers.specs.Fine.{opening};
 ghost use Rattle.daig_server.specs.Works.{program_in, task_in, IsNumbered, Remembers};
 
 use crate::batch::listed;
 use crate::domains::Named;
+use crate::gen::summary;
 use crate::server::Server;
 use crate::status::Status;
-use crate::task::Work;
+use crate::task::{Drawn, Work};
 use command_words::{DomainName, Settings};
 use dom_interval::Interval;
 use dom_listseg::ListSeg;
@@ -86,6 +87,32 @@ fn batch_program<D: Named, O: Sink, L: Ledger>(
     }
 }
 
+/// Writes the summary of the generated script over the program.
+fn gen_program<D: Named, O: Sink, L: Ledger>(
+    alloc: Global,
+    domain: D,
+    settings: &Settings,
+    table: Table,
+    drawn: Drawn,
+    out: &mut O,
+    steps: &mut Steps<L>,
+) -> Status
+    requires numbered { IsNumbered table.program }
+    ensures status { (result ≡ Status.Done) ⊎ ((result ≡ Status.Sink) ⊎ (result ≡ Status.Memory)) }
+    ensures fits { Fits result 0 }
+    ensures wrote { (readings : Readings) (text taken : List ℕ) (rest : Option (List ℕ)) → O.told out.old ≡ Some taken
+        → Wrote result (record { status = 0; bytes = gen_bytes D.name (opening readings (engine_of settings.now) table.program) drawn.seed drawn.size }) text taken rest (O.told out.new) }
+    ensures sink_failed { result ≡ Status.Sink → Rose (O.faults out.old) (O.faults out.new) }
+{
+    let Ok(line) = summary(alloc, domain, settings, table, drawn, steps) else {
+        return Status::Memory;
+    };
+    match write_all(out, line.as_bytes()) {
+        Ok(()) => Status::Done,
+        Err(Failed) => Status::Sink,
+    }
+}
+
 /// Does the work by this domain.
 fn work_by<D: Named, I: Source, O: Sink, L: Ledger>(
     alloc: Global,
@@ -116,6 +143,9 @@ fn work_by<D: Named, I: Source, O: Sink, L: Ledger>(
             serve_program(alloc, domain, settings, memo, table, script, out, steps)
         }
         Work::Batch { program } => batch_program(alloc, &domain, settings, &program, out, steps),
+        Work::Gen { table, drawn } => {
+            gen_program(alloc, domain, settings, table, drawn, out, steps)
+        }
     }
 }
 
