@@ -2,3 +2,4 @@ pub mod NumberingLemmas
 pub mod FewLemmas
 pub mod LineLemmas
 pub mod ServeLemmas
+pub mod WordsLemmas

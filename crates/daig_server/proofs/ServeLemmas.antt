@@ -1,5 +1,6 @@
 -- From how the program ends to what its status says.
 use Rattle.std.proofs.Common.{◌≡◌, ◌≢◌, ℕ, ◌<◌, ◌≤◌, ◌^◌, ◌++◌, ◌⊎◌, inl, inr, List, [], length, Bool, true, false, nat_le, Option, Some, None, Result, Ok, Err, IfSome, if◌then◌else◌, append-nil, length-append, sym, ◌∙◌, ap, refl, arith}
+use Rattle.std.proofs.lemmas.Bool.Decides.{nat_tests}
 use Rattle.imp_syntax.specs.Plain.{Procedure}
 use Rattle.imp_parse.specs.declared.error.ParseError.{ParseError}
 use Rattle.imp_check.specs.declared.fault.Found.{Found}
@@ -8,14 +9,19 @@ use Rattle.script_loop.specs.Replies.{ReadBytes}
 use Rattle.request_json.specs.declared.reply.Refusal.{Refusal}
 use Rattle.line_answers.specs.Readings.{Readings}
 use Rattle.line_answers.specs.Fine.{IsProgramOf}
+use Rattle.command_words.specs.declared.job.DomainName.{DomainName}
 use Rattle.command_words.specs.declared.job.Job.{Job}
+use Rattle.command_words.specs.declared.job.Job.TheVariants as job
+use Rattle.daig_gen.specs.Source as generated
 use Rattle.command_words.specs.declared.job.Settings.{Settings}
+use Rattle.daig_server.specs.declared.task.Drawn.{Drawn}
 use Rattle.daig_server.specs.declared.task.Task.{Task}
+use Rattle.daig_server.specs.declared.task.Task.TheVariants.{Serve, Batch, Gen}
 use Rattle.daig_server.specs.declared.status.Status.{Status}
 use Rattle.daig_server.specs.declared.status.Status.TheVariants.{Done, Words, Source, Script, Sink, Memory, Files, LongScript, LongFile}
-use Rattle.daig_server.specs.Jobs.{task_of, settings_of, file_of, AsksToServe}
+use Rattle.daig_server.specs.Jobs.{by_default, AsksToServe}
 use Rattle.daig_server.specs.Sources.{checked, source_of, unless_faulty}
-use Rattle.daig_server.specs.Output.{Output, source_output, file_output, output, most_source, IsAccepted, IsProgram, LacksFile}
+use Rattle.daig_server.specs.Output.{Output, source_output, file_output, generated_output, output, most_source, IsAccepted, IsProgram, LacksFile}
 use Rattle.daig_server.specs.Told.{TellsFiles}
 use Rattle.daig_server.specs.Ends.{code_of, status_of, Fits, IsStatus, Wrote, WroteAll}
 
@@ -55,17 +61,64 @@ file_quiet : (readings : Readings) (task : Task) (settings : Settings) (file : O
 file_quiet readings task settings None script late = refl
 file_quiet readings task settings (Some source) script late = source_quiet (nat_le (length source) most_source) readings task settings (source_of readings source) script late
 
+generated_speaks : (readings : Readings) (drawn : Drawn) (domain : DomainName) (script : List ℕ) → (generated_output readings drawn domain script).status < 7
+generated_speaks readings drawn domain script = source_speaks readings (Gen drawn) (by_default domain) (source_of readings (generated.source_of drawn.seed drawn.size)) script
+
 pub quiet_output : (readings : Readings) (job : Option Job) (folder : List ℕ → Option (List ℕ)) (script : List ℕ) →
     7 ≤ (output readings job folder script).status → (output readings job folder script).bytes ≡ []
 quiet_output readings None folder script late = absurd (omega (arith, late))
-quiet_output readings (Some job) folder script late = file_quiet readings (task_of job) (settings_of job) (folder (file_of job)) script late
+quiet_output readings (Some (job.Serve settings memo file)) folder script late = file_quiet readings (Serve memo) settings (folder file) script late
+quiet_output readings (Some (job.Batch settings file)) folder script late = file_quiet readings Batch settings (folder file) script late
+quiet_output readings (Some (job.Gen seed size domain)) folder script late =
+    absurd (omega (arith, generated_speaks readings (record { seed = seed; size = size }) domain script, late))
 
 -- a file that the folder lacks gives status 7
+lacking_file : (readings : Readings) (task : Task) (settings : Settings) (folder : List ℕ → Option (List ℕ)) (name script : List ℕ) → folder name ≡ None → (file_output readings task settings (folder name) script).status ≡ 7
+lacking_file readings task settings folder name script none = rw none refl
+
 pub lacking_output : (readings : Readings) (job : Option Job) (told : Option (List ℕ → Option (List ℕ))) (folder : List ℕ → Option (List ℕ)) (script : List ℕ) →
     TellsFiles job told folder → LacksFile told job → (output readings job folder script).status ≡ 7
 lacking_output readings None told folder script is lacks = absurd lacks
-lacking_output readings (Some job) told folder script is lacks =
-    let none : folder (file_of job) ≡ None = rw is at lacks in rw none refl
+lacking_output readings (Some (job.Serve settings memo file)) told folder script is lacks =
+    let none : folder file ≡ None = rw is at lacks in lacking_file readings (Serve memo) settings folder file script none
+lacking_output readings (Some (job.Batch settings file)) told folder script is lacks =
+    let none : folder file ≡ None = rw is at lacks in lacking_file readings Batch settings folder file script none
+lacking_output readings (Some (job.Gen seed size domain)) told folder script is lacks = absurd lacks
+
+-- an output that succeeds is that of an accepted program
+source_zero : (readings : Readings) (task : Task) (settings : Settings) (source : Result (List Procedure) Refusal) (script : List ℕ) → (source_output readings task settings source script).status ≡ 0 → (program : List Procedure) × (source ≡ Ok program)
+source_zero readings task settings (Ok program) script is = (program, refl)
+source_zero readings task settings (Err why) script is = absurd (omega (arith, is))
+
+if_zero : (readings : Readings) (task : Task) (settings : Settings) (source script : List ℕ) (test : Bool) → nat_le (length source) most_source ≡ test →
+    (if test then source_output readings task settings (source_of readings source) script else record { status = 9; bytes = [] }).status ≡ 0 → (program : List Procedure) × IsProgram readings (Some source) program
+if_zero readings task settings source script true short is =
+    let found = source_zero readings task settings (source_of readings source) script is in
+    let few : length source ≤ most_source = grind (arith, nat_tests) in
+    (found.0, few, found.1)
+if_zero readings task settings source script false short is = absurd (omega (arith, is))
+
+file_zero : (readings : Readings) (task : Task) (settings : Settings) (file : Option (List ℕ)) (script : List ℕ) → (file_output readings task settings file script).status ≡ 0 → (program : List Procedure) × IsProgram readings file program
+file_zero readings task settings None script is = absurd (omega (arith, is))
+file_zero readings task settings (Some source) script is = if_zero readings task settings source script (nat_le (length source) most_source) refl is
+
+pub zero_accepted : (readings : Readings) (job : Option Job) (folder : List ℕ → Option (List ℕ)) (script : List ℕ) → (output readings job folder script).status ≡ 0 → (program : List Procedure) × IsAccepted readings job folder program
+zero_accepted readings None folder script is = absurd (omega (arith, is))
+zero_accepted readings (Some (job.Serve settings memo file)) folder script is = file_zero readings (Serve memo) settings (folder file) script is
+zero_accepted readings (Some (job.Batch settings file)) folder script is = file_zero readings Batch settings (folder file) script is
+zero_accepted readings (Some (job.Gen seed size domain)) folder script is =
+    source_zero readings (Gen (record { seed = seed; size = size })) (by_default domain) (source_of readings (generated.source_of seed size)) script is
+
+-- numbers of ends
+pub ends_refused : (s : Status) (n : ℕ) → n ≡ code_of s → (s ≡ Words) ⊎ (s ≡ Sink) ⊎ (s ≡ Memory) → (n ≡ 2) ⊎ (n ≡ 5) ⊎ (n ≡ 6)
+ends_refused s n is (inl words) = inl (is ∙ ap code_of words)
+ends_refused s n is (inr (inl sink)) = inr (inl (is ∙ ap code_of sink))
+ends_refused s n is (inr (inr memory)) = inr (inr (is ∙ ap code_of memory))
+
+pub ends_generated : (s : Status) (n : ℕ) → n ≡ code_of s → (s ≡ Done) ⊎ ((s ≡ Sink) ⊎ (s ≡ Memory)) → (n ≡ 0) ⊎ (n ≡ 5) ⊎ (n ≡ 6)
+ends_generated s n is (inl done) = inl (is ∙ ap code_of done)
+ends_generated s n is (inr (inl sink)) = inr (inl (is ∙ ap code_of sink))
+ends_generated s n is (inr (inr memory)) = inr (inr (is ∙ ap code_of memory))
 
 -- at the end of all without a fault
 pub wrote_complete : (s : Status) (readings : Readings) (job : Option Job) (files : Option (List ℕ → Option (List ℕ))) (folder : List ℕ → Option (List ℕ)) (script taken : List ℕ) (rest written : Option (List ℕ))
@@ -125,7 +178,9 @@ file_read readings (Some source) program is = (source, source_read readings sour
 file_read readings None program is = absurd is
 
 pub accepted_read : (readings : Readings) (job : Option Job) (folder : List ℕ → Option (List ℕ)) (program : List Procedure) → IsAccepted readings job folder program → (source : List ℕ) × IsProgramOf readings source program
-accepted_read readings (Some job) folder program is = file_read readings (folder (file_of job)) program is
+accepted_read readings (Some (job.Serve settings memo file)) folder program is = file_read readings (folder file) program is
+accepted_read readings (Some (job.Batch settings file)) folder program is = file_read readings (folder file) program is
+accepted_read readings (Some (job.Gen seed size domain)) folder program is = (generated.source_of seed size, source_read readings (generated.source_of seed size) program is)
 accepted_read readings None folder program is = absurd is
 
 -- a file that was loaded is the one that is told, and is not too long

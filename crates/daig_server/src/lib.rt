@@ -14,7 +14,7 @@
 
 mod batch;
 mod domains;
-mod gen;
+mod generated;
 mod run;
 mod server;
 mod serving;

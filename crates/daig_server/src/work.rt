@@ -11,7 +11,7 @@ ghost use Rattle.daig_server.specs.Works.{program_in, task_in, IsNumbered, Remem
 
 use crate::batch::listed;
 use crate::domains::Named;
-use crate::gen::summary;
+use crate::generated::summary;
 use crate::server::Server;
 use crate::status::Status;
 use crate::task::{Drawn, Work};
