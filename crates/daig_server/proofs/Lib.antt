@@ -3,3 +3,4 @@ pub mod FewLemmas
 pub mod LineLemmas
 pub mod ServeLemmas
 pub mod WordsLemmas
+pub mod TallyLemmas
