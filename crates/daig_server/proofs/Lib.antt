@@ -4,3 +4,5 @@ pub mod LineLemmas
 pub mod ServeLemmas
 pub mod WordsLemmas
 pub mod TallyLemmas
+pub mod SourceLemmas
+pub mod ServedLemmas

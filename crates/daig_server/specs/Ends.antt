@@ -1,5 +1,5 @@
 -- How the program ends: by a status, with what was read and written.
-use Rattle.std.specs.Prelude.{◌≡◌, ℕ, ◌<◌, ◌++◌, ◌⊎◌, List, [], ◌∷◌, Option, Some}
+use Rattle.std.specs.Prelude.{◌≡◌, ℕ, ◌<◌, ◌==◌, ◌++◌, ◌⊎◌, List, [], ◌∷◌, Option, Some, if◌then◌else◌}
 use Rattle.command_words.specs.declared.job.DomainName.{DomainName}
 use Rattle.script_loop.specs.Replies.{AnsweredRead, WrotePrefix}
 use Rattle.line_answers.specs.Lines.{Served, server}
@@ -22,15 +22,9 @@ code_of LongFile = 9
 
 -- the status of a number
 abbrev pub status_of : ℕ → Status
-status_of 0 = Done
-status_of 2 = Words
-status_of 3 = Source
-status_of 4 = Script
-status_of 5 = Sink
-status_of 7 = Files
-status_of 8 = LongScript
-status_of 9 = LongFile
-status_of n = Memory
+status_of n =
+    if n == 0 then Done else (if n == 2 then Words else (if n == 3 then Source else (if n == 4 then Script else (if n == 5 then Sink
+    else (if n == 7 then Files else (if n == 8 then LongScript else (if n == 9 then LongFile else Memory)))))))
 
 -- a number that a status has
 abbrev pub IsStatus : ℕ → Type 0

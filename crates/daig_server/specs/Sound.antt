@@ -8,14 +8,14 @@ use Rattle.script_loop.specs.Replies.{after}
 use Rattle.line_answers.specs.Readings.{Readings}
 use Rattle.line_answers.specs.Lines.{server}
 use Rattle.line_answers.specs.Fine.{opening}
-use Rattle.line_answers.specs.Sound.{IsReportSound, IsTurnSound}
+use Rattle.line_answers.specs.Sound.{IsReportSound, IsSoundAt}
 use Rattle.daig_server.specs.Domains.{Meaning}
 
 -- At the moment after these lines the line is answered soundly: a state, to a question or to a step of a ticket, describes the
 -- runs of the program that is then present, and a report is sound.
 abbrev pub IsSoundAfter : Meaning → Readings → Engine → List Procedure → (before : List (List ℕ)) → (line : List ℕ) → Type 0
 IsSoundAfter domain readings engine program before line =
-    IsTurnSound domain.operations domain.covers readings (after (server domain.operations) (opening readings engine program) before).machine line
+    IsSoundAt domain.operations domain.covers (after (server domain.operations) (opening readings engine program) before) line
 
 -- The report of the program is sound.
 abbrev pub IsBatchSound : Meaning → Engine → List Procedure → Type 0

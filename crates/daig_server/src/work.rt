@@ -1,5 +1,5 @@
 //! What is done for a program: the clauses of `run`, from a program on.
-ghost use Rattle.std.specs.Prelude.{◌≡◌, ◌^◌, ◌⊎◌, ℕ, List, Option, Some};
+ghost use Rattle.std.specs.Prelude.{◌≡◌, ◌<◌, ◌^◌, ◌⊎◌, ℕ, List, Option, Some};
 ghost use Rattle.io_edge.specs.Outside.{Rose};
 ghost use Rattle.script_loop.specs.Replies.{ReadToEnd, ReadBytes};
 ghost use Rattle.daig_server.specs.Ends.{Fits, Wrote};
