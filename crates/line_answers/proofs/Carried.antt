@@ -1,15 +1,12 @@
 -- The edits of requests: their statements carry the numbers from the next one on, and their literals are small.
 use Rattle.std.proofs.Common.{◌≡◌, ℕ, List, Result, Ok, Err, refl, subst}
-use Rattle.imp_syntax.specs.Plain.{Condition, Statement, Statements, Procedure}
+use Rattle.imp_syntax.specs.Plain.{Statement, Statements, Procedure}
 use Rattle.imp_syntax.specs.declared.edit.Edit.{Edit}
 use Rattle.imp_syntax.specs.declared.edit.Edit.TheVariants as edit
 use Rattle.imp_syntax.specs.declared.edit.Place.{Place}
 use Rattle.imp_syntax.specs.declared.words.Kind.{Kind}
 use Rattle.imp_check.specs.Small.{small_statement}
 use Rattle.imp_parse.specs.declared.error.ParseError.{ParseError}
-use Rattle.imp_parse.specs.Answer.{HasTree}
-use Rattle.imp_parse.specs.Languages.{SimpleText, BodyText, ConditionText, ProcedureText}
-use Rattle.imp_parse.specs.Limits.{inside, outside}
 use Rattle.imp_edit.specs.Edited.{Continues}
 use Rattle.print_round_trip.proofs.ReadAgain.{procedure_printable, body_printable, simple_printable, condition_printable}
 use Rattle.request_json.specs.declared.reply.Refusal.{Refusal}

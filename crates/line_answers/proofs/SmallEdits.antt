@@ -3,13 +3,12 @@ use Rattle.std.proofs.Common.{◌≡◌, ℕ, ◌==◌, ◌&&◌, ◌++◌, Bool
 use Rattle.std.proofs.lemmas.Bool.{and_from, and_parts}
 use Rattle.std.specs.Str.{bytes_eq}
 use Rattle.imp_syntax.specs.Plain.{Condition, Statement, Simple, Break, Call, If, While, Statements, Ends, Starts, Procedure, number_of}
-use Rattle.imp_syntax.specs.declared.words.Declaration.{Declaration}
 use Rattle.imp_syntax.specs.declared.edit.Edit.{Edit}
 use Rattle.imp_syntax.specs.declared.edit.Edit.TheVariants as edit
 use Rattle.imp_syntax.specs.declared.edit.Place.{Place}
 use Rattle.imp_syntax.specs.declared.edit.Place.TheVariants as place
-use Rattle.imp_check.specs.Small.{small_operands, small_action, small_condition, small_statement, small_block, small_program}
-use Rattle.imp_edit.specs.Changes.{append, in_statement, in_block, with_body, in_program, deleted, exchanged, followed, then_started, else_started, body_started, guarded, at_named, started, declared_in, preceded, dropped}
+use Rattle.imp_check.specs.Small.{small_condition, small_statement, small_block, small_program}
+use Rattle.imp_edit.specs.Changes.{append, in_statement, in_block, in_program, deleted, exchanged, followed, then_started, else_started, body_started, guarded, at_named, started, declared_in, preceded, dropped}
 use Rattle.imp_edit.specs.Edited.{brought, edited, placed}
 
 -- What an edit brings has small literals: its statements, and its condition.

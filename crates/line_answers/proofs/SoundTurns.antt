@@ -12,7 +12,7 @@ use Rattle.domain_laws.specs.Operations.{Operations}
 use Rattle.batch_meaning.specs.Values.{Value, State, Over}
 use Rattle.batch_meaning.specs.Answers.{Answer, Refuses, Answers, Found, In, Misses, procedure_of}
 use Rattle.batch_meaning.specs.Report.{report}
-use Rattle.batch_sound.specs.Theorem.{AreAnswersSound, AreReportsSound, IsFindingSound}
+use Rattle.batch_sound.specs.Theorem.{AreAnswersSound, AreReportsSound}
 use Rattle.imp_edit.specs.Refusals.{edit_refusal}
 use Rattle.imp_edit.specs.declared.error.EditError.{EditError}
 use Rattle.script_loop.specs.Replies.{after}
@@ -28,14 +28,13 @@ use Rattle.request_json.specs.declared.reply.Refusal.{Refusal}
 use Rattle.request_json.specs.declared.reply.Refusal.TheVariants as refusal
 use Rattle.request_json.specs.Requests.{request_of}
 use Rattle.line_replies.specs.Runs.{asked_run, found_run, run_reply}
-use Rattle.line_replies.specs.States.{layout_at}
 use Rattle.line_replies.specs.Texts.{program_reply}
 use Rattle.line_answers.specs.Readings.{Readings}
 use Rattle.line_answers.specs.Edits.{replace_of, insert_of, delete_of, guard_of, declare_of, add_of, drop_of}
 use Rattle.line_answers.specs.Turns.{Turn, told, cancel_by, move_turn, state_by, ask_by, step_by, step_of, edit_by, edit_turn}
-use Rattle.line_answers.specs.Lines.{Served, request_turn, read_turn, server}
+use Rattle.line_answers.specs.Lines.{request_turn, read_turn, server}
 use Rattle.line_answers.specs.Fine.{HasFinePrograms, opening}
-use Rattle.line_answers.specs.Sound.{IsAsked, IsStep, IsDescribed, IsReplySound, TurnsAreSound, MomentsAreSound}
+use Rattle.line_answers.specs.Sound.{IsAsked, IsReplySound, TurnsAreSound, MomentsAreSound}
 use Rattle.line_answers.proofs.FineTurns.{after_fine}
 use Rattle.line_answers.proofs.Sources.{sources_fine}
 

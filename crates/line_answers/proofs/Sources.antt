@@ -1,5 +1,5 @@
 -- The program of a source, with its numbers.
-use Rattle.std.proofs.Common.{◌≡◌, ℕ, zero, suc, ◌+◌, ◌<◌, ◌≤◌, true, List, [], ◌∷◌, length, None, Ok, refl, sym, ap, ◌∙◌, subst, arith}
+use Rattle.std.proofs.Common.{◌≡◌, ℕ, zero, suc, ◌<◌, List, length, None, refl, sym, ap, ◌∙◌, subst, arith}
 use Rattle.std.specs.List.{All}
 use Rattle.std.proofs.lemmas.List.Elements.{All-nil}
 use Rattle.imp_syntax.specs.Plain.{Procedure, program_numbers}
@@ -13,7 +13,7 @@ use Rattle.imp_edit.specs.Edited.{counting}
 use Rattle.imp_edit.proofs.Tallies.{often}
 use Rattle.imp_edit.proofs.Once.{never_absent, once_distinct, never_below, counting_low, counting_high, counting_once}
 use Rattle.print_round_trip.proofs.ReadAgain.{printable}
-use Rattle.line_answers.specs.Fine.{IsFineBelow, HasFinePrograms, SourcesAreFine, next_number}
+use Rattle.line_answers.specs.Fine.{IsFineBelow, SourcesAreFine, next_number}
 use Rattle.line_answers.proofs.FineLemmas.{fine_of}
 use Rattle.line_answers.proofs.Numbered.{program_counts}
 use Rattle.line_answers.proofs.SmallTexts.{program_small}
