@@ -42,7 +42,7 @@ fn kind_in(line: &[u8]) -> Kind
 }
 
 /// The kind of the reply whose line this is.
-#[tactic(auto, using(crate::proofs::Kinds::kind_told))]
+#[tactic(auto, using(crate::proofs::KindLemmas::kind_told))]
 pub(crate) fn kind_of(line: &[u8]) -> Kind
     ensures is { (reply : Reply) → line.now ≡ reply_text reply → result ≡ kind_of reply }
 {

@@ -61,11 +61,10 @@ impl Tally {
         self.is_answered = matches!(kind, Kind::State | Kind::Over);
     }
 
-    /// Adds the reply of this line; `cost` is what it tells where it tells a cost.
+    /// Adds the reply of this line; `cost` is to be what it tells where it tells a cost.
     pub fn add(&mut self, line: &[u8], cost: u64)
         requires room { (n : ℕ) × (n < 2 ^ 63) × IsWithin n self.old }
-        requires cost { (reply : Reply) → line.now ≡ reply_text reply → kind_of reply ≡ Kind.Cost → cost_in reply ≡ cost }
-        ensures is { (reply : Reply) → line.now ≡ reply_text reply → self.new ≡ added reply self.old }
+        ensures is { (reply : Reply) → line.now ≡ reply_text reply → (kind_of reply ≡ Kind.Cost → cost_in reply ≡ cost) → self.new ≡ added reply self.old }
         ensures within { (n : ℕ) → IsWithin n self.old → IsWithin (n + 1) self.new }
     {
         self.count(kind_of(line), cost);
