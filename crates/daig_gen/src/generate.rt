@@ -1,5 +1,5 @@
 //! The source and the script.
-ghost use Rattle.std.specs.Prelude.{◌≡◌, ◌++◌, IfOk, OnOk, ◌≤◌};
+ghost use Rattle.std.specs.Prelude.{◌≡◌, ◌++◌, ◌*◌, IfOk, OnOk, ◌≤◌, length};
 ghost use Rattle.daig_gen.specs.Source.{text_of, state_after, piece, pieces, source_of};
 ghost use Rattle.daig_gen.specs.Script.{turns, script_of};
 
@@ -29,11 +29,20 @@ pub fn source(alloc: Global, seed: u64, size: u32) -> Result<Vec<u8>, Memory>
     Ok(text)
 }
 
-/// The script of this seed, of `size` turns, for the source of the same seed and size.
+/// The script of this seed, of `size` turns, for the source of the same seed and size. It has at most 128 bytes a turn.
 ///
 /// Fails only for want of memory.
-#[tactic(auto, unfolding(crate::specs::Script::script_of))]
+#[tactic(auto, using(crate::proofs::Short::script_short))]
 pub fn script(alloc: Global, seed: u64, size: u32) -> Result<Vec<u8>, Memory>
+    ensures text { IfOk result (λ v. v.items ≡ script_of seed size) }
+    ensures short { length (script_of seed size) ≤ 128 * size }
+{
+    script_text(alloc, seed, size)
+}
+
+/// Puts the script together.
+#[tactic(auto, unfolding(crate::specs::Script::script_of))]
+fn script_text(alloc: Global, seed: u64, size: u32) -> Result<Vec<u8>, Memory>
     ensures text { IfOk result (λ v. v.items ≡ script_of seed size) }
 {
     let mut draws = Draws::new(seed);
