@@ -35,7 +35,7 @@ fn tally_line<D: Named, L: Ledger>(
     steps: &mut Steps<L>,
 ) -> Result<(), Memory>
     requires lasts { (n : ℕ) × ⟦<Server<D> as Answerer>⟧.lasts server.old (suc n) }
-    requires room { (n : ℕ) × (n < 2 ^ 63) × IsWithin n tally.old }
+    requires room { (n : ℕ) × (n < 2 ^ 62) × IsWithin n tally.old }
     ensures lasts { OnOk result ((n : ℕ) → ⟦<Server<D> as Answerer>⟧.lasts server.old (suc n) → ⟦<Server<D> as Answerer>⟧.lasts server.new n) }
     ensures within { OnOk result ((n : ℕ) → IsWithin n tally.old → IsWithin (n + 1) tally.new) }
     ensures next { OnOk result ((s : Served) → ⟦<Server<D> as Answerer>⟧.stands server.old s → ⟦<Server<D> as Answerer>⟧.stands server.new ((machine (meaning_of D.name).operations).next s line.now)) }
@@ -54,6 +54,7 @@ fn tally_lines<D: Named, L: Ledger>(
     steps: &mut Steps<L>,
 ) -> Result<Tally, Memory>
     requires lasts { ⟦<Server<D> as Answerer>⟧.lasts server.old (length script.now) }
+    requires few { length script.now < 2 ^ 62 }
     ensures tally { IfOk result (λ t. (s : Served) → ⟦<Server<D> as Answerer>⟧.stands server.old s → t ≡ tallied (meaning_of D.name).operations (whole_lines [] script.now) s nothing) }
 {
     let mut tally = Tally::new();
