@@ -166,7 +166,15 @@ fn run_generated<I: Source, O: Sink, L: Ledger>(
         budget: 100,
     };
     let source = source.as_slice();
-    run_source(alloc, Task::Gen(drawn), &settings, source, script, out, steps)
+    run_source(
+        alloc,
+        Task::Gen(drawn),
+        &settings,
+        source,
+        script,
+        out,
+        steps,
+    )
 }
 
 /// Goes from the words to the status.
@@ -195,18 +203,29 @@ pub(crate) fn run<F: Files, I: Source, O: Sink, L: Ledger>(
     ensures files_failed { result ≡ Status.Files → (Rose (F.faults files.old) (F.faults files.new)) ⊎ (LacksFile (F.told files.old) (asked words.now)) }
 {
     match read_words(alloc, words) {
-        Ok(Job::Serve {
-            settings,
-            memo,
-            file,
-        }) => {
+        Ok(
+            Job::Serve {
+                settings,
+                memo,
+                file,
+            },
+        ) => {
             let task = Task::Serve { memo };
             let name = file.as_str();
             run_file(alloc, task, &settings, name, files, script, out, steps)
         }
         Ok(Job::Batch { settings, file }) => {
             let name = file.as_str();
-            run_file(alloc, Task::Batch, &settings, name, files, script, out, steps)
+            run_file(
+                alloc,
+                Task::Batch,
+                &settings,
+                name,
+                files,
+                script,
+                out,
+                steps,
+            )
         }
         Ok(Job::Gen { seed, size, domain }) => {
             let drawn = Drawn { seed, size };

@@ -5,7 +5,8 @@ use std::test::Fail;
 const PLAIN: &str = "daig serve --widening plain f";
 
 /// Two procedures that are called more than once.
-const CALLS: &str = "proc g(x: int) { skip; } proc f(y: int) { call g(y); } proc main() { call f(1); call f(2); call g(5); }";
+const CALLS: &str =
+    "proc g(x: int) { skip; } proc f(y: int) { call g(y); } proc main() { call f(1); call f(2); call g(5); }";
 
 /// Each call string selects its chains, which are counted each once.
 #[test]
@@ -39,15 +40,13 @@ fn strings(rt: HostRuntime) -> Result<(), Fail> {
 #[test]
 fn procedures(rt: HostRuntime) -> Result<(), Fail> {
     let alloc = rt.alloc();
-    let table = [
-        (
-            PLAIN,
-            CALLS,
-            "{\"before\":\"main\",\"do\":\"add\",\"text\":\"proc h(z: int) -> r: int { r = z; }\"}\n{\"do\":\"insert\",\"place\":\"after 5\",\"text\":\"call h(3);\"}\n{\"at\":\"end h\",\"do\":\"state\",\"string\":[7]}\n{\"do\":\"drop\",\"proc\":\"h\"}\n{\"do\":\"delete\",\"id\":7}\n{\"at\":\"end h\",\"do\":\"state\"}\n{\"do\":\"drop\",\"proc\":\"h\"}\n{\"at\":\"end h\",\"do\":\"state\"}\n{\"do\":\"drop\",\"proc\":\"k\"}\n",
-            "{\"next\":7}\n{\"next\":8}\n{\"state\":\"z=[3,3] r=[3,3]\"}\n{\"refused\":12}\n{\"next\":8}\n{\"refused\":10}\n{\"next\":8}\n{\"refused\":5}\n{\"refused\":5}\n",
-            0,
-        ),
-    ];
+    let table = [(
+        PLAIN,
+        CALLS,
+        "{\"before\":\"main\",\"do\":\"add\",\"text\":\"proc h(z: int) -> r: int { r = z; }\"}\n{\"do\":\"insert\",\"place\":\"after 5\",\"text\":\"call h(3);\"}\n{\"at\":\"end h\",\"do\":\"state\",\"string\":[7]}\n{\"do\":\"drop\",\"proc\":\"h\"}\n{\"do\":\"delete\",\"id\":7}\n{\"at\":\"end h\",\"do\":\"state\"}\n{\"do\":\"drop\",\"proc\":\"h\"}\n{\"at\":\"end h\",\"do\":\"state\"}\n{\"do\":\"drop\",\"proc\":\"k\"}\n",
+        "{\"next\":7}\n{\"next\":8}\n{\"state\":\"z=[3,3] r=[3,3]\"}\n{\"refused\":12}\n{\"next\":8}\n{\"refused\":10}\n{\"next\":8}\n{\"refused\":5}\n{\"refused\":5}\n",
+        0,
+    )];
     for (words, source, script, wanted, code) in table {
         let (status, bytes) = served(alloc, words, source.as_bytes(), script.as_bytes(), 100_000)?;
         assert_eq!(rt; bytes.as_slice(), wanted.as_bytes(), "{words} {script}");

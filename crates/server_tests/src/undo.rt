@@ -2,7 +2,6 @@
 use crate::table::served;
 use std::test::Fail;
 
-
 /// Counts to ten.
 const TEN: &str =
     "proc main() { var i: int; var n: int; n = 10; i = 0; while (i < n) { i = i + 1; } }";

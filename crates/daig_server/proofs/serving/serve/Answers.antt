@@ -17,7 +17,7 @@ returns-clause-complete g c = λ readings told tells none short enough.
     rw c.code.ensures.code (wrote_complete c.run.result readings (asked c.args.words.now) (g.F.Files.told c.args.files.now) told.folder told.script told.taken _ _ _ _ _
     tells.files_are none short (λ six. enough (c.code.ensures.code ∙ six)) c.run.ensures.script_failed c.run.ensures.sink_failed c.run.ensures.files_failed
     (λ long. let found = zero_accepted readings (asked c.args.words.now) told.folder told.script (rw long at (c.run.ensures.fits readings told.folder told.script tells.files_are)) in
-        (c.run.ensures.long long).1 told.script (tells.script_is (c.run.ensures.long long).0 found.0 found.1))
+    (c.run.ensures.long long).1 told.script (tells.script_is (c.run.ensures.long long).0 found.0 found.1))
     (c.run.ensures.fits readings told.folder told.script tells.files_are) (c.run.ensures.wrote readings told.folder told.script told.taken tells.files_are tells.script_is tells.sink_is))
 
 pub returns-clause-exactly : goal.returns-clause-exactly
@@ -31,7 +31,8 @@ returns-clause-written g c = λ readings told tells.
 pub returns-clause-words_exactly : goal.returns-clause-words_exactly
 returns-clause-words_exactly g c = (
   (λ two. c.run.ensures.words_refused (same_status c.run.result Words _ c.code.ensures.code two)),
-  (λ none. ends_refused c.run.result _ c.code.ensures.code (c.run.ensures.words_taken none)))
+  (λ none. ends_refused c.run.result _ c.code.ensures.code (c.run.ensures.words_taken none)),
+)
 
 pub returns-clause-read_to_end : goal.returns-clause-read_to_end
 returns-clause-read_to_end g c = λ is. c.run.ensures.ended (same_status c.run.result Done _ c.code.ensures.code is)
