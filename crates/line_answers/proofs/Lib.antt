@@ -3,3 +3,10 @@ mod Continued
 mod Places
 mod Read
 mod Refused
+mod SmallTexts
+mod SmallEdits
+mod Carried
+mod FineLemmas
+mod FineTurns
+mod Sources
+mod SoundTurns

@@ -1,11 +1,11 @@
 -- The statements of a text are numbered one after the other.
 use Rattle.std.proofs.Common.{◌≡◌, ℕ, zero, suc, ◌+◌, List, [], ◌∷◌, ◌++◌, refl, sym, ap, ◌∙◌, arith}
 use Rattle.imp_lex.specs.declared.token.Kind.{Kind}
-use Rattle.imp_syntax.specs.Plain.{Statement, Statements, Procedure, numbers_in, numbers, block_of}
-use Rattle.imp_check.specs.Programs.{statement_count, block_count}
+use Rattle.imp_syntax.specs.Plain.{Statement, Statements, Procedure, numbers_in, numbers, program_numbers, block_of}
+use Rattle.imp_check.specs.Programs.{statement_count, block_count, program_count}
 use Rattle.imp_edit.specs.Edited.{counting}
 use Rattle.imp_parse.specs.Statements.{IsAssigned, input, array, null, new, outcome, next, item, element, value, IsSimple, skip, break, assert, call, assign, write_element, write_next, write_item, IsStatement, simple, if_, if_else, while, IsBlock, block, IsStatements, none, onward}
-use Rattle.imp_parse.specs.Programs.{IsProcedure, procedure}
+use Rattle.imp_parse.specs.Programs.{IsProcedure, procedure, IsProcedures, procedures_end, procedures_more, IsProgram, program}
 
 -- these are so many numbers from n on, and this is the next one
 pub record Counts (n : ℕ) (xs : List ℕ) (count j : ℕ) : Type 0 where
@@ -84,3 +84,13 @@ mutual
 
 pub procedure_counts : {n j : ℕ} {w : List Kind} {p : Procedure} → IsProcedure n w p j → Counts n (numbers p.body) (block_count p.body) j
 procedure_counts (procedure ps o ls h) = statements_counts h
+
+procedures_counts : {n j : ℕ} {w : List Kind} {ps : List Procedure} → IsProcedures n w ps j → Counts n (program_numbers ps) (program_count ps) j
+procedures_counts {n} procedures_end = no_more n
+procedures_counts {n} {j} (procedures_more {i = i} {p = p} {ps = ps} h rest) =
+    joined n (numbers p.body) (block_count p.body) i (program_numbers ps) (program_count ps) j (procedure_counts h) (procedures_counts rest)
+
+-- those of a program from 1 on
+pub program_counts : (w : List Kind) (ps : List Procedure) → IsProgram w ps → program_numbers ps ≡ counting 1 (program_count ps)
+program_counts w ps (program {i = i} {j = j} {p = p} {ps = rest} h more) =
+    (joined 1 (numbers p.body) (block_count p.body) i (program_numbers rest) (program_count rest) j (procedure_counts h) (procedures_counts more)).are

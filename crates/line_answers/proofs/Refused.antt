@@ -3,6 +3,7 @@ use Rattle.std.proofs.Common.{◌≡◌, inl, inr, ℕ, nat_le, nat_lt, Bool, tr
 use Rattle.imp_syntax.specs.Plain.{Procedure}
 use Rattle.imp_syntax.specs.declared.edit.Edit.{Edit}
 use Rattle.imp_syntax.specs.declared.edit.Location.{Location}
+use Rattle.analysis_words.specs.declared.refusal.Refusal.TheVariants.{LongString}
 use Rattle.domain_laws.specs.Operations.{Operations}
 use Rattle.batch_meaning.specs.Values.{Value, State, Over}
 use Rattle.batch_meaning.specs.Answers.{Answer, Refuses, Answers}
@@ -101,7 +102,8 @@ request_safe readings dom (q.Why query) m = stays _ m
 request_safe readings dom q.Undo m = move_safe m.past refusal.NothingToUndo (undone dom m) m
 request_safe readings dom q.Redo m = move_safe m.future refusal.NothingToRedo (redone dom m) m
 request_safe readings dom (q.Ask query) m =
-    either_safe (nat_le 16 (length m.tickets)) m _ _ (stays (r.Refused refusal.ManyTickets) m) (ask_by_safe dom query (answer_at dom query.at query.string m) m)
+    either_safe (nat_lt 2 (length query.string)) m _ _ (stays (r.Refused (refusal.Query LongString)) m) (
+    either_safe (nat_le 16 (length m.tickets)) m _ _ (stays (r.Refused refusal.ManyTickets) m) (ask_by_safe dom query (answer_at dom query.at query.string m) m))
 request_safe readings dom (q.Step ticket n) m = step_safe dom n (ticket_of ticket m.tickets) m
 request_safe readings dom (q.Cancel ticket) m = cancel_safe (ticket_of ticket m.tickets) m
 

@@ -4,3 +4,5 @@ pub mod Refusals
 pub mod Turns
 pub mod Lines
 pub mod Claims
+pub mod Fine
+pub mod Sound

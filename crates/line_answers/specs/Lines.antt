@@ -47,19 +47,15 @@ module _ {S : Type 0} (readings : Readings) (dom : Operations S) where
   abbrev pub line_turn : List ℕ → Machine → Turn
   line_turn line m = read_turn (request_of line) m
 
--- What serves lines: the readings of texts, which stay, and the machine.
+-- The machine with the readings by which it reads texts.
 pub record Served : Type 0 where
   pub readings : Readings
   pub machine : Machine
 
--- What is replied, and what serves the next line.
-module _ {S : Type 0} (dom : Operations S) where
-  abbrev pub served_reply : Served → List ℕ → List ℕ
-  served_reply s line = reply_text (line_turn s.readings dom line s.machine).reply
-
-  abbrev pub served_next : Served → List ℕ → Served
-  served_next s line = record { readings = s.readings; machine = (line_turn s.readings dom line s.machine).machine }
-
-  -- The machine that holds the present program and interprets it from scratch at each question.
-  abbrev pub server : of_loop.Machine Served
-  server = record { reply = served_reply; next = served_next; long = long_reply }
+-- The machine that holds the present program and interprets it from scratch at each question.
+abbrev pub server : {S : Type 0} → Operations S → of_loop.Machine Served
+server dom = record {
+  reply = λ s line. reply_text (line_turn s.readings dom line s.machine).reply;
+  next = λ s line. record { readings = s.readings; machine = (line_turn s.readings dom line s.machine).machine };
+  long = long_reply;
+}

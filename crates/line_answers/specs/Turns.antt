@@ -4,6 +4,7 @@ use Rattle.imp_syntax.specs.Plain.{Procedure}
 use Rattle.imp_syntax.specs.declared.edit.Edit.{Edit}
 use Rattle.imp_syntax.specs.declared.edit.Location.{Location}
 use Rattle.imp_check.specs.Slots.{routines_of}
+use Rattle.analysis_words.specs.declared.refusal.Refusal.TheVariants.{LongString}
 use Rattle.domain_laws.specs.Operations.{Operations}
 use Rattle.batch_meaning.specs.Values.{Value}
 use Rattle.batch_meaning.specs.Answers.{Answer, Refuses, Answers}
@@ -96,10 +97,11 @@ module _ {S : Type 0} (dom : Operations S) where
   ask_by query (Refuses why) m = refused (refusal.Query why) m
   ask_by query (Answers v) m = goes (r.Ticket m.next_ticket) (opened query.at query.string m)
 
-  -- a new ticket, unless sixteen are open
+  -- a new ticket, unless the call string is too long or sixteen are open
   abbrev pub ask_turn : Query → Machine → Turn
   ask_turn query m =
-      if nat_le 16 (length m.tickets) then refused refusal.ManyTickets m
+      if nat_lt 2 (length query.string) then refused (refusal.Query LongString) m
+      else if nat_le 16 (length m.tickets) then refused refusal.ManyTickets m
       else ask_by query (answer_at dom query.at query.string m) m
 
   -- Where more than n names are missing the first n are kept. Else the ticket is answered as a question is, and closed. It

@@ -1,6 +1,9 @@
 //! What holds of the turns of lines.
 ghost use Rattle.line_answers.specs.Claims.{RefusalsAreSafe};
+ghost use Rattle.line_answers.specs.Fine.{LinesKeepFine, SourcesAreFine};
+ghost use Rattle.line_answers.specs.Sound.{MomentsAreSound, TurnsAreSound};
 
+use batch_sound::{answers_are_sound, reports_are_sound};
 use domain_laws::Domain;
 
 /// A line that is refused leaves the machine as it is, but for a step of a ticket whose location is gone: that closes the
@@ -8,3 +11,21 @@ use domain_laws::Domain;
 pub fn refusals_change_nothing<D: Domain>()
     ensures same { (d : D) → RefusalsAreSafe (D.operations d) }
 {}
+
+/// The present program of a machine, those behind it and those ahead of it never have a fault: the program of a source that is
+/// accepted has none, and each line leaves it so.
+pub fn machines_stay_fine<D: Domain>()
+    ensures source { SourcesAreFine }
+    ensures line { (d : D) → LinesKeepFine (D.operations d) }
+{}
+
+/// A reply that is a state, to a question or to a step of a ticket, describes each configuration that a run of the present
+/// program reaches there. A reply that is a report calls no check safe that a run fails, and no statement dead that a run
+/// comes to. So it is after any lines of any script.
+pub fn replies_are_sound<D: Domain>()
+    ensures turn { (d : D) → TurnsAreSound (D.operations d) (D.covers d) }
+    ensures moment { (d : D) → MomentsAreSound (D.operations d) (D.covers d) }
+{
+    answers_are_sound::<D>();
+    reports_are_sound::<D>();
+}

@@ -17,6 +17,6 @@ mod readings;
 mod refusals;
 
 pub use edits::{TextError, add_of, guard_of, insert_of, replace_of};
-pub use laws::refusals_change_nothing;
+pub use laws::{machines_stay_fine, refusals_change_nothing, replies_are_sound};
 pub use readings::texts_are_read;
 pub use refusals::refusal_of;

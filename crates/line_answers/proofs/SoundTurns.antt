@@ -1,0 +1,174 @@
+-- Replies of states and reports are sound.
+use Rattle.std.proofs.Common.{◌≡◌, inl, inr, ℕ, ℤ, nat_le, nat_lt, Bool, true, false, List, [], ◌∷◌, length, Option, Some, None, Result, Ok, Err, if◌then◌else◌, refl, sym, subst}
+use Rattle.std.specs.Prelude.{Contains}
+use Rattle.imp_syntax.specs.Plain.{Procedure}
+use Rattle.imp_syntax.specs.declared.edit.Edit.{Edit}
+use Rattle.imp_syntax.specs.declared.edit.Location.{Location}
+use Rattle.imp_slots.specs.Plain.{Routine}
+use Rattle.imp_check.specs.Slots.{routines_of}
+use Rattle.concrete_sem.specs.Values.{Variables, Heap}
+use Rattle.analysis_words.specs.declared.findings.Finding.{Finding}
+use Rattle.domain_laws.specs.Operations.{Operations}
+use Rattle.batch_meaning.specs.Values.{Value, State, Over}
+use Rattle.batch_meaning.specs.Answers.{Answer, Refuses, Answers, Found, In, Misses, procedure_of}
+use Rattle.batch_meaning.specs.Report.{report}
+use Rattle.batch_sound.specs.Theorem.{AreAnswersSound, AreReportsSound}
+use Rattle.imp_edit.specs.Refusals.{edit_refusal}
+use Rattle.imp_edit.specs.declared.error.EditError.{EditError}
+use Rattle.script_loop.specs.Replies.{after}
+use Rattle.session_machine.specs.Machine.{Machine, Ticket, ticket_of}
+use Rattle.session_machine.specs.Turns.{answer_at, missing_at, redone, undone}
+use Rattle.request_json.specs.declared.error.ReadError.{ReadError}
+use Rattle.request_json.specs.declared.request.Query.{Query}
+use Rattle.request_json.specs.declared.request.Request.{Request}
+use Rattle.request_json.specs.declared.request.Request.TheVariants as q
+use Rattle.request_json.specs.declared.reply.Reply.{Reply}
+use Rattle.request_json.specs.declared.reply.Reply.TheVariants as r
+use Rattle.request_json.specs.declared.reply.Refusal.{Refusal}
+use Rattle.request_json.specs.declared.reply.Refusal.TheVariants as refusal
+use Rattle.request_json.specs.Requests.{request_of}
+use Rattle.line_replies.specs.Runs.{asked_run, found_run, run_reply}
+use Rattle.line_replies.specs.Texts.{program_reply}
+use Rattle.line_answers.specs.Readings.{Readings}
+use Rattle.line_answers.specs.Edits.{replace_of, insert_of, delete_of, guard_of, declare_of, add_of, drop_of}
+use Rattle.line_answers.specs.Turns.{Turn, told, cancel_by, move_turn, state_by, ask_by, step_by, step_of, edit_by, edit_turn}
+use Rattle.line_answers.specs.Lines.{request_turn, read_turn, server}
+use Rattle.line_answers.specs.Fine.{HasFinePrograms, opening}
+use Rattle.line_answers.specs.Sound.{IsAsked, IsReplySound, TurnsAreSound, MomentsAreSound}
+use Rattle.line_answers.proofs.FineTurns.{after_fine}
+use Rattle.line_answers.proofs.Sources.{sources_fine}
+
+-- ---- replies that are neither a state nor a report
+
+abbrev IsOther : Reply → Type 0
+IsOther (r.State text) = ⊥
+IsOther (r.Report report) = ⊥
+IsOther reply = Unit {0}
+
+ran_other : (program : List Routine) (inputs : List ℤ) (fuel : ℕ) (at : Option Location) → IsOther (run_reply program inputs fuel at)
+unfolding run_reply
+ran_other program inputs fuel at = tt
+
+found_other : (program : List Routine) (inputs : List ℤ) (fuel : ℕ) (l : Location) (found : Found) → IsOther (found_run program inputs fuel l found)
+found_other program inputs fuel l (Misses why) = tt
+found_other program inputs fuel l (In p) = ran_other program inputs fuel (Some l)
+
+run_other : (program : List Routine) (inputs : List ℤ) (fuel : ℕ) (at : Option Location) → IsOther (asked_run program inputs fuel at)
+run_other program inputs fuel None = ran_other program inputs fuel None
+run_other program inputs fuel (Some l) = found_other program inputs fuel l (procedure_of program l)
+
+program_other : (next : ℕ) (program : List Procedure) → IsOther (program_reply next program)
+unfolding program_reply
+program_other next program = tt
+
+cancel_other : (t : Option Ticket) (m : Machine) → IsOther (cancel_by t m).reply
+cancel_other None m = tt
+cancel_other (Some t) m = tt
+
+move_other : (side : List (List Procedure)) (otherwise : Refusal) (there m : Machine) → IsOther (move_turn side otherwise there m).reply
+move_other [] otherwise there m = tt
+move_other (p ∷ ps) otherwise there m = tt
+
+ask_by_other : {S : Type 0} (dom : Operations S) (query : Query) (a : Answer S) (m : Machine) → IsOther (ask_by dom query a m).reply
+ask_by_other dom query (Refuses why) m = tt
+ask_by_other dom query (Answers v) m = tt
+
+either_other : (b : Bool) (one other : Turn) → IsOther one.reply → IsOther other.reply → IsOther (if b then one else other).reply
+either_other true one other first second = first
+either_other false one other first second = second
+
+edit_by_other : {S : Type 0} (dom : Operations S) (e : Edit) (error : Option EditError) (m : Machine) → IsOther (edit_by dom e error m).reply
+edit_by_other dom e None m = tt
+edit_by_other dom e (Some error) m = tt
+
+edit_other : {S : Type 0} (dom : Operations S) (made : Result Edit Refusal) (m : Machine) → IsOther (edit_turn dom made m).reply
+edit_other dom (Err why) m = tt
+edit_other dom (Ok e) m = edit_by_other dom e (edit_refusal e m.program m.next) m
+
+-- ---- states and reports
+
+module _ {S : Type 0} (dom : Operations S) (covers : S → Heap → List Variables → Type 0) (answers : AreAnswersSound dom covers) (reports : AreReportsSound dom) (m : Machine) (line : List ℕ) (h : HasFinePrograms m) where
+  abbrev Sound : Reply → Type 0
+  Sound reply = IsReplySound dom covers m line reply
+
+  other_sound : (reply : Reply) → IsOther reply → Sound reply
+  other_sound reply other = record {
+    state = λ text is. absurd (subst (λ (x : Reply). IsOther x) is other);
+    report = λ report is. absurd (subst (λ (x : Reply). IsOther x) is other);
+  }
+
+  told_sound : (l : Location) (string : List ℕ) (v : Value S) → IsAsked m line l string → answer_at dom l string m ≡ Answers v → Sound (told dom l v m)
+  told_sound l string (State s) asked is = record {
+    state = λ text same. record {
+      at = l;
+      string = string;
+      state = s;
+      asks = asked;
+      answers = is;
+      says = cc;
+      describes = λ c reached. answers m.engine (routines_of m.program) l string s c h.present.fine.fit is reached;
+    };
+    report = λ report same. absurd cc;
+  }
+  told_sound l string (Over n z) asked is = other_sound (told dom l (Over n z) m) tt
+
+  state_sound : (query : Query) (a : Answer S) → IsAsked m line query.at query.string → answer_at dom query.at query.string m ≡ a → Sound (state_by dom query a m).reply
+  state_sound query (Refuses why) asked is = other_sound (r.Refused (refusal.Query why)) tt
+  state_sound query (Answers v) asked is = told_sound query.at query.string v asked is
+
+  either_sound : (b : Bool) (one other : Turn) → Sound one.reply → Sound other.reply → Sound (if b then one else other).reply
+  either_sound true one other first second = first
+  either_sound false one other first second = second
+
+  step_by_sound : (t : Ticket) (n : ℕ) (a : Answer S) → IsAsked m line t.at t.string → answer_at dom t.at t.string m ≡ a → Sound (step_by dom t n a m).reply
+  step_by_sound t n (Refuses why) asked is = other_sound (r.Refused refusal.Gone) tt
+  step_by_sound t n (Answers v) asked is =
+      either_sound (nat_lt n (length (missing_at dom t.at t.string m))) _ _ (other_sound (r.Pending n) tt) (told_sound t.at t.string v asked is)
+
+  step_sound : (ticket n : ℕ) (t : Option Ticket) → request_of line ≡ Ok (q.Step ticket n) → ticket_of ticket m.tickets ≡ t → Sound (step_of dom n t m).reply
+  step_sound ticket n None reads there = other_sound (r.Refused refusal.NoTicket) tt
+  step_sound ticket n (Some t) reads there =
+      step_by_sound t n (answer_at dom t.at t.string m) (inr (record { ticket = ticket; steps = n; asked = t; reads = reads; open_one = there; at = refl; under = refl })) refl
+
+  report_sound : Sound (r.Report (report dom m.engine (routines_of m.program)))
+  report_sound = record {
+    state = λ text is. absurd cc;
+    report = λ findings is f within.
+        let same : report dom m.engine (routines_of m.program) ≡ findings = cc in
+        reports m.engine (routines_of m.program) f h.present.fine.fit (subst (λ (fs : List Finding). Contains fs f) (sym same) within);
+  }
+
+  request_sound : (readings : Readings) (request : Request) → request_of line ≡ Ok request → Sound (request_turn readings dom request m).reply
+  unfolding request_turn
+  request_sound readings (q.State query) reads = state_sound query (answer_at dom query.at query.string m) (inl reads) refl
+  request_sound readings q.Report reads = report_sound
+  request_sound readings q.Cost reads = other_sound _ tt
+  request_sound readings q.Program reads = other_sound _ (program_other m.next m.program)
+  request_sound readings q.Listing reads = other_sound _ tt
+  request_sound readings (q.Run inputs fuel at) reads = other_sound _ (run_other (routines_of m.program) inputs fuel at)
+  request_sound readings (q.Replace id text) reads = other_sound _ (edit_other dom (replace_of readings m.next id text) m)
+  request_sound readings (q.Insert place text) reads = other_sound _ (edit_other dom (insert_of readings m.next place text) m)
+  request_sound readings (q.Delete id) reads = other_sound _ (edit_other dom (delete_of id) m)
+  request_sound readings (q.Guard id text) reads = other_sound _ (edit_other dom (guard_of readings id text) m)
+  request_sound readings (q.Declare proc name kind) reads = other_sound _ (edit_other dom (declare_of proc name kind) m)
+  request_sound readings (q.Add before text) reads = other_sound _ (edit_other dom (add_of readings m.next before text) m)
+  request_sound readings (q.Drop proc) reads = other_sound _ (edit_other dom (drop_of proc) m)
+  request_sound readings (q.Why query) reads = other_sound _ tt
+  request_sound readings q.Undo reads = other_sound _ (move_other m.past refusal.NothingToUndo (undone dom m) m)
+  request_sound readings q.Redo reads = other_sound _ (move_other m.future refusal.NothingToRedo (redone dom m) m)
+  request_sound readings (q.Ask query) reads =
+      other_sound _ (either_other (nat_lt 2 (length query.string)) _ _ tt (either_other (nat_le 16 (length m.tickets)) _ _ tt (ask_by_other dom query (answer_at dom query.at query.string m) m)))
+  request_sound readings (q.Step ticket n) reads = step_sound ticket n (ticket_of ticket m.tickets) reads refl
+  request_sound readings (q.Cancel ticket) reads = other_sound _ (cancel_other (ticket_of ticket m.tickets) m)
+
+  read_sound : (readings : Readings) (request : Result Request ReadError) → request_of line ≡ request → Sound (read_turn readings dom request m).reply
+  read_sound readings (Err error) reads = other_sound _ tt
+  read_sound readings (Ok request) reads = request_sound readings request reads
+
+pub turns_sound : {S : Type 0} (dom : Operations S) (covers : S → Heap → List Variables → Type 0) → AreAnswersSound dom covers → AreReportsSound dom → TurnsAreSound dom covers
+turns_sound dom covers answers reports = λ s line h. read_sound dom covers answers reports s.machine line h s.readings (request_of line) refl
+
+pub moments_sound : {S : Type 0} (dom : Operations S) (covers : S → Heap → List Variables → Type 0) → AreAnswersSound dom covers → AreReportsSound dom → MomentsAreSound dom covers
+moments_sound dom covers answers reports = λ readings engine source program is before line.
+    turns_sound dom covers answers reports (after (server dom) (opening readings engine program) before) line
+    (after_fine dom (opening readings engine program) before (sources_fine readings engine source program is))

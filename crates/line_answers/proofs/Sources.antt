@@ -1,0 +1,55 @@
+-- The program of a source, with its numbers.
+use Rattle.std.proofs.Common.{◌≡◌, ℕ, zero, suc, ◌<◌, List, length, None, refl, sym, ap, ◌∙◌, subst, arith}
+use Rattle.std.specs.List.{All}
+use Rattle.std.proofs.lemmas.List.Elements.{All-nil}
+use Rattle.imp_syntax.specs.Plain.{Procedure, program_numbers}
+use Rattle.imp_slots.specs.Fits.{Absent, Distinct}
+use Rattle.imp_check.specs.Programs.{AreNumbered, check_fault, program_count}
+use Rattle.imp_parse.specs.Answer.{HasTree, IsAnswer}
+use Rattle.imp_parse.specs.Kinds.{kinds}
+use Rattle.imp_parse.specs.Languages.{ProgramText}
+use Rattle.imp_parse.specs.Limits.{outside}
+use Rattle.imp_edit.specs.Edited.{counting}
+use Rattle.imp_edit.proofs.Tallies.{often}
+use Rattle.imp_edit.proofs.Once.{never_absent, once_distinct, never_below, counting_low, counting_high, counting_once}
+use Rattle.print_round_trip.proofs.ReadAgain.{printable}
+use Rattle.line_answers.specs.Fine.{IsFineBelow, SourcesAreFine, next_number}
+use Rattle.line_answers.proofs.FineLemmas.{fine_of}
+use Rattle.line_answers.proofs.Numbered.{program_counts}
+use Rattle.line_answers.proofs.SmallTexts.{program_small}
+
+length_counting : (first count : ℕ) → length (counting first count) ≡ count
+length_counting first zero = refl
+length_counting first (suc n) = ap suc (length_counting (suc first) n)
+
+counted_numbered : (ps : List Procedure) (count : ℕ) → program_numbers ps ≡ counting 1 count → AreNumbered ps
+counted_numbered ps count is = record {
+  no_zero = subst (Absent 0) (sym is) (never_absent 0 (counting 1 count) (counting_low 1 count 0 (omega arith)));
+  once = subst (λ (ns : List ℕ). Distinct ns) (sym is) (once_distinct (counting 1 count) (counting_once 1 count));
+}
+
+counted_below : (ps : List Procedure) (count : ℕ) → program_numbers ps ≡ counting 1 count → All (λ (n : ℕ). n < next_number ps) (program_numbers ps)
+counted_below ps count is =
+    let many : length (program_numbers ps) ≡ count = ap length is ∙ length_counting 1 count in
+    never_below (next_number ps) (program_numbers ps)
+    (λ m high. subst (λ (ns : List ℕ). often m ns ≡ 0) (sym is) (counting_high 1 count m (omega (arith, many, high))))
+
+source_fine : (source : List ℕ) (program : List Procedure) → HasTree ProgramText outside source program → check_fault program ≡ None → IsFineBelow (next_number program) program
+source_fine source program tree faultless =
+    let counts = program_counts (kinds tree.0) program tree.2.0 in
+    let small = program_small program (printable source program tree) in
+    record {
+      fine = fine_of program small faultless (counted_numbered program (program_count program) counts);
+      small = small;
+      below = counted_below program (program_count program) counts;
+    }
+
+pub sources_fine : SourcesAreFine
+sources_fine = λ readings engine source program is.
+    let tree : HasTree ProgramText outside source program = subst (IsAnswer ProgramText outside source) is.read (readings.program.exact source) in
+    record {
+      some = omega arith;
+      present = source_fine source program tree is.faultless;
+      past = All-nil (IsFineBelow (next_number program));
+      future = All-nil (IsFineBelow (next_number program));
+    }
