@@ -1,5 +1,5 @@
 -- The beginning of a session.
-use Rattle.std.proofs.Common.{◌≡◌, ℕ, ◌<◌, Bool, true, false, List, [], ◌∷◌, map, refl, sym, ap, subst, ◌∙◌}
+use Rattle.std.proofs.Common.{◌≡◌, ℕ, ◌<◌, ◌≤◌, Bool, true, false, List, [], ◌∷◌, map, refl, sym, ap, subst, ◌∙◌}
 use Rattle.imp_syntax.specs.Plain.{Procedure}
 use Rattle.imp_slots.specs.Fits.{IsChecked}
 use Rattle.imp_check.specs.Fine.{IsFine}
@@ -33,13 +33,14 @@ pub record IsFirst (book : Book) (program : List Procedure) (e : Engine) (next :
   pub cost : book.cost ≡ 0
 
 module _ {S : Type 0} (dom : Operations S) (store : Store S) (book : Book) (program : List Procedure) (e : Engine) (next : ℕ) (is : IsFirst book program e next) (fine : IsFine program) where
-  pub begin_ready : 0 < next → AreBelow next program → ((plan : Plan) → IsChecked plan.program → IsRight dom plan store) → IsReady dom store book
-  begin_ready some below right = record {
+  pub begin_ready : 0 < next → next ≤ 1000001 → AreBelow next program → ((plan : Plan) → IsChecked plan.program → IsRight dom plan store) → IsReady dom store book
+  begin_ready some low below right = record {
     right = right (flow_in book) (subst (λ (p : List Procedure). IsChecked (routines_of p)) (sym is.now) fine.fit);
     order = record {
       set = subst (λ (p : List Procedure). book.setting ≡ setting_of book.setting.engine (routines_of p)) (sym is.now) (set_again book.setting e (routines_of program) is.set);
       fine = subst IsFine (sym is.now) fine;
       some = subst (λ n. 0 < n) (sym is.next_is) some;
+      low = subst (λ n. n ≤ 1000001) (sym is.next_is) low;
       below = subst (λ n. AreBelow n book.history.now) (sym is.next_is) (subst (AreBelow next) (sym is.now) below);
       behind = subst (AreBehind book.next book.history.now) (sym is.past_is) tt;
       ahead = subst (AreAhead book.next book.history.now) (sym is.future_is) tt;

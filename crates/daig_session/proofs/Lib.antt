@@ -1,6 +1,7 @@
 pub mod TicketLemmas
 pub mod Waiting
 pub mod Ordered
+pub mod Accepted
 pub mod Asked
 pub mod Filled
 pub mod Moved

@@ -88,10 +88,10 @@ module _ {S : Type 0} (dom : Operations S) where
     engine_is : new.setting.engine ≡ old.setting.engine
     engine_is = ap (λ (s : Setting). s.engine) t.set
 
-    pub moved_ready : 0 < next → AreBelow next program → AreBehind next program past → AreAhead next program future → IsReady dom new_store new
-    moved_ready some below behind ahead = record {
+    pub moved_ready : 0 < next → next ≤ 1000001 → AreBelow next program → AreBehind next program past → AreAhead next program future → IsReady dom new_store new
+    moved_ready some low below behind ahead = record {
       right = subst (λ p. IsRight dom (flow_of new.setting.engine p) new_store) (sym t.now) (subst (λ e. IsRight dom (flow_of e program) new_store) (sym engine_is) leave.right);
-      order = turned_order old new program past future next r.order t fine some below behind ahead;
+      order = turned_order old new program past future next r.order t fine some low below behind ahead;
       waiting = subst (AreWaiting dom (flow_in new) new_store) (sym t.anew_all) (waiting_anew dom (flow_in old) (flow_in new) store new_store old.tickets.open_ones.items r.waiting);
     }
 
@@ -133,7 +133,7 @@ module _ {S : Type 0} (dom : Operations S) where
         let less = no_less in
         let some = r.order.some in
         moved_ready store new_store old new (edited ed old.history.now) (take 64 (old.history.now ∷ old.history.past)) [] p.edited.next r turned leave (edit_fine store old p ed r pl)
-        (omega arith) pl.below
+        (omega arith) pl.low pl.below
         (behind_take 64 p.edited.next (edited ed old.history.now) (old.history.now ∷ old.history.past) (edit_apart store old p ed r pl, below_more old.next p.edited.next old.history.now less r.order.below, behind_more old.next p.edited.next less old.history.now old.history.past r.order.behind))
         tt
 
@@ -156,7 +156,7 @@ module _ {S : Type 0} (dom : Operations S) where
       pub undo_ready : IsReady dom new_store new
       undo_ready =
           let b = behind_is in
-          moved_ready store new_store old new new.history.now new.history.past (old.history.now ∷ old.history.future) old.next r t leave b.0.fine r.order.some b.1 b.2 (b.0, r.order.below, r.order.ahead)
+          moved_ready store new_store old new new.history.now new.history.past (old.history.now ∷ old.history.future) old.next r t leave b.0.fine r.order.some r.order.low b.1 b.2 (b.0, r.order.below, r.order.ahead)
 
       pub undo_holds : (m : Machine) → Holds dom store old m → Holds dom new_store new (undone dom m)
       undo_holds m h =
@@ -178,7 +178,7 @@ module _ {S : Type 0} (dom : Operations S) where
       pub redo_ready : IsReady dom new_store new
       redo_ready =
           let a = ahead_is in
-          moved_ready store new_store old new new.history.now (old.history.now ∷ old.history.past) new.history.future old.next r t leave a.0.after r.order.some a.1 (a.0, r.order.below, r.order.behind) a.2
+          moved_ready store new_store old new new.history.now (old.history.now ∷ old.history.past) new.history.future old.next r t leave a.0.after r.order.some r.order.low a.1 (a.0, r.order.below, r.order.behind) a.2
 
       pub redo_holds : (m : Machine) → Holds dom store old m → Holds dom new_store new (redone dom m)
       redo_holds m h =

@@ -30,11 +30,12 @@ behind_take (suc k) n now [] a = tt
 behind_take (suc k) n now (p ∷ ps) a = (a.0, a.1, behind_take k n p ps a.2)
 
 -- at another program
-pub turned_order : (old new : Book) (program : List Procedure) (past future : List (List Procedure)) (next : ℕ) → IsInOrder old → IsTurned old program past future next new → IsFine program → 0 < next → AreBelow next program → AreBehind next program past → AreAhead next program future → IsInOrder new
-turned_order old new program past future next o t fine some below behind ahead = record {
+pub turned_order : (old new : Book) (program : List Procedure) (past future : List (List Procedure)) (next : ℕ) → IsInOrder old → IsTurned old program past future next new → IsFine program → 0 < next → next ≤ 1000001 → AreBelow next program → AreBehind next program past → AreAhead next program future → IsInOrder new
+turned_order old new program past future next o t fine some low below behind ahead = record {
   set = subst (λ (p : List Procedure). new.setting ≡ setting_of new.setting.engine (routines_of p)) (sym t.now) (set_again new.setting old.setting.engine (routines_of program) t.set);
   fine = subst IsFine (sym t.now) fine;
   some = subst (λ n. 0 < n) (sym t.next_is) some;
+  low = subst (λ n. n ≤ 1000001) (sym t.next_is) low;
   below = subst (λ n. AreBelow n new.history.now) (sym t.next_is) (subst (AreBelow next) (sym t.now) below);
   behind =
       subst (λ n. AreBehind n new.history.now new.history.past) (sym t.next_is) (
@@ -53,6 +54,7 @@ order_like old new o now past future setting next are = record {
   set = subst (λ (p : List Procedure). new.setting ≡ setting_of new.setting.engine (routines_of p)) (sym now) (subst (λ (s : Setting). s ≡ setting_of s.engine (routines_of old.history.now)) (sym setting) o.set);
   fine = subst IsFine (sym now) o.fine;
   some = subst (λ n. 0 < n) (sym next) o.some;
+  low = subst (λ n. n ≤ 1000001) (sym next) o.low;
   below = subst (λ n. AreBelow n new.history.now) (sym next) (subst (AreBelow old.next) (sym now) o.below);
   behind =
       subst (λ n. AreBehind n new.history.now new.history.past) (sym next) (

@@ -61,6 +61,7 @@ module _ {S : Type 0} (dom : Operations S) (store : Store S) where
       set = r.order.set;
       fine = r.order.fine;
       some = r.order.some;
+      low = r.order.low;
       below = r.order.below;
       behind = r.order.behind;
       ahead = r.order.ahead;

@@ -1,5 +1,5 @@
 -- What a session keeps beside its engine.
-use Rattle.std.specs.Prelude.{◌≡◌, ℕ, ◌<◌, List, [], ◌∷◌, map, Some, slice_get, slice_set}
+use Rattle.std.specs.Prelude.{◌≡◌, ℕ, ◌<◌, ◌≤◌, List, [], ◌∷◌, map, Some, slice_get, slice_set}
 use Rattle.std.specs.List.{All}
 use Rattle.imp_syntax.specs.Plain.{Procedure, program_numbers}
 use Rattle.imp_check.specs.Fine.{IsFine}
@@ -36,12 +36,13 @@ abbrev pub AreAhead : (next : ℕ) → List Procedure → List (List Procedure) 
 AreAhead next now [] = Unit {0}
 AreAhead next now (p ∷ ps) = IsEdited now p × AreBelow next p × AreAhead next p ps
 
--- The setting is that of the present program, which has no fault; the numbers of all programs are below the next one;
--- edits lead from each program to the next; and each ticket has a number of its own.
+-- The setting is that of the present program, which has no fault; the numbers of all programs are below the next one, and
+-- none is above 1,000,000; edits lead from each program to the next; and each ticket has a number of its own.
 pub record IsInOrder (b : Book) : Type 0 where
   pub set : IsSet b
   pub fine : IsFine b.history.now
   pub some : 0 < b.next
+  pub low : b.next ≤ 1000001
   pub below : AreBelow b.next b.history.now
   pub behind : AreBehind b.next b.history.now b.history.past
   pub ahead : AreAhead b.next b.history.now b.history.future

@@ -54,5 +54,6 @@ pub record IsPlanned {S : Type 0} (store : Store S) (book : Book) (e : Edit) (p 
   pub makes : after book.history.now p.edited.change ≡ edited e book.history.now
   pub continues : Continues e book.next
   pub next : p.edited.next ≡ next_after e book.next
+  pub low : p.edited.next ≤ 1000001
   pub below : AreBelow p.edited.next (edited e book.history.now)
   pub moving : IsMoving store book.setting.engine book.history.now (edited e book.history.now) p.moving

@@ -1,5 +1,5 @@
 //! Edits.
-ghost use Rattle.std.specs.Prelude.{◌≡◌, IfOk, IfErr};
+ghost use Rattle.std.specs.Prelude.{◌≡◌, IfOk, IfErr, None};
 ghost use Rattle.std.specs.Borrow.{sem, RestsIfErr};
 ghost use Rattle.imp_syntax.specs.declared.edit.Edit.{Edit as AnyEdit};
 ghost use Rattle.imp_edit.specs.Edited.{next_after, Continues};
@@ -33,6 +33,7 @@ impl<D: Domain> Session<D> {
         ensures engine { self.new.engine ≡ self.old.engine }
         ensures same { IsSame self.old.book self.new.book }
         ensures planned { IfOk result (IsPlanned self.new.engine.store self.new.book edit.now) }
+        ensures accepted { IfOk result (λ _. edit_refusal edit.now self.old.book.history.now self.old.book.next ≡ None) }
         ensures refused { IfErr result (IsRefusal (edit_refusal edit.now self.old.book.history.now self.old.book.next)) }
     {
         let edited = apply(alloc, self.book.history.table(), edit, self.book.next)?;
@@ -53,6 +54,7 @@ impl<D: Domain> Session<D> {
         requires planned { (e : AnyEdit) × IsPlanned self.old.engine.store self.old.book e planned }
         ensures ready { IsReady (D.operations self.new.engine.domain) self.new.engine.store self.new.book }
         ensures domain { self.new.engine.domain ≡ self.old.engine.domain }
+        ensures next_ticket { self.new.book.tickets.next ≡ self.old.book.tickets.next }
         ensures committed { (e : AnyEdit) (m : Machine) → IsPlanned self.old.engine.store self.old.book e planned → Holds (D.operations self.old.engine.domain) self.old.engine.store self.old.book m →
             Holds (D.operations self.new.engine.domain) self.new.engine.store self.new.book (committed (D.operations self.old.engine.domain) e m) }
     {
@@ -93,6 +95,8 @@ impl<D: Domain> Session<D> {
         ensures holds { (m : Machine) → Holds (D.operations self.old.engine.domain) self.old.engine.store self.old.book m →
             IfOk result (λ p. Holds (D.operations p.session.now.engine.domain) p.session.now.engine.store p.session.now.book m) }
         ensures domain { IfOk result (λ p. p.session.now.engine.domain ≡ self.old.engine.domain) }
+        ensures next_ticket { IfOk result (λ p. p.session.now.book.tickets.next ≡ self.old.book.tickets.next) }
+        ensures accepted { IfOk result (λ _. edit_refusal edit.now self.old.book.history.now self.old.book.next ≡ None) }
         ensures refused { IfErr result (IsRefusal (edit_refusal edit.now self.old.book.history.now self.old.book.next)) }
     {
         let planned = self.planned(alloc, edit)?;
@@ -118,6 +122,7 @@ impl<D: Domain> Prepared<'_, D, Planned> {
         requires planned { (e : AnyEdit) × IsPlanned self.session.now.engine.store self.session.now.book e self.planned }
         ensures ready { IsReady (D.operations self.exit.0.now.engine.domain) self.exit.0.now.engine.store self.exit.0.now.book }
         ensures domain { self.exit.0.now.engine.domain ≡ self.entry.session.now.engine.domain }
+        ensures next_ticket { self.exit.0.now.book.tickets.next ≡ self.entry.session.now.book.tickets.next }
         ensures committed { (e : AnyEdit) (m : Machine) → IsPlanned self.entry.session.now.engine.store self.entry.session.now.book e self.entry.planned → Holds (D.operations self.entry.session.now.engine.domain) self.entry.session.now.engine.store self.entry.session.now.book m →
             Holds (D.operations self.exit.0.now.engine.domain) self.exit.0.now.engine.store self.exit.0.now.book (committed (D.operations self.entry.session.now.engine.domain) e m) }
     {

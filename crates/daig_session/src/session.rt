@@ -1,7 +1,7 @@
 //! Sessions.
-ghost use Rattle.std.specs.Prelude.{◌≡◌, ◌<◌, length, IfOk};
+ghost use Rattle.std.specs.Prelude.{◌≡◌, ◌<◌, ◌≤◌, length, IfOk, option_copied, option_map};
 ghost use Rattle.call_contexts.specs.Settings.{engine_of};
-ghost use Rattle.session_machine.specs.Machine.{beginning, Machine};
+ghost use Rattle.session_machine.specs.Machine.{beginning, ticket_of, Machine, Ticket};
 ghost use Rattle.daig_session.specs.Books.{AreBelow};
 ghost use Rattle.daig_session.specs.Holds.{Holds, IsReady};
 
@@ -11,6 +11,7 @@ use daig_query::Engine;
 use domain_laws::Domain;
 use edit_history::History;
 use imp_check::Table;
+use imp_syntax::Location;
 use open_tickets::Tickets;
 use plain_values::Memory;
 use program_chains::Widening;
@@ -42,6 +43,7 @@ impl<D: Domain + Drop> Session<D> {
         memo: usize,
     ) -> Result<Session<D>, Memory>
         requires some { 0 < next }
+        requires low { next ≤ 1000001 }
         requires below { AreBelow next table.program }
         requires memo { 0 < memo }
         ensures ready { IfOk result (λ s. IsReady (D.operations s.engine.domain) s.engine.store s.book) }
@@ -85,6 +87,7 @@ impl<D: Domain> Session<D> {
     /// The number of the next new statement.
     pub fn next(&self) -> u32
         ensures is { (m : Machine) → Holds (D.operations self.now.engine.domain) self.now.engine.store self.now.book m → result ≡ m.next }
+        ensures same { result ≡ self.now.book.next }
     {
         self.book.next
     }
@@ -107,7 +110,23 @@ impl<D: Domain> Session<D> {
     /// The number of the next ticket.
     pub fn next_ticket(&self) -> u64
         ensures is { (m : Machine) → Holds (D.operations self.now.engine.domain) self.now.engine.store self.now.book m → result ≡ m.next_ticket }
+        ensures same { result ≡ self.now.book.tickets.next }
     {
         self.book.tickets.next
+    }
+
+    /// Where an open ticket asks; `None` where no ticket of this number is open. It takes time linear in the open tickets,
+    /// which are few.
+    pub fn ticket_at(&self, ticket: u64) -> Option<&Location>
+        requires ready { IsReady (D.operations self.now.engine.domain) self.now.engine.store self.now.book }
+        ensures is { (m : Machine) → Holds (D.operations self.now.engine.domain) self.now.engine.store self.now.book m → option_copied result ≡ option_map (λ (t : Ticket). t.at) (ticket_of ticket m.tickets) }
+    {
+        match self.book.tickets.place_of(ticket) {
+            None => None,
+            Some(place) => {
+                let one = &self.book.tickets.open_ones[place];
+                Some(&one.at)
+            }
+        }
     }
 }

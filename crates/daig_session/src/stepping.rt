@@ -102,6 +102,7 @@ impl<D: Domain> Session<D> {
         requires there { IsAtPlace (D.operations self.old.engine.domain) self.old.engine.store self.old.book place going }
         ensures ready { IsReady (D.operations self.new.engine.domain) self.new.engine.store self.new.book }
         ensures domain { self.new.engine.domain ≡ self.old.engine.domain }
+        ensures next_ticket { self.new.book.tickets.next ≡ self.old.book.tickets.next }
         ensures steps { (m : Machine) (o : AnyOpen AnyGoing) → Holds (D.operations self.old.engine.domain) self.old.engine.store self.old.book m → slice_get self.old.book.tickets.open_ones.items place ≡ Some o →
             IsStep (D.operations self.old.engine.domain) m (Holds (D.operations self.new.engine.domain) self.new.engine.store self.new.book) (ticket o) most result }
         ensures sound { (o : AnyOpen AnyGoing) → slice_get self.old.book.tickets.open_ones.items place ≡ Some o →
@@ -143,6 +144,7 @@ impl<D: Domain> Session<D> {
         requires ready { IsReady (D.operations self.old.engine.domain) self.old.engine.store self.old.book }
         ensures ready { IsReady (D.operations self.new.engine.domain) self.new.engine.store self.new.book }
         ensures domain { self.new.engine.domain ≡ self.old.engine.domain }
+        ensures next_ticket { self.new.book.tickets.next ≡ self.old.book.tickets.next }
         ensures steps { (m : Machine) → Holds (D.operations self.old.engine.domain) self.old.engine.store self.old.book m →
             IsStepOf (D.operations self.old.engine.domain) m (Holds (D.operations self.new.engine.domain) self.new.engine.store self.new.book) most (ticket_of ticket m.tickets) result }
         ensures sound { (m : Machine) → Holds (D.operations self.old.engine.domain) self.old.engine.store self.old.book m →

@@ -1,5 +1,5 @@
 //! Tickets: questions that are answered in steps.
-ghost use Rattle.std.specs.Prelude.{◌≡◌, ◌<◌, ◌^◌, length, Some, slice_get, slice_set};
+ghost use Rattle.std.specs.Prelude.{◌≡◌, ◌+◌, ◌<◌, ◌≤◌, ◌^◌, length, Some, slice_get, slice_set};
 ghost use Rattle.session_machine.specs.Machine.{Machine, ticket_of};
 ghost use Rattle.open_tickets.specs.declared.tickets.Open.{Open as AnyOpen};
 ghost use Rattle.open_tickets.specs.Tickets.{anew};
@@ -64,6 +64,7 @@ impl<D: Domain> Session<D> {
         requires room { self.old.book.tickets.next < 2 ^ 63 }
         ensures ready { IsReady (D.operations self.new.engine.domain) self.new.engine.store self.new.book }
         ensures domain { self.new.engine.domain ≡ self.old.engine.domain }
+        ensures rises { self.new.book.tickets.next ≤ self.old.book.tickets.next + 1 }
         ensures opens { (m : Machine) → Holds (D.operations self.old.engine.domain) self.old.engine.store self.old.book m →
             Opens (D.operations self.old.engine.domain) m (Holds (D.operations self.new.engine.domain) self.new.engine.store self.new.book) at string result }
     {
@@ -88,6 +89,7 @@ impl<D: Domain> Session<D> {
         requires ready { IsReady (D.operations self.old.engine.domain) self.old.engine.store self.old.book }
         ensures ready { IsReady (D.operations self.new.engine.domain) self.new.engine.store self.new.book }
         ensures domain { self.new.engine.domain ≡ self.old.engine.domain }
+        ensures next_ticket { self.new.book.tickets.next ≡ self.old.book.tickets.next }
         ensures cancels { (m : Machine) → Holds (D.operations self.old.engine.domain) self.old.engine.store self.old.book m →
             Cancels m (Holds (D.operations self.new.engine.domain) self.new.engine.store self.new.book) ticket (ticket_of ticket m.tickets) result }
     {

@@ -52,6 +52,7 @@ impl<D: Domain> Session<D> {
         requires ready { IsReady (D.operations self.old.engine.domain) self.old.engine.store self.old.book }
         ensures ready { IsReady (D.operations self.new.engine.domain) self.new.engine.store self.new.book }
         ensures domain { self.new.engine.domain ≡ self.old.engine.domain }
+        ensures next_ticket { self.new.book.tickets.next ≡ self.old.book.tickets.next }
         ensures goes { (m : Machine) → Holds (D.operations self.old.engine.domain) self.old.engine.store self.old.book m →
             Goes m (Holds (D.operations self.new.engine.domain) self.new.engine.store self.new.book) m.past (undone (D.operations self.old.engine.domain) m) result }
     {
@@ -71,6 +72,7 @@ impl<D: Domain> Session<D> {
         requires ready { IsReady (D.operations self.old.engine.domain) self.old.engine.store self.old.book }
         ensures ready { IsReady (D.operations self.new.engine.domain) self.new.engine.store self.new.book }
         ensures domain { self.new.engine.domain ≡ self.old.engine.domain }
+        ensures next_ticket { self.new.book.tickets.next ≡ self.old.book.tickets.next }
         ensures goes { (m : Machine) → Holds (D.operations self.old.engine.domain) self.old.engine.store self.old.book m →
             Goes m (Holds (D.operations self.new.engine.domain) self.new.engine.store self.new.book) m.future (redone (D.operations self.old.engine.domain) m) result }
     {

@@ -1,8 +1,7 @@
 -- Programs with the cells that are kept for them.
-use Rattle.std.specs.Prelude.{◌≡◌, ℕ, ◌<◌, List, [], ◌∷◌}
+use Rattle.std.specs.Prelude.{◌≡◌, ℕ, ◌<◌, List}
 use Rattle.std.specs.List.{All}
-use Rattle.imp_syntax.specs.Plain.{Procedure, Statement, Ends, Starts, numbers, program_numbers}
-use Rattle.imp_check.specs.Programs.{block_count}
+use Rattle.imp_syntax.specs.Plain.{Procedure, program_numbers}
 use Rattle.imp_check.specs.Slots.{routines_of}
 use Rattle.imp_edit.specs.Edited.{edited}
 use Rattle.imp_syntax.specs.declared.edit.Edit.{Edit}
@@ -15,11 +14,6 @@ use Rattle.imp_flow.specs.Changed.{AreChanged}
 use Rattle.imp_flow.specs.Plans.{Plan, plan_of}
 use Rattle.daig_query.specs.declared.store.Store.{Store}
 use Rattle.daig_query.specs.Right.{IsRight}
-
--- an action with this number
-pub record IsSingle (number : ℕ) (s : Statement) : Type 0 where
-  pub numbered : numbers (Starts s Ends) ≡ number ∷ []
-  pub counted : block_count (Starts s Ends) ≡ 1
 
 -- a program with its setting
 abbrev pub flow_of : Setting → List Procedure → Plan

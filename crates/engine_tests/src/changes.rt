@@ -5,12 +5,13 @@ ghost use Rattle.imp_check.specs.Changes.{AreFalling, Makes};
 ghost use Rattle.imp_check.specs.Fine.{IsFine};
 ghost use Rattle.imp_check.specs.Programs.{AreNumbered};
 
-use crate::texts::{read, setting_of, table_of};
+use crate::settings::setting_of;
 use imp_check::{Change, Table, check_table};
 use imp_flow::points_changed;
 use imp_syntax::Program;
 use std::alloc::Global;
 use std::test::Fail;
+use test_texts::{read, table_of};
 
 /// The change from a table's program to another one.
 fn change_to(alloc: Global, table: &Table, program: &Program) -> Result<Change, Fail>

@@ -1,12 +1,13 @@
 //! The inputs of names.
 ghost use Rattle.std.specs.Prelude.{◌<◌, length, IfOk};
 
-use crate::texts::{setting_of, table_of};
+use crate::settings::setting_of;
 use cell_names::{Frame, Name, Names, PathId, Point};
 use imp_flow::{Flow, Input, Row, Way};
 use imp_syntax::StmtId;
 use std::alloc::Global;
 use std::test::Fail;
+use test_texts::table_of;
 
 fn shown_point(alloc: Global, point: Point) -> Result<String, Fail> {
     match point {

@@ -6,8 +6,6 @@
 #[cfg(test)]
 mod changes;
 #[cfg(test)]
-mod edits;
-#[cfg(test)]
 mod inputs;
 #[cfg(test)]
 mod plays;
@@ -18,4 +16,4 @@ mod scripts;
 #[cfg(test)]
 mod session;
 #[cfg(test)]
-mod texts;
+mod settings;

@@ -1,9 +1,9 @@
 //! How many cells queries fill, what they answer, and how many cells edits keep.
-use crate::edits::Told;
 use crate::scripts::{Line, Setup, told};
 use std::alloc::Global;
 use std::process::Abort;
 use std::test::Fail;
+use test_texts::Told;
 
 /// Asserts what a script tells.
 fn plays(

@@ -5,7 +5,7 @@ ghost use Rattle.daig_query.specs.Right.{IsRight};
 ghost use Rattle.daig_query.specs.Walked.{AreTargets};
 
 use call_contexts::place_of;
-use daig_graph::{SharedChain, Value};
+use daig_graph::Value;
 use daig_query::{Engine, Walk, walks_stay_good};
 use domain_laws::{Domain, Steps};
 use imp_flow::{Flow, Target, targets};
@@ -15,6 +15,7 @@ use plain_values::Items;
 use std::alloc::Global;
 use std::sync::ledger::Ledger;
 use std::test::Fail;
+use test_texts::shown;
 
 /// The targets of a location that the program has.
 pub(crate) fn targets_of(
@@ -43,16 +44,8 @@ pub(crate) fn layout<'a>(flow: &'a Flow<'_>, at: &Location) -> Result<&'a Layout
     }
 }
 
-fn shown_chain(alloc: Global, chain: &SharedChain) -> Result<String, Fail> {
-    let mut all = String::new(alloc);
-    for site in chain.chain().sites() {
-        all.push_str(&format!(in alloc; " {}", site.number())?)?;
-    }
-    Ok(all)
-}
-
-/// The text of a state, the loop and the chain of an Over, or `no chain`.
-fn shown<D: Domain>(
+/// The text of an answer, or `no chain`.
+fn told<D: Domain>(
     alloc: Global,
     domain: &D,
     layout: &Layout,
@@ -60,14 +53,7 @@ fn shown<D: Domain>(
 ) -> Result<String, Fail> {
     match value {
         None => Ok(String::from_str(alloc, "no chain")?),
-        Some(Value::State(state)) => {
-            let text = domain.text(alloc, layout, state)?;
-            Ok(String::from_utf8_lossy(alloc, text.as_slice())?)
-        }
-        Some(Value::Over { head, chain }) => {
-            let chain = shown_chain(alloc, chain)?;
-            Ok(format!(in alloc; "over {}{}", head.number(), chain)?)
-        }
+        Some(value) => shown(alloc, domain, layout, value),
     }
 }
 
@@ -88,7 +74,7 @@ pub(crate) fn answered<D: Domain, L: Ledger>(
     let mut walk = Walk::new(alloc);
     let filled = engine.demand(alloc, flow, targets, &mut walk, steps)?;
     let value = engine.read(alloc, &walk, steps)?;
-    let text = shown(alloc, engine.domain(), layout, &value)?;
+    let text = told(alloc, engine.domain(), layout, &value)?;
     Ok(format!(in alloc; "{filled}: {text}")?)
 }
 

@@ -2,9 +2,7 @@
 ghost use Rattle.std.specs.Prelude.{◌≡◌, ◌<◌, IfOk};
 ghost use Rattle.engine_tests.specs.Sessions.{IsReady};
 
-use crate::edits::{Told, edit_of};
 use crate::session::Session;
-use crate::texts::{location, table_of};
 use dom_interval::Interval;
 use domain_laws::{Domain, Steps};
 use program_chains::Widening;
@@ -12,6 +10,7 @@ use std::alloc::Global;
 use std::marker::Brand;
 use std::sync::ledger::{Blank, Ledger};
 use std::test::Fail;
+use test_texts::{Told, edit_of, location, table_of};
 
 /// A line of a script.
 #[derive(Clone, Copy)]

@@ -27,6 +27,7 @@ use program_chains::Widening;
 use std::alloc::Global;
 use std::sync::ledger::Ledger;
 use std::test::Fail;
+use test_texts::next_of;
 
 /// A program with its setting, the cells that are kept for it, and the next new number.
 #[derive(Drop)]
@@ -35,19 +36,6 @@ pub(crate) struct Session<D: Domain> {
     table: Table,
     setting: Setting,
     next: u32,
-}
-
-/// The number behind those of the statements.
-fn next_of(table: &Table) -> Result<u32, Fail>
-    ensures positive { IfOk result (λ n. 0 < n) }
-    ensures below { IfOk result (λ n. All (λ (m : ℕ). m < n) (program_numbers table.now.program)) }
-{
-    let room = table.room();
-    if 0 < room && room <= 1000000 {
-        Ok(room as u32)
-    } else {
-        Err("another next number".into())
-    }
 }
 
 /// What an edit that is accepted changes.

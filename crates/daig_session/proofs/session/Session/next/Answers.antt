@@ -1,6 +1,6 @@
-use Rattle.std.proofs.Common.{ap, ◌∙◌}
+use Rattle.std.proofs.Common.{refl, ap, ◌∙◌}
 use Rattle.session_machine.specs.Machine.{Machine}
 use Rattle.daig_session.proofs.session.Session.next.Goals as goal
 
 pub returns : goal.returns
-returns g c = record { is = λ m h. ap (λ (z : Machine). z.next) h.is }
+returns g c = record { is = λ m h. ap (λ (z : Machine). z.next) h.is; same = refl }

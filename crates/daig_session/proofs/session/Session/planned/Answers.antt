@@ -1,13 +1,15 @@
-use Rattle.std.proofs.Common.{◌≡◌, List, ℕ, refl, sym, ap, subst, ◌∙◌}
+use Rattle.std.proofs.Common.{◌≡◌, ◌≤◌, List, ℕ, None, refl, sym, ap, subst, ◌∙◌}
 use Rattle.imp_syntax.specs.Plain.{Procedure}
 use Rattle.imp_check.specs.Slots.{routines_of}
 use Rattle.imp_edit.specs.Edited.{edited}
+use Rattle.imp_edit.specs.Refusals.{edit_refusal}
 use Rattle.call_contexts.specs.Settings.{setting_of}
 use Rattle.edit_history.specs.After.{after, Leads}
 use Rattle.edits_keep_cells.specs.Claims.{flow_of}
 use Rattle.daig_query.specs.Right.{IsRight}
 use Rattle.daig_session.specs.Books.{AreBelow}
 use Rattle.daig_session.specs.Moves.{IsMoving}
+use Rattle.daig_session.proofs.Accepted.{low_after}
 use Rattle.daig_session.proofs.Moved.{plan_after, plan_leads}
 use Rattle.daig_session.proofs.session.Session.planned.Goals as goal
 
@@ -42,14 +44,21 @@ returns-clause-planned g c =
     let h = c.make_room.new.self in
     let ed = c.args.edit.now in
     let same = c.table.ensures.is ∙ sym c.make_room.ensures.now in
+    let accepted = subst (λ (p : List Procedure). edit_refusal ed p s.book.next ≡ None) c.table.ensures.is c.in_ok-edited.ensures.accepted in
     let is = plan_after ed h.room e.next h.now c.table.result.now.program e.change same c.in_ok-edited.ensures.makes c.in_ok-edited.ensures.fine c.in_ok-edited.ensures.within c.in_ok-make_room.ensures.room in
     record {
       leads = plan_leads ed h.room e.next h.now c.table.result.now.program e.change same c.in_ok-edited.ensures.makes c.in_ok-edited.ensures.fine c.in_ok-edited.ensures.within c.in_ok-make_room.ensures.room;
       makes = is;
       continues = c.requires.continues;
       next = c.in_ok-edited.ensures.numbers;
+      low = subst (λ n. n ≤ 1000001) (sym c.in_ok-edited.ensures.numbers) (low_after ed s.book.history.now s.book.next c.requires.ready.order.low accepted);
       below = subst (λ (p : List Procedure). AreBelow e.next (edited ed p)) same c.in_ok-edited.ensures.still_below;
       moving =
           subst (λ (q : List Procedure). IsMoving s.engine.store s.book.setting.engine h.now q c.in_ok-moving.moving) is (
           subst (λ (p : List Procedure). IsMoving s.engine.store s.book.setting.engine p (after p e.change) c.in_ok-moving.moving) c.table-2.ensures.is c.in_ok-moving.ensures.moving);
     }
+
+pub returns-clause-accepted : goal.returns-clause-accepted
+returns-clause-accepted g c =
+    let s = c.args.self.now in
+    subst (λ (p : List Procedure). edit_refusal c.args.edit.now p s.book.next ≡ None) c.table.ensures.is c.in_ok-edited.ensures.accepted

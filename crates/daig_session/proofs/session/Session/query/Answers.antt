@@ -102,6 +102,7 @@ returns-clause-ready g c =
         set = r.order.set;
         fine = r.order.fine;
         some = r.order.some;
+        low = r.order.low;
         below = r.order.below;
         behind = r.order.behind;
         ahead = r.order.ahead;

@@ -24,7 +24,7 @@ returns-clause-ready g c =
       are_open = c.new-tickets.ensures.is;
       cost = refl;
     } in
-    begin_ready (g.D.Domain.operations c.in_ok-engine.engine.domain) c.in_ok-engine.engine.store book program e c.args.next first fine c.requires.some c.requires.below c.in_ok-engine.ensures.right
+    begin_ready (g.D.Domain.operations c.in_ok-engine.engine.domain) c.in_ok-engine.engine.store book program e c.args.next first fine c.requires.some c.requires.low c.requires.below c.in_ok-engine.ensures.right
 
 pub returns-clause-begins : goal.returns-clause-begins
 returns-clause-begins g c =

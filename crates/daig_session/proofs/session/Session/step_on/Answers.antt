@@ -66,7 +66,7 @@ returns-then-not-progress-clause-ready g c =
     (subst (AreWaiting dom (flow_in s.book) new) (sym items) (waiting_set dom (flow_in s.book) new os c.args.place more r.waiting (record { short = waits.short; going = c.fill_some.ensures.going one.at one.string c.requires.there.going }))) in
     subst (λ d. IsReady (ops d) new (record s.book { tickets = t; cost = c.in_ok-progress.progress.filled })) (sym c.fill_some.ensures.domain) (record {
       right = q.right;
-      order = record { set = q.order.set; fine = q.order.fine; some = q.order.some; below = q.order.below; behind = q.order.behind; ahead = q.order.ahead; are_open = q.order.are_open };
+      order = record { set = q.order.set; fine = q.order.fine; some = q.order.some; low = q.order.low; below = q.order.below; behind = q.order.behind; ahead = q.order.ahead; are_open = q.order.are_open };
       waiting = q.waiting;
     })
 
@@ -142,7 +142,7 @@ returns-clause-ready g c =
     let q = closed_ready dom s.book new c.close.new.self c.args.place r c.close.ensures.tickets c.close.ensures.rest in
     subst (λ d. IsReady (ops d) new (record s.book { tickets = c.close.new.self; cost = c.in_ok-progress.progress.filled })) (sym c.fill_some.ensures.domain) (record {
       right = q.right;
-      order = record { set = q.order.set; fine = q.order.fine; some = q.order.some; below = q.order.below; behind = q.order.behind; ahead = q.order.ahead; are_open = q.order.are_open };
+      order = record { set = q.order.set; fine = q.order.fine; some = q.order.some; low = q.order.low; below = q.order.below; behind = q.order.behind; ahead = q.order.ahead; are_open = q.order.are_open };
       waiting = q.waiting;
     })
 

@@ -1,15 +1,13 @@
-//! Programs from texts.
-ghost use Rattle.std.specs.Prelude.{◌≡◌, ◌<◌, ◌^◌, length, IfOk};
+//! Programs and locations from texts.
+ghost use Rattle.std.specs.Prelude.{◌≡◌, ℕ, ◌<◌, ◌≤◌, ◌^◌, length, IfOk};
+ghost use Rattle.std.specs.List.{All};
+ghost use Rattle.imp_syntax.specs.Plain.{program_numbers};
 ghost use Rattle.imp_check.specs.Programs.{AreNumbered};
-ghost use Rattle.imp_check.specs.Slots.{routines_of};
-ghost use Rattle.call_contexts.specs.Settings.{setting_of};
 
-use call_contexts::Setting;
 use imp_check::{Table, check_table, is_numbered};
 use imp_parse::parse_program;
 use imp_syntax::{Location, Program, StmtId};
 use plain_values::Text;
-use program_chains::Widening;
 use std::alloc::Global;
 use std::test::Fail;
 
@@ -26,7 +24,7 @@ pub(crate) fn bytes_of(text: &str) -> Result<&[u8], Fail>
 }
 
 /// The program of a text.
-pub(crate) fn read(alloc: Global, text: &str) -> Result<Program, Fail>
+pub fn read(alloc: Global, text: &str) -> Result<Program, Fail>
     ensures numbered { IfOk result (λ program. AreNumbered program) }
 {
     let program = parse_program(alloc, bytes_of(text)?)?;
@@ -38,24 +36,27 @@ pub(crate) fn read(alloc: Global, text: &str) -> Result<Program, Fail>
 }
 
 /// The table of a text that has no fault.
-pub(crate) fn table_of(alloc: Global, text: &str) -> Result<Table, Fail> {
+pub fn table_of(alloc: Global, text: &str) -> Result<Table, Fail> {
     let program = read(alloc, text)?;
     Ok(check_table(alloc, &program)?)
 }
 
-/// The setting of a program, with a budget of 100 and a delay of 1.
-pub(crate) fn setting_of(alloc: Global, table: &Table) -> Result<Setting, Fail>
-    ensures is { IfOk result (λ setting. setting ≡ setting_of setting.engine (routines_of table.now.program)) }
+/// The number behind those of the statements.
+pub fn next_of(table: &Table) -> Result<u32, Fail>
+    ensures positive { IfOk result (λ n. 0 < n) }
+    ensures low { IfOk result (λ n. n ≤ 1000001) }
+    ensures below { IfOk result (λ n. All (λ (m : ℕ). m < n) (program_numbers table.now.program)) }
 {
-    let widening = Widening {
-        delay: 1,
-        thresholds: true,
-    };
-    Ok(Setting::new(alloc, &table.view(), 100, widening)?)
+    let room = table.room();
+    if 0 < room && room <= 1000000 {
+        Ok(room as u32)
+    } else {
+        Err("another next number".into())
+    }
 }
 
 /// `before 3`, `after 3`, `head 3`, or the end of a procedure by its name.
-pub(crate) fn location(alloc: Global, kind: &str, number: u32) -> Result<Location, Fail> {
+pub fn location(alloc: Global, kind: &str, number: u32) -> Result<Location, Fail> {
     let stmt = StmtId::new(number);
     match kind {
         "before" => Ok(Location::Before(stmt)),

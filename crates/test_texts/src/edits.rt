@@ -2,7 +2,7 @@
 ghost use Rattle.std.specs.Prelude.{◌≤◌, IfOk};
 ghost use Rattle.std.specs.Bool.{OnTrue};
 ghost use Rattle.imp_edit.specs.Edited.{Continues};
-ghost use Rattle.engine_tests.specs.Sessions.{IsSingle};
+ghost use Rattle.test_texts.specs.Singles.{IsSingle};
 
 use crate::texts::bytes_of;
 use imp_parse::{parse_cond, parse_simple};
@@ -13,7 +13,7 @@ use std::test::Fail;
 
 /// An edit; a text is one simple statement, or a condition.
 #[derive(Clone, Copy)]
-pub(crate) enum Told<'a> {
+pub enum Told<'a> {
     /// The statement becomes another one.
     Replace(u32, &'a str),
     /// A statement is put behind one.
@@ -63,7 +63,7 @@ fn inserted(alloc: Global, place: Place, text: &str, number: u32) -> Result<Edit
 }
 
 /// The edit, whose statement has this number.
-pub(crate) fn edit_of(alloc: Global, told: Told<'_>, number: u32) -> Result<Edit, Fail>
+pub fn edit_of(alloc: Global, told: Told<'_>, number: u32) -> Result<Edit, Fail>
     requires low { number ≤ 1000001 }
     ensures continues { IfOk result (λ edit. Continues edit number) }
 {

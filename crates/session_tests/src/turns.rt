@@ -1,0 +1,161 @@
+//! Calls of a session, and the texts of what they answer.
+ghost use Rattle.std.specs.Prelude.{◌≡◌, IfOk};
+ghost use Rattle.daig_session.specs.Holds.{IsReady};
+
+use call_contexts::place_of;
+use daig_graph::Value;
+use daig_session::{Session, Turn};
+use domain_laws::{Domain, Steps};
+use imp_check::Table;
+use imp_syntax::{Location, ProcId};
+use plain_values::Items;
+use std::alloc::Global;
+use std::sync::ledger::Ledger;
+use std::test::Fail;
+use test_texts::{Told, edit_of, location, shown};
+
+/// The procedure of a location.
+fn proc_at(table: &Table, at: &Location) -> Option<ProcId> {
+    match place_of(&table.view(), at) {
+        Ok(proc) => Some(proc),
+        Err(_) => None,
+    }
+}
+
+/// The text of an answer in a procedure.
+fn answered<D: Domain>(
+    alloc: Global,
+    session: &Session<D>,
+    proc: Option<ProcId>,
+    value: &Value<D::State>,
+) -> Result<String, Fail> {
+    let view = session.program().view();
+    let Some(proc) = proc else {
+        return Err("no place".into());
+    };
+    match view.layout(proc) {
+        Some(layout) => shown(alloc, session.domain(), layout, value),
+        None => Err("no procedure".into()),
+    }
+}
+
+/// What is answered at a location under a call string.
+pub(crate) fn queried<D: Domain, L: Ledger>(
+    alloc: Global,
+    session: &mut Session<D>,
+    at: &Location,
+    string: &[u32],
+    steps: &mut Steps<L>,
+) -> Result<String, Fail>
+    requires ready { IsReady (D.operations session.old.engine.domain) session.old.engine.store session.old.book }
+    ensures ready { IfOk result (λ _. IsReady (D.operations session.new.engine.domain) session.new.engine.store session.new.book) }
+{
+    match session.query(alloc, at, string, steps) {
+        Ok(value) => answered(alloc, session, proc_at(session.program(), at), &value),
+        Err(why) => Ok(format!(in alloc; "{why:?}")?),
+    }
+}
+
+/// Opens a ticket for a location.
+pub(crate) fn asked<D: Domain>(
+    alloc: Global,
+    session: &mut Session<D>,
+    at: Location,
+) -> Result<String, Fail>
+    requires ready { IsReady (D.operations session.old.engine.domain) session.old.engine.store session.old.book }
+    ensures ready { IfOk result (λ _. IsReady (D.operations session.new.engine.domain) session.new.engine.store session.new.book) }
+{
+    if session.next_ticket() > 1000 {
+        return Err("many tickets".into());
+    }
+    match session.ask(alloc, at, Items::new(alloc)) {
+        Ok(ticket) => Ok(format!(in alloc; "ticket {ticket}")?),
+        Err(why) => Ok(format!(in alloc; "{why:?}")?),
+    }
+}
+
+/// Fills so many cells for a ticket.
+pub(crate) fn stepped<D: Domain, L: Ledger>(
+    alloc: Global,
+    session: &mut Session<D>,
+    ticket: u64,
+    most: u32,
+    steps: &mut Steps<L>,
+) -> Result<String, Fail>
+    requires ready { IsReady (D.operations session.old.engine.domain) session.old.engine.store session.old.book }
+    ensures ready { IfOk result (λ _. IsReady (D.operations session.new.engine.domain) session.new.engine.store session.new.book) }
+{
+    let proc = match session.ticket_at(ticket) {
+        Some(at) => proc_at(session.program(), at),
+        None => None,
+    };
+    match session.step(alloc, ticket, most, steps) {
+        Ok(Turn::Pending(filled)) => Ok(format!(in alloc; "pending {filled}")?),
+        Ok(Turn::Done(value)) => answered(alloc, session, proc, &value),
+        Err(why) => Ok(format!(in alloc; "{why:?}")?),
+    }
+}
+
+/// Closes a ticket.
+pub(crate) fn cancelled<D: Domain>(
+    alloc: Global,
+    session: &mut Session<D>,
+    ticket: u64,
+) -> Result<String, Fail>
+    requires ready { IsReady (D.operations session.old.engine.domain) session.old.engine.store session.old.book }
+    ensures ready { IfOk result (λ _. IsReady (D.operations session.new.engine.domain) session.new.engine.store session.new.book) }
+{
+    match session.cancel(ticket) {
+        Ok(()) => Ok(format!(in alloc; "cancelled {ticket}")?),
+        Err(why) => Ok(format!(in alloc; "{why:?}")?),
+    }
+}
+
+/// Makes an edit.
+pub(crate) fn edited<D: Domain>(
+    alloc: Global,
+    session: &mut Session<D>,
+    told: Told<'_>,
+) -> Result<String, Fail>
+    requires ready { IsReady (D.operations session.old.engine.domain) session.old.engine.store session.old.book }
+    ensures ready { IfOk result (λ _. IsReady (D.operations session.new.engine.domain) session.new.engine.store session.new.book) }
+{
+    let edit = edit_of(alloc, told, session.next())?;
+    match session.prepare(alloc, &edit) {
+        Ok(prepared) => {
+            let next = prepared.next();
+            prepared.commit();
+            Ok(format!(in alloc; "next {next}")?)
+        }
+        Err(why) => Ok(format!(in alloc; "{why}")?),
+    }
+}
+
+/// Goes back to the program behind, or on to the one ahead.
+pub(crate) fn moved<D: Domain>(
+    alloc: Global,
+    session: &mut Session<D>,
+    back: bool,
+) -> Result<String, Fail>
+    requires ready { IsReady (D.operations session.old.engine.domain) session.old.engine.store session.old.book }
+    ensures ready { IfOk result (λ _. IsReady (D.operations session.new.engine.domain) session.new.engine.store session.new.book) }
+{
+    let there = if back {
+        session.undo(alloc)
+    } else {
+        session.redo(alloc)
+    };
+    match there {
+        Ok(next) => Ok(format!(in alloc; "next {next}")?),
+        Err(why) => Ok(format!(in alloc; "{why:?}")?),
+    }
+}
+
+/// How many cells the last question filled, and how many are kept.
+pub(crate) fn cost<D: Domain>(alloc: Global, session: &Session<D>) -> Result<String, Fail>
+    requires ready { IsReady (D.operations session.now.engine.domain) session.now.engine.store session.now.book }
+{
+    let cost = session.cost();
+    let kept = session.kept_count();
+    Ok(format!(in alloc; "cost {cost} kept {kept}")?)
+}
