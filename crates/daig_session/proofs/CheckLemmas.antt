@@ -1,6 +1,6 @@
 -- The statements that have a check, by what is known of each statement.
-use Rattle.std.proofs.Common.{◌≡◌, ℕ, zero, suc, ◌+◌, ◌<◌, ◌≤◌, true, false, is_some, List, [], ◌∷◌, ◌++◌, take, drop, length, Option, Some, None, slice_get, refl, sym, ap, subst, ◌∙◌, inl, inr, arith, append_assoc, append-nil}
-use Rattle.std.specs.Prelude.{IfSome, IsSome}
+use Rattle.std.proofs.Common.{◌≡◌, ℕ, zero, suc, ◌+◌, ◌<◌, ◌≤◌, true, false, is_some, Result, Ok, Err, List, [], ◌∷◌, ◌++◌, take, drop, length, Option, Some, None, slice_get, refl, sym, ap, subst, ◌∙◌, inl, inr, arith, append_assoc, append-nil}
+use Rattle.std.specs.Prelude.{IfOk, IfSome, IsSome}
 use Rattle.imp_syntax.specs.Plain.{Statement, Statements, Ends, Starts, Procedure, number_of, numbers, program_numbers}
 use Rattle.imp_syntax.specs.Plain as tree
 use Rattle.imp_slots.specs.ActionViews.{act_of, action_of, effect_of}
@@ -116,6 +116,11 @@ numbers_from ps k h = let e : k + 1 ≡ suc k = omega arith in ap (λ j. numbers
     go (p ∷ ps) zero h = refl
     go (p ∷ ps) (suc k) h = go ps k (omega arith)
 
+pub numbers_step : (ps : List Procedure) (k : ℕ) (found more all : List ℕ) → k < length ps → more ≡ found ++ numbers_at ps k → found ++ program_numbers (drop k ps) ≡ all → more ++ program_numbers (drop (k + 1) ps) ≡ all
+numbers_step ps k found more all h e i =
+    let rest = program_numbers (drop (k + 1) ps) in
+    ap (λ ns. ns ++ rest) e ∙ (append_assoc found (numbers_at ps k) rest ∙ (ap (λ ns. found ++ ns) (numbers_from ps k h) ∙ i))
+
 pub numbers_end : (ps : List Procedure) (k : ℕ) → length ps ≤ k → program_numbers (drop k ps) ≡ []
 numbers_end [] zero h = refl
 numbers_end [] (suc k) h = refl
@@ -173,3 +178,7 @@ finding_is f n a e k v is i h w = λ j. record { id = i j; check = same f.check 
   where
     same : (x y : Kind) → Some x ≡ Some y → x ≡ y
     same x y e = cc
+
+pub ok_finding : {E : Type 0} (r : Result Finding E) (n : ℕ) (a : Act) (e : Effect) (k : Check) (v : Verdict) → IsOf a e k → IfOk r (λ f. f.id ≡ n) → IfOk r (λ f. kind_in a ≡ Some f.check) → IfOk r (λ f. f.verdict ≡ v) → IfOk r (λ f. f ≡ record { id = n; check = kind_of k; verdict = v })
+ok_finding (Ok f) n a e k v is i h w = finding_is f n a e k v is i h w
+ok_finding (Err m) n a e k v is i h w = tt

@@ -1,6 +1,6 @@
 -- Reports, a statement at a time.
-use Rattle.std.proofs.Common.{◌≡◌, ℕ, zero, suc, ◌+◌, ◌*◌, ◌≤◌, List, [], ◌∷◌, ◌++◌, map, take, drop, length, Some, slice_get, refl, sym, ap, subst, ◌∙◌, arith, append_assoc, append-nil}
-use Rattle.std.proofs.lemmas.List.{map-append, take-append-drop}
+use Rattle.std.proofs.Common.{◌≡◌, ℕ, zero, suc, ◌+◌, ◌-◌, ◌*◌, ◌≤◌, List, [], ◌∷◌, ◌++◌, map, take, drop, length, Some, slice_get, refl, sym, ap, subst, ◌∙◌, arith, append_assoc, append-nil}
+use Rattle.std.proofs.lemmas.List.{length-append, map-append, take-append-drop}
 use Rattle.imp_syntax.specs.Plain.{Procedure, program_numbers}
 use Rattle.imp_check.specs.Programs.{AreNumbered}
 use Rattle.imp_check.specs.Slots.{routines_of}
@@ -103,6 +103,10 @@ module _ {S : Type 0} (dom : Operations S) (m : Machine) (store : Store S) (book
     same = h.same;
     cells = h.cells;
   }
+
+  -- so many more cells are kept
+  pub as_filled : (was now : ℕ) → was ≡ length m.kept → now ≡ length (m.kept ++ missing_for_report dom m) → (was ≤ now) × (now - was ≡ length (missing_for_report dom m))
+  as_filled was now e k = let both = k ∙ length-append m.kept (missing_for_report dom m) in (omega arith, omega arith)
 
   pub ended_holds : (cost : ℕ) → HoldsAll dom m store book (checked_statements (routines_of m.program)) → cost ≡ length (missing_for_report dom m) → Holds dom store (record book { cost = cost }) (reported dom m)
   ended_holds cost h e =

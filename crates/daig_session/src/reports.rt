@@ -7,7 +7,7 @@ ghost use Rattle.imp_check.specs.Slots.{routines_of};
 ghost use Rattle.analysis_words.specs.declared.findings.Finding.{Finding as AnyFinding};
 ghost use Rattle.domain_laws.specs.Checks.{Check, kind_in, kind_of};
 ghost use Rattle.domain_laws.specs.Operations.{Operations};
-ghost use Rattle.batch_meaning.specs.Answers.{Answer, Refuses};
+ghost use Rattle.batch_meaning.specs.Answers.{Answer};
 ghost use Rattle.batch_meaning.specs.Batch.{Engine as BatchEngine};
 ghost use Rattle.batch_meaning.specs.Report.{checked_one, checked_statements, verdict_on};
 ghost use Rattle.batch_sound.specs.Theorem.{IsFindingSound};
@@ -32,19 +32,6 @@ use plain_values::{Items, Memory};
 use std::alloc::Global;
 use std::sync::ledger::Ledger;
 
-/// What a report makes of a refusal: a statement to which no chain comes is dead.
-fn found_without<'a, S>(why: Refusal) -> Found<'a, S>
-    ensures verdict { (dom : Operations S) (engine : BatchEngine) (e : Effect) → verdict_for dom (Does e) result ≡ verdict_on dom engine e (Refuses why) }
-{
-    match why {
-        Refusal::NoChain => Found::Absent,
-        Refusal::LongString => Found::Over,
-        Refusal::NoProcedure => Found::Over,
-        Refusal::NoStatement => Found::Over,
-        Refusal::WrongStatement => Found::Over,
-    }
-}
-
 /// What a report makes of an answer.
 fn found_in<S>(value: &Value<S>) -> Found<'_, S>
     ensures verdict { (dom : Operations S) (engine : BatchEngine) (a : Answer S) (e : Effect) → Says a (Some value.now) → verdict_for dom (Does e) result ≡ verdict_on dom engine e a }
@@ -55,13 +42,17 @@ fn found_in<S>(value: &Value<S>) -> Found<'_, S>
     }
 }
 
-/// What a report makes of an answer, or of none.
+/// What a report makes of an answer, or of a refusal: a statement to which no chain comes is dead.
 fn found_of<S>(known: &Result<Value<S>, Refusal>) -> Found<'_, S>
     ensures verdict { (dom : Operations S) (engine : BatchEngine) (a : Answer S) (e : Effect) → Tells a known.now → verdict_for dom (Does e) result ≡ verdict_on dom engine e a }
 {
     match known {
         Ok(value) => found_in(value),
-        Err(why) => found_without(*why),
+        Err(Refusal::NoChain) => Found::Absent,
+        Err(Refusal::LongString) => Found::Over,
+        Err(Refusal::NoProcedure) => Found::Over,
+        Err(Refusal::NoStatement) => Found::Over,
+        Err(Refusal::WrongStatement) => Found::Over,
     }
 }
 
@@ -161,7 +152,8 @@ impl<D: Domain> Session<D> {
             return Ok(());
         }
         let known = self.known_before(alloc, id, steps)?;
-        found.push(self.found_at(alloc, id, &known)?)
+        let finding = self.found_at(alloc, id, &known)?;
+        found.push(finding)
     }
 
     /// Adds what is found of those of some statements that have a check, one after another.
@@ -234,13 +226,13 @@ impl<D: Domain> Session<D> {
         requires ready { IsReady (D.operations self.old.engine.domain) self.old.engine.store self.old.book }
         ensures ready { IsReady (D.operations self.new.engine.domain) self.new.engine.store self.new.book }
         ensures domain { self.new.engine.domain ≡ self.old.engine.domain }
+        ensures next_ticket { self.new.book.tickets.next ≡ self.old.book.tickets.next }
         ensures reports { (m : Machine) → Holds (D.operations self.old.engine.domain) self.old.engine.store self.old.book m →
             Reports (D.operations self.old.engine.domain) m (Holds (D.operations self.new.engine.domain) self.new.engine.store self.new.book) result }
         ensures sound { IfOk result (λ found. (f : AnyFinding) → Contains found f → IsFindingSound (routines_of self.old.book.history.now) f) }
         ensures least { steps.old ≤ steps.new }
         ensures ticked { (m : Machine) → Holds (D.operations self.old.engine.domain) self.old.engine.store self.old.book m →
             OnOk result (steps.new ≤ steps.old + D.counted self.old.engine.domain * (length (missing_for_report (D.operations self.old.engine.domain) m) + 2 * checked_chains m)) }
-        ensures rises { self.new.book.tickets.next ≡ self.old.book.tickets.next }
     {
         reports_are_sound::<D>();
         let cost = self.book.cost;

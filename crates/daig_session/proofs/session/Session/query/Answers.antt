@@ -1,9 +1,12 @@
-use Rattle.std.proofs.Common.{◌≡◌, ◌*◌, ◌+◌, ◌≤◌, length, map, Some, Err, rules, sym, ap, subst, ◌∙◌}
+use Rattle.std.proofs.Common.{◌≡◌, ◌*◌, ◌+◌, ◌≤◌, length, map, Some, Err, Result, rules, sym, ap, subst, ◌∙◌}
+use Rattle.std.specs.Prelude.{IfErr}
 use Rattle.std.proofs.lemmas.Result.{err_from_is_err_and}
 use Rattle.imp_check.specs.Slots.{routines_of}
 use Rattle.imp_flow.specs.Plans.{Plan}
 use Rattle.imp_flow.specs.Reached.{target_of}
 use Rattle.batch_meaning.specs.Answers.{answer}
+use Rattle.daig_graph.specs.declared.value.Value.{Value}
+use Rattle.daig_session.specs.declared.error.QueryError.{QueryError}
 use Rattle.daig_query.specs.Answered.{AreFilled, Covers, Says}
 use Rattle.daig_query.specs.Filled.{added}
 use Rattle.daig_query.specs.Right.{IsRight}
@@ -11,8 +14,9 @@ use Rattle.session_machine.specs.Turns.{asked, missing_at, IsBetween}
 use Rattle.daig_session.specs.Books.{flow_in}
 use Rattle.daig_session.specs.Going.{IsGoing, IsRefused}
 use Rattle.daig_session.specs.Holds.{Holds, IsReady}
+use Rattle.daig_session.specs.Reports.{IsUnticked}
 use Rattle.daig_session.specs.Turns.{Questions}
-use Rattle.daig_session.proofs.Answering.{between_some, refused_turn, says_here, work_both, work_here}
+use Rattle.daig_session.proofs.Answering.{between_some, no_steps, refused_turn, says_here, work_both, work_here}
 use Rattle.daig_session.proofs.Filled.{asked_holds, fills_ready, missing_here}
 use Rattle.daig_session.proofs.session.Session.query.Goals as goal
 
@@ -33,6 +37,12 @@ returns-in_err-going-clause-answers g c = λ m h.
     let is = subst (λ (p : Plan). IsRefused (answer dom p.engine p.program c.args.at.now c.args.string.now) c.in_err-going.field-0.0) c.flow-flow.ensures.is c.in_err-going.ensures.refused in
     let e : c.from_residual.result ≡ Err c.in_err-going.field-0.0 = search rules in
     subst (Questions dom m (Holds dom s.engine.store s.book) c.args.at.now c.args.string.now) (sym e) (refused_turn dom s.book s.engine.store m c.args.at.now c.args.string.now c.in_err-going.field-0.0 h is)
+
+pub returns-in_err-going-clause-unticked : goal.returns-in_err-going-clause-unticked
+returns-in_err-going-clause-unticked g c =
+    let n = c.args.steps.now in
+    let e : c.from_residual.result ≡ Err c.in_err-going.field-0.0 = search rules in
+    subst (λ (r : Result (Value g.D.Domain.State) QueryError). IfErr r (IsUnticked n n)) (sym e) (no_steps n c.in_err-going.field-0.0)
 
 pub returns-in_err-filled-clause-ready : goal.returns-in_err-filled-clause-ready
 returns-in_err-filled-clause-ready g c =
