@@ -1,5 +1,6 @@
 -- The statements that have a check, by what is known of each statement.
-use Rattle.std.proofs.Common.{◌≡◌, ℕ, zero, suc, ◌+◌, ◌<◌, ◌≤◌, true, false, is_some, Result, Ok, Err, List, [], ◌∷◌, ◌++◌, take, drop, length, Option, Some, None, slice_get, refl, sym, ap, subst, ◌∙◌, inl, inr, arith, append_assoc, append-nil}
+use Rattle.std.proofs.Common.{◌≡◌, ℕ, zero, suc, ◌+◌, ◌<◌, ◌≤◌, true, false, Bor, is_some, Result, Ok, Err, List, [], ◌∷◌, ◌++◌, take, drop, length, Option, Some, None, slice_get, refl, sym, ap, subst, ◌∙◌, inl, inr, arith, append_assoc, append-nil}
+use Rattle.std.specs.Option.{option_copied}
 use Rattle.std.specs.Prelude.{IfOk, IfSome, IsSome}
 use Rattle.imp_syntax.specs.Plain.{Statement, Statements, Ends, Starts, Procedure, number_of, numbers, program_numbers}
 use Rattle.imp_syntax.specs.Plain as tree
@@ -182,3 +183,7 @@ finding_is f n a e k v is i h w = λ j. record { id = i j; check = same f.check 
 pub ok_finding : {E : Type 0} (r : Result Finding E) (n : ℕ) (a : Act) (e : Effect) (k : Check) (v : Verdict) → IsOf a e k → IfOk r (λ f. f.id ≡ n) → IfOk r (λ f. kind_in a ≡ Some f.check) → IfOk r (λ f. f.verdict ≡ v) → IfOk r (λ f. f ≡ record { id = n; check = kind_of k; verdict = v })
 ok_finding (Ok f) n a e k v is i h w = finding_is f n a e k v is i h w
 ok_finding (Err m) n a e k v is i h w = tt
+
+pub copied_some : {T : Type 0} (r : Option (Bor T)) → is_some (option_copied r) ≡ is_some r
+copied_some None = refl
+copied_some (Some x) = refl

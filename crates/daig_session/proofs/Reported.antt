@@ -40,7 +40,7 @@ use Rattle.daig_session.proofs.Filled.{take_all}
 
 -- Fronts of lists.
 take_over : {A : Type 0} (xs ys : List A) (n : ℕ) → take (length xs + n) (xs ++ ys) ≡ xs ++ take n ys
-take_over [] ys n = refl
+take_over [] ys n = let e : 0 + n ≡ n = omega arith in ap (λ k. take k ys) e
 take_over (x ∷ xs) ys n = let e : suc (length xs) + n ≡ suc (length xs + n) = omega arith in ap (λ k. take k (x ∷ (xs ++ ys))) e ∙ ap (λ zs. x ∷ zs) (take_over xs ys n)
 
 take_within : {A : Type 0} (xs ys : List A) (n : ℕ) → (k : ℕ) × (take k (xs ++ ys) ≡ take n xs)
@@ -67,7 +67,7 @@ module _ {T : Type 0} (s : System T) where
       ∙ ap (λ k. (first ++ more) ++ missing_in_turn s k yss) (seen_both kept first more)
 
 chains_both : (program : List Routine) (cs ds : List Checked) → chain_count program (cs ++ ds) ≡ chain_count program cs + chain_count program ds
-chains_both program [] ds = refl
+chains_both program [] ds = omega arith
 chains_both program (c ∷ cs) ds = let e = chains_both program cs ds in omega arith
 
 module _ {S : Type 0} (dom : Operations S) (m : Machine) where

@@ -1,22 +1,26 @@
 -- Reports, a statement at a time.
-use Rattle.std.proofs.Common.{◌≡◌, ℕ, zero, suc, ◌+◌, ◌-◌, ◌*◌, ◌≤◌, List, [], ◌∷◌, ◌++◌, map, take, drop, length, Some, slice_get, refl, sym, ap, subst, ◌∙◌, arith, append_assoc, append-nil}
+use Rattle.std.proofs.Common.{◌≡◌, ℕ, zero, suc, ◌+◌, ◌-◌, ◌*◌, ◌≤◌, List, [], ◌∷◌, ◌++◌, map, take, drop, length, Some, Result, Ok, Err, slice_get, refl, sym, ap, subst, ◌∙◌, arith, append_assoc, append-nil}
+use Rattle.std.specs.Prelude.{OnOk}
 use Rattle.std.proofs.lemmas.List.{length-append, map-append, take-append-drop}
 use Rattle.imp_syntax.specs.Plain.{Procedure, program_numbers}
 use Rattle.imp_check.specs.Programs.{AreNumbered}
 use Rattle.imp_check.specs.Slots.{routines_of}
 use Rattle.imp_slots.specs.Fits.{IsChecked}
+use Rattle.imp_slots.specs.Plain.{Effect}
+use Rattle.imp_syntax.specs.declared.edit.Location.TheVariants.{Before}
 use Rattle.analysis_words.specs.declared.findings.Finding.{Finding}
 use Rattle.domain_laws.specs.Operations.{Operations}
-use Rattle.batch_meaning.specs.Report.{Checked, checked_statements, finding}
+use Rattle.domain_laws.specs.Checks.{Check, kind_of}
+use Rattle.batch_meaning.specs.Report.{Checked, checked_one, checked_statements, finding, verdict_on}
 use Rattle.daig_query.specs.declared.store.Store.{Store}
 use Rattle.daig_query.proofs.Lists.{take_next}
 use Rattle.cell_names.specs.Paths.{CellName}
 use Rattle.session_machine.specs.Machine.{Machine, keeping}
-use Rattle.session_machine.specs.Turns.{IsBetween, missing_for_report, reported}
+use Rattle.session_machine.specs.Turns.{IsBetween, answer_at, missing_for_report, reported}
 use Rattle.daig_session.specs.declared.book.Book.{Book}
 use Rattle.daig_session.specs.Books.{machine_of}
 use Rattle.daig_session.specs.Holds.{Holds, IsReady}
-use Rattle.daig_session.specs.Reports.{checked_among, checked_at, findings, missing_of, work_on, HoldsAll, HoldsPart}
+use Rattle.daig_session.specs.Reports.{checked_among, checked_at, findings, missing_of, work_on, HasCheck, HoldsAll, HoldsPart}
 use Rattle.daig_session.proofs.CheckLemmas.{all_checks, among_both, among_next}
 use Rattle.daig_session.proofs.Standing.{names, stands}
 use Rattle.daig_session.proofs.Reported.{all_none, all_part, all_then, behind, part_more, part_then, ticks_then}
@@ -41,6 +45,9 @@ module _ {S : Type 0} (dom : Operations S) (store : Store S) (book : Book) where
   pub at_is : (m : Machine) (n : ℕ) → Holds dom store book m → checked_at m.program n ≡ checked_at book.history.now n
   at_is m n h = ap (λ (z : Machine). checked_at z.program n) (sym h.is)
 
+  pub checked_is : (m : Machine) (n : ℕ) → Holds dom store book m → (there : HasCheck book.history.now n) → checked_at m.program n ≡ checked_one n there.0 (Some there.1)
+  checked_is m n h there = at_is m n h ∙ there.2
+
   pub all_among : (m : Machine) (ns : List ℕ) → Holds dom store book m → AreNumbered book.history.now → ns ≡ program_numbers book.history.now → checked_among m.program ns ≡ checked_statements (routines_of m.program)
   all_among m ns h once e = subst (λ (z : Machine). checked_among z.program ns ≡ checked_statements (routines_of z.program)) h.is (ap (checked_among book.history.now) e ∙ all_checks book.history.now once)
 
@@ -55,6 +62,19 @@ module _ {S : Type 0} (dom : Operations S) (store : Store S) (book : Book) where
 
 pub found_none : {S : Type 0} (dom : Operations S) (m : Machine) (cs : List Checked) (xs : List Finding) → cs ≡ [] → xs ≡ xs ++ findings dom m cs
 found_none dom m cs xs e = sym (ap (λ ds. xs ++ findings dom m ds) e ∙ append-nil xs)
+
+pub found_one : {S : Type 0} (dom : Operations S) (m : Machine) (n : ℕ) (e : Effect) (k : Check) (cs : List Checked) (before after : List Finding) (f : Finding) → cs ≡ checked_one n e (Some k) → after ≡ before ++ f ∷ [] →
+    f ≡ record { id = n; check = kind_of k; verdict = verdict_on dom m.engine e (answer_at dom (Before n) [] m) } → after ≡ before ++ findings dom m cs
+found_one dom m n e k cs before after f is a b = a ∙ (ap (λ (g : Finding). before ++ g ∷ []) b ∙ ap (λ ds. before ++ findings dom m ds) (sym is))
+
+-- what holds where a call is well
+pub ok_then : {A E P Q : Type 0} (r : Result A E) → OnOk r P → (P → Q) → OnOk r Q
+ok_then (Ok x) p f = f p
+ok_then (Err e) p f = tt
+
+pub ok_all : {A E Q : Type 0} (r : Result A E) → Q → OnOk r Q
+ok_all (Ok x) q = q
+ok_all (Err e) q = tt
 
 -- One more of some statements.
 module _ {S : Type 0} (dom : Operations S) (m : Machine) (ns : List ℕ) (i n : ℕ) (there : slice_get ns i ≡ Some n) where

@@ -98,7 +98,8 @@ fn reports(rt: HostRuntime) -> Result<(), Fail> {
         Line::Report,
         Line::Cost,
     ];
-    let wanted = "";
+    let wanted =
+        "i=[1,10]; cost 11 kept 11; report 1 Dead 5 Safe 6 May; cost 1 kept 12; report 1 Dead 5 Safe 6 May; cost 0 kept 12; next 8; cost 0 kept 2; report 1 Dead 7 Safe 5 Safe 6 May; cost 11 kept 13; ";
     plays(&rt, rt.alloc(), Setup { text, ..PLAIN }, &script, wanted)
 }
 

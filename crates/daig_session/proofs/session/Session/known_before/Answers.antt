@@ -54,8 +54,8 @@ returns-in-Err-Refused-clause-part g c = λ m e k h.
     one_asked dom m n e k new.engine.store new.book (checked_here dom s.engine.store s.book m h c.requires.ready.order.fine.fit) c.query.result (
     subst (λ d. Questions dom m (Holds (ops d) new.engine.store new.book) (Before n) [] c.query.result) c.query.ensures.domain (c.query.ensures.answers m h))
 
-pub returns-in-Err-Memory-clause-program : goal.returns-in-Err-Memory-clause-program
-returns-in-Err-Memory-clause-program g c =
+pub returns-clause-program : goal.returns-clause-program
+returns-clause-program g c =
     let s = c.args.self.now in
     let ops = g.D.Domain.operations in
     let dom = ops s.engine.domain in
@@ -65,8 +65,8 @@ returns-in-Err-Memory-clause-program g c =
     one_asked dom m n Skip (IsCell 0) new.engine.store new.book (checked_here dom s.engine.store s.book m h c.requires.ready.order.fine.fit) c.query.result (
     subst (λ d. Questions dom m (Holds (ops d) new.engine.store new.book) (Before n) [] c.query.result) c.query.ensures.domain (c.query.ensures.answers m h))))
 
-pub returns-in-Err-Memory-clause-part : goal.returns-in-Err-Memory-clause-part
-returns-in-Err-Memory-clause-part g c = λ m e k h.
+pub returns-clause-part : goal.returns-clause-part
+returns-clause-part g c = λ m e k h.
     let s = c.args.self.now in
     let ops = g.D.Domain.operations in
     let dom = ops s.engine.domain in

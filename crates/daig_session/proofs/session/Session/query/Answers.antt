@@ -1,12 +1,10 @@
-use Rattle.std.proofs.Common.{◌≡◌, ◌*◌, ◌+◌, ◌≤◌, length, map, Some, Err, Result, rules, sym, ap, subst, ◌∙◌}
+use Rattle.std.proofs.Common.{◌≡◌, ◌*◌, ◌+◌, ◌≤◌, length, map, Some, Err, rules, sym, ap, subst, ◌∙◌}
 use Rattle.std.specs.Prelude.{IfErr}
 use Rattle.std.proofs.lemmas.Result.{err_from_is_err_and}
 use Rattle.imp_check.specs.Slots.{routines_of}
 use Rattle.imp_flow.specs.Plans.{Plan}
 use Rattle.imp_flow.specs.Reached.{target_of}
 use Rattle.batch_meaning.specs.Answers.{answer}
-use Rattle.daig_graph.specs.declared.value.Value.{Value}
-use Rattle.daig_session.specs.declared.error.QueryError.{QueryError}
 use Rattle.daig_query.specs.Answered.{AreFilled, Covers, Says}
 use Rattle.daig_query.specs.Filled.{added}
 use Rattle.daig_query.specs.Right.{IsRight}
@@ -42,7 +40,7 @@ pub returns-in_err-going-clause-unticked : goal.returns-in_err-going-clause-unti
 returns-in_err-going-clause-unticked g c =
     let n = c.args.steps.now in
     let e : c.from_residual.result ≡ Err c.in_err-going.field-0.0 = search rules in
-    subst (λ (r : Result (Value g.D.Domain.State) QueryError). IfErr r (IsUnticked n n)) (sym e) (no_steps n c.in_err-going.field-0.0)
+    subst (λ r. IfErr r (IsUnticked n n)) (sym e) (no_steps n c.in_err-going.field-0.0)
 
 pub returns-in_err-filled-clause-ready : goal.returns-in_err-filled-clause-ready
 returns-in_err-filled-clause-ready g c =
