@@ -1,5 +1,5 @@
 -- What a question answers is the machine's.
-use Rattle.std.proofs.Common.{◌≡◌, ℕ, ◌+◌, ◌*◌, ◌≤◌, List, [], ◌∷◌, ◌++◌, take, length, Some, Ok, Err, refl, sym, ap, subst, ◌∙◌, arith}
+use Rattle.std.proofs.Common.{◌≡◌, ℕ, suc, ◌+◌, ◌*◌, ◌≤◌, List, [], ◌∷◌, ◌++◌, take, length, Some, Ok, Err, refl, sym, ap, subst, ◌∙◌, arith}
 use Rattle.imp_syntax.specs.declared.edit.Location.{Location}
 use Rattle.imp_slots.specs.Fits.{IsChecked}
 use Rattle.imp_check.specs.Slots.{routines_of}
@@ -42,6 +42,13 @@ no_steps n Memory = tt
 pub work_both : (s t u each n k : ℕ) → t ≤ s + each * n → u ≤ t + each * k → u ≤ s + each * (n + k)
 work_both s t u each n k h g = omega arith
 
+-- one operation more
+pub work_first : (s u each n k : ℕ) → u ≤ s + each * suc n → u ≤ s + each * suc (n + k)
+work_first s u each n k h = omega arith
+
+work_most : (s t u each n k : ℕ) → t ≤ s + each * n → u ≤ t + each * k → u ≤ s + each * suc (n + k)
+work_most s t u each n k h g = omega arith
+
 module _ {S : Type 0} (dom : Operations S) (book : Book) (store : Store S) where
   -- the answer of the flow is that of the machine
   pub answer_here : (m : Machine) (l : Location) (string : List ℕ) → Holds dom store book m → answer dom (flow_in book).engine (flow_in book).program l string ≡ answer_at dom l string m
@@ -62,3 +69,7 @@ module _ {S : Type 0} (dom : Operations S) (book : Book) (store : Store S) where
   pub work_here : (m : Machine) (l : Location) (string : List ℕ) (ts : List Target) (s u each n : ℕ) → Holds dom store book m → IsAsked (flow_in book).program l string ts → n ≡ length (missing_at dom l string m) → u ≤ s + each * (n + 2 * length ts) → u ≤ s + each * (length (missing_at dom l string m) + 2 * length (targets_of m l string))
   work_here m l string ts s u each n h a e w =
       subst (λ k. u ≤ s + each * (length (missing_at dom l string m) + 2 * k)) (as_many dom book store store m l string ts h a) (subst (λ k. u ≤ s + each * (k + 2 * length ts)) e w)
+
+  pub most_here : (m : Machine) (l : Location) (string : List ℕ) (ts : List Target) (s t u each n k : ℕ) → Holds dom store book m → IsAsked (flow_in book).program l string ts → n ≡ k → t ≤ s + each * n → u ≤ t + each * (2 * length ts) → u ≤ s + each * suc (k + 2 * length (targets_of m l string))
+  most_here m l string ts s t u each n k h a e fill read =
+      subst (λ j. u ≤ s + each * suc (k + 2 * j)) (as_many dom book store store m l string ts h a) (work_most s t u each k (2 * length ts) (subst (λ j. t ≤ s + each * j) e fill) read)
