@@ -21,6 +21,7 @@ use Rattle.daig_session.specs.declared.error.QueryError.TheVariants.{Refused, Me
 use Rattle.daig_session.specs.Books.{flow_in, machine_of}
 use Rattle.daig_session.specs.Going.{IsAsked, IsRefused}
 use Rattle.daig_session.specs.Holds.{Holds, IsReady}
+use Rattle.daig_session.specs.Reports.{IsUnticked}
 use Rattle.daig_session.specs.Turns.{Questions}
 use Rattle.daig_session.proofs.Filled.{added_holds, as_many, missing_here}
 
@@ -31,6 +32,11 @@ append_none (x ∷ xs) = ap (λ ys. x ∷ ys) (append_none xs)
 -- nothing was filled
 pub between_none : (xs : List CellName) (m : Machine) (stands : Machine → Type 0) → stands m → IsBetween xs m stands
 between_none xs m stands h = record { count = 0; some = subst stands (ap (λ ks. keeping ks m.cost m) (sym (append_none m.kept))) h }
+
+-- a refusal takes no steps
+pub no_steps : (n : ℕ) (e : QueryError) → IsUnticked n n e
+no_steps n (Refused r) = refl
+no_steps n Memory = tt
 
 -- bounds of work
 pub work_both : (s t u each n k : ℕ) → t ≤ s + each * n → u ≤ t + each * k → u ≤ s + each * (n + k)

@@ -50,7 +50,7 @@ use Rattle.daig_session.proofs.Ordered.{below_more, behind_more, behind_take, tu
 use Rattle.daig_session.proofs.TicketLemmas.{tickets_anew}
 use Rattle.daig_session.proofs.Waiting.{waiting_anew}
 
-both_ways : (a b : Bool) → (a ≡ true → b ≡ true) → (b ≡ true → a ≡ true) → a ≡ b
+pub both_ways : (a b : Bool) → (a ≡ true → b ≡ true) → (b ≡ true → a ≡ true) → a ≡ b
 both_ways true true f g = refl
 both_ways true false f g = absurd (let e = f refl in cc)
 both_ways false true f g = absurd (let e = g refl in cc)

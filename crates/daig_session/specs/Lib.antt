@@ -2,4 +2,5 @@ pub mod Books
 pub mod Going
 pub mod Holds
 pub mod Moves
+pub mod Reports
 pub mod Turns

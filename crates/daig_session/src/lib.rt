@@ -7,22 +7,25 @@
 //!
 //! A caller keeps `IsReady` of a session from [`Session::start`] on: each call asks for it, and gives it again.
 //!
-//! - [`Session::query`] fills what is missing for one question, and answers it. [`Session::ask`] opens a ticket for a
-//!   question, [`Session::step`] fills a few cells for it at a time, [`Session::cancel`] closes it. A ticket keeps how far
-//!   it has come until the program is another one.
+//! - [`Session::query`] fills what is missing for one question, and answers it; [`Session::report`] asks in front of each
+//!   statement that has a check, one after another.
+//! - [`Session::ask`] opens a ticket for a question, [`Session::step`] fills a few cells for it at a time,
+//!   [`Session::cancel`] closes it. A ticket keeps how far it has come until the program is another one.
 //! - [`Session::prepare`] works an edit out beside what stands. [`Prepared::commit`] makes it: it takes no memory and
 //!   cannot fail. [`Session::undo`] and [`Session::redo`] go back and forth.
 //!
-//! For want of memory a query or a step leaves some of the missing cells filled, the first of them, and all else as it
-//! was; any other call leaves the session as it was.
+//! For want of memory a query, a report or a step leaves some of the missing cells filled, the first of them, and all else
+//! as it was; any other call leaves the session as it was.
 #![tactic(auto)]
 
 mod asking;
 mod book;
+mod checks;
 mod edits;
 mod error;
 mod moving;
 mod queries;
+mod reports;
 mod session;
 mod stepping;
 mod tickets;

@@ -1,5 +1,5 @@
 //! Queries.
-ghost use Rattle.std.specs.Prelude.{◌≡◌, ℕ, suc, ◌+◌, ◌*◌, ◌≤◌, List, length, map, Some, IfOk, OnOk};
+ghost use Rattle.std.specs.Prelude.{◌≡◌, ℕ, suc, ◌+◌, ◌*◌, ◌≤◌, List, length, map, Some, IfErr, IfOk, OnOk};
 ghost use Rattle.imp_syntax.specs.declared.edit.Location.{Location};
 ghost use Rattle.imp_check.specs.Slots.{routines_of};
 ghost use Rattle.cell_rows.specs.Targets.{Target as PlainTarget};
@@ -11,6 +11,7 @@ ghost use Rattle.session_machine.specs.Turns.{missing_at, targets_of};
 ghost use Rattle.daig_session.specs.Books.{flow_in};
 ghost use Rattle.daig_session.specs.Going.{IsGoing};
 ghost use Rattle.daig_session.specs.Holds.{Holds, IsReady};
+ghost use Rattle.daig_session.specs.Reports.{IsUnticked};
 ghost use Rattle.daig_session.specs.Turns.{Questions};
 
 use crate::asking::{begun, read_answer};
@@ -80,6 +81,7 @@ impl<D: Domain> Session<D> {
             Questions (D.operations self.old.engine.domain) m (Holds (D.operations self.new.engine.domain) self.new.engine.store self.new.book) at.now string.now result }
         ensures sound { IfOk result (λ v. Covers (D.covers self.old.engine.domain) (routines_of self.old.book.history.now) at.now string.now (Some v)) }
         ensures least { steps.old ≤ steps.new }
+        ensures unticked { IfErr result (IsUnticked steps.old steps.new) }
         ensures ticked { (m : Machine) → Holds (D.operations self.old.engine.domain) self.old.engine.store self.old.book m →
             IfOk result (λ _. steps.new ≤ steps.old + D.counted self.old.engine.domain * (length (missing_at (D.operations self.old.engine.domain) at.now string.now m) + 2 * length (targets_of m at.now string.now))) }
         ensures most { (m : Machine) → Holds (D.operations self.old.engine.domain) self.old.engine.store self.old.book m →

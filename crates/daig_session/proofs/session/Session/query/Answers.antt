@@ -1,4 +1,5 @@
 use Rattle.std.proofs.Common.{◌≡◌, ◌*◌, ◌+◌, ◌≤◌, length, map, Some, Err, rules, sym, ap, subst, ◌∙◌, arith}
+use Rattle.std.specs.Prelude.{IfErr}
 use Rattle.std.proofs.lemmas.Result.{err_from_is_err_and}
 use Rattle.imp_check.specs.Slots.{routines_of}
 use Rattle.imp_flow.specs.Plans.{Plan}
@@ -11,8 +12,9 @@ use Rattle.session_machine.specs.Turns.{asked, missing_at, targets_of, IsBetween
 use Rattle.daig_session.specs.Books.{flow_in}
 use Rattle.daig_session.specs.Going.{IsGoing, IsRefused}
 use Rattle.daig_session.specs.Holds.{Holds, IsReady}
+use Rattle.daig_session.specs.Reports.{IsUnticked}
 use Rattle.daig_session.specs.Turns.{Questions}
-use Rattle.daig_session.proofs.Answering.{between_some, most_here, refused_turn, says_here, work_both, work_first, work_here}
+use Rattle.daig_session.proofs.Answering.{between_some, most_here, no_steps, refused_turn, says_here, work_both, work_first, work_here}
 use Rattle.daig_session.proofs.Filled.{asked_holds, fills_ready, missing_here}
 use Rattle.daig_session.proofs.session.Session.query.Goals as goal
 
@@ -33,6 +35,12 @@ returns-in_err-going-clause-answers g c = λ m h.
     let is = subst (λ (p : Plan). IsRefused (answer dom p.engine p.program c.args.at.now c.args.string.now) c.in_err-going.field-0.0) c.flow-flow.ensures.is c.in_err-going.ensures.refused in
     let e : c.from_residual.result ≡ Err c.in_err-going.field-0.0 = search rules in
     subst (Questions dom m (Holds dom s.engine.store s.book) c.args.at.now c.args.string.now) (sym e) (refused_turn dom s.book s.engine.store m c.args.at.now c.args.string.now c.in_err-going.field-0.0 h is)
+
+pub returns-in_err-going-clause-unticked : goal.returns-in_err-going-clause-unticked
+returns-in_err-going-clause-unticked g c =
+    let n = c.args.steps.now in
+    let e : c.from_residual.result ≡ Err c.in_err-going.field-0.0 = search rules in
+    subst (λ r. IfErr r (IsUnticked n n)) (sym e) (no_steps n c.in_err-going.field-0.0)
 
 pub returns-in_err-filled-clause-ready : goal.returns-in_err-filled-clause-ready
 returns-in_err-filled-clause-ready g c =

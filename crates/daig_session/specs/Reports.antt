@@ -1,0 +1,116 @@
+-- Reports: the checked statements of a program one after another, what is missing of them in turn, and what is found.
+use Rattle.std.specs.Prelude.{◌≡◌, ℕ, ◌+◌, ◌*◌, List, [], ◌∷◌, ◌++◌, map, take, length, Option, Some, None, Result, Ok, Err}
+use Rattle.imp_syntax.specs.Plain.{Procedure}
+use Rattle.imp_slots.specs.Plain.{Act, DoBreak, Does, Effect, Routine}
+use Rattle.imp_slots.specs.ActionViews.{act_of}
+use Rattle.imp_slots.specs.declared.actions.SlotStmt.{SlotStmt}
+use Rattle.imp_check.specs.Entries.{entries_of, entry_of}
+use Rattle.imp_check.specs.Slots.{routines_of}
+use Rattle.imp_check.specs.declared.entry.Entry.{Entry}
+use Rattle.imp_check.specs.declared.entry.SlotForm.{SlotForm}
+use Rattle.imp_check.specs.declared.entry.SlotForm.TheVariants as form
+use Rattle.plain_values.specs.declared.error.Memory.{Memory}
+use Rattle.analysis_words.specs.declared.findings.Finding.{Finding}
+use Rattle.analysis_words.specs.declared.refusal.Refusal.{Refusal}
+use Rattle.domain_laws.specs.Operations.{Operations}
+use Rattle.domain_laws.specs.Checks.{Check, check_of}
+use Rattle.batch_meaning.specs.Answers.{Answer, Refuses}
+use Rattle.batch_meaning.specs.Report.{Checked, checked_one, checked_statements, finding, report}
+use Rattle.cell_names.specs.Paths.{CellName}
+use Rattle.cell_rows.specs.Targets.{demanded}
+use Rattle.demand_order.specs.InTurn.{missing_in_turn}
+use Rattle.demand_laws.specs.Claims.{names_of}
+use Rattle.demand_laws.specs.Reports.{check_targets}
+use Rattle.named_cells.specs.Same.{same_name}
+use Rattle.daig_graph.specs.declared.value.Value.{Value}
+use Rattle.daig_query.specs.declared.store.Store.{Store}
+use Rattle.daig_query.specs.Answered.{Says}
+use Rattle.session_machine.specs.Machine.{Machine, keeping}
+use Rattle.session_machine.specs.Turns.{IsBetween, found, is_kept, missing_for_report, reported}
+use Rattle.daig_session.specs.declared.book.Book.{Book}
+use Rattle.daig_session.specs.declared.error.QueryError.{QueryError}
+use Rattle.daig_session.specs.declared.error.QueryError.TheVariants as query
+use Rattle.daig_session.specs.Holds.{Holds}
+
+-- a statement of a number, if it has a check
+abbrev pub checked_act : ℕ → Act → List Checked
+checked_act n DoBreak = []
+checked_act n (Does e) = checked_one n e (check_of e)
+
+abbrev pub checked_form : ℕ → SlotForm → List Checked
+checked_form n (form.Stmt s) = checked_act n (act_of s)
+checked_form n (form.Cond c) = []
+checked_form n (form.Call i q) = []
+
+abbrev pub checked_entry : ℕ → Option Entry → List Checked
+checked_entry n None = []
+checked_entry n (Some e) = checked_form n e.form
+
+abbrev pub checked_stmt : ℕ → Option SlotStmt → List Checked
+checked_stmt n None = []
+checked_stmt n (Some s) = checked_act n (act_of s)
+
+-- those of some statements, by their numbers
+abbrev pub checked_by : (at : ℕ → Option Entry) → List ℕ → List Checked
+checked_by at [] = []
+checked_by at (n ∷ ns) = checked_entry n (at n) ++ checked_by at ns
+
+-- the statement of a number in a program, and some of them
+abbrev pub checked_at : List Procedure → ℕ → List Checked
+checked_at program n = checked_entry n (entry_of (entries_of program) n)
+
+abbrev pub checked_among : List Procedure → List ℕ → List Checked
+checked_among program ns = checked_by (entry_of (entries_of program)) ns
+
+-- a statement that has a check
+abbrev pub HasCheck : List Procedure → ℕ → Type 0
+HasCheck program n = (e : Effect) × (k : Check) × (checked_at program n ≡ checked_one n e (Some k))
+
+-- how many chains there are to checked statements
+abbrev pub chain_count : List Routine → List Checked → ℕ
+chain_count program [] = 0
+chain_count program (c ∷ cs) = length (check_targets program c) + chain_count program cs
+
+abbrev pub checked_chains : Machine → ℕ
+checked_chains m = chain_count (routines_of m.program) (checked_statements (routines_of m.program))
+
+-- an answer, or why there is none
+abbrev pub Tells : {S : Type 0} → Answer S → Result (Value S) Refusal → Type 0
+Tells a (Ok v) = Says a (Some v)
+Tells a (Err r) = a ≡ Refuses r
+
+-- A question that is refused takes no steps.
+abbrev pub IsUnticked : (before after : ℕ) → QueryError → Type 0
+IsUnticked before after (query.Refused r) = after ≡ before
+IsUnticked before after query.Memory = Unit {0}
+
+module _ {S : Type 0} (dom : Operations S) (m : Machine) where
+  -- A report: that of the present program, interpreted from scratch; what was missing for it is kept.
+  abbrev pub Reports : (stands : Machine → Type 0) → Result (List Finding) Memory → Type 0
+  Reports stands (Ok found) = (found ≡ report dom m.engine (routines_of m.program)) × stands (reported dom m)
+  Reports stands (Err e) = IsBetween (missing_for_report dom m) m stands
+
+  -- what is missing of checked statements, one after another
+  abbrev pub missing_of : List Checked → List CellName
+  missing_of cs = missing_in_turn (names_of dom m.engine (routines_of m.program) same_name) (is_kept m) (map (λ c. demanded (found dom m) (check_targets (routines_of m.program) c)) cs)
+
+  -- the work for them: a cell that is missing, and two for each chain
+  abbrev pub work_on : List Checked → ℕ
+  work_on cs = length (missing_of cs) + 2 * chain_count (routines_of m.program) cs
+
+  -- These names are kept beside the others; all else but the cost is as it was.
+  abbrev pub HoldsWith : Store S → Book → List CellName → Type 0
+  HoldsWith store book xs = Holds dom store book (keeping (m.kept ++ xs) book.cost m)
+
+  -- All that is missing of these checked statements is kept, ..
+  abbrev pub HoldsAll : Store S → Book → List Checked → Type 0
+  HoldsAll store book cs = HoldsWith store book (missing_of cs)
+
+  -- .. or the first so much of it.
+  pub record HoldsPart (store : Store S) (book : Book) (cs : List Checked) : Type 0 where
+    pub count : ℕ
+    pub some : HoldsWith store book (take count (missing_of cs))
+
+  -- what is found of them
+  abbrev pub findings : List Checked → List Finding
+  findings cs = map (finding dom m.engine (routines_of m.program)) cs

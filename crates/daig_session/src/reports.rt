@@ -1,0 +1,251 @@
+//! Reports.
+ghost use Rattle.std.specs.Prelude.{◌≡◌, ℕ, ◌+◌, ◌*◌, ◌≤◌, [], ◌∷◌, ◌++◌, Contains, IfOk, IsFalse, IsSome, IsTrue, OnOk, Some, length};
+ghost use Rattle.imp_syntax.specs.declared.edit.Location.TheVariants.{Before};
+ghost use Rattle.imp_slots.specs.ActionViews.{act_of};
+ghost use Rattle.imp_slots.specs.Plain.{Does, Effect};
+ghost use Rattle.imp_check.specs.Slots.{routines_of};
+ghost use Rattle.analysis_words.specs.declared.findings.Finding.{Finding as AnyFinding};
+ghost use Rattle.domain_laws.specs.Checks.{Check, kind_in, kind_of};
+ghost use Rattle.domain_laws.specs.Operations.{Operations};
+ghost use Rattle.batch_meaning.specs.Answers.{Answer};
+ghost use Rattle.batch_meaning.specs.Batch.{Engine as BatchEngine};
+ghost use Rattle.batch_meaning.specs.Report.{checked_one, checked_statements, verdict_on};
+ghost use Rattle.batch_sound.specs.Theorem.{IsFindingSound};
+ghost use Rattle.alarm_report.specs.Reporting.{verdict_for};
+ghost use Rattle.daig_query.specs.Answered.{Says};
+ghost use Rattle.session_machine.specs.Machine.{Machine};
+ghost use Rattle.session_machine.specs.Turns.{answer_at, missing_for_report};
+ghost use Rattle.daig_session.specs.Holds.{Holds, IsReady};
+ghost use Rattle.daig_session.specs.Reports.{checked_act, checked_among, checked_at, checked_chains, findings, work_on, HasCheck, HoldsAll, HoldsPart, Reports, Tells};
+
+use crate::checks::{all_statements, checked_stmt};
+use crate::error::QueryError;
+use crate::session::Session;
+use alarm_report::Found;
+use batch_meaning::Refusal;
+use batch_sound::reports_are_sound;
+use daig_graph::Value;
+use domain_laws::{Domain, Finding, Findings, Steps};
+use imp_slots::SlotStmt;
+use imp_syntax::{Location, StmtId};
+use plain_values::{Items, Memory};
+use std::alloc::Global;
+use std::sync::ledger::Ledger;
+
+/// What a report makes of an answer.
+fn found_in<S>(value: &Value<S>) -> Found<'_, S>
+    ensures verdict { (dom : Operations S) (engine : BatchEngine) (a : Answer S) (e : Effect) → Says a (Some value.now) → verdict_for dom (Does e) result ≡ verdict_on dom engine e a }
+{
+    match value {
+        Value::State(state) => Found::State(state),
+        Value::Over { head: _, chain: _ } => Found::Over,
+    }
+}
+
+/// What a report makes of an answer, or of a refusal: a statement to which no chain comes is dead.
+fn found_of<S>(known: &Result<Value<S>, Refusal>) -> Found<'_, S>
+    ensures verdict { (dom : Operations S) (engine : BatchEngine) (a : Answer S) (e : Effect) → Tells a known.now → verdict_for dom (Does e) result ≡ verdict_on dom engine e a }
+{
+    match known {
+        Ok(value) => found_in(value),
+        Err(Refusal::NoChain) => Found::Absent,
+        Err(Refusal::LongString) => Found::Over,
+        Err(Refusal::NoProcedure) => Found::Over,
+        Err(Refusal::NoStatement) => Found::Over,
+        Err(Refusal::WrongStatement) => Found::Over,
+    }
+}
+
+/// What is found of a statement that has a check, by what is known in front of it.
+fn finding<D: Domain>(
+    alloc: Global,
+    dom: &D,
+    id: StmtId,
+    stmt: &SlotStmt,
+    known: &Result<Value<D::State>, Refusal>,
+) -> Result<Finding, Memory>
+    requires asks { IsSome (kind_in (act_of stmt.now)) }
+    ensures is { (engine : BatchEngine) (a : Answer D.State) (e : Effect) (k : Check) → Tells a known.now → checked_act id (act_of stmt.now) ≡ checked_one id e (Some k) →
+        IfOk result (λ f. f ≡ record { id = id; check = kind_of k; verdict = verdict_on (D.operations dom.now) engine e a }) }
+{
+    alarm_report::report(alloc, dom, id, stmt, found_of(known))
+}
+
+impl<D: Domain> Session<D> {
+    /// Whether a statement has a check.
+    fn has_check(&self, id: StmtId) -> bool
+        ensures there { IsTrue result → HasCheck self.now.book.history.now id }
+        ensures none { IsFalse result → checked_at self.now.book.history.now id ≡ [] }
+    {
+        let view = self.book.history.table().view();
+        checked_stmt(&view, id).is_some()
+    }
+
+    /// What is found of a statement that has a check, by what is known in front of it.
+    fn found_at(
+        &self,
+        alloc: Global,
+        id: StmtId,
+        known: &Result<Value<D::State>, Refusal>,
+    ) -> Result<Finding, Memory>
+        requires there { HasCheck self.now.book.history.now id }
+        ensures is { (engine : BatchEngine) (a : Answer D.State) (e : Effect) (k : Check) → Tells a known.now → checked_at self.now.book.history.now id ≡ checked_one id e (Some k) →
+            IfOk result (λ f. f ≡ record { id = id; check = kind_of k; verdict = verdict_on (D.operations self.now.engine.domain) engine e a }) }
+    {
+        let view = self.book.history.table().view();
+        match checked_stmt(&view, id) {
+            Some(stmt) => finding(alloc, self.engine.domain(), id, stmt, known),
+            None => unreachable!(),
+        }
+    }
+
+    /// Fills what is missing in front of a statement, and gives what is known there, or why nothing is.
+    fn known_before<L: Ledger>(
+        &mut self,
+        alloc: Global,
+        id: StmtId,
+        steps: &mut Steps<L>,
+    ) -> Result<Result<Value<D::State>, Refusal>, Memory>
+        requires ready { IsReady (D.operations self.old.engine.domain) self.old.engine.store self.old.book }
+        ensures ready { IsReady (D.operations self.new.engine.domain) self.new.engine.store self.new.book }
+        ensures domain { self.new.engine.domain ≡ self.old.engine.domain }
+        ensures program { self.new.book.history.now ≡ self.old.book.history.now }
+        ensures part { (m : Machine) (e : Effect) (k : Check) → Holds (D.operations self.old.engine.domain) self.old.engine.store self.old.book m →
+            HoldsPart (D.operations self.old.engine.domain) m self.new.engine.store self.new.book (checked_one id e (Some k)) }
+        ensures all { OnOk result ((m : Machine) (e : Effect) (k : Check) → Holds (D.operations self.old.engine.domain) self.old.engine.store self.old.book m →
+            HoldsAll (D.operations self.old.engine.domain) m self.new.engine.store self.new.book (checked_one id e (Some k))) }
+        ensures tells { IfOk result (λ known. (m : Machine) → Holds (D.operations self.old.engine.domain) self.old.engine.store self.old.book m →
+            Tells (answer_at (D.operations self.old.engine.domain) (Before id) [] m) known) }
+        ensures least { steps.old ≤ steps.new }
+        ensures ticked { OnOk result ((m : Machine) (e : Effect) (k : Check) → Holds (D.operations self.old.engine.domain) self.old.engine.store self.old.book m →
+            steps.new ≤ steps.old + D.counted self.old.engine.domain * work_on (D.operations self.old.engine.domain) m (checked_one id e (Some k))) }
+    {
+        match self.query(alloc, &Location::Before(id), &[], steps) {
+            Ok(value) => Ok(Ok(value)),
+            Err(QueryError::Refused(why)) => Ok(Err(why)),
+            Err(QueryError::Memory) => Err(Memory),
+        }
+    }
+
+    /// Fills what is missing in front of a statement, and adds what is found of it, if it has a check.
+    fn add_finding<L: Ledger>(
+        &mut self,
+        alloc: Global,
+        id: StmtId,
+        found: &mut Findings,
+        steps: &mut Steps<L>,
+    ) -> Result<(), Memory>
+        requires ready { IsReady (D.operations self.old.engine.domain) self.old.engine.store self.old.book }
+        ensures ready { IsReady (D.operations self.new.engine.domain) self.new.engine.store self.new.book }
+        ensures domain { self.new.engine.domain ≡ self.old.engine.domain }
+        ensures part { (m : Machine) → Holds (D.operations self.old.engine.domain) self.old.engine.store self.old.book m →
+            HoldsPart (D.operations self.old.engine.domain) m self.new.engine.store self.new.book (checked_at m.program id) }
+        ensures all { OnOk result ((m : Machine) → Holds (D.operations self.old.engine.domain) self.old.engine.store self.old.book m →
+            HoldsAll (D.operations self.old.engine.domain) m self.new.engine.store self.new.book (checked_at m.program id)) }
+        ensures found { OnOk result ((m : Machine) → Holds (D.operations self.old.engine.domain) self.old.engine.store self.old.book m →
+            found.new ≡ found.old ++ findings (D.operations self.old.engine.domain) m (checked_at m.program id)) }
+        ensures least { steps.old ≤ steps.new }
+        ensures ticked { OnOk result ((m : Machine) → Holds (D.operations self.old.engine.domain) self.old.engine.store self.old.book m →
+            steps.new ≤ steps.old + D.counted self.old.engine.domain * work_on (D.operations self.old.engine.domain) m (checked_at m.program id)) }
+    {
+        if !self.has_check(id) {
+            return Ok(());
+        }
+        let known = self.known_before(alloc, id, steps)?;
+        let finding = self.found_at(alloc, id, &known)?;
+        found.push(finding)
+    }
+
+    /// Adds what is found of those of some statements that have a check, one after another.
+    fn add_findings<L: Ledger>(
+        &mut self,
+        alloc: Global,
+        stmts: &[StmtId],
+        found: &mut Findings,
+        steps: &mut Steps<L>,
+    ) -> Result<(), Memory>
+        requires ready { IsReady (D.operations self.old.engine.domain) self.old.engine.store self.old.book }
+        ensures ready { IsReady (D.operations self.new.engine.domain) self.new.engine.store self.new.book }
+        ensures domain { self.new.engine.domain ≡ self.old.engine.domain }
+        ensures part { (m : Machine) → Holds (D.operations self.old.engine.domain) self.old.engine.store self.old.book m →
+            HoldsPart (D.operations self.old.engine.domain) m self.new.engine.store self.new.book (checked_among m.program stmts.now) }
+        ensures all { OnOk result ((m : Machine) → Holds (D.operations self.old.engine.domain) self.old.engine.store self.old.book m →
+            HoldsAll (D.operations self.old.engine.domain) m self.new.engine.store self.new.book (checked_among m.program stmts.now)) }
+        ensures found { OnOk result ((m : Machine) → Holds (D.operations self.old.engine.domain) self.old.engine.store self.old.book m →
+            found.new ≡ found.old ++ findings (D.operations self.old.engine.domain) m (checked_among m.program stmts.now)) }
+        ensures least { steps.old ≤ steps.new }
+        ensures ticked { OnOk result ((m : Machine) → Holds (D.operations self.old.engine.domain) self.old.engine.store self.old.book m →
+            steps.new ≤ steps.old + D.counted self.old.engine.domain * work_on (D.operations self.old.engine.domain) m (checked_among m.program stmts.now)) }
+    {
+        for stmt in stmts {
+            self.add_finding(alloc, *stmt, found, steps)?;
+        }
+        Ok(())
+    }
+
+    /// What is found of all statements that have a check, in the order of the text.
+    fn all_findings<L: Ledger>(
+        &mut self,
+        alloc: Global,
+        steps: &mut Steps<L>,
+    ) -> Result<Findings, Memory>
+        requires ready { IsReady (D.operations self.old.engine.domain) self.old.engine.store self.old.book }
+        ensures ready { IsReady (D.operations self.new.engine.domain) self.new.engine.store self.new.book }
+        ensures domain { self.new.engine.domain ≡ self.old.engine.domain }
+        ensures part { (m : Machine) → Holds (D.operations self.old.engine.domain) self.old.engine.store self.old.book m →
+            HoldsPart (D.operations self.old.engine.domain) m self.new.engine.store self.new.book (checked_statements (routines_of m.program)) }
+        ensures all { OnOk result ((m : Machine) → Holds (D.operations self.old.engine.domain) self.old.engine.store self.old.book m →
+            HoldsAll (D.operations self.old.engine.domain) m self.new.engine.store self.new.book (checked_statements (routines_of m.program))) }
+        ensures found { IfOk result (λ found. (m : Machine) → Holds (D.operations self.old.engine.domain) self.old.engine.store self.old.book m →
+            found ≡ findings (D.operations self.old.engine.domain) m (checked_statements (routines_of m.program))) }
+        ensures least { steps.old ≤ steps.new }
+        ensures ticked { OnOk result ((m : Machine) → Holds (D.operations self.old.engine.domain) self.old.engine.store self.old.book m →
+            steps.new ≤ steps.old + D.counted self.old.engine.domain * work_on (D.operations self.old.engine.domain) m (checked_statements (routines_of m.program))) }
+    {
+        let stmts = all_statements(alloc, &self.book.history.table().view())?;
+        let mut found = Items::new(alloc);
+        self.add_findings(alloc, stmts.as_slice(), &mut found, steps)?;
+        Ok(found)
+    }
+
+    /// The report of the present program, interpreted from scratch: a finding for each statement that has a check, in the
+    /// order of the text. No run fails a check that is called safe, and none comes to a statement that is called dead.
+    ///
+    /// Only what is missing is computed, for one statement after another; it is kept, and `cost` tells how many cells that
+    /// were. It ticks at most once an operation of the domain for each of these, and twice for each chain to each checked
+    /// statement. Beside these it takes time linear in the program.
+    ///
+    /// # Errors
+    ///
+    /// [`Memory`] alone. Some of what was missing may be kept then, the first of it, and all else is as it was.
+    pub fn report<L: Ledger>(
+        &mut self,
+        alloc: Global,
+        steps: &mut Steps<L>,
+    ) -> Result<Findings, Memory>
+        requires ready { IsReady (D.operations self.old.engine.domain) self.old.engine.store self.old.book }
+        ensures ready { IsReady (D.operations self.new.engine.domain) self.new.engine.store self.new.book }
+        ensures domain { self.new.engine.domain ≡ self.old.engine.domain }
+        ensures next_ticket { self.new.book.tickets.next ≡ self.old.book.tickets.next }
+        ensures reports { (m : Machine) → Holds (D.operations self.old.engine.domain) self.old.engine.store self.old.book m →
+            Reports (D.operations self.old.engine.domain) m (Holds (D.operations self.new.engine.domain) self.new.engine.store self.new.book) result }
+        ensures sound { IfOk result (λ found. (f : AnyFinding) → Contains found f → IsFindingSound (routines_of self.old.book.history.now) f) }
+        ensures least { steps.old ≤ steps.new }
+        ensures ticked { (m : Machine) → Holds (D.operations self.old.engine.domain) self.old.engine.store self.old.book m →
+            OnOk result (steps.new ≤ steps.old + D.counted self.old.engine.domain * (length (missing_for_report (D.operations self.old.engine.domain) m) + 2 * checked_chains m)) }
+    {
+        reports_are_sound::<D>();
+        let cost = self.book.cost;
+        let kept = self.kept_count();
+        match self.all_findings(alloc, steps) {
+            Ok(found) => {
+                self.book.cost = (self.kept_count() - kept) as u64;
+                Ok(found)
+            }
+            Err(why) => {
+                self.book.cost = cost;
+                Err(why)
+            }
+        }
+    }
+}
