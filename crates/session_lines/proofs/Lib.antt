@@ -1,0 +1,4 @@
+pub mod Replied
+pub mod Places
+pub mod Tickets
+pub mod Edits

@@ -1,6 +1,9 @@
 -- What is written for a line, and which machine stands after it.
-use Rattle.std.specs.Prelude.{◌≡◌, ℕ, List, Result, Ok, Err, IfOk}
-use Rattle.session_machine.specs.Machine.{Machine}
+use Rattle.std.specs.Prelude.{◌≡◌, ◌⊎◌, ℕ, List, [], Option, Some, None, Result, Ok, Err}
+use Rattle.domain_laws.specs.Operations.{Operations}
+use Rattle.cell_names.specs.Paths.{CellName}
+use Rattle.session_machine.specs.Machine.{Machine, Ticket, ticket_of}
+use Rattle.session_machine.specs.Turns.{IsBetween, missing_at, missing_for_report}
 use Rattle.request_json.specs.declared.error.ReadError.{ReadError}
 use Rattle.request_json.specs.declared.request.Request.{Request}
 use Rattle.request_json.specs.declared.request.Request.TheVariants as q
@@ -23,6 +26,23 @@ Fills (Ok (q.State query)) = Unit {0}
 Fills (Ok q.Report) = Unit {0}
 Fills (Ok (q.Step ticket n)) = Unit {0}
 Fills (Ok request) = ⊥
+
+-- what is missing for a ticket, if it is open, and for a request
+abbrev pub missing_for_ticket : {S : Type 0} → Operations S → Option Ticket → Machine → List CellName
+missing_for_ticket dom None m = []
+missing_for_ticket dom (Some t) m = missing_at dom t.at t.string m
+
+abbrev pub missing_of : {S : Type 0} → Operations S → Result Request ReadError → Machine → List CellName
+missing_of dom (Err error) m = []
+missing_of dom (Ok (q.State query)) m = missing_at dom query.at query.string m
+missing_of dom (Ok q.Report) m = missing_for_report dom m
+missing_of dom (Ok (q.Step ticket n)) m = missing_for_ticket dom (ticket_of ticket m.tickets) m
+missing_of dom (Ok request) m = []
+
+-- For want of memory some of these names are kept, the first ones, and nothing else is changed; or what stands is the
+-- machine after the turn, and its reply alone is not written.
+abbrev pub IsHalted : List CellName → Turn → Machine → (stands : Machine → Type 0) → Type 0
+IsHalted xs turn m stands = IsBetween xs m stands ⊎ stands turn.machine
 
 -- a request for an edit
 abbrev pub Edits : Request → Type 0

@@ -1,11 +1,11 @@
 //! The answer to a line.
-ghost use Rattle.std.specs.Prelude.{◌≡◌, ◌≤◌, ◌<◌, ◌^◌, Ok, IfOk, IfErr};
+ghost use Rattle.std.specs.Prelude.{◌≡◌, ◌+◌, ◌≤◌, ◌<◌, ◌^◌, Ok, IfOk, IfErr};
 ghost use Rattle.session_machine.specs.Machine.{Machine};
 ghost use Rattle.daig_session.specs.Holds.{Holds, IsReady};
 ghost use Rattle.request_json.specs.Requests.{request_of};
 ghost use Rattle.line_answers.specs.Readings.{Readings};
 ghost use Rattle.line_answers.specs.Lines.{line_turn, request_turn};
-ghost use Rattle.session_lines.specs.Followed.{Fills, Follows};
+ghost use Rattle.session_lines.specs.Followed.{missing_of, Fills, Follows, IsHalted};
 
 use crate::edits::edit_request;
 use crate::questions::{report_line, state_line};
@@ -28,12 +28,14 @@ fn request_line<D: Domain, L: Ledger>(
     steps: &mut Steps<L>,
 ) -> Result<Vec<u8>, Memory>
     requires ready { IsReady (D.operations session.old.engine.domain) session.old.engine.store session.old.book }
-    requires low { session.old.book.next ≤ 1000001 }
     requires room { session.old.book.tickets.next < 2 ^ 63 }
     ensures ready { IsReady (D.operations session.new.engine.domain) session.new.engine.store session.new.book }
     ensures domain { session.new.engine.domain ≡ session.old.engine.domain }
+    ensures rises { session.new.book.tickets.next ≤ session.old.book.tickets.next + 1 }
     ensures turn { (readings : Readings) (m : Machine) → Holds (D.operations session.old.engine.domain) session.old.engine.store session.old.book m →
         IfOk result (λ v. Follows (request_turn readings (D.operations session.old.engine.domain) request m) (Holds (D.operations session.new.engine.domain) session.new.engine.store session.new.book) v.items) }
+    ensures between { (readings : Readings) (m : Machine) → Fills (Ok request) → Holds (D.operations session.old.engine.domain) session.old.engine.store session.old.book m →
+        IfErr result (λ _. IsHalted (missing_of (D.operations session.old.engine.domain) (Ok request) m) (request_turn readings (D.operations session.old.engine.domain) request m) m (Holds (D.operations session.new.engine.domain) session.new.engine.store session.new.book)) }
     ensures unchanged { (m : Machine) → Holds (D.operations session.old.engine.domain) session.old.engine.store session.old.book m → (Fills (Ok request) → ⊥) →
         IfErr result (λ _. Holds (D.operations session.new.engine.domain) session.new.engine.store session.new.book m) }
 {
@@ -57,7 +59,13 @@ fn request_line<D: Domain, L: Ledger>(
 }
 
 /// The answer to a line: what the machine that the session stands for replies, and the session then stands for the machine
-/// after it. It fails for want of memory alone; on a line that fills no cells the session is then as it was.
+/// after it. The number of the next ticket rises by one at most.
+///
+/// # Errors
+///
+/// [`Memory`] alone. A line that asks no question, for no report and for no step then leaves the session as it was. After
+/// one that does, either some of what was missing is kept, the first of it, and nothing else is changed; or the session
+/// stands for the machine after the line, and the reply alone is not written.
 pub fn answer_line<D: Domain, L: Ledger>(
     alloc: Global,
     session: &mut Session<D>,
@@ -65,12 +73,14 @@ pub fn answer_line<D: Domain, L: Ledger>(
     steps: &mut Steps<L>,
 ) -> Result<Vec<u8>, Memory>
     requires ready { IsReady (D.operations session.old.engine.domain) session.old.engine.store session.old.book }
-    requires low { session.old.book.next ≤ 1000001 }
     requires room { session.old.book.tickets.next < 2 ^ 63 }
     ensures ready { IsReady (D.operations session.new.engine.domain) session.new.engine.store session.new.book }
     ensures domain { session.new.engine.domain ≡ session.old.engine.domain }
+    ensures rises { session.new.book.tickets.next ≤ session.old.book.tickets.next + 1 }
     ensures turn { (readings : Readings) (m : Machine) → Holds (D.operations session.old.engine.domain) session.old.engine.store session.old.book m →
         IfOk result (λ v. Follows (line_turn readings (D.operations session.old.engine.domain) line.now m) (Holds (D.operations session.new.engine.domain) session.new.engine.store session.new.book) v.items) }
+    ensures between { (readings : Readings) (m : Machine) → Fills (request_of line.now) → Holds (D.operations session.old.engine.domain) session.old.engine.store session.old.book m →
+        IfErr result (λ _. IsHalted (missing_of (D.operations session.old.engine.domain) (request_of line.now) m) (line_turn readings (D.operations session.old.engine.domain) line.now m) m (Holds (D.operations session.new.engine.domain) session.new.engine.store session.new.book)) }
     ensures unchanged { (m : Machine) → Holds (D.operations session.old.engine.domain) session.old.engine.store session.old.book m → (Fills (request_of line.now) → ⊥) →
         IfErr result (λ _. Holds (D.operations session.new.engine.domain) session.new.engine.store session.new.book m) }
 {

@@ -1,5 +1,5 @@
 //! Edits. An edit is worked out and its reply made before the session is changed.
-ghost use Rattle.std.specs.Prelude.{◌≡◌, ◌≤◌, IfOk, IfErr, Result, Ok};
+ghost use Rattle.std.specs.Prelude.{◌≡◌, ◌+◌, ◌≤◌, IfOk, IfErr, Result, Ok};
 ghost use Rattle.imp_edit.specs.Edited.{Continues};
 ghost use Rattle.imp_syntax.specs.declared.edit.Edit.{Edit as AnyEdit};
 ghost use Rattle.request_json.specs.declared.reply.Refusal.{Refusal as AnyRefusal};
@@ -29,6 +29,7 @@ pub(crate) fn edit_line<D: Domain>(
     requires continues { Continues edit.now session.old.book.next }
     ensures ready { IsReady (D.operations session.new.engine.domain) session.new.engine.store session.new.book }
     ensures domain { session.new.engine.domain ≡ session.old.engine.domain }
+    ensures rises { session.new.book.tickets.next ≤ session.old.book.tickets.next + 1 }
     ensures turn { (m : Machine) → Holds (D.operations session.old.engine.domain) session.old.engine.store session.old.book m →
         IfOk result (λ v. Follows (edit_turn (D.operations session.old.engine.domain) (Ok edit.now) m) (Holds (D.operations session.new.engine.domain) session.new.engine.store session.new.book) v.items) }
     ensures unchanged { (m : Machine) → Holds (D.operations session.old.engine.domain) session.old.engine.store session.old.book m →
@@ -57,6 +58,7 @@ fn text_line<D: Domain>(
     requires continues { IfOk made (λ e. Continues e session.old.book.next) }
     ensures ready { IsReady (D.operations session.new.engine.domain) session.new.engine.store session.new.book }
     ensures domain { session.new.engine.domain ≡ session.old.engine.domain }
+    ensures rises { session.new.book.tickets.next ≤ session.old.book.tickets.next + 1 }
     ensures turn { (e : Result AnyEdit AnyRefusal) (m : Machine) → Makes e made → Holds (D.operations session.old.engine.domain) session.old.engine.store session.old.book m →
         IfOk result (λ v. Follows (edit_turn (D.operations session.old.engine.domain) e m) (Holds (D.operations session.new.engine.domain) session.new.engine.store session.new.book) v.items) }
     ensures unchanged { (m : Machine) → Holds (D.operations session.old.engine.domain) session.old.engine.store session.old.book m →
@@ -76,9 +78,9 @@ pub(crate) fn edit_request<D: Domain>(
     request: Request,
 ) -> Result<Vec<u8>, Memory>
     requires ready { IsReady (D.operations session.old.engine.domain) session.old.engine.store session.old.book }
-    requires low { session.old.book.next ≤ 1000001 }
     ensures ready { IsReady (D.operations session.new.engine.domain) session.new.engine.store session.new.book }
     ensures domain { session.new.engine.domain ≡ session.old.engine.domain }
+    ensures rises { session.new.book.tickets.next ≤ session.old.book.tickets.next + 1 }
     ensures turn { (readings : Readings) (m : Machine) → Edits request → Holds (D.operations session.old.engine.domain) session.old.engine.store session.old.book m →
         IfOk result (λ v. Follows (request_turn readings (D.operations session.old.engine.domain) request m) (Holds (D.operations session.new.engine.domain) session.new.engine.store session.new.book) v.items) }
     ensures unchanged { (m : Machine) → Holds (D.operations session.old.engine.domain) session.old.engine.store session.old.book m →

@@ -1,14 +1,15 @@
 //! Questions, and steps of tickets.
-ghost use Rattle.std.specs.Prelude.{◌≡◌, IfOk, Some};
+ghost use Rattle.std.specs.Prelude.{◌≡◌, ◌+◌, ◌≤◌, IfOk, IfErr, Some};
 ghost use Rattle.batch_meaning.specs.Answers.{Answer};
 ghost use Rattle.daig_query.specs.Answered.{Says};
 ghost use Rattle.session_machine.specs.Machine.{Machine};
+ghost use Rattle.session_machine.specs.Turns.{missing_at, missing_for_report};
 ghost use Rattle.daig_session.specs.Holds.{Holds, IsReady};
 ghost use Rattle.request_json.specs.Replies.{reply_text};
 ghost use Rattle.line_replies.specs.States.{answer_reply, layout_at};
 ghost use Rattle.imp_check.specs.Slots.{routines_of};
 ghost use Rattle.line_answers.specs.Turns.{report_turn, state_turn};
-ghost use Rattle.session_lines.specs.Followed.{Follows};
+ghost use Rattle.session_lines.specs.Followed.{Follows, IsHalted};
 
 use crate::written::{line_of, refused};
 use daig_graph::Value;
@@ -54,8 +55,11 @@ pub(crate) fn state_line<D: Domain, L: Ledger>(
     requires ready { IsReady (D.operations session.old.engine.domain) session.old.engine.store session.old.book }
     ensures ready { IsReady (D.operations session.new.engine.domain) session.new.engine.store session.new.book }
     ensures domain { session.new.engine.domain ≡ session.old.engine.domain }
+    ensures rises { session.new.book.tickets.next ≤ session.old.book.tickets.next + 1 }
     ensures turn { (m : Machine) → Holds (D.operations session.old.engine.domain) session.old.engine.store session.old.book m →
         IfOk result (λ v. Follows (state_turn (D.operations session.old.engine.domain) query.now m) (Holds (D.operations session.new.engine.domain) session.new.engine.store session.new.book) v.items) }
+    ensures between { (m : Machine) → Holds (D.operations session.old.engine.domain) session.old.engine.store session.old.book m →
+        IfErr result (λ _. IsHalted (missing_at (D.operations session.old.engine.domain) query.now.at query.now.string m) (state_turn (D.operations session.old.engine.domain) query.now m) m (Holds (D.operations session.new.engine.domain) session.new.engine.store session.new.book)) }
 {
     let string = numbers_of(alloc, &query.string)?;
     match session.query(alloc, &query.at, string.as_slice(), steps) {
@@ -74,8 +78,11 @@ pub(crate) fn report_line<D: Domain, L: Ledger>(
     requires ready { IsReady (D.operations session.old.engine.domain) session.old.engine.store session.old.book }
     ensures ready { IsReady (D.operations session.new.engine.domain) session.new.engine.store session.new.book }
     ensures domain { session.new.engine.domain ≡ session.old.engine.domain }
+    ensures rises { session.new.book.tickets.next ≤ session.old.book.tickets.next + 1 }
     ensures turn { (m : Machine) → Holds (D.operations session.old.engine.domain) session.old.engine.store session.old.book m →
         IfOk result (λ v. Follows (report_turn (D.operations session.old.engine.domain) m) (Holds (D.operations session.new.engine.domain) session.new.engine.store session.new.book) v.items) }
+    ensures between { (m : Machine) → Holds (D.operations session.old.engine.domain) session.old.engine.store session.old.book m →
+        IfErr result (λ _. IsHalted (missing_for_report (D.operations session.old.engine.domain) m) (report_turn (D.operations session.old.engine.domain) m) m (Holds (D.operations session.new.engine.domain) session.new.engine.store session.new.book)) }
 {
     let findings = session.report(alloc, steps)?;
     line_of(alloc, Reply::Report(findings))

@@ -1,9 +1,9 @@
 //! Tickets, and going back and forth. Each reply is made before the session is changed.
-ghost use Rattle.std.specs.Prelude.{◌≡◌, ◌<◌, ◌^◌, IfOk, IfErr};
-ghost use Rattle.session_machine.specs.Machine.{Machine};
+ghost use Rattle.std.specs.Prelude.{◌≡◌, ◌+◌, ◌<◌, ◌≤◌, ◌^◌, IfOk, IfErr};
+ghost use Rattle.session_machine.specs.Machine.{Machine, ticket_of};
 ghost use Rattle.daig_session.specs.Holds.{Holds, IsReady};
 ghost use Rattle.line_answers.specs.Turns.{ask_turn, cancel_turn, redo_turn, step_turn, undo_turn};
-ghost use Rattle.session_lines.specs.Followed.{Follows};
+ghost use Rattle.session_lines.specs.Followed.{missing_for_ticket, Follows, IsHalted};
 
 use crate::questions::value_line;
 use crate::written::{line_of, refused};
@@ -26,6 +26,7 @@ pub(crate) fn ask_line<D: Domain>(
     requires room { session.old.book.tickets.next < 2 ^ 63 }
     ensures ready { IsReady (D.operations session.new.engine.domain) session.new.engine.store session.new.book }
     ensures domain { session.new.engine.domain ≡ session.old.engine.domain }
+    ensures rises { session.new.book.tickets.next ≤ session.old.book.tickets.next + 1 }
     ensures turn { (m : Machine) → Holds (D.operations session.old.engine.domain) session.old.engine.store session.old.book m →
         IfOk result (λ v. Follows (ask_turn (D.operations session.old.engine.domain) query m) (Holds (D.operations session.new.engine.domain) session.new.engine.store session.new.book) v.items) }
     ensures unchanged { (m : Machine) → Holds (D.operations session.old.engine.domain) session.old.engine.store session.old.book m →
@@ -65,8 +66,11 @@ pub(crate) fn step_line<D: Domain, L: Ledger>(
     requires ready { IsReady (D.operations session.old.engine.domain) session.old.engine.store session.old.book }
     ensures ready { IsReady (D.operations session.new.engine.domain) session.new.engine.store session.new.book }
     ensures domain { session.new.engine.domain ≡ session.old.engine.domain }
+    ensures rises { session.new.book.tickets.next ≤ session.old.book.tickets.next + 1 }
     ensures turn { (m : Machine) → Holds (D.operations session.old.engine.domain) session.old.engine.store session.old.book m →
         IfOk result (λ v. Follows (step_turn (D.operations session.old.engine.domain) ticket n m) (Holds (D.operations session.new.engine.domain) session.new.engine.store session.new.book) v.items) }
+    ensures between { (m : Machine) → Holds (D.operations session.old.engine.domain) session.old.engine.store session.old.book m →
+        IfErr result (λ _. IsHalted (missing_for_ticket (D.operations session.old.engine.domain) (ticket_of ticket m.tickets) m) (step_turn (D.operations session.old.engine.domain) ticket n m) m (Holds (D.operations session.new.engine.domain) session.new.engine.store session.new.book)) }
 {
     let Some(at) = session.ticket_at(ticket) else {
         return refused(alloc, Refusal::NoTicket);
@@ -90,6 +94,7 @@ pub(crate) fn cancel_line<D: Domain>(
     requires ready { IsReady (D.operations session.old.engine.domain) session.old.engine.store session.old.book }
     ensures ready { IsReady (D.operations session.new.engine.domain) session.new.engine.store session.new.book }
     ensures domain { session.new.engine.domain ≡ session.old.engine.domain }
+    ensures rises { session.new.book.tickets.next ≤ session.old.book.tickets.next + 1 }
     ensures turn { (m : Machine) → Holds (D.operations session.old.engine.domain) session.old.engine.store session.old.book m →
         IfOk result (λ v. Follows (cancel_turn ticket m) (Holds (D.operations session.new.engine.domain) session.new.engine.store session.new.book) v.items) }
     ensures unchanged { (m : Machine) → Holds (D.operations session.old.engine.domain) session.old.engine.store session.old.book m →
@@ -110,6 +115,7 @@ pub(crate) fn undo_line<D: Domain>(
     requires ready { IsReady (D.operations session.old.engine.domain) session.old.engine.store session.old.book }
     ensures ready { IsReady (D.operations session.new.engine.domain) session.new.engine.store session.new.book }
     ensures domain { session.new.engine.domain ≡ session.old.engine.domain }
+    ensures rises { session.new.book.tickets.next ≤ session.old.book.tickets.next + 1 }
     ensures turn { (m : Machine) → Holds (D.operations session.old.engine.domain) session.old.engine.store session.old.book m →
         IfOk result (λ v. Follows (undo_turn (D.operations session.old.engine.domain) m) (Holds (D.operations session.new.engine.domain) session.new.engine.store session.new.book) v.items) }
     ensures unchanged { (m : Machine) → Holds (D.operations session.old.engine.domain) session.old.engine.store session.old.book m →
@@ -131,6 +137,7 @@ pub(crate) fn redo_line<D: Domain>(
     requires ready { IsReady (D.operations session.old.engine.domain) session.old.engine.store session.old.book }
     ensures ready { IsReady (D.operations session.new.engine.domain) session.new.engine.store session.new.book }
     ensures domain { session.new.engine.domain ≡ session.old.engine.domain }
+    ensures rises { session.new.book.tickets.next ≤ session.old.book.tickets.next + 1 }
     ensures turn { (m : Machine) → Holds (D.operations session.old.engine.domain) session.old.engine.store session.old.book m →
         IfOk result (λ v. Follows (redo_turn (D.operations session.old.engine.domain) m) (Holds (D.operations session.new.engine.domain) session.new.engine.store session.new.book) v.items) }
     ensures unchanged { (m : Machine) → Holds (D.operations session.old.engine.domain) session.old.engine.store session.old.book m →

@@ -1,0 +1,187 @@
+-- What requests for questions, tickets, undo and redo are replied.
+use Rattle.std.proofs.Common.{◌≡◌, ◌⊎◌, inl, inr, ◌==◌, ◌<◌, ◌≤◌, ℕ, Bool, true, false, List, [], ◌∷◌, map, length, Option, Some, None, Result, Ok, Err, IfOk, if◌then◌else◌, refl, sym, ap, subst, ◌∙◌, arith}
+use Rattle.std.specs.Prelude.{nat_le, nat_lt, IfSome, option_map}
+use Rattle.std.proofs.lemmas.Bool.Decides.{nat_tests}
+use Rattle.plain_values.proofs.Cases.{by_bool, by_test}
+use Rattle.imp_syntax.specs.Plain.{Procedure}
+use Rattle.imp_syntax.specs.declared.edit.Location.{Location}
+use Rattle.imp_slots.specs.Fits.{IsChecked}
+use Rattle.imp_check.specs.Slots.{routines_of}
+use Rattle.analysis_words.specs.declared.refusal.Refusal as cause
+use Rattle.analysis_words.specs.declared.refusal.Refusal.TheVariants.{LongString}
+use Rattle.domain_laws.specs.Operations.{Operations}
+use Rattle.batch_meaning.specs.Values as plain
+use Rattle.batch_meaning.specs.Answers.{Answer, Answers, Refuses}
+use Rattle.imp_flow.specs.Plans.{Plan}
+use Rattle.daig_graph.specs.declared.value.Value.{Value}
+use Rattle.daig_query.specs.declared.store.Store.{Store}
+use Rattle.daig_query.specs.Answered.{Says}
+use Rattle.session_machine.specs.Machine.{Machine, Ticket, ticket_of}
+use Rattle.session_machine.specs.Turns.{answer_at, asked, closed, ended, missing_at, opened, stepped}
+use Rattle.open_tickets.specs.declared.tickets.Open.{Open}
+use Rattle.open_tickets.specs.declared.tickets.NoTicket.{NoTicket}
+use Rattle.open_tickets.specs.Tickets.{ticket}
+use Rattle.daig_session.specs.declared.book.Book.{Book}
+use Rattle.daig_session.specs.declared.book.Going.{Going}
+use Rattle.daig_session.specs.declared.error.QueryError.TheVariants as question
+use Rattle.daig_session.specs.declared.error.AskError.TheVariants as ask
+use Rattle.daig_session.specs.declared.error.StepError.TheVariants as step
+use Rattle.daig_session.specs.declared.error.UndoError.TheVariants as undo
+use Rattle.daig_session.specs.declared.stepping.Turn.TheVariants.{Pending, Done}
+use Rattle.daig_session.specs.Going.{AreWaiting, IsAnswered}
+use Rattle.daig_session.specs.Holds.{Holds, IsReady}
+use Rattle.daig_session.specs.Turns.{Cancels, Goes, IsStepOf, Opens, Questions}
+use Rattle.daig_session.proofs.Asked.{too_long}
+use Rattle.request_json.specs.declared.request.Query.{Query}
+use Rattle.request_json.specs.declared.reply.Reply.TheVariants as r
+use Rattle.request_json.specs.declared.reply.Refusal.{Refusal}
+use Rattle.request_json.specs.declared.reply.Refusal.TheVariants as refusal
+use Rattle.line_replies.specs.States.{answer_reply, layout_at}
+use Rattle.line_answers.specs.Turns.{Turn, ask_by, ask_turn, cancel_by, goes, move_turn, refused, state_by, state_turn, step_by, step_of, step_turn, told}
+use Rattle.session_lines.proofs.Places.{answered_short, missing_answered, says_answered, short_not_long}
+use Rattle.session_lines.proofs.Replied.{IsFollowed, IsReplied, Writes, follows}
+
+-- the ticket that is found has the number
+pub number_found : (n : ℕ) (ts : List Ticket) → IfSome (ticket_of n ts) (λ t. t.number ≡ n)
+number_found n [] = tt
+number_found n (t ∷ ts) = by_test t.number n (λ (b : Bool). IfSome (if b then Some t else ticket_of n ts) (λ u. u.number ≡ n)) (λ e. e) (λ e. number_found n ts)
+
+-- ---- a ticket that waits has a call string that is not too long
+
+module _ {S : Type 0} (dom : Operations S) where
+  waiting_short : (plan : Plan) (store : Store S) (n : ℕ) (os : List (Open Going)) → AreWaiting dom plan store os → IfSome (ticket_of n (map ticket os)) (λ t. nat_lt 2 (length t.string) ≡ false)
+  waiting_short plan store n [] w = tt
+  waiting_short plan store n (o ∷ os) w =
+      by_test o.number n (λ (b : Bool). IfSome (if b then Some (ticket o) else ticket_of n (map ticket os)) (λ t. nat_lt 2 (length t.string) ≡ false)) (λ e. w.0.short) (λ e. waiting_short plan store n os w.1)
+
+  pub ticket_short : (store : Store S) (book : Book) (m : Machine) (n : ℕ) → IsReady dom store book → Holds dom store book m → IfSome (ticket_of n m.tickets) (λ t. nat_lt 2 (length t.string) ≡ false)
+  ticket_short store book m n ready h =
+      subst (λ (z : Machine). IfSome (ticket_of n z.tickets) (λ t. nat_lt 2 (length t.string) ≡ false)) h.is (waiting_short _ store n book.tickets.open_ones.items ready.waiting)
+
+  -- the present program is one that a checker lets through
+  pub checked_here : (store : Store S) (book : Book) (m : Machine) → IsReady dom store book → Holds dom store book m → IsChecked (routines_of m.program)
+  checked_here store book m ready h = subst (λ (z : Machine). IsChecked (routines_of z.program)) h.is ready.right.checked
+
+-- ---- questions
+
+module _ {S : Type 0} (dom : Operations S) (m : Machine) (stands : Machine → Type 0) where
+  told_by : (query : Query) (a : Answer S) → IsAnswered a → stands (asked dom query.at query.string m) → IsReplied (state_by dom query a m) stands (answer_reply dom (layout_at (routines_of m.program) query.at) a)
+  told_by query a (v, is) h = subst (λ b. IsReplied (state_by dom query b m) stands (answer_reply dom (layout_at (routines_of m.program) query.at) b)) (sym is) (record { is = refl; after = h })
+
+  pub state_answered : (query : Query) (v : Value S) → Questions dom m stands query.at query.string (Ok v) → IsReplied (state_turn dom query m) stands (answer_reply dom (layout_at (routines_of m.program) query.at) (answer_at dom query.at query.string m))
+  state_answered query v h = told_by query (answer_at dom query.at query.string m) (says_answered (answer_at dom query.at query.string m) v h.0) h.1
+
+  pub state_refused : (query : Query) (why : cause.Refusal) → Questions dom m stands query.at query.string (Err (question.Refused why)) → IsReplied (state_turn dom query m) stands (r.Refused (refusal.Query why))
+  state_refused query why h = subst (λ a. IsReplied (state_by dom query a m) stands (r.Refused (refusal.Query why))) (sym h.0) (record { is = refl; after = h.1 })
+
+-- ---- a ticket is opened
+
+module _ {S : Type 0} (dom : Operations S) (m : Machine) (query : Query) where
+  short_turn : nat_lt 2 (length query.string) ≡ false → ask_turn dom query m ≡ (if nat_le 16 (length m.tickets) then refused refusal.ManyTickets m else ask_by dom query (answer_at dom query.at query.string m) m)
+  short_turn short = ap (λ (b : Bool). if b then refused (refusal.Query LongString) m else (if nat_le 16 (length m.tickets) then refused refusal.ManyTickets m else ask_by dom query (answer_at dom query.at query.string m) m)) short
+
+  long_turn : nat_lt 2 (length query.string) ≡ true → ask_turn dom query m ≡ refused (refusal.Query LongString) m
+  long_turn long = ap (λ (b : Bool). if b then refused (refusal.Query LongString) m else (if nat_le 16 (length m.tickets) then refused refusal.ManyTickets m else ask_by dom query (answer_at dom query.at query.string m) m)) long
+
+  full_turn : nat_lt 2 (length query.string) ≡ false → nat_le 16 (length m.tickets) ≡ true → ask_turn dom query m ≡ refused refusal.ManyTickets m
+  full_turn short full = short_turn short ∙ ap (λ (b : Bool). if b then refused refusal.ManyTickets m else ask_by dom query (answer_at dom query.at query.string m) m) full
+
+  room_turn : (a : Answer S) → nat_lt 2 (length query.string) ≡ false → nat_le 16 (length m.tickets) ≡ false → answer_at dom query.at query.string m ≡ a → ask_turn dom query m ≡ ask_by dom query a m
+  room_turn a short room is =
+      short_turn short ∙ (ap (λ (b : Bool). if b then refused refusal.ManyTickets m else ask_by dom query (answer_at dom query.at query.string m) m) room ∙ ap (λ (b : Answer S). ask_by dom query b m) is)
+
+  has_room : length m.tickets < 16 → nat_le 16 (length m.tickets) ≡ false
+  has_room few = grind (arith, nat_tests)
+
+  has_none : 16 ≤ length m.tickets → nat_le 16 (length m.tickets) ≡ true
+  has_none many = grind (arith, nat_tests)
+
+  module _ (stands : Machine → Type 0) where
+    pub ask_opened : (n : ℕ) → Opens dom m stands query.at query.string (Ok n) → IsReplied (ask_turn dom query m) stands (r.Ticket m.next_ticket)
+    ask_opened n (number, few, a, h) =
+        subst (λ (turn : Turn). IsReplied turn stands (r.Ticket m.next_ticket)) (sym (room_turn (Answers a.0) (answered_short dom m query.at query.string a) (has_room few) a.1)) (record { is = refl; after = h })
+
+    refused_turn : (why : cause.Refusal) → answer_at dom query.at query.string m ≡ Refuses why → (why ≡ LongString) ⊎ (length m.tickets < 16) → ask_turn dom query m ≡ refused (refusal.Query why) m
+    refused_turn why is first =
+        by_bool (nat_lt 2 (length query.string))
+        (λ long.
+            let e : Refuses why ≡ Refuses LongString = sym is ∙ too_long dom m.engine (routines_of m.program) query.at query.string long in
+            let w : LongString ≡ why = cc in
+            long_turn long ∙ ap (λ (u : cause.Refusal). refused (refusal.Query u) m) w)
+        (λ short. elim first [
+          | inl w ↦ absurd (short_not_long dom m.engine (routines_of m.program) query.at query.string short (is ∙ ap Refuses w))
+          | inr few ↦ room_turn (Refuses why) short (has_room few) is
+        ])
+
+    pub ask_refused : (why : cause.Refusal) → Opens dom m stands query.at query.string (Err (ask.Refused why)) → IsReplied (ask_turn dom query m) stands (r.Refused (refusal.Query why))
+    ask_refused why (is, first, h) = subst (λ (turn : Turn). IsReplied turn stands (r.Refused (refusal.Query why))) (sym (refused_turn why is first)) (record { is = refl; after = h })
+
+    pub ask_full : Opens dom m stands query.at query.string (Err ask.Full) → IsReplied (ask_turn dom query m) stands (r.Refused refusal.ManyTickets)
+    ask_full (short, many, h) = subst (λ (turn : Turn). IsReplied turn stands (r.Refused refusal.ManyTickets)) (sym (full_turn short (has_none many))) (record { is = refl; after = h })
+
+-- ---- a ticket is stepped
+
+module _ {S : Type 0} (dom : Operations S) (m : Machine) (stands : Machine → Type 0) (most : ℕ) where
+  pending_by : (t : Ticket) (a : Answer S) → IsAnswered a → most < length (missing_at dom t.at t.string m) → stands (stepped dom t most m) → IsReplied (step_by dom t most a m) stands (r.Pending most)
+  pending_by t a (v, is) more h =
+      let test : nat_lt most (length (missing_at dom t.at t.string m)) ≡ true = grind (arith, nat_tests) in
+      let e : step_by dom t most a m ≡ goes (r.Pending most) (stepped dom t most m) =
+          ap (λ (b : Answer S). step_by dom t most b m) is ∙ ap (λ (b : Bool). if b then goes (r.Pending most) (stepped dom t most m) else goes (told dom t.at v m) (ended dom t m)) test in
+      subst (λ (turn : Turn). IsReplied turn stands (r.Pending most)) (sym e) (record { is = refl; after = h })
+
+  done_by : (t : Ticket) (a : Answer S) → IsAnswered a → length (missing_at dom t.at t.string m) ≤ most → stands (ended dom t m) → IsReplied (step_by dom t most a m) stands (answer_reply dom (layout_at (routines_of m.program) t.at) a)
+  done_by t a (v, is) few h =
+      let test : nat_lt most (length (missing_at dom t.at t.string m)) ≡ false = grind (arith, nat_tests) in
+      let e : step_by dom t most (Answers v) m ≡ goes (told dom t.at v m) (ended dom t m) =
+          ap (λ (b : Bool). if b then goes (r.Pending most) (stepped dom t most m) else goes (told dom t.at v m) (ended dom t m)) test in
+      subst (λ (b : Answer S). IsReplied (step_by dom t most b m) stands (answer_reply dom (layout_at (routines_of m.program) t.at) b)) (sym is) (
+      subst (λ (turn : Turn). IsReplied turn stands (told dom t.at v m)) (sym e) (record { is = refl; after = h }))
+
+  pub step_pending : (o : Option Ticket) (n : ℕ) → IsChecked (routines_of m.program) → IfSome o (λ t. nat_lt 2 (length t.string) ≡ false) → IsStepOf dom m stands most o (Ok (Pending n)) → IsReplied (step_of dom most o m) stands (r.Pending n)
+  step_pending None n checked short h = absurd (let e = h.0 in cc)
+  step_pending (Some t) n checked short h =
+      subst (λ (k : ℕ). IsReplied (step_of dom most (Some t) m) stands (r.Pending k)) (sym h.filled)
+      (pending_by t (answer_at dom t.at t.string m) (missing_answered dom m t.at t.string checked short most h.more) h.more h.after)
+
+  -- the answer's line is written by the variables at the ticket's location
+  pub step_done : {V E : Type 0} (line : Result V E) (items : V → List ℕ) (o : Option Ticket) (at : Location) (v : Value S) → Some at ≡ option_map (λ (t : Ticket). t.at) o → IsStepOf dom m stands most o (Ok (Done v)) →
+      ((k : Machine) (a : Answer S) → stands k → Says a (Some v) → Writes line items (answer_reply dom (layout_at (routines_of k.program) at) a)) → IsFollowed line items (step_of dom most o m) stands
+  step_done line items None at v there h is = absurd (let e = h.0 in cc)
+  step_done line items (Some t) at v there h is =
+      let same : at ≡ t.at = cc in
+      let a = answer_at dom t.at t.string m in
+      follows line items (step_by dom t most a m) stands (answer_reply dom (layout_at (routines_of m.program) t.at) a) (done_by t a (says_answered a v h.says) h.few h.after)
+      (subst (λ (l : Location). Writes line items (answer_reply dom (layout_at (routines_of m.program) l) a)) same (is (ended dom t m) a h.after h.says))
+
+  pub step_after : (o : Option Ticket) (v : Value S) → IsStepOf dom m stands most o (Ok (Done v)) → stands (step_of dom most o m).machine
+  step_after None v h = absurd (let e = h.0 in cc)
+  step_after (Some t) v h = (done_by t (answer_at dom t.at t.string m) (says_answered (answer_at dom t.at t.string m) v h.says) h.few h.after).after
+
+  pub step_none : (o : Option Ticket) → IsStepOf dom m stands most o (Err step.NoTicket) → IsReplied (step_of dom most o m) stands (r.Refused refusal.NoTicket)
+  step_none None h = record { is = refl; after = h.1 }
+  step_none (Some t) h = absurd h
+
+  pub step_gone : (o : Option Ticket) → IsStepOf dom m stands most o (Err step.Gone) → IsReplied (step_of dom most o m) stands (r.Refused refusal.Gone)
+  step_gone None h = absurd (let e = h.0 in cc)
+  step_gone (Some t) h = subst (λ (a : Answer S). IsReplied (step_by dom t most a m) stands (r.Refused refusal.Gone)) (sym h.refused) (record { is = refl; after = h.after })
+
+-- ---- a ticket is closed
+
+module _ (m : Machine) (stands : Machine → Type 0) where
+  pub cancel_done : (number : ℕ) (o : Option Ticket) (done : Unit {0}) → IfSome o (λ t. t.number ≡ number) → Cancels m stands number o (Ok done) → IsReplied (cancel_by o m) stands (r.Cancelled number)
+  cancel_done number None done same h = absurd h
+  cancel_done number (Some t) done same h =
+      subst (λ (k : ℕ). IsReplied (goes (r.Cancelled t.number) (closed t.number m)) stands (r.Cancelled k)) same (record { is = refl; after = subst (λ (k : ℕ). stands (closed k m)) (sym same) h })
+
+  pub cancel_none : (number : ℕ) (o : Option Ticket) (none : NoTicket) → Cancels m stands number o (Err none) → IsReplied (cancel_by o m) stands (r.Refused refusal.NoTicket)
+  cancel_none number None none h = record { is = refl; after = h }
+  cancel_none number (Some t) none h = absurd h
+
+  -- ---- undo and redo
+
+  pub move_done : (side : List (List Procedure)) (otherwise : Refusal) (there : Machine) (n : ℕ) → Goes m stands side there (Ok n) → IsReplied (move_turn side otherwise there m) stands (r.Next m.next)
+  move_done [] otherwise there n h = absurd (let e = h.0 in omega arith)
+  move_done (p ∷ ps) otherwise there n h = record { is = refl; after = h.2 }
+
+  pub move_none : (side : List (List Procedure)) (otherwise : Refusal) (there : Machine) → Goes m stands side there (Err undo.Nothing) → IsReplied (move_turn side otherwise there m) stands (r.Refused otherwise)
+  move_none side otherwise there h = subst (λ (ps : List (List Procedure)). IsReplied (move_turn ps otherwise there m) stands (r.Refused otherwise)) (sym h.0) (record { is = refl; after = h.1 })
