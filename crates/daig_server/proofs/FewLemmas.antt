@@ -1,13 +1,11 @@
 -- A program without faults is small.
-use Rattle.std.proofs.Common.{◌≡◌, ℕ, zero, suc, ◌+◌, ◌<◌, nat_lt, Bool, true, false, List, [], ◌∷◌, ◌++◌, length, Option, Some, None, append_assoc, length-append, refl, sym, ap, ◌∙◌, arith}
+use Rattle.std.proofs.Common.{◌≡◌, ℕ, zero, suc, ◌+◌, ◌<◌, nat_lt, Bool, true, false, List, [], ◌∷◌, ◌++◌, length, Option, Some, None, length-append, refl, arith}
 use Rattle.std.proofs.lemmas.Bool.Decides.{nat_tests}
 use Rattle.imp_syntax.specs.Plain.{Statement, Simple, Break, Call, If, While, Statements, Ends, Starts, Procedure, numbers_in, numbers, program_numbers}
-use Rattle.imp_slots.specs.Plain.{Routine}
 use Rattle.imp_check.specs.declared.fault.Fault.{Fault}
 use Rattle.imp_check.specs.declared.fault.Fault.TheVariants.{Procedures, Statements as TooMany, Nesting}
 use Rattle.imp_check.specs.Faults.{unless, first, at, in_procedure}
 use Rattle.imp_check.specs.Programs.{statement_count, block_count, program_count, deepest, size_fault, procedures_fault, ending_fault, check_fault, name_of, last_of}
-use Rattle.imp_check.specs.Slots.{routine_of, routines_from, routines_of}
 
 none_first : {A : Type 0} (x y : Option A) → first x y ≡ None → x ≡ None
 none_first None y is = refl
@@ -34,23 +32,11 @@ size_holds ps is =
     none_at 0 (size_fault ps) (none_in (name_of (last_of ps)) (at 0 (size_fault ps))
     (none_first (in_procedure (name_of (last_of ps)) (at 0 (size_fault ps))) (first (procedures_fault [] ps) (in_procedure (name_of (last_of ps)) (at 0 (ending_fault ps)))) is))
 
-few_procedures : (ps : List Procedure) → check_fault ps ≡ None → length ps < 65
-few_procedures ps is =
-    let test : nat_lt (length ps) 65 ≡ true = below (nat_lt (length ps) 65) Procedures (none_first (unless (nat_lt (length ps) 65) Procedures) (first (unless (nat_lt (program_count ps) 10001) TooMany) (unless (nat_lt (deepest ps) 33) Nesting)) (size_holds ps is)) in
-    grind (arith, nat_tests)
-
 few_statements : (ps : List Procedure) → check_fault ps ≡ None → program_count ps < 10001
 few_statements ps is =
     let rest : first (unless (nat_lt (program_count ps) 10001) TooMany) (unless (nat_lt (deepest ps) 33) Nesting) ≡ None = none_behind (unless (nat_lt (length ps) 65) Procedures) (first (unless (nat_lt (program_count ps) 10001) TooMany) (unless (nat_lt (deepest ps) 33) Nesting)) (size_holds ps is) in
     let test : nat_lt (program_count ps) 10001 ≡ true = below (nat_lt (program_count ps) 10001) TooMany (none_first (unless (nat_lt (program_count ps) 10001) TooMany) (unless (nat_lt (deepest ps) 33) Nesting) rest) in
     grind (arith, nat_tests)
-
-routine_count : (earlier ps : List Procedure) → length (routines_from earlier ps) ≡ length ps
-routine_count earlier [] = refl
-routine_count earlier (p ∷ later) = ap suc (routine_count (earlier ++ p ∷ []) later)
-
-pub few_routines : (ps : List Procedure) → check_fault ps ≡ None → length (routines_of ps) < 65
-few_routines ps is = let few : length ps < 65 = few_procedures ps is in omega (arith, routine_count [] ps)
 
 mutual
   count_of_statement : (s : Statement) → length (numbers_in s) ≡ statement_count s

@@ -2,5 +2,7 @@ pub mod NumberingLemmas
 pub mod FewLemmas
 pub mod LineLemmas
 pub mod ServeLemmas
-pub mod SoundLemmas
-pub mod AnswerLemmas
+pub mod WordsLemmas
+pub mod TallyLemmas
+pub mod SourceLemmas
+pub mod ServedLemmas

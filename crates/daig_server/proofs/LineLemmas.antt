@@ -9,8 +9,7 @@ use Rattle.request_json.specs.declared.reply.Refusal.TheVariants.{LongLine}
 use Rattle.serde_json.specs.Written.{compact_text}
 use Rattle.request_json.specs.Replies.{object_of, reply_fields, reply_text}
 use Rattle.line_replies.specs.Texts.{long_reply}
-use Rattle.daig_server.specs.Held.{Held}
-use Rattle.daig_server.specs.Reply.{server, line_reply}
+use Rattle.line_answers.specs.Lines.{Served, line_turn, server}
 use Rattle.daig_server.specs.Ends.{IsWholeLines, WroteWholeLines}
 
 reply_whole : (reply : Reply) → IsWholeLines (reply_text reply)
@@ -25,15 +24,15 @@ append_whole : (xs ys : List ℕ) → IsWholeLines xs → IsWholeLines ys → Is
 append_whole xs ys first (inl none) = rw (none, append-nil xs) first
 append_whole xs ys first (inr ends) = inr (xs ++ ends.0, ap (λ zs. xs ++ zs) ends.1 ∙ sym (append_assoc xs ends.0 (10 ∷ [])))
 
-kept_whole : {S : Type 0} (dom : Operations S) (held : Held) (line : Option (List ℕ)) → IsWholeLines (reply_to (server dom) held line)
-kept_whole dom held None = long_whole
-kept_whole dom held (Some line) = reply_whole (line_reply dom held line)
+kept_whole : {S : Type 0} (dom : Operations S) (s : Served) (line : Option (List ℕ)) → IsWholeLines (reply_to (server dom) s line)
+kept_whole dom s None = long_whole
+kept_whole dom s (Some line) = reply_whole (line_turn s.readings dom line s.machine).reply
 
-replies_whole : {S : Type 0} (dom : Operations S) (held : Held) (lines : List (List ℕ)) → IsWholeLines (replies (server dom) held lines)
-replies_whole dom held [] = inl refl
-replies_whole dom held (line ∷ lines) =
-    append_whole (reply_to (server dom) held (kept line)) (replies (server dom) (next_to (server dom) held (kept line)) lines)
-    (kept_whole dom held (kept line)) (replies_whole dom (next_to (server dom) held (kept line)) lines)
+replies_whole : {S : Type 0} (dom : Operations S) (s : Served) (lines : List (List ℕ)) → IsWholeLines (replies (server dom) s lines)
+replies_whole dom s [] = inl refl
+replies_whole dom s (line ∷ lines) =
+    append_whole (reply_to (server dom) s (kept line)) (replies (server dom) (next_to (server dom) s (kept line)) lines)
+    (kept_whole dom s (kept line)) (replies_whole dom (next_to (server dom) s (kept line)) lines)
 
 replies-append : {M : Type 0} (machine : Machine M) (m : M) (xs ys : List (List ℕ)) →
     replies machine m (xs ++ ys) ≡ replies machine m xs ++ replies machine (after machine m xs) ys
@@ -43,14 +42,14 @@ replies-append machine m (x ∷ xs) ys =
     ∙ sym (append_assoc (reply_to machine m (kept x)) (replies machine (next_to machine m (kept x)) xs) (replies machine (after machine (next_to machine m (kept x)) xs) ys))
 
 -- whole replies are whole lines
-pub wrote_whole : {S : Type 0} (dom : Operations S) (held : Held) (lines : List (List ℕ)) (taken : List ℕ) (written : Option (List ℕ)) →
-    WroteLines (server dom) held lines taken written → WroteWholeLines (replies (server dom) held lines) taken written
-wrote_whole dom held lines taken written wrote = record {
-  sent = replies (server dom) held wrote.answered;
-  unsent = replies (server dom) (after (server dom) held wrote.answered) wrote.unanswered;
-  split = ap (replies (server dom) held) wrote.split ∙ replies-append (server dom) held wrote.answered wrote.unanswered;
+pub wrote_whole : {S : Type 0} (dom : Operations S) (s : Served) (lines : List (List ℕ)) (taken : List ℕ) (written : Option (List ℕ)) →
+    WroteLines (server dom) s lines taken written → WroteWholeLines (replies (server dom) s lines) taken written
+wrote_whole dom s lines taken written wrote = record {
+  sent = replies (server dom) s wrote.answered;
+  unsent = replies (server dom) (after (server dom) s wrote.answered) wrote.unanswered;
+  split = ap (replies (server dom) s) wrote.split ∙ replies-append (server dom) s wrote.answered wrote.unanswered;
   written = wrote.written;
-  whole = replies_whole dom held wrote.answered;
+  whole = replies_whole dom s wrote.answered;
 }
 
 -- nothing is written

@@ -1,7 +1,10 @@
 -- The domains that the words name.
 use Rattle.std.specs.Prelude.{◌≡◌, ℕ, List}
+use Rattle.imp_slots.specs.Plain.{Routine}
 use Rattle.concrete_sem.specs.Values.{Variables, Heap}
 use Rattle.domain_laws.specs.Operations.{Operations}
+use Rattle.batch_meaning.specs.Batch.{Engine}
+use Rattle.batch_meaning.specs.Report.{report}
 use Rattle.interval_meaning.specs.Covers.{covers as covered_by_intervals}
 use Rattle.interval_meaning.specs.Domain.{intervals}
 use Rattle.octagon_meaning.specs.Covers.{covers as covered_by_octagons}
@@ -9,10 +12,11 @@ use Rattle.octagon_meaning.specs.Domain.{octagons}
 use Rattle.listseg_meaning.specs.Covers.{covers as covered_by_segments}
 use Rattle.listseg_meaning.specs.Domain.{segments}
 use Rattle.product_meaning.specs.Product.{product, covered_by_both}
+use Rattle.session_machine.specs.Machine.{Machine}
+use Rattle.line_answers.specs.Readings.{Readings}
+use Rattle.line_answers.specs.Lines.{line_turn}
 use Rattle.command_words.specs.declared.job.DomainName.{DomainName}
 use Rattle.command_words.specs.declared.job.DomainName.TheVariants.{Interval, Octagon, ListSeg, IntervalListSeg, OctagonListSeg}
-use Rattle.daig_server.specs.Held.{Held}
-use Rattle.daig_server.specs.Reply.{line_reply, report_reply}
 
 -- What a domain means: its states, the operations on them, and which configurations a state describes.
 pub record Meaning : Type 1 where
@@ -43,7 +47,7 @@ meaning_of ListSeg = by_segments
 meaning_of IntervalListSeg = both by_intervals by_segments
 meaning_of OctagonListSeg = both by_octagons by_segments
 
--- With these operations the replies are those by the domain of this name, to every line and of every report.
-pub record RepliesAs {S : Type 0} (name : DomainName) (dom : Operations S) : Type 0 where
-  pub lines : (held : Held) (line : List ℕ) → line_reply dom held line ≡ line_reply (meaning_of name).operations held line
-  pub reports : (held : Held) → report_reply dom held ≡ report_reply (meaning_of name).operations held
+-- With these operations each line is answered, and each report made, as by the domain of this name.
+pub record AnswersAs {S : Type 0} (name : DomainName) (dom : Operations S) : Type 0 where
+  pub turns : (readings : Readings) (line : List ℕ) (m : Machine) → line_turn readings dom line m ≡ line_turn readings (meaning_of name).operations line m
+  pub reports : (engine : Engine) (program : List Routine) → report dom engine program ≡ report (meaning_of name).operations engine program

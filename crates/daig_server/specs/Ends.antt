@@ -1,14 +1,12 @@
 -- How the program ends: by a status, with what was read and written.
-use Rattle.std.specs.Prelude.{◌≡◌, ℕ, ◌<◌, ◌++◌, ◌⊎◌, List, [], ◌∷◌, Option, Some}
+use Rattle.std.specs.Prelude.{◌≡◌, ℕ, ◌<◌, ◌==◌, ◌++◌, ◌⊎◌, List, [], ◌∷◌, Option, Some, if◌then◌else◌}
 use Rattle.command_words.specs.declared.job.DomainName.{DomainName}
 use Rattle.script_loop.specs.Replies.{AnsweredRead, WrotePrefix}
+use Rattle.line_answers.specs.Lines.{Served, server}
 use Rattle.daig_server.specs.declared.status.Status.{Status}
 use Rattle.daig_server.specs.declared.status.Status.TheVariants.{Done, Words, Source, Script, Sink, Memory, Files, LongScript, LongFile}
-use Rattle.daig_server.specs.declared.task.Task.TheVariants.{Serve}
 use Rattle.daig_server.specs.Domains.{meaning_of}
-use Rattle.daig_server.specs.Held.{Held}
-use Rattle.daig_server.specs.Reply.{server}
-use Rattle.daig_server.specs.Output.{Output, program_bytes}
+use Rattle.daig_server.specs.Output.{Output, served_bytes}
 
 -- the number of a status
 abbrev pub code_of : Status → ℕ
@@ -21,6 +19,16 @@ code_of Memory = 6
 code_of Files = 7
 code_of LongScript = 8
 code_of LongFile = 9
+
+-- the status of a number
+abbrev pub status_of : ℕ → Status
+status_of n =
+    if n == 0 then Done else (if n == 2 then Words else (if n == 3 then Source else (if n == 4 then Script else (if n == 5 then Sink
+    else (if n == 7 then Files else (if n == 8 then LongScript else (if n == 9 then LongFile else Memory)))))))
+
+-- a number that a status has
+abbrev pub IsStatus : ℕ → Type 0
+IsStatus n = n ≡ code_of (status_of n)
 
 -- no bytes, or some of which the last is LF
 abbrev pub IsWholeLines : List ℕ → Type 0
@@ -37,10 +45,10 @@ pub record WroteWholeLines (bytes taken : List ℕ) (output : Option (List ℕ))
 -- A program is served: the replies to the lines whose LF was read are written, and no more.
 pub record WroteRead (output : Output) (script taken : List ℕ) (rest written : Option (List ℕ)) : Type 0 where
   pub domain : DomainName
-  pub held : Held
+  pub first : Served
   pub succeeds : output.status ≡ 0
-  pub is : output.bytes ≡ program_bytes domain Serve held script
-  pub answered : AnsweredRead (server (meaning_of domain).operations) held script taken rest written
+  pub is : output.bytes ≡ served_bytes domain first script
+  pub answered : AnsweredRead (server (meaning_of domain).operations) first script taken rest written
 
 -- The output was written, and the status is that of the output.
 pub record WroteAll (status : ℕ) (output : Output) (taken : List ℕ) (written : Option (List ℕ)) : Type 0 where

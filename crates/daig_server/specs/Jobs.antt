@@ -1,5 +1,5 @@
 -- What the words ask for.
-use Rattle.std.specs.Prelude.{◌≡◌, ℕ, List, Option, Some, None, false}
+use Rattle.std.specs.Prelude.{◌≡◌, ℕ, List, Option, Some, None, true, false}
 use Rattle.command_words.specs.declared.job.DomainName.{DomainName}
 use Rattle.command_words.specs.declared.job.DomainName.TheVariants.{Interval}
 use Rattle.command_words.specs.declared.job.Job.{Job}
@@ -7,29 +7,49 @@ use Rattle.command_words.specs.declared.job.Job.TheVariants as job
 use Rattle.command_words.specs.declared.job.Settings.{Settings}
 use Rattle.batch_meaning.specs.Batch.{Engine}
 use Rattle.daig_server.specs.declared.task.Task.{Task}
-use Rattle.daig_server.specs.declared.task.Task.TheVariants.{Serve, Batch}
+use Rattle.daig_server.specs.declared.task.Task.TheVariants.{Serve, Batch, Gen}
 
 -- how loops are interpreted
 abbrev pub engine_of : Settings → Engine
 engine_of settings = record { budget = settings.budget; widening = settings.widening }
 
--- what a job does, how, and for the program of which file
+-- the settings of a generated program
+abbrev pub by_default : DomainName → Settings
+by_default domain = record { domain = domain; widening = record { delay = 0; thresholds = true }; budget = 100 }
+
+-- what a job does, how, and for the program of which file, if it has one
 abbrev pub task_of : Job → Task
-task_of (job.Serve settings memo file) = Serve
+task_of (job.Serve settings memo file) = Serve memo
 task_of (job.Batch settings file) = Batch
+task_of (job.Gen seed size domain) = Gen (record { seed = seed; size = size })
 
 abbrev pub settings_of : Job → Settings
 settings_of (job.Serve settings memo file) = settings
 settings_of (job.Batch settings file) = settings
+settings_of (job.Gen seed size domain) = by_default domain
 
-abbrev pub file_of : Job → List ℕ
-file_of (job.Serve settings memo file) = file
-file_of (job.Batch settings file) = file
+abbrev pub file_of : Job → Option (List ℕ)
+file_of (job.Serve settings memo file) = Some file
+file_of (job.Batch settings file) = Some file
+file_of (job.Gen seed size domain) = None
 
--- the words name a job that does this
-abbrev pub Asks : Task → Option Job → Type 0
-Asks task None = ⊥
-Asks task (Some job) = task_of job ≡ task
+-- the lines of a script are answered
+abbrev pub Serves : Task → Type 0
+Serves (Serve memo) = Unit {0}
+Serves Batch = ⊥
+Serves (Gen drawn) = ⊥
+
+-- the words name a job that does so
+abbrev pub AsksToServe : Option Job → Type 0
+AsksToServe None = ⊥
+AsksToServe (Some job) = Serves (task_of job)
+
+-- the words name the job of a generated program
+abbrev pub AsksToGenerate : Option Job → Type 0
+AsksToGenerate None = ⊥
+AsksToGenerate (Some (job.Serve settings memo file)) = ⊥
+AsksToGenerate (Some (job.Batch settings file)) = ⊥
+AsksToGenerate (Some (job.Gen seed size domain)) = Unit {0}
 
 -- how loops are interpreted for a job; without one nothing is
 abbrev pub engine_in : Option Job → Engine

@@ -1,9 +1,8 @@
 pub mod Sources
-pub mod Questions
-pub mod Held
-pub mod Reply
 pub mod Domains
 pub mod Jobs
 pub mod Output
-pub mod Ends
+pub mod Works
+pub mod Told
 pub mod Sound
+pub mod Ends

@@ -2,20 +2,13 @@
 use Rattle.std.specs.Prelude.{◌≡◌, ℕ, List, Option, Some, None, Result, Ok, Err}
 use Rattle.imp_syntax.specs.Plain.{Procedure}
 use Rattle.imp_parse.specs.declared.error.ParseError.{ParseError}
-use Rattle.imp_parse.specs.Answer.{IsAnswer}
-use Rattle.imp_parse.specs.Languages.{ProgramText}
-use Rattle.imp_parse.specs.Limits.{outside}
 use Rattle.imp_check.specs.declared.fault.Found.{Found}
 use Rattle.imp_check.specs.Programs.{check_fault}
 use Rattle.request_json.specs.declared.reply.Refusal.{Refusal}
-use Rattle.line_replies.specs.Readings.{ReadingOf}
 use Rattle.line_replies.specs.Refusals.{text_refusal, fault_refusal}
+use Rattle.line_answers.specs.Readings.{Readings}
 use Rattle.daig_server.specs.declared.source.SourceError.{SourceError}
 use Rattle.daig_server.specs.declared.source.SourceError.TheVariants as s
-
--- The reading of the texts of programs by the grammar.
-abbrev pub Reading : Type 0
-Reading = ReadingOf (IsAnswer ProgramText outside)
 
 -- a program, unless it has a fault
 abbrev pub unless_faulty : List Procedure → Option Found → Result (List Procedure) Refusal
@@ -27,8 +20,8 @@ checked (Err error) = Err (text_refusal error)
 checked (Ok ps) = unless_faulty ps (check_fault ps)
 
 -- The program without faults that a source is, or why it is refused.
-abbrev pub source_of : Reading → List ℕ → Result (List Procedure) Refusal
-source_of reading source = checked (reading.answer source)
+abbrev pub source_of : Readings → List ℕ → Result (List Procedure) Refusal
+source_of readings source = checked (readings.program.answer source)
 
 -- the error is why the source is refused, or want of memory
 abbrev pub IsSourceError : Result (List Procedure) Refusal → SourceError → Type 0

@@ -1,23 +1,25 @@
 //! The domains that the words name, each with the code that computes it.
-ghost use Rattle.batch_sound.specs.Theorem.{AreAnswersSound, AreReportsSound};
+ghost use Rattle.batch_sound.specs.Theorem.{AreReportsSound};
 ghost use Rattle.command_words.specs.declared.job.DomainName.{DomainName as Name};
 ghost use Rattle.listseg_meaning.specs.Domain.{segments};
 ghost use Rattle.product_meaning.specs.Product.{product};
-ghost use Rattle.daig_server.specs.Domains.{RepliesAs, meaning_of};
+ghost use Rattle.line_answers.specs.Sound.{MomentsAreSound};
+ghost use Rattle.daig_server.specs.Domains.{AnswersAs, meaning_of};
 
-use batch_sound::{answers_are_sound, reports_are_sound};
+use batch_sound::reports_are_sound;
 use dom_interval::Interval;
 use dom_listseg::ListSeg;
 use dom_octagon::Octagon;
 use dom_product::Pair;
 use domain_laws::Domain;
+use line_answers::replies_are_sound;
 
-/// A domain that the words name: replies by it are those by what the name means.
+/// A domain that the words name: lines and reports are answered by it as by what the name means.
 pub trait Named: Domain + Drop {
     /// Its name.
     ghost name: { Name };
 
-    ghost replies: { (d : Self) → RepliesAs name (Self.Domain.operations d) };
+    ghost answers: { (d : Self) → AnswersAs name (Self.Domain.operations d) };
 }
 
 impl Named for Interval {
@@ -26,7 +28,7 @@ impl Named for Interval {
 
     ghost name = { domain.Interval };
 
-    ghost replies = { λ _. record { lines = λ _ _. refl; reports = λ _. refl } };
+    ghost answers = { λ _. record { turns = λ _ _ _. refl; reports = λ _ _. refl } };
 }
 
 impl Named for Octagon {
@@ -35,7 +37,7 @@ impl Named for Octagon {
 
     ghost name = { domain.Octagon };
 
-    ghost replies = { λ _. record { lines = λ _ _. refl; reports = λ _. refl } };
+    ghost answers = { λ _. record { turns = λ _ _ _. refl; reports = λ _ _. refl } };
 }
 
 impl Named for ListSeg {
@@ -44,15 +46,16 @@ impl Named for ListSeg {
 
     ghost name = { domain.ListSeg };
 
-    ghost replies = { λ _. record { lines = λ _ _. refl; reports = λ _. refl } };
+    ghost answers = { λ _. record { turns = λ _ _ _. refl; reports = λ _ _. refl } };
 }
 
-/// A domain that the words name together with list segments: replies by the product are those by what that name means.
+/// A domain that the words name together with list segments: lines and reports are answered by the product as by what that
+/// name means.
 pub trait NamedWithLists: Domain + Drop {
     /// The name of the product.
     ghost product_name: { Name };
 
-    ghost product_replies: { (d : Self) → RepliesAs product_name (product (Self.Domain.operations d) segments) };
+    ghost product_answers: { (d : Self) → AnswersAs product_name (product (Self.Domain.operations d) segments) };
 }
 
 impl NamedWithLists for Interval {
@@ -61,7 +64,7 @@ impl NamedWithLists for Interval {
 
     ghost product_name = { domain.IntervalListSeg };
 
-    ghost product_replies = { λ _. record { lines = λ _ _. refl; reports = λ _. refl } };
+    ghost product_answers = { λ _. record { turns = λ _ _ _. refl; reports = λ _ _. refl } };
 }
 
 impl NamedWithLists for Octagon {
@@ -70,27 +73,27 @@ impl NamedWithLists for Octagon {
 
     ghost product_name = { domain.OctagonListSeg };
 
-    ghost product_replies = { λ _. record { lines = λ _ _. refl; reports = λ _. refl } };
+    ghost product_answers = { λ _. record { turns = λ _ _ _. refl; reports = λ _ _. refl } };
 }
 
 impl<A: NamedWithLists> Named for Pair<A, ListSeg> {
     ghost name = { A.product_name };
 
-    ghost replies = { λ d. A.product_replies d.first };
+    ghost answers = { λ d. A.product_answers d.first };
 }
 
-/// Answers and reports are sound by a domain.
+/// Replies to lines and reports are sound by a domain.
 fn domain_is_sound<D: Domain>()
-    ensures answers { (d : D) → AreAnswersSound (D.operations d) (D.covers d) }
+    ensures moments { (d : D) → MomentsAreSound (D.operations d) (D.covers d) }
     ensures reports { (d : D) → AreReportsSound (D.operations d) }
 {
-    answers_are_sound::<D>();
+    replies_are_sound::<D>();
     reports_are_sound::<D>();
 }
 
-/// Answers and reports are sound by each domain that the words name.
+/// Replies to lines and reports are sound by each domain that the words name.
 pub(crate) fn named_domains_are_sound()
-    ensures answers { (name : Name) → AreAnswersSound (meaning_of name).operations (meaning_of name).covers }
+    ensures moments { (name : Name) → MomentsAreSound (meaning_of name).operations (meaning_of name).covers }
     ensures reports { (name : Name) → AreReportsSound (meaning_of name).operations }
 {
     domain_is_sound::<Interval>();

@@ -5,20 +5,23 @@
 //! what was written. Each line that is answered by a state is answered soundly, and so is each report
 //! (`specs/Sound.antt`).
 //!
-//! A program is answered by the domain that the words name (`specs/Domains.antt`), each line by
-//! interpreting the program from nothing. The reply to a line is `line_reply` of `specs/Reply.antt`; a
-//! source is read by `source_of` of `specs/Sources.antt`.
+//! A program is served by a session (`daig_session`), which keeps what it computed from line to line; by what the lines
+//! show it is the machine that holds the present program alone, is changed by accepted edits alone, and interprets the
+//! program from scratch at each question (`server` of `line_answers`), by the domain that the words name
+//! (`specs/Domains.antt`). A source is read by `source_of` of `specs/Sources.antt`. The listing and the report of `batch`
+//! come by batch interpretation alone.
 #![tactic(auto)]
 
-mod answers;
+mod batch;
 mod domains;
-mod programs;
+mod generated;
 mod run;
 mod server;
 mod serving;
 mod source;
 mod status;
 mod task;
+mod work;
 
+pub use line_answers::texts_are_read;
 pub use serving::serve;
-pub use source::texts_are_read;

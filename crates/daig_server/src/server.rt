@@ -1,118 +1,91 @@
-//! The server of one program, which replies to each line as the machine `server` of
-//! `specs/Reply.antt`.
-ghost use Rattle.std.specs.Prelude.{◌≡◌, IfOk};
-ghost use Rattle.request_json.specs.Replies.{reply_text};
-ghost use Rattle.daig_server.specs.Domains.{meaning_of};
-ghost use Rattle.daig_server.specs.Reply as of_reply;
+//! The server of one program, which answers each line as the machine `server` of `line_answers` does.
+ghost use Rattle.std.specs.Prelude.{◌≡◌, ◌<◌, ◌≤◌, ◌+◌, ◌^◌, IfOk};
+ghost use Rattle.session_machine.specs.Machine.{beginning, Machine};
+ghost use Rattle.daig_session.specs.Holds.{Holds, IsReady};
 ghost use Rattle.daig_server.specs.Jobs.{engine_of};
-ghost use Rattle.daig_server.specs.Output.{batch_bytes};
+ghost use Rattle.line_answers.specs.Fine.{next_number};
+ghost use Rattle.daig_server.specs.Works.{IsNumbered};
 
-use crate::answers::{line_reply, report_reply};
 use crate::domains::Named;
-use crate::programs::listing;
-use call_contexts::Setting;
 use command_words::Settings;
-use imp_check::Checked;
+use daig_session::Session;
+use imp_check::Table;
 use line_replies::long_line;
 use plain_values::Memory;
-use request_json::reply_line;
 use script_loop::Answerer;
+use session_lines::answer_line;
 use std::alloc::Global;
-use std::marker::Model;
 use std::sync::ledger::Ledger;
 use step_counter::Steps;
 
-/// The server of one program: it answers each line by the domain, interpreting the program from nothing. How its loops are
-/// interpreted is made out once.
+/// The server of one program: a session with it.
 #[derive(Drop)]
-pub struct Server<D: Named> {
-    domain: D,
-    program: Checked,
-    setting: Setting,
+pub(crate) struct Server<D: Named> {
+    session: Session<D>,
 }
 
-impl<D: Named> Model for Server<D> {
-    ghost use Rattle.daig_server.specs.Held.{Held, held_code};
-    ghost use Rattle.std.specs.Prelude.{◌≡◌};
-    ghost use Rattle.imp_check.specs.Slots.{routines_of};
-    ghost use Rattle.call_contexts.specs.Settings.{setting_of};
-
-    ghost Value = { Held };
-
-    ghost coded = { held_code };
-
-    ghost view = { λ s. record { engine = s.setting.engine; program = s.program } };
-
-    ghost invariant = { λ s. s.setting ≡ setting_of s.setting.engine (routines_of s.program) };
+/// The next number of a statement of a program that is numbered from 1 on.
+#[tactic(auto, using(crate::proofs::FewLemmas::few_numbers, crate::proofs::FewLemmas::number_count))]
+fn next_number(table: &Table) -> u32
+    ensures number { result ≡ next_number table.now.program }
+    ensures some { 0 < result }
+    ensures low { result ≤ 1000001 }
+{
+    table.procs();
+    table.view().count() + 1
 }
 
 impl<D: Named> Server<D> {
-    /// The server of this program. It fails for want of memory alone.
-    pub fn new(
+    /// The server of this program, which remembers so many results. It fails for want of memory alone.
+    pub(crate) fn start(
         alloc: Global,
         domain: D,
-        program: Checked,
         settings: &Settings,
+        memo: u32,
+        table: Table,
     ) -> Result<Server<D>, Memory>
-        ensures held { IfOk result (λ s. s ≡ record { engine = engine_of settings.now; program = program }) }
+        requires memo { 0 < memo }
+        requires numbered { IsNumbered table.program }
+        ensures begins { IfOk result (λ s. Holds (D.operations s.session.engine.domain) s.session.engine.store s.session.book (beginning table.program (engine_of settings.now) (next_number table.program))) }
+        ensures ready { IfOk result (λ s. IsReady (D.operations s.session.engine.domain) s.session.engine.store s.session.book) }
+        ensures first { IfOk result (λ s. s.session.book.tickets.next ≡ 1) }
     {
-        let setting = Setting::new(alloc, &program.view(), settings.budget, settings.widening)?;
-        Ok(Server {
-            domain,
-            program,
-            setting,
-        })
-    }
-
-    /// The reply to a line, as text.
-    fn line<L: Ledger>(
-        &self,
-        alloc: Global,
-        line: &[u8],
-        steps: &mut Steps<L>,
-    ) -> Result<Vec<u8>, Memory>
-        ensures reply { IfOk result (λ v. v.items ≡ reply_text (of_reply.line_reply (meaning_of D.name).operations self.now line.now)) }
-    {
-        let reply = line_reply(
+        let next = next_number(&table);
+        let session = Session::start(
             alloc,
-            &self.domain,
-            &self.program,
-            &self.setting,
-            line,
-            steps,
+            domain,
+            table,
+            next,
+            settings.budget,
+            settings.widening,
+            memo as usize,
         )?;
-        reply_line(alloc, &reply)
+        Ok(Server { session })
     }
+}
 
-    /// The listing and the line of the report.
-    #[tactic(auto, unfolding(crate::specs::Output::batch_bytes))]
-    pub(crate) fn batch<L: Ledger>(
-        &self,
-        alloc: Global,
-        steps: &mut Steps<L>,
-    ) -> Result<Vec<u8>, Memory>
-        ensures bytes { IfOk result (λ v. v.items ≡ batch_bytes D.name self.now) }
+impl<D: Named> Server<D> {
+    /// How many cells the last question filled.
+    pub(crate) fn cost(&self) -> u64
+        ensures is { (m : Machine) → Holds (D.operations self.now.session.engine.domain) self.now.session.engine.store self.now.session.book m → result ≡ m.cost }
     {
-        let listing = listing(alloc, &self.program)?;
-        let reply = report_reply(alloc, &self.domain, &self.program, &self.setting, steps)?;
-        let line = reply_line(alloc, &reply)?;
-        let mut bytes = Vec::from_slice(alloc, listing.as_slice())?;
-        bytes.extend_from_slice(line.as_slice())?;
-        Ok(bytes)
+        self.session.cost()
     }
 }
 
 impl<D: Named> Answerer for Server<D> {
-    ghost use Rattle.std.specs.Prelude.{◌≡◌};
+    ghost use Rattle.std.specs.Prelude.{◌≤◌, ◌+◌, ◌^◌};
+    ghost use Rattle.daig_session.specs.Holds.{Holds, IsReady};
+    ghost use Rattle.line_answers.specs.Lines.{Served, server};
     ghost use Rattle.daig_server.specs.Domains.{meaning_of};
-    ghost use Rattle.daig_server.specs.Held.{Held};
-    ghost use Rattle.daig_server.specs.Reply.{server};
 
-    ghost State = { Held };
+    ghost State = { Served };
 
     ghost machine = { server (meaning_of D.name).operations };
 
-    ghost stands = { λ held m. held ≡ m };
+    ghost stands = { λ s m. Holds (D.operations s.session.engine.domain) s.session.engine.store s.session.book m.machine };
+
+    ghost lasts = { λ s n. IsReady (D.operations s.session.engine.domain) s.session.engine.store s.session.book × (s.session.book.tickets.next + n ≤ 2 ^ 63) };
 
     fn answer<L: Ledger>(
         &mut self,
@@ -120,7 +93,7 @@ impl<D: Named> Answerer for Server<D> {
         line: &[u8],
         steps: &mut Steps<L>,
     ) -> Result<Vec<u8>, Memory> {
-        self.line(alloc, line, steps)
+        answer_line(alloc, &mut self.session, line, steps)
     }
 
     fn answer_long(&self, alloc: Global) -> Result<Vec<u8>, Memory> {

@@ -1,13 +1,18 @@
-//! From the bytes of a file to a checked program, or the refusal: `source_of` of
+//! From the bytes of a file to a program without faults, or the refusal: `source_of` of
 //! `specs/Sources.antt`.
-ghost use Rattle.std.specs.Prelude.{◌≡◌, ◌<◌, ◌^◌, ℕ, List, length, IfOk, IfErr, None};
+ghost use Rattle.std.specs.Prelude.{◌≡◌, ◌<◌, ◌^◌, length, IfOk, IfErr, None, Ok};
 ghost use Rattle.imp_check.specs.Programs.{AreNumbered, check_fault};
-ghost use Rattle.daig_server.specs.Sources.{Reading, source_of, unless_faulty, IsSourceError};
+ghost use Rattle.line_answers.specs.Readings.{Readings};
+ghost use Rattle.daig_server.specs.Sources.{source_of, unless_faulty, IsSourceError};
+ghost use Rattle.daig_server.specs.Works.{program_in, task_in, IsNumbered};
 ghost use Rattle.daig_server.specs.declared.source.SourceError.TheVariants.{Memory as of_memory};
 
-use imp_check::{CheckError, Checked, check};
-use imp_parse::{ParseError, each_text_has_one_answer, parse_program};
+use crate::task::{Task, Work};
+use dom_interval::Interval;
+use imp_check::{CheckError, Checked, Table, check, check_table};
+use imp_parse::{ParseError, parse_program};
 use imp_syntax::Program;
+use line_answers::{machines_stay_fine, texts_are_read};
 use line_replies::{fault_refusal, text_refusal};
 use plain_values::Memory;
 use request_json::Refusal;
@@ -33,10 +38,25 @@ impl From<Memory> for SourceError {
     }
 }
 
-/// The program, where it has no fault.
+/// The program as a table of its statements, where it has no fault.
+fn tabled(alloc: Global, program: &Program) -> Result<Table, SourceError>
+    requires numbered { AreNumbered program.now }
+    ensures accepted { IfOk result (λ t. t.program ≡ program.now) }
+    ensures faultless { IfOk result (λ _. check_fault program.now ≡ None) }
+    ensures refused { IfErr result (IsSourceError (unless_faulty program.now (check_fault program.now))) }
+{
+    match check_table(alloc, program) {
+        Ok(table) => Ok(table),
+        Err(CheckError::Fault(found)) => Err(SourceError::Refused(fault_refusal(alloc, found)?)),
+        Err(CheckError::Memory) => Err(SourceError::Memory),
+    }
+}
+
+/// The program as a tree, where it has no fault.
 fn checked(alloc: Global, program: Program) -> Result<Checked, SourceError>
     requires numbered { AreNumbered program }
-    ensures accepted { IfOk result (λ c. unless_faulty program (check_fault program) ≡ Ok c) }
+    ensures accepted { IfOk result (λ c. c ≡ program) }
+    ensures faultless { IfOk result (λ _. check_fault program ≡ None) }
     ensures refused { IfErr result (IsSourceError (unless_faulty program (check_fault program))) }
 {
     match check(alloc, program) {
@@ -46,29 +66,59 @@ fn checked(alloc: Global, program: Program) -> Result<Checked, SourceError>
     }
 }
 
-/// Texts are read in one way and no other, so what the clauses of [`serve`](crate::serve) say of every
-/// reading is said of a reading that is there.
-pub fn texts_are_read()
-    ensures there { Reading }
-    ensures only { (a b : Reading) (text : List ℕ) → a.answer text ≡ b.answer text }
+/// The program of a text, whose faults are not yet known.
+fn read_program(alloc: Global, source: &[u8]) -> Result<Program, SourceError>
+    requires short { length source.now < 2 ^ 31 }
+    ensures read { IfOk result (λ p. (readings : Readings) → readings.program.answer source.now ≡ Ok p) }
+    ensures numbered { IfOk result AreNumbered }
+    ensures refused { IfErr result (λ e. (readings : Readings) → IsSourceError (source_of readings source.now) e) }
 {
-    each_text_has_one_answer();
+    match parse_program(alloc, source) {
+        Ok(program) => Ok(program),
+        Err(ParseError::Memory) => Err(SourceError::Memory),
+        Err(error) => Err(SourceError::Refused(text_refusal(alloc, error)?)),
+    }
 }
 
-/// The program without faults that a source is.
+/// What is to be done with a program, as the task wants it, where it has no fault.
+fn work_for(alloc: Global, task: Task, program: Program) -> Result<Work, SourceError>
+    requires numbered { AreNumbered program }
+    ensures program { IfOk result (λ w. program_in w ≡ program) }
+    ensures task { IfOk result (λ w. task_in w ≡ task) }
+    ensures faultless { IfOk result (λ _. check_fault program ≡ None) }
+    ensures refused { IfErr result (IsSourceError (unless_faulty program (check_fault program))) }
+{
+    match task {
+        Task::Serve { memo } => {
+            let table = tabled(alloc, &program)?;
+            Ok(Work::Serve { table, memo })
+        }
+        Task::Batch => {
+            let program = checked(alloc, program)?;
+            Ok(Work::Batch { program })
+        }
+        Task::Gen(drawn) => {
+            let table = tabled(alloc, &program)?;
+            Ok(Work::Gen { table, drawn })
+        }
+    }
+}
+
+/// What is to be done with the program without faults that a source is.
 ///
 /// # Errors
 ///
 /// [`SourceError::Refused`] with the first fault of the text, else of its program, and
 /// [`SourceError::Memory`] for want of memory.
-pub(crate) fn read_source(alloc: Global, source: &[u8]) -> Result<Checked, SourceError>
+pub(crate) fn read_source(alloc: Global, task: Task, source: &[u8]) -> Result<Work, SourceError>
     requires short { length source.now < 2 ^ 31 }
-    ensures accepted { IfOk result (λ c. (reading : Reading) → source_of reading source.now ≡ Ok c) }
-    ensures refused { IfErr result (λ e. (reading : Reading) → IsSourceError (source_of reading source.now) e) }
+    ensures accepted { IfOk result (λ w. (readings : Readings) → source_of readings source.now ≡ Ok (program_in w)) }
+    ensures task { IfOk result (λ w. task_in w ≡ task) }
+    ensures numbered { IfOk result (λ w. IsNumbered (program_in w)) }
+    ensures refused { IfErr result (λ e. (readings : Readings) → IsSourceError (source_of readings source.now) e) }
 {
-    match parse_program(alloc, source) {
-        Ok(program) => checked(alloc, program),
-        Err(ParseError::Memory) => Err(SourceError::Memory),
-        Err(error) => Err(SourceError::Refused(text_refusal(alloc, error)?)),
-    }
+    texts_are_read();
+    machines_stay_fine::<Interval>();
+    let program = read_program(alloc, source)?;
+    work_for(alloc, task, program)
 }

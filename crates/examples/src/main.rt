@@ -14,7 +14,7 @@ use std::sync::ledger::{Blank, Ledger};
 use step_counter::Steps;
 
 /// The examples, each a program with a script and what comes out, and the domain that answers.
-const SERVED: [(&str, &str); 9] = [
+const SERVED: [(&str, &str); 11] = [
     ("first", "interval"),
     ("three", "interval"),
     ("counting", "interval"),
@@ -24,6 +24,8 @@ const SERVED: [(&str, &str); 9] = [
     ("lists", "interval"),
     ("filling", "octagon"),
     ("pushing", "interval+listseg"),
+    ("editing", "interval"),
+    ("asking", "interval"),
 ];
 
 /// The most bytes of a file.

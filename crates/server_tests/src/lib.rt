@@ -5,9 +5,15 @@
 #[cfg(test)]
 mod batches;
 #[cfg(test)]
+mod calls;
+#[cfg(test)]
 mod devices;
 #[cfg(test)]
 mod domains;
+#[cfg(test)]
+mod edits;
+#[cfg(test)]
+mod generated;
 #[cfg(test)]
 mod lines;
 #[cfg(test)]
@@ -18,3 +24,7 @@ mod sources;
 mod states;
 #[cfg(test)]
 mod table;
+#[cfg(test)]
+mod tickets;
+#[cfg(test)]
+mod undo;

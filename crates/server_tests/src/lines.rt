@@ -31,7 +31,7 @@ fn refused_lines(rt: HostRuntime) -> Result<(), Fail> {
             PLAIN,
             TEN,
             "{\"do\":\"cost\"}\n{\"do\":\"undo\"}\n{\"do\":\"delete\",\"id\":4}\n{\"do\":\"delete\"}\n{\"at\":\"after 1\",\"do\":\"ask\",\"string\":[1,2,3]}\n{\"at\":\"after 1\",\"do\":\"state\"}\n",
-            "{\"refused\":3}\n{\"refused\":3}\n{\"refused\":3}\n{\"refused\":2}\n{\"refused\":11}\n{\"state\":\"i=[0,0] n=[10,10]\"}\n",
+            "{\"cost\":0,\"kept\":0}\n{\"refused\":17}\n{\"next\":5}\n{\"refused\":2}\n{\"refused\":11}\n{\"state\":\"i=[0,0] n=[10,10]\"}\n",
             0,
         ),
     ];

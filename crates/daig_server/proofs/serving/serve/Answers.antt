@@ -1,55 +1,67 @@
-use Rattle.std.proofs.Common.{◌∙◌, map, string_bytes, sym, ap}
-use Rattle.command_words.specs.Jobs.{job_of}
+use Rattle.std.proofs.Common.{◌∙◌, inl, inr, sym}
+use Rattle.batch_meaning.specs.Batch.{Engine}
 use Rattle.daig_server.specs.Domains.{meaning_of}
-use Rattle.daig_server.specs.Ends.{code_of}
+use Rattle.daig_server.specs.Ends.{Fits, Wrote}
 use Rattle.daig_server.specs.Jobs.{domain_in, engine_in}
-use Rattle.daig_server.specs.Output.{held_by}
-use Rattle.daig_server.proofs.ServeLemmas.{is_done, is_script, is_sink, is_memory, is_long_script, wrote_done, wrote_complete, long_file_ends}
-use Rattle.daig_server.proofs.SoundLemmas.{sound_line, sound_report}
+use Rattle.daig_server.specs.Output.{output}
+use Rattle.daig_server.specs.Told.{asked}
+use Rattle.daig_server.specs.declared.status.Status.TheVariants.{Done, Words, Script, Sink, Files, LongScript, LongFile}
+use Rattle.daig_server.proofs.ServeLemmas.{accepted_read, ends_generated, ends_refused, named_by, same_status, told_by, wrote_complete, zero_accepted}
 use Rattle.daig_server.proofs.serving.serve.Goals as goal
 
-pub returns-clause-complete : goal.returns-clause-complete
-returns-clause-complete g c = λ reading folder text taken told_folder told_text told_taken no_files no_script no_sink short enough.
-    rw c.code.ensures.code (wrote_complete c.run.result reading (job_of (map string_bytes c.args.words.now)) (g.F.Files.told c.args.files.now) folder text taken _ _ _ _ _ _ _ _
-    told_folder no_files no_script no_sink short (λ six. enough (c.code.ensures.code ∙ six))
-    (λ script. (c.run.ensures.script_failed script).1) c.run.ensures.sink_failed c.run.ensures.files_failed (λ long. (c.run.ensures.long long).1 text told_text)
-    (c.run.ensures.fits reading folder text told_folder) (c.run.ensures.wrote reading folder text taken told_folder told_text told_taken))
+pub returns-clause-named : goal.returns-clause-named
+returns-clause-named g c = named_by c.run.result _ c.code.ensures.code
 
-pub returns-clause-done : goal.returns-clause-done
-returns-clause-done g c = λ is reading folder text taken told_folder told_text told_taken.
-    wrote_done c.run.result _ text taken _ _ (sym c.code.ensures.code ∙ is) (c.run.ensures.wrote reading folder text taken told_folder told_text told_taken)
+pub returns-clause-complete : goal.returns-clause-complete
+returns-clause-complete g c = λ readings told tells none short enough.
+    rw c.code.ensures.code (wrote_complete c.run.result readings (asked c.args.words.now) (g.F.Files.told c.args.files.now) told.folder told.script told.taken _ _ _ _ _
+    tells.files_are none short (λ six. enough (c.code.ensures.code ∙ six)) c.run.ensures.script_failed c.run.ensures.sink_failed c.run.ensures.files_failed
+    (λ long. let found = zero_accepted readings (asked c.args.words.now) told.folder told.script (rw long at (c.run.ensures.fits readings told.folder told.script tells.files_are)) in
+        (c.run.ensures.long long).1 told.script (tells.script_is (c.run.ensures.long long).0 found.0 found.1))
+    (c.run.ensures.fits readings told.folder told.script tells.files_are) (c.run.ensures.wrote readings told.folder told.script told.taken tells.files_are tells.script_is tells.sink_is))
+
+pub returns-clause-exactly : goal.returns-clause-exactly
+returns-clause-exactly g c = λ readings told files_are.
+    rw (told_by c.run.result _ c.code.ensures.code) (c.run.ensures.fits readings told.folder told.script files_are)
+
+pub returns-clause-written : goal.returns-clause-written
+returns-clause-written g c = λ readings told tells.
+    rw (told_by c.run.result _ c.code.ensures.code) (c.run.ensures.wrote readings told.folder told.script told.taken tells.files_are tells.script_is tells.sink_is)
+
+pub returns-clause-words_exactly : goal.returns-clause-words_exactly
+returns-clause-words_exactly g c = (
+  (λ two. c.run.ensures.words_refused (same_status c.run.result Words _ c.code.ensures.code two)),
+  (λ none. ends_refused c.run.result _ c.code.ensures.code (c.run.ensures.words_taken none)))
 
 pub returns-clause-read_to_end : goal.returns-clause-read_to_end
-returns-clause-read_to_end g c = λ is asks text told_text. (c.run.ensures.ended (is_done c.run.result (sym c.code.ensures.code ∙ is)) asks text told_text).ended
+returns-clause-read_to_end g c = λ is. c.run.ensures.ended (same_status c.run.result Done _ c.code.ensures.code is)
 
-pub returns-clause-script_lines : goal.returns-clause-script_lines
-returns-clause-script_lines g c = λ is reading folder text taken told_folder told_text told_taken.
-    rw (is_script c.run.result (sym c.code.ensures.code ∙ is)) at (c.run.ensures.wrote reading folder text taken told_folder told_text told_taken)
+pub returns-clause-gen_ends : goal.returns-clause-gen_ends
+returns-clause-gen_ends g c = λ asks. ends_generated c.run.result _ c.code.ensures.code (c.run.ensures.generated asks)
 
-pub returns-clause-sink_prefix : goal.returns-clause-sink_prefix
-returns-clause-sink_prefix g c = λ is reading folder text taken told_folder told_text told_taken.
-    rw (is_sink c.run.result (sym c.code.ensures.code ∙ is)) at (c.run.ensures.wrote reading folder text taken told_folder told_text told_taken)
+pub returns-clause-script_failed : goal.returns-clause-script_failed
+returns-clause-script_failed g c = λ is. c.run.ensures.script_failed (same_status c.run.result Script _ c.code.ensures.code is)
 
-pub returns-clause-memory_lines : goal.returns-clause-memory_lines
-returns-clause-memory_lines g c = λ is reading folder text taken told_folder told_text told_taken.
-    rw (is_memory c.run.result (sym c.code.ensures.code ∙ is)) at (c.run.ensures.wrote reading folder text taken told_folder told_text told_taken)
+pub returns-clause-sink_failed : goal.returns-clause-sink_failed
+returns-clause-sink_failed g c = λ is. c.run.ensures.sink_failed (same_status c.run.result Sink _ c.code.ensures.code is)
 
-pub returns-clause-long_script_lines : goal.returns-clause-long_script_lines
-returns-clause-long_script_lines g c = λ is reading folder text taken told_folder told_text told_taken.
-    rw (is_long_script c.run.result (sym c.code.ensures.code ∙ is)) at (c.run.ensures.wrote reading folder text taken told_folder told_text told_taken)
+pub returns-clause-files_failed : goal.returns-clause-files_failed
+returns-clause-files_failed g c = λ is. c.run.ensures.files_failed (same_status c.run.result Files _ c.code.ensures.code is)
 
-pub returns-clause-long_file_exactly : goal.returns-clause-long_file_exactly
-returns-clause-long_file_exactly g c = λ reading folder text told_folder nine.
-    rw c.code.ensures.code (long_file_ends c.run.result _ (c.run.ensures.fits reading folder text told_folder) nine)
+pub returns-clause-long_script : goal.returns-clause-long_script
+returns-clause-long_script g c = λ is. c.run.ensures.long (same_status c.run.result LongScript _ c.code.ensures.code is)
+
+pub returns-clause-nothing_written : goal.returns-clause-nothing_written
+returns-clause-nothing_written g c (inl is) = c.run.ensures.quiet (inl (same_status c.run.result Files _ c.code.ensures.code is))
+returns-clause-nothing_written g c (inr is) = c.run.ensures.quiet (inr (same_status c.run.result LongFile _ c.code.ensures.code is))
 
 pub returns-clause-sound : goal.returns-clause-sound
-returns-clause-sound g c = λ reading folder program told_folder accepted no_memory no_files line.
-    let domain = domain_in (job_of (map string_bytes c.args.words.now)) in
-    sound_line (meaning_of domain).operations (meaning_of domain).covers (c.named_domains_are_sound.ensures.answers domain) (held_by (engine_in (job_of (map string_bytes c.args.words.now))) program) line
-    (c.run.ensures.checked reading folder program told_folder accepted (λ is. no_memory (c.code.ensures.code ∙ ap code_of is)) (λ is. no_files (c.code.ensures.code ∙ ap code_of is)))
+returns-clause-sound g c = λ readings folder program before line accepted.
+    let read = accepted_read readings (asked c.args.words.now) folder program accepted in
+    c.named_domains_are_sound.ensures.moments (domain_in (asked c.args.words.now)) readings (engine_in (asked c.args.words.now)) read.0 program read.1 before line
 
 pub returns-clause-reports_sound : goal.returns-clause-reports_sound
-returns-clause-reports_sound g c = λ reading folder program told_folder accepted no_memory no_files.
-    let domain = domain_in (job_of (map string_bytes c.args.words.now)) in
-    sound_report (meaning_of domain).operations (c.named_domains_are_sound.ensures.reports domain) (held_by (engine_in (job_of (map string_bytes c.args.words.now))) program)
-    (c.run.ensures.checked reading folder program told_folder accepted (λ is. no_memory (c.code.ensures.code ∙ ap code_of is)) (λ is. no_files (c.code.ensures.code ∙ ap code_of is)))
+returns-clause-reports_sound g c = λ readings folder program accepted.
+    let read = accepted_read readings (asked c.args.words.now) folder program accepted in
+    let fine = (c.machines_stay_fine.ensures.source readings (engine_in (asked c.args.words.now)) read.0 program read.1).present.fine in
+    λ f has. c.named_domains_are_sound.ensures.reports (domain_in (asked c.args.words.now)) (engine_in (asked c.args.words.now)) _ f fine.fit has

@@ -1,0 +1,145 @@
+-- Tallies of the replies to lines.
+use Rattle.std.proofs.Common.{◌≡◌, ◌∙◌, ◌++◌, ℕ, ℤ, nat_le, nat_lt, Bool, true, false, List, [], ◌∷◌, length, Option, Some, None, Result, Ok, Err, if◌then◌else◌, refl, ap}
+use Rattle.imp_syntax.specs.declared.edit.Edit.{Edit}
+use Rattle.imp_syntax.specs.declared.edit.Location.{Location}
+use Rattle.imp_syntax.specs.Plain.{Procedure}
+use Rattle.imp_edit.specs.Refusals.{edit_refusal}
+use Rattle.imp_edit.specs.declared.error.EditError.{EditError}
+use Rattle.domain_laws.specs.Operations.{Operations}
+use Rattle.batch_meaning.specs.Values.{Value, State, Over}
+use Rattle.batch_meaning.specs.Answers.{Answer, Refuses, Answers, Found, In, Misses, procedure_of}
+use Rattle.imp_check.specs.Slots.{routines_of}
+use Rattle.session_machine.specs.Machine.{Machine, Ticket, ticket_of}
+use Rattle.session_machine.specs.Turns.{answer_at, missing_at, redone, undone}
+use Rattle.request_json.specs.declared.error.ReadError.{ReadError}
+use Rattle.request_json.specs.declared.request.Query.{Query}
+use Rattle.request_json.specs.declared.request.Request.{Request}
+use Rattle.request_json.specs.declared.request.Request.TheVariants as q
+use Rattle.request_json.specs.declared.reply.Reply.{Reply}
+use Rattle.request_json.specs.declared.reply.Reply.TheVariants as r
+use Rattle.request_json.specs.declared.reply.Refusal.{Refusal}
+use Rattle.request_json.specs.declared.reply.Refusal.TheVariants as refusal
+use Rattle.request_json.specs.Requests.{request_of}
+use Rattle.line_replies.specs.Runs.{asked_run, found_run, run_reply}
+use Rattle.line_replies.specs.Texts.{program_reply}
+use Rattle.imp_slots.specs.Plain.{Routine}
+use Rattle.analysis_words.specs.declared.refusal.Refusal.TheVariants.{LongString}
+use Rattle.line_answers.specs.Lines.{Served, line_turn, read_turn, request_turn, server}
+use Rattle.line_answers.specs.Turns.{Turn, ask_by, ask_turn, cancel_by, edit_by, edit_turn, goes, move_turn, state_by, step_by, step_of, told}
+use Rattle.line_answers.specs.Edits.{replace_of, insert_of, delete_of, guard_of, declare_of, add_of, drop_of}
+use Rattle.line_answers.specs.Readings.{Readings}
+use Rattle.gen_summary.specs.declared.kind.Kind.{Kind}
+use Rattle.gen_summary.specs.declared.kind.Kind.TheVariants.{Cost}
+use Rattle.gen_summary.specs.declared.tally.Tally.{Tally}
+use Rattle.gen_summary.specs.Summary.{added, cost_in, kind_of}
+use Rattle.daig_server.specs.Output.{tallied}
+
+-- what serves after lines
+abbrev pub moved : {S : Type 0} → Operations S → List (List ℕ) → Served → Served
+moved dom [] s = s
+moved dom (x ∷ xs) s = moved dom xs ((server dom).next s x)
+
+pub moved-append : {S : Type 0} (dom : Operations S) (xs ys : List (List ℕ)) (s : Served) → moved dom (xs ++ ys) s ≡ moved dom ys (moved dom xs s)
+moved-append dom [] ys s = refl
+moved-append dom (x ∷ xs) ys s = moved-append dom xs ys ((server dom).next s x)
+
+pub tallied-append : {S : Type 0} (dom : Operations S) (xs ys : List (List ℕ)) (s : Served) (t : Tally) → tallied dom (xs ++ ys) s t ≡ tallied dom ys (moved dom xs s) (tallied dom xs s t)
+tallied-append dom [] ys s t = refl
+tallied-append dom (x ∷ xs) ys s t = tallied-append dom xs ys ((server dom).next s x) (added (line_turn s.readings dom x s.machine).reply t)
+
+-- A turn that tells a cost tells that of the machine after it.
+abbrev pub TellsCost : Turn → Type 0
+TellsCost turn = kind_of turn.reply ≡ Cost → cost_in turn.reply ≡ turn.machine.cost
+
+told_cost : {S : Type 0} (dom : Operations S) (l : Location) (v : Value S) (m n : Machine) → TellsCost (goes (told dom l v m) n)
+told_cost dom l (State s) m n = λ is. cc
+told_cost dom l (Over head z) m n = λ is. cc
+
+cancel_cost : (t : Option Ticket) (m : Machine) → TellsCost (cancel_by t m)
+cancel_cost None m = λ is. cc
+cancel_cost (Some t) m = λ is. cc
+
+move_cost : (side : List (List Procedure)) (otherwise : Refusal) (there m : Machine) → TellsCost (move_turn side otherwise there m)
+move_cost [] otherwise there m = λ is. cc
+move_cost (p ∷ ps) otherwise there m = λ is. cc
+
+state_cost : {S : Type 0} (dom : Operations S) (query : Query) (a : Answer S) (m : Machine) → TellsCost (state_by dom query a m)
+state_cost dom query (Refuses why) m = λ is. cc
+state_cost dom query (Answers v) m = told_cost dom query.at v m _
+
+edit_by_cost : {S : Type 0} (dom : Operations S) (e : Edit) (error : Option EditError) (m : Machine) → TellsCost (edit_by dom e error m)
+edit_by_cost dom e None m = λ is. cc
+edit_by_cost dom e (Some error) m = λ is. cc
+
+edit_cost : {S : Type 0} (dom : Operations S) (e : Result Edit Refusal) (m : Machine) → TellsCost (edit_turn dom e m)
+edit_cost dom (Err why) m = λ is. cc
+edit_cost dom (Ok e) m = edit_by_cost dom e (edit_refusal e m.program m.next) m
+
+step_if_cost : {S : Type 0} (dom : Operations S) (t : Ticket) (v : Value S) (n : ℕ) (test : Bool) (m stays ends : Machine) →
+    TellsCost (if test then goes (r.Pending n) stays else goes (told dom t.at v m) ends)
+step_if_cost dom t v n true m stays ends = λ is. cc
+step_if_cost dom t v n false m stays ends = told_cost dom t.at v m ends
+
+step_by_cost : {S : Type 0} (dom : Operations S) (t : Ticket) (n : ℕ) (a : Answer S) (m : Machine) → TellsCost (step_by dom t n a m)
+step_by_cost dom t n (Refuses why) m = λ is. cc
+step_by_cost dom t n (Answers v) m = step_if_cost dom t v n (nat_lt n (length (missing_at dom t.at t.string m))) m _ _
+
+step_cost : {S : Type 0} (dom : Operations S) (n : ℕ) (t : Option Ticket) (m : Machine) → TellsCost (step_of dom n t m)
+step_cost dom n None m = λ is. cc
+step_cost dom n (Some t) m = step_by_cost dom t n (answer_at dom t.at t.string m) m
+
+ask_by_cost : {S : Type 0} (dom : Operations S) (query : Query) (a : Answer S) (m : Machine) → TellsCost (ask_by dom query a m)
+ask_by_cost dom query (Refuses why) m = λ is. cc
+ask_by_cost dom query (Answers v) m = λ is. cc
+
+ask_if_cost : (long full : Bool) (why : Refusal) (many : Refusal) (m : Machine) (turn : Turn) → TellsCost turn →
+    TellsCost (if long then goes (r.Refused why) m else (if full then goes (r.Refused many) m else turn))
+ask_if_cost true full why many m turn told = λ is. cc
+ask_if_cost false true why many m turn told = λ is. cc
+ask_if_cost false false why many m turn told = told
+
+run_found_cost : (program : List Routine) (inputs : List ℤ) (fuel : ℕ) (l : Location) (found : Found) (m : Machine) → TellsCost (goes (found_run program inputs fuel l found) m)
+unfolding run_reply
+run_found_cost program inputs fuel l (Misses why) m = λ is. cc
+run_found_cost program inputs fuel l (In p) m = λ is. cc
+
+run_cost : (program : List Routine) (inputs : List ℤ) (fuel : ℕ) (at : Option Location) (m : Machine) → TellsCost (goes (asked_run program inputs fuel at) m)
+unfolding run_reply
+run_cost program inputs fuel None m = λ is. cc
+run_cost program inputs fuel (Some l) m = run_found_cost program inputs fuel l (procedure_of program l) m
+
+program_cost : (next : ℕ) (program : List Procedure) (m : Machine) → TellsCost (goes (program_reply next program) m)
+unfolding program_reply
+program_cost next program m = λ is. cc
+
+request_cost : {S : Type 0} (readings : Readings) (dom : Operations S) (request : Request) (m : Machine) → TellsCost (request_turn readings dom request m)
+unfolding request_turn
+request_cost readings dom (q.State query) m = state_cost dom query (answer_at dom query.at query.string m) m
+request_cost readings dom q.Report m = λ is. cc
+request_cost readings dom q.Cost m = λ is. refl
+request_cost readings dom q.Program m = program_cost m.next m.program m
+request_cost readings dom q.Listing m = λ is. cc
+request_cost readings dom (q.Run inputs fuel at) m = run_cost (routines_of m.program) inputs fuel at m
+request_cost readings dom (q.Replace id text) m = edit_cost dom (replace_of readings m.next id text) m
+request_cost readings dom (q.Insert place text) m = edit_cost dom (insert_of readings m.next place text) m
+request_cost readings dom (q.Delete id) m = edit_cost dom (delete_of id) m
+request_cost readings dom (q.Guard id text) m = edit_cost dom (guard_of readings id text) m
+request_cost readings dom (q.Declare proc name kind) m = edit_cost dom (declare_of proc name kind) m
+request_cost readings dom (q.Add before text) m = edit_cost dom (add_of readings m.next before text) m
+request_cost readings dom (q.Drop proc) m = edit_cost dom (drop_of proc) m
+request_cost readings dom (q.Why query) m = λ is. cc
+request_cost readings dom q.Undo m = move_cost m.past refusal.NothingToUndo (undone dom m) m
+request_cost readings dom q.Redo m = move_cost m.future refusal.NothingToRedo (redone dom m) m
+request_cost readings dom (q.Ask query) m =
+    ask_if_cost (nat_lt 2 (length query.string)) (nat_le 16 (length m.tickets)) (refusal.Query LongString) refusal.ManyTickets m
+    (ask_by dom query (answer_at dom query.at query.string m) m) (ask_by_cost dom query (answer_at dom query.at query.string m) m)
+request_cost readings dom (q.Step ticket n) m = step_cost dom n (ticket_of ticket m.tickets) m
+request_cost readings dom (q.Cancel ticket) m = cancel_cost (ticket_of ticket m.tickets) m
+
+read_cost : {S : Type 0} (readings : Readings) (dom : Operations S) (request : Result Request ReadError) (m : Machine) → TellsCost (read_turn readings dom request m)
+read_cost readings dom (Err error) m = λ is. cc
+read_cost readings dom (Ok request) m = request_cost readings dom request m
+
+-- so is each line's
+pub line_cost : {S : Type 0} (readings : Readings) (dom : Operations S) (line : List ℕ) (m : Machine) → TellsCost (line_turn readings dom line m)
+line_cost readings dom line m = read_cost readings dom (request_of line) m

@@ -1,4 +1,0 @@
-use Rattle.daig_server.proofs.run.run_task.Goals as goal
-
-pub returns-in-Serve-clause-ended : goal.returns-in-Serve-clause-ended
-returns-in-Serve-clause-ended g c = λ done _. c.serve_program.ensures.ended done

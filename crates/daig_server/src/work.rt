@@ -1,0 +1,188 @@
+//! What is done for a program: the clauses of `run`, from a program on.
+ghost use Rattle.std.specs.Prelude.{◌≡◌, ◌<◌, ◌^◌, ◌⊎◌, ℕ, List, Option, Some};
+ghost use Rattle.io_edge.specs.Outside.{Rose};
+ghost use Rattle.script_loop.specs.Replies.{ReadToEnd, ReadBytes};
+ghost use Rattle.daig_server.specs.Ends.{Fits, Wrote};
+ghost use Rattle.daig_server.specs.Jobs.{engine_of, Serves};
+ghost use Rattle.daig_server.specs.Output.{batch_bytes, gen_bytes, program_bytes, served_bytes};
+ghost use Rattle.line_answers.specs.Readings.{Readings};
+ghost use Rattle.line_answers.specs.Fine.{opening};
+ghost use Rattle.daig_server.specs.Works.{program_in, task_in, IsNumbered, Remembers};
+
+use crate::batch::listed;
+use crate::domains::Named;
+use crate::generated::summary;
+use crate::server::Server;
+use crate::status::Status;
+use crate::task::{Drawn, Work};
+use command_words::{DomainName, Settings};
+use dom_interval::Interval;
+use dom_listseg::ListSeg;
+use dom_octagon::Octagon;
+use dom_product::Pair;
+use imp_check::{Checked, Table};
+use io_edge::{Failed, Sink, Source};
+use script_loop::{Stop, answer_script, write_all};
+use std::alloc::Global;
+use std::sync::ledger::Ledger;
+use step_counter::Steps;
+
+/// Answers the script by a session with the program, which remembers so many results.
+fn serve_program<D: Named, I: Source, O: Sink, L: Ledger>(
+    alloc: Global,
+    domain: D,
+    settings: &Settings,
+    memo: u32,
+    table: Table,
+    script: &mut I,
+    out: &mut O,
+    steps: &mut Steps<L>,
+) -> Status
+    requires memo { 0 < memo }
+    requires numbered { IsNumbered table.program }
+    ensures fits { Fits result 0 }
+    ensures wrote { (readings : Readings) (text taken : List ℕ) → I.told script.old ≡ Some text → O.told out.old ≡ Some taken
+        → Wrote result (record { status = 0; bytes = served_bytes D.name (opening readings (engine_of settings.now) table.program) text }) text taken (I.told script.new) (O.told out.new) }
+    ensures ended { result ≡ Status.Done → (text : List ℕ) → I.told script.old ≡ Some text → ReadToEnd text (I.told script.new) }
+    ensures long { result ≡ Status.LongScript → (text : List ℕ) → I.told script.old ≡ Some text → ReadBytes (2 ^ 40) text (I.told script.new) }
+    ensures script_failed { result ≡ Status.Script → Rose (I.faults script.old) (I.faults script.new) }
+    ensures sink_failed { result ≡ Status.Sink → Rose (O.faults out.old) (O.faults out.new) }
+    ensures no_file { result ≡ Status.Files → ⊥ }
+    ensures no_words { result ≡ Status.Words → ⊥ }
+    ensures no_long_file { result ≡ Status.LongFile → ⊥ }
+{
+    let Ok(mut server) = Server::start(alloc, domain, settings, memo, table) else {
+        return Status::Memory;
+    };
+    match answer_script(alloc, &mut server, script, out, steps) {
+        Ok(()) => Status::Done,
+        Err(Stop::Script) => Status::Script,
+        Err(Stop::Sink) => Status::Sink,
+        Err(Stop::Memory) => Status::Memory,
+        Err(Stop::Long) => Status::LongScript,
+    }
+}
+
+/// Writes the listing and the report of the program.
+fn batch_program<D: Named, O: Sink, L: Ledger>(
+    alloc: Global,
+    domain: &D,
+    settings: &Settings,
+    program: &Checked,
+    out: &mut O,
+    steps: &mut Steps<L>,
+) -> Status
+    ensures status { (result ≡ Status.Done) ⊎ ((result ≡ Status.Sink) ⊎ (result ≡ Status.Memory)) }
+    ensures fits { Fits result 0 }
+    ensures wrote { (text taken : List ℕ) (rest : Option (List ℕ)) → O.told out.old ≡ Some taken
+        → Wrote result (record { status = 0; bytes = batch_bytes D.name (engine_of settings.now) program.now }) text taken rest (O.told out.new) }
+    ensures sink_failed { result ≡ Status.Sink → Rose (O.faults out.old) (O.faults out.new) }
+{
+    let Ok(bytes) = listed(alloc, domain, settings, program, steps) else {
+        return Status::Memory;
+    };
+    match write_all(out, bytes.as_slice()) {
+        Ok(()) => Status::Done,
+        Err(Failed) => Status::Sink,
+    }
+}
+
+/// Writes the summary of the generated script over the program.
+fn gen_program<D: Named, O: Sink, L: Ledger>(
+    alloc: Global,
+    domain: D,
+    settings: &Settings,
+    table: Table,
+    drawn: Drawn,
+    out: &mut O,
+    steps: &mut Steps<L>,
+) -> Status
+    requires numbered { IsNumbered table.program }
+    ensures status { (result ≡ Status.Done) ⊎ ((result ≡ Status.Sink) ⊎ (result ≡ Status.Memory)) }
+    ensures fits { Fits result 0 }
+    ensures wrote { (readings : Readings) (text taken : List ℕ) (rest : Option (List ℕ)) → O.told out.old ≡ Some taken
+        → Wrote result (record { status = 0; bytes = gen_bytes D.name (opening readings (engine_of settings.now) table.program) drawn.seed drawn.size }) text taken rest (O.told out.new) }
+    ensures sink_failed { result ≡ Status.Sink → Rose (O.faults out.old) (O.faults out.new) }
+{
+    let Ok(line) = summary(alloc, domain, settings, table, drawn, steps) else {
+        return Status::Memory;
+    };
+    match write_all(out, line.as_bytes()) {
+        Ok(()) => Status::Done,
+        Err(Failed) => Status::Sink,
+    }
+}
+
+/// Does the work by this domain.
+fn work_by<D: Named, I: Source, O: Sink, L: Ledger>(
+    alloc: Global,
+    domain: D,
+    settings: &Settings,
+    work: Work,
+    script: &mut I,
+    out: &mut O,
+    steps: &mut Steps<L>,
+) -> Status
+    requires named { settings.now.domain ≡ D.name }
+    requires remembers { Remembers (task_in work) }
+    requires numbered { IsNumbered (program_in work) }
+    ensures fits { Fits result 0 }
+    ensures wrote { (readings : Readings) (text taken : List ℕ) → (Serves (task_in work) → I.told script.old ≡ Some text) → O.told out.old ≡ Some taken
+        → Wrote result (record { status = 0; bytes = program_bytes readings settings.now.domain (engine_of settings.now) (task_in work) (program_in work) text }) text taken (I.told script.new) (O.told out.new) }
+    ensures ended { result ≡ Status.Done → Serves (task_in work) → (text : List ℕ) → I.told script.old ≡ Some text → ReadToEnd text (I.told script.new) }
+    ensures unread { (Serves (task_in work) → ⊥) → script.new ≡ script.old }
+    ensures long { result ≡ Status.LongScript → Serves (task_in work) × ((text : List ℕ) → I.told script.old ≡ Some text → ReadBytes (2 ^ 40) text (I.told script.new)) }
+    ensures script_failed { result ≡ Status.Script → Serves (task_in work) × Rose (I.faults script.old) (I.faults script.new) }
+    ensures sink_failed { result ≡ Status.Sink → Rose (O.faults out.old) (O.faults out.new) }
+    ensures no_file { result ≡ Status.Files → ⊥ }
+    ensures no_words { result ≡ Status.Words → ⊥ }
+    ensures no_long_file { result ≡ Status.LongFile → ⊥ }
+{
+    match work {
+        Work::Serve { table, memo } => {
+            serve_program(alloc, domain, settings, memo, table, script, out, steps)
+        }
+        Work::Batch { program } => batch_program(alloc, &domain, settings, &program, out, steps),
+        Work::Gen { table, drawn } => {
+            gen_program(alloc, domain, settings, table, drawn, out, steps)
+        }
+    }
+}
+
+/// Does the work by the domain that the settings name.
+pub(crate) fn do_work<I: Source, O: Sink, L: Ledger>(
+    alloc: Global,
+    settings: &Settings,
+    work: Work,
+    script: &mut I,
+    out: &mut O,
+    steps: &mut Steps<L>,
+) -> Status
+    requires remembers { Remembers (task_in work) }
+    requires numbered { IsNumbered (program_in work) }
+    ensures fits { Fits result 0 }
+    ensures wrote { (readings : Readings) (text taken : List ℕ) → (Serves (task_in work) → I.told script.old ≡ Some text) → O.told out.old ≡ Some taken
+        → Wrote result (record { status = 0; bytes = program_bytes readings settings.now.domain (engine_of settings.now) (task_in work) (program_in work) text }) text taken (I.told script.new) (O.told out.new) }
+    ensures ended { result ≡ Status.Done → Serves (task_in work) → (text : List ℕ) → I.told script.old ≡ Some text → ReadToEnd text (I.told script.new) }
+    ensures unread { (Serves (task_in work) → ⊥) → script.new ≡ script.old }
+    ensures long { result ≡ Status.LongScript → Serves (task_in work) × ((text : List ℕ) → I.told script.old ≡ Some text → ReadBytes (2 ^ 40) text (I.told script.new)) }
+    ensures script_failed { result ≡ Status.Script → Serves (task_in work) × Rose (I.faults script.old) (I.faults script.new) }
+    ensures sink_failed { result ≡ Status.Sink → Rose (O.faults out.old) (O.faults out.new) }
+    ensures no_file { result ≡ Status.Files → ⊥ }
+    ensures no_words { result ≡ Status.Words → ⊥ }
+    ensures no_long_file { result ≡ Status.LongFile → ⊥ }
+{
+    match settings.domain {
+        DomainName::Interval => work_by(alloc, Interval, settings, work, script, out, steps),
+        DomainName::Octagon => work_by(alloc, Octagon, settings, work, script, out, steps),
+        DomainName::ListSeg => work_by(alloc, ListSeg, settings, work, script, out, steps),
+        DomainName::IntervalListSeg => {
+            let pair = Pair::new(Interval, ListSeg);
+            work_by(alloc, pair, settings, work, script, out, steps)
+        }
+        DomainName::OctagonListSeg => {
+            let pair = Pair::new(Octagon, ListSeg);
+            work_by(alloc, pair, settings, work, script, out, steps)
+        }
+    }
+}
