@@ -14,7 +14,7 @@ from imp_tree import Proc, Program, Span, Stmt, StmtKind, Variable
 MOST_NESTING = 32
 MOST_PIECES_KEPT = 100_000
 
-_SEPARATOR = re.compile(rb"//[^\n]*|[;{}]")
+_SEPARATOR = re.compile(rb"//[^\n]*|([;{}])")
 
 
 class TextReader:
@@ -36,9 +36,10 @@ class TextReader:
         builder = _Builder()
         start = 0
         for match in _SEPARATOR.finditer(text):
-            if match.end() - match.start() == 1:
-                builder.add(self._piece(text, start, match.end()), start)
-                start = match.end()
+            if match.lastindex:
+                end = match.end()
+                builder.add(self._piece(text, start, end), start)
+                start = end
         return builder.finish(text, start)
 
     def _piece(self, text: bytes, start: int, end: int) -> Piece | _Unread:
@@ -78,17 +79,20 @@ class _Builder:
         """Adds the piece that begins at a place."""
         if isinstance(piece, _Unread):
             raise self.fault_of_piece(piece, offset)
-        if not self.allows(piece.kind):
+        kind = piece.kind
+        if kind is PieceKind.SIMPLE and self.proc:
+            span = Span(offset + piece.first.start, offset + piece.end)
+            self.blocks[-1].append(Stmt(StmtKind.SIMPLE, piece.text, span, span, piece.callee, [], [], piece.text))
+            self.closed_if = None
+            return
+        if not self.allows(kind):
             raise _moved(Fault("Unexpected", piece.first), offset)
         closed_if, self.closed_if = self.closed_if, None
-        if piece.kind is PieceKind.SIMPLE:
-            span = Span(offset + piece.first.start, offset + piece.end)
-            self.blocks[-1].append(Stmt(StmtKind.SIMPLE, piece.text, span, span, piece.callee, key=piece.text))
-        elif piece.kind is PieceKind.CLOSE:
+        if kind is PieceKind.CLOSE:
             self.close(offset + piece.end)
-        elif piece.kind is PieceKind.PROC:
+        elif kind is PieceKind.PROC:
             self.open_proc(piece, offset)
-        elif piece.kind is PieceKind.VAR and self.proc and piece.name:
+        elif kind is PieceKind.VAR and self.proc and piece.name:
             self.proc.locals.append(_shifted(piece.name, offset))
         else:
             self.open_block(piece, offset, closed_if)

@@ -140,10 +140,13 @@ class Shift:
 
     @staticmethod
     def between(old: bytes, new: bytes) -> Shift:
-        """The shift from one text to another."""
+        """The shift from one text to another. A difference over several lines is taken as one of whole lines."""
         most = min(len(old), len(new))
         front = _common(old, new, most)
         back = _common(old[::-1], new[::-1], most - front)
+        if b"\n" in old[front : len(old) - back] or b"\n" in new[front : len(new) - back]:
+            front = old.rfind(b"\n", 0, front) + 1
+            back = _whole_lines(old, _common(old[::-1], new[::-1], most - front))
         return Shift(front, back, len(old), len(new))
 
     def forth(self, place: int) -> int | None:
@@ -160,6 +163,15 @@ class Shift:
     def reversed(self) -> Shift:
         """The shift from the new text to the old one."""
         return Shift(self.front, self.back, self.new_size, self.old_size)
+
+
+def _whole_lines(text: bytes, back: int) -> int:
+    """How many of the last bytes are whole lines."""
+    start = len(text) - back
+    if start == 0 or text[start - 1 : start] == b"\n":
+        return back
+    end = text.find(b"\n", start)
+    return len(text) - end - 1 if end >= 0 else 0
 
 
 def _common(left: bytes, right: bytes, most: int) -> int:
