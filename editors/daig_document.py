@@ -227,8 +227,10 @@ class Document:
             self.refusal = _refusal_of(refused.reply, text, program)
             return
         except NotStarted as why:
-            self.refusal = Refusal(fault.span if fault else Span(0, 0), f"daig serve cannot be asked: {why}")
-            self.watcher.show(f"daig serve cannot be asked: {why}")
+            words = f"daig serve cannot be asked: {why}"
+            if self.refusal is None or self.refusal.words != words:
+                self.watcher.show(words)
+            self.refusal = Refusal(fault.span if fault else Span(0, 0), words)
             return
         if self._server:
             self.watcher.log("the server is started anew on the present text")
