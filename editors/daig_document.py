@@ -129,14 +129,11 @@ class Document:
             self._news.notify_all()
 
     async def followed(self) -> None:
-        """Waits until the newest text is followed."""
+        """Waits until the present text is followed; raises `Outdated` where a newer one comes first."""
+        changes = self._changes
         async with self._news:
-            await self._news.wait_for(lambda: self._followed == self._changes)
-
-    async def judged(self) -> None:
-        """Waits until the newest text has its diagnostics."""
-        async with self._news:
-            await self._news.wait_for(lambda: self._judged == self._changes)
+            await self._news.wait_for(lambda: self._followed == changes or self._changes != changes)
+        self._test_fresh(changes)
 
     async def close(self) -> None:
         """Ends the work and the server."""

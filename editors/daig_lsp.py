@@ -90,6 +90,8 @@ class LanguageServer:
             self._tasks[message["id"]] = task
             if method in ("initialize", "shutdown"):
                 await task
+            else:
+                await asyncio.sleep(0)  # it reads its places in the present text
         elif method in self._notices and self._initialized:
             await self._hear(self._notices[method], given)
 
@@ -260,15 +262,16 @@ class LanguageServer:
     async def definition(self, params: Json) -> object:
         """Where a called procedure, or a variable, is declared."""
         document = self._document(params)
+        place = document.text.place(_object(params, "position"))
         await document.followed()
-        return definition(document, document.text.place(_object(params, "position")))
+        return definition(document, place)
 
     async def code_action(self, params: Json) -> object:
         """At a call: its procedure's states from this call alone; where one is chosen: from all calls again."""
-        document = self._document(params)
+        document, start = self._document(params), _object(_object(params, "range"), "start")
+        place = document.text.place(start)
         await document.followed()
-        start = _object(_object(params, "range"), "start")
-        found = call_at(document, document.text.place(start))
+        found = call_at(document, place)
         commands = []
         if found:
             arguments = [document.uri, start]

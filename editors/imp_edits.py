@@ -158,8 +158,11 @@ class _Planner:
 
 def _keep_numbers(had: Stmt, has: Stmt) -> None:
     """Gives a statement the numbers of one that is equal."""
-    for old, new in zip(had.within(), has.within()):
-        new.number = old.number
+    has.number = had.number
+    for old, new in zip(had.then, has.then):
+        _keep_numbers(old, new)
+    for old, new in zip(had.other, has.other):
+        _keep_numbers(old, new)
 
 
 def _sendable(text: str) -> str:

@@ -147,6 +147,30 @@ class SourceMaker:
         return f"{self.name(scope, 'int')} {mark} {self.expr(scope, 1)}"
 
 
+def slow_source(groups: int) -> str:
+    """A program that takes octagons long: so many groups of three loops in each other over sixteen variables."""
+    names = [f"x{k}" for k in range(16)]
+    lines = ["proc main() {", *(f"  var {it}: int;" for it in names)]
+    for group in range(groups):
+        a, b, c, d = (names[(group + k) % 16] for k in range(4))
+        lines += [
+            f"  {a} = 0;",
+            f"  while ({a} < 10) {{",
+            f"    {b} = {a};",
+            f"    while ({b} < 20) {{",
+            f"      {c} = {b};",
+            f"      while ({c} < {d}) {{",
+            f"        {c} = {c} + 1;",
+            f"        {d} = {d} - 1;",
+            "      }",
+            f"      {b} = {b} + 1;",
+            "    }",
+            f"    {a} = {a} + 1;",
+            "  }",
+        ]
+    return "\n".join([*lines, "  assert x0 < 0;", "}", ""])
+
+
 # ---------------------------------------------------------------------------------------------------------------------
 # Changes
 
