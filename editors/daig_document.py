@@ -58,10 +58,19 @@ class Finding:
 
 @dataclass(frozen=True)
 class Over:
-    """A loop that used up its budget, under a chain of calls."""
+    """A loop that used up its budget, and what to say of it."""
 
-    head: int
-    chain: tuple[int, ...]
+    loop: Stmt
+    words: str
+
+
+@dataclass(frozen=True)
+class Report:
+    """The findings on a text, and the loop that used up its budget, if one did."""
+
+    text: SourceText
+    findings: list[Finding]
+    over: Over | None
 
 
 @dataclass(frozen=True)
@@ -101,8 +110,7 @@ class Document:
         self.compare_every = compare_every
         self.good: Good | None = None
         self.refusal: Refusal | None = None
-        self.findings: list[Finding] = []
-        self.over: Over | None = None
+        self.report: Report | None = None
         self.string: list[int] = []
         self.counts = Counts()
         self._server: DaigProcess | None = None
@@ -281,7 +289,7 @@ class Document:
     async def _ask_report(self) -> None:
         """The report on the last good program. First what it needs is computed in small steps."""
         if self.good is None or self._server is None:
-            self.findings, self.over = [], None
+            self.report = None
             return
         changes = self._changes
         answer = await self.state("end main")
@@ -289,8 +297,11 @@ class Document:
         found = (await self._server.ask(do="report")).get("report", [])
         self._test_fresh(changes)
         by_number = {it.number: it for it in self.good.program.statements()}
-        self.findings = [Finding(by_number[it["id"]], it["check"], it["verdict"]) for it in found]
-        self.over = Over(answer["over"], tuple(answer["chain"])) if "over" in answer else None
+        findings = [Finding(by_number[it["id"]], it["check"], it["verdict"]) for it in found]
+        over = None
+        if "over" in answer:
+            over = Over(by_number[answer["over"]], self.over_text(answer["over"], answer["chain"]))
+        self.report = Report(self.good.text, findings, over)
 
     def _test_fresh(self, changes: int) -> None:
         """Raises `Outdated` where the text has changed since."""

@@ -19,18 +19,20 @@ SOURCE = "daig"
 
 
 def diagnostics(document: Document) -> list[Json]:
-    """The refusal of the present text, and the findings on the last good one where they still have a place."""
+    """The refusal of the present text, and the findings of the last report where they still have a place."""
     told: list[Json] = []
     if document.refusal:
         told.append(_diagnostic(document, document.refusal.span, ERROR, document.refusal.words))
-    shift = document.shift()
-    if shift is None or document.good is None:
+    report = document.report
+    if report is None:
         return told
-    if document.over:
-        told += _over_diagnostic(document, shift)
-    for finding in document.findings:
-        span = shift.span(finding.stmt.head)
-        if span and finding.verdict != "safe":
+    shift = Shift.between(report.text.data, document.text.data)
+    over = shift.span(report.over.loop.head) if report.over else None
+    if report.over and over:
+        told.append(_diagnostic(document, over, INFORMATION, report.over.words, code="budget"))
+    for finding in report.findings:
+        span = shift.span(finding.stmt.head) if finding.verdict != "safe" else None
+        if span:
             told.append(_finding(document, finding, span))
     return told
 
@@ -45,17 +47,6 @@ def _finding(document: Document, finding: Finding, span: Span) -> Json:
     if finding.verdict == "dead":
         return _diagnostic(document, span, HINT, words, code=finding.check, tags=[UNNECESSARY])
     return _diagnostic(document, span, WARNING, words, code=finding.check)
-
-
-def _over_diagnostic(document: Document, shift: Shift) -> list[Json]:
-    """The loop that used up its budget, with what to do."""
-    assert document.good and document.over
-    over = document.over
-    loop = next((it for it in document.good.program.statements() if it.number == over.head), None)
-    span = shift.span(loop.head) if loop else None
-    if span is None:
-        return []
-    return [_diagnostic(document, span, INFORMATION, document.over_text(over.head, list(over.chain)), code="budget")]
 
 
 # ---------------------------------------------------------------------------------------------------------------------
