@@ -66,7 +66,7 @@ module _ {T : Type 0} (s : System T) where
       ∙ sym (append_assoc first more (missing_in_turn s (seen s then more) yss))
       ∙ ap (λ k. (first ++ more) ++ missing_in_turn s k yss) (seen_both kept first more)
 
-chains_both : (program : List Routine) (cs ds : List Checked) → chain_count program (cs ++ ds) ≡ chain_count program cs + chain_count program ds
+pub chains_both : (program : List Routine) (cs ds : List Checked) → chain_count program (cs ++ ds) ≡ chain_count program cs + chain_count program ds
 chains_both program [] ds = omega arith
 chains_both program (c ∷ cs) ds = let e = chains_both program cs ds in omega arith
 
@@ -169,6 +169,9 @@ module _ {S : Type 0} (dom : Operations S) (m : Machine) where
         let a = ap length one_missing in
         let b = ap length one_asks in
         omega arith
+
+    pub one_chains : length (targets_of m (Before n) []) ≡ chain_count (routines_of m.program) one
+    one_chains = let e = ap length one_asks in omega arith
 
     -- It is refused only where it has no targets.
     none_refused : (r : Refusal) → IsChecked (routines_of m.program) → answer_at dom (Before n) [] m ≡ Refuses r → targets_of m (Before n) [] ≡ []
