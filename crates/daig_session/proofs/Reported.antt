@@ -1,8 +1,7 @@
 -- Checked statements one after another: what is missing of them, and what is kept then.
-use Rattle.std.proofs.Common.{◌≡◌, ℕ, zero, suc, ◌+◌, ◌*◌, ◌≤◌, Bool, true, false, ◌||◌, List, [], ◌∷◌, ◌++◌, map, take, length, Option, Some, None, Result, Ok, Err, refl, sym, ap, subst, ◌∙◌, arith, append_assoc, append-nil}
+use Rattle.std.proofs.Common.{◌≡◌, ℕ, zero, suc, ◌+◌, ◌*◌, ◌≤◌, Bool, ◌||◌, List, [], ◌∷◌, ◌++◌, map, take, length, Option, Some, None, Result, Ok, Err, refl, sym, ap, subst, ◌∙◌, arith, append_assoc, append-nil}
 use Rattle.std.proofs.lemmas.List.{length-append, map-append}
 use std.Path.{fun_ext}
-use Rattle.imp_syntax.specs.Plain.{Procedure}
 use Rattle.imp_syntax.specs.declared.edit.Location.TheVariants.{Before}
 use Rattle.imp_slots.specs.Fits.{IsChecked}
 use Rattle.imp_slots.specs.Plain.{Effect, Routine}
@@ -10,7 +9,7 @@ use Rattle.imp_check.specs.Slots.{routines_of}
 use Rattle.analysis_words.specs.declared.refusal.Refusal.{Refusal}
 use Rattle.domain_laws.specs.Checks.{Check}
 use Rattle.domain_laws.specs.Operations.{Operations}
-use Rattle.batch_meaning.specs.Answers.{Answer, Answers, Found, In, Misses, Refuses, answer, procedure_of}
+use Rattle.batch_meaning.specs.Answers.{Answers, Found, In, Misses, Refuses, procedure_of}
 use Rattle.batch_meaning.specs.Report.{Checked, checked_one}
 use Rattle.cell_names.specs.Paths.{CellName}
 use Rattle.cell_rows.specs.Targets.{Target, demanded, targets}
@@ -29,7 +28,6 @@ use Rattle.session_machine.specs.Turns.{IsBetween, answer_at, asked, found, is_k
 use Rattle.daig_session.specs.declared.book.Book.{Book}
 use Rattle.daig_session.specs.declared.error.QueryError.{QueryError}
 use Rattle.daig_session.specs.declared.error.QueryError.TheVariants as query
-use Rattle.daig_session.specs.Books.{machine_of}
 use Rattle.daig_session.specs.Going.{IsAnswered}
 use Rattle.daig_session.specs.Holds.{Holds}
 use Rattle.daig_session.specs.Reports.{chain_count, missing_of, work_on, HoldsAll, HoldsPart}

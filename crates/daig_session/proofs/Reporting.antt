@@ -1,5 +1,5 @@
 -- Reports, a statement at a time.
-use Rattle.std.proofs.Common.{◌≡◌, ℕ, zero, suc, ◌+◌, ◌-◌, ◌*◌, ◌≤◌, List, [], ◌∷◌, ◌++◌, map, take, drop, length, Some, Result, Ok, Err, slice_get, refl, sym, ap, subst, ◌∙◌, arith, append_assoc, append-nil}
+use Rattle.std.proofs.Common.{◌≡◌, ℕ, zero, suc, ◌+◌, ◌-◌, ◌*◌, ◌≤◌, List, [], ◌∷◌, ◌++◌, take, drop, length, Some, Result, Ok, Err, slice_get, refl, sym, ap, subst, ◌∙◌, arith, append_assoc, append-nil}
 use Rattle.std.specs.Prelude.{OnOk}
 use Rattle.std.specs.FinMap.{len}
 use Rattle.std.proofs.Math.Nat.{mul-le-mul_left}
@@ -183,9 +183,9 @@ module _ {S : Type 0} (dom : Operations S) (m : Machine) (ns : List ℕ) (i n : 
       omega arith
 
   pub failed_most : (old mid new : Store S) (before during after : Book) (s t u each : ℕ) →
-    IsReady dom old before → Holds dom old before m → IsReady dom mid during → HoldsAll dom m mid during (checked_among m.program (take i ns)) → IsReady dom new after → HoldsPart dom (behind dom m (checked_among m.program (take i ns)) during.cost) new after (checked_at m.program n) →
-    t ≤ s + each * work_on dom m (checked_among m.program (take i ns)) → u ≤ t + each * suc (added mid new + 2 * chain_count (routines_of m.program) (checked_at m.program n)) →
-    u ≤ s + each * suc (added old new + 2 * chain_count (routines_of m.program) (checked_among m.program ns))
+      IsReady dom old before → Holds dom old before m → IsReady dom mid during → HoldsAll dom m mid during (checked_among m.program (take i ns)) → IsReady dom new after → HoldsPart dom (behind dom m (checked_among m.program (take i ns)) during.cost) new after (checked_at m.program n) →
+      t ≤ s + each * work_on dom m (checked_among m.program (take i ns)) → u ≤ t + each * suc (added mid new + 2 * chain_count (routines_of m.program) (checked_at m.program n)) →
+      u ≤ s + each * suc (added old new + 2 * chain_count (routines_of m.program) (checked_among m.program ns))
   failed_most old mid new before during after s t u each r h q k p part w v =
       let cs = checked_among m.program (take i ns) in
       let rs = routines_of m.program in

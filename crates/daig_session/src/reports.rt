@@ -1,5 +1,5 @@
 //! Reports.
-ghost use Rattle.std.specs.Prelude.{◌≡◌, ℕ, ◌+◌, ◌*◌, ◌≤◌, [], ◌∷◌, ◌++◌, Contains, IfOk, IsFalse, IsSome, IsTrue, OnOk, Some, length, suc};
+ghost use Rattle.std.specs.Prelude.{◌≡◌, ◌+◌, ◌*◌, ◌≤◌, [], ◌++◌, Contains, IfOk, IsFalse, IsSome, IsTrue, OnOk, Some, length, suc};
 ghost use Rattle.imp_syntax.specs.declared.edit.Location.TheVariants.{Before};
 ghost use Rattle.imp_slots.specs.ActionViews.{act_of};
 ghost use Rattle.imp_slots.specs.Plain.{Does, Effect};
@@ -43,7 +43,8 @@ fn found_in<S>(value: &Value<S>) -> Found<'_, S>
     }
 }
 
-/// What a report makes of an answer, or of a refusal: a statement to which no chain comes is dead.
+/// What a report makes of an answer, or of a refusal: where no chain comes nothing is found, and any other refusal is told
+/// as an Over is.
 fn found_of<S>(known: &Result<Value<S>, Refusal>) -> Found<'_, S>
     ensures verdict { (dom : Operations S) (engine : BatchEngine) (a : Answer S) (e : Effect) → Tells a known.now → verdict_for dom (Does e) result ≡ verdict_on dom engine e a }
 {

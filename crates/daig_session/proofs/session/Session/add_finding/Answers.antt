@@ -1,12 +1,12 @@
-use Rattle.std.proofs.Common.{◌≡◌, ◌≤◌, suc, ◌+◌, ◌*◌, ◌++◌, ◌∷◌, [], List, Some, refl, sym, ap, subst, ◌∙◌, arith}
+use Rattle.std.proofs.Common.{◌≡◌, ◌≤◌, suc, ◌+◌, ◌*◌, [], List, refl, sym, ap, subst, ◌∙◌, arith}
 use Rattle.imp_syntax.specs.Plain.{Procedure}
 use Rattle.imp_syntax.specs.declared.edit.Location.TheVariants.{Before}
 use Rattle.domain_laws.specs.Checks.{kind_of}
-use Rattle.batch_meaning.specs.Report.{Checked, checked_one, verdict_on}
+use Rattle.batch_meaning.specs.Report.{Checked, verdict_on}
 use Rattle.imp_check.specs.Slots.{routines_of}
 use Rattle.daig_query.specs.Filled.{added}
 use Rattle.session_machine.specs.Turns.{answer_at}
-use Rattle.daig_session.specs.Reports.{chain_count, checked_at, findings, work_on, HasCheck, HoldsAll, HoldsPart}
+use Rattle.daig_session.specs.Reports.{chain_count, checked_at, work_on, HasCheck, HoldsAll, HoldsPart}
 use Rattle.daig_session.proofs.Reporting.{at_is, checked_is, found_none, found_one, none_all, none_part, ok_all, ok_then}
 use Rattle.daig_session.proofs.session.Session.add_finding.Goals as goal
 

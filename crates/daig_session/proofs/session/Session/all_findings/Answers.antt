@@ -1,4 +1,4 @@
-use Rattle.std.proofs.Common.{◌≡◌, ◌≤◌, suc, ◌+◌, ◌*◌, ◌++◌, [], List, sym, ap, subst, ◌∙◌, arith}
+use Rattle.std.proofs.Common.{◌≤◌, suc, ◌+◌, ◌*◌, ◌++◌, List, ap, subst, ◌∙◌, arith}
 use Rattle.imp_syntax.specs.Plain.{program_numbers}
 use Rattle.imp_check.specs.Slots.{routines_of}
 use Rattle.analysis_words.specs.declared.findings.Finding.{Finding}

@@ -1,4 +1,4 @@
-use Rattle.std.proofs.Common.{◌≡◌, ◌+◌, ◌*◌, ◌≤◌, suc, [], Err, Some, sym, subst, arith}
+use Rattle.std.proofs.Common.{◌+◌, ◌*◌, ◌≤◌, suc, [], Err, Some, subst, arith}
 use Rattle.imp_syntax.specs.declared.edit.Location.TheVariants.{Before}
 use Rattle.imp_slots.specs.Plain.{Skip}
 use Rattle.domain_laws.specs.Checks.{IsCell}
@@ -7,7 +7,7 @@ use Rattle.session_machine.specs.Turns.{asked}
 use Rattle.daig_query.specs.Filled.{added}
 use Rattle.daig_session.specs.declared.error.QueryError.{QueryError}
 use Rattle.daig_session.specs.Holds.{Holds}
-use Rattle.daig_session.specs.Reports.{work_on, IsUnticked}
+use Rattle.daig_session.specs.Reports.{IsUnticked}
 use Rattle.daig_session.specs.Turns.{Questions}
 use Rattle.daig_session.proofs.Reported.{one_answered, one_asked, one_chains, one_refused, one_work}
 use Rattle.daig_session.proofs.Reporting.{checked_here, same_program}
