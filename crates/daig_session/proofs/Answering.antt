@@ -1,29 +1,27 @@
 -- What a question answers is the machine's.
-use Rattle.std.proofs.Common.{◌≡◌, ℕ, suc, ◌+◌, ◌*◌, ◌≤◌, List, [], ◌∷◌, ◌++◌, take, length, Some, Ok, Err, refl, sym, ap, subst, ◌∙◌, arith}
+use Rattle.std.proofs.Common.{◌≡◌, ℕ, suc, ◌+◌, ◌*◌, ◌≤◌, List, [], ◌∷◌, ◌++◌, length, Some, Err, refl, sym, ap, subst, ◌∙◌, arith}
 use Rattle.imp_syntax.specs.declared.edit.Location.{Location}
 use Rattle.imp_slots.specs.Fits.{IsChecked}
-use Rattle.imp_check.specs.Slots.{routines_of}
 use Rattle.domain_laws.specs.Operations.{Operations}
 use Rattle.batch_meaning.specs.Answers.{answer}
 use Rattle.cell_names.specs.Paths.{CellName}
 use Rattle.cell_rows.specs.Targets.{Target}
-use Rattle.imp_flow.specs.Plans.{Plan}
 use Rattle.daig_graph.specs.declared.value.Value.{Value}
 use Rattle.daig_query.specs.declared.store.Store.{Store}
 use Rattle.daig_query.specs.Answered.{Says}
 use Rattle.daig_query.specs.Filled.{Fills}
 use Rattle.session_machine.specs.Machine.{Machine, keeping}
-use Rattle.session_machine.specs.Turns.{IsBetween, added, answer_at, asked, missing_at, targets_of}
+use Rattle.session_machine.specs.Turns.{IsBetween, answer_at, missing_at, targets_of}
 use Rattle.session_machine.specs.Claims.{FillingKeeps}
 use Rattle.daig_session.specs.declared.book.Book.{Book}
 use Rattle.daig_session.specs.declared.error.QueryError.{QueryError}
 use Rattle.daig_session.specs.declared.error.QueryError.TheVariants.{Refused, Memory}
-use Rattle.daig_session.specs.Books.{flow_in, machine_of}
+use Rattle.daig_session.specs.Books.{flow_in}
 use Rattle.daig_session.specs.Going.{IsAsked, IsRefused}
-use Rattle.daig_session.specs.Holds.{Holds, IsReady}
+use Rattle.daig_session.specs.Holds.{Holds}
 use Rattle.daig_session.specs.Reports.{IsUnticked}
 use Rattle.daig_session.specs.Turns.{Questions}
-use Rattle.daig_session.proofs.Filled.{added_holds, as_many, missing_here}
+use Rattle.daig_session.proofs.Filled.{added_holds, as_many}
 
 append_none : {A : Type 0} (xs : List A) → xs ++ [] ≡ xs
 append_none [] = refl
