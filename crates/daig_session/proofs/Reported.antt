@@ -1,8 +1,7 @@
 -- Checked statements one after another: what is missing of them, and what is kept then.
-use Rattle.std.proofs.Common.{◌≡◌, ℕ, zero, suc, ◌+◌, ◌*◌, ◌≤◌, Bool, true, false, ◌||◌, List, [], ◌∷◌, ◌++◌, map, take, length, Option, Some, None, Result, Ok, Err, refl, sym, ap, subst, ◌∙◌, arith, append_assoc, append-nil}
+use Rattle.std.proofs.Common.{◌≡◌, ℕ, zero, suc, ◌+◌, ◌*◌, ◌≤◌, Bool, ◌||◌, List, [], ◌∷◌, ◌++◌, map, take, length, Option, Some, None, Result, Ok, Err, refl, sym, ap, subst, ◌∙◌, arith, append_assoc, append-nil}
 use Rattle.std.proofs.lemmas.List.{length-append, map-append}
 use std.Path.{fun_ext}
-use Rattle.imp_syntax.specs.Plain.{Procedure}
 use Rattle.imp_syntax.specs.declared.edit.Location.TheVariants.{Before}
 use Rattle.imp_slots.specs.Fits.{IsChecked}
 use Rattle.imp_slots.specs.Plain.{Effect, Routine}
@@ -10,7 +9,7 @@ use Rattle.imp_check.specs.Slots.{routines_of}
 use Rattle.analysis_words.specs.declared.refusal.Refusal.{Refusal}
 use Rattle.domain_laws.specs.Checks.{Check}
 use Rattle.domain_laws.specs.Operations.{Operations}
-use Rattle.batch_meaning.specs.Answers.{Answer, Answers, Found, In, Misses, Refuses, answer, procedure_of}
+use Rattle.batch_meaning.specs.Answers.{Answers, Found, In, Misses, Refuses, procedure_of}
 use Rattle.batch_meaning.specs.Report.{Checked, checked_one}
 use Rattle.cell_names.specs.Paths.{CellName}
 use Rattle.cell_rows.specs.Targets.{Target, demanded, targets}
@@ -29,7 +28,6 @@ use Rattle.session_machine.specs.Turns.{IsBetween, answer_at, asked, found, is_k
 use Rattle.daig_session.specs.declared.book.Book.{Book}
 use Rattle.daig_session.specs.declared.error.QueryError.{QueryError}
 use Rattle.daig_session.specs.declared.error.QueryError.TheVariants as query
-use Rattle.daig_session.specs.Books.{machine_of}
 use Rattle.daig_session.specs.Going.{IsAnswered}
 use Rattle.daig_session.specs.Holds.{Holds}
 use Rattle.daig_session.specs.Reports.{chain_count, missing_of, work_on, HoldsAll, HoldsPart}
@@ -66,7 +64,7 @@ module _ {T : Type 0} (s : System T) where
       ∙ sym (append_assoc first more (missing_in_turn s (seen s then more) yss))
       ∙ ap (λ k. (first ++ more) ++ missing_in_turn s k yss) (seen_both kept first more)
 
-chains_both : (program : List Routine) (cs ds : List Checked) → chain_count program (cs ++ ds) ≡ chain_count program cs + chain_count program ds
+pub chains_both : (program : List Routine) (cs ds : List Checked) → chain_count program (cs ++ ds) ≡ chain_count program cs + chain_count program ds
 chains_both program [] ds = omega arith
 chains_both program (c ∷ cs) ds = let e = chains_both program cs ds in omega arith
 
@@ -169,6 +167,9 @@ module _ {S : Type 0} (dom : Operations S) (m : Machine) where
         let a = ap length one_missing in
         let b = ap length one_asks in
         omega arith
+
+    pub one_chains : length (targets_of m (Before n) []) ≡ chain_count (routines_of m.program) one
+    one_chains = let e = ap length one_asks in omega arith
 
     -- It is refused only where it has no targets.
     none_refused : (r : Refusal) → IsChecked (routines_of m.program) → answer_at dom (Before n) [] m ≡ Refuses r → targets_of m (Before n) [] ≡ []

@@ -1,29 +1,34 @@
 -- Reports, a statement at a time.
-use Rattle.std.proofs.Common.{◌≡◌, ℕ, zero, suc, ◌+◌, ◌-◌, ◌*◌, ◌≤◌, List, [], ◌∷◌, ◌++◌, map, take, drop, length, Some, Result, Ok, Err, slice_get, refl, sym, ap, subst, ◌∙◌, arith, append_assoc, append-nil}
+use Rattle.std.proofs.Common.{◌≡◌, ℕ, zero, suc, ◌+◌, ◌-◌, ◌*◌, ◌≤◌, List, [], ◌∷◌, ◌++◌, take, drop, length, Some, Result, Ok, Err, slice_get, refl, sym, ap, subst, ◌∙◌, arith, append_assoc, append-nil}
 use Rattle.std.specs.Prelude.{OnOk}
+use Rattle.std.specs.FinMap.{len}
+use Rattle.std.proofs.Math.Nat.{mul-le-mul_left}
 use Rattle.std.proofs.lemmas.List.{length-append, map-append, take-append-drop}
 use Rattle.imp_syntax.specs.Plain.{Procedure, program_numbers}
 use Rattle.imp_check.specs.Programs.{AreNumbered}
 use Rattle.imp_check.specs.Slots.{routines_of}
 use Rattle.imp_slots.specs.Fits.{IsChecked}
-use Rattle.imp_slots.specs.Plain.{Effect}
+use Rattle.imp_slots.specs.Plain.{Effect, Routine}
 use Rattle.imp_syntax.specs.declared.edit.Location.TheVariants.{Before}
 use Rattle.analysis_words.specs.declared.findings.Finding.{Finding}
 use Rattle.domain_laws.specs.Operations.{Operations}
 use Rattle.domain_laws.specs.Checks.{Check, kind_of}
 use Rattle.batch_meaning.specs.Report.{Checked, checked_one, checked_statements, finding, verdict_on}
 use Rattle.daig_query.specs.declared.store.Store.{Store}
+use Rattle.daig_query.specs.Filled.{added}
 use Rattle.daig_query.proofs.Lists.{take_next}
 use Rattle.cell_names.specs.Paths.{CellName}
 use Rattle.session_machine.specs.Machine.{Machine, keeping}
 use Rattle.session_machine.specs.Turns.{IsBetween, answer_at, missing_for_report, reported}
 use Rattle.daig_session.specs.declared.book.Book.{Book}
-use Rattle.daig_session.specs.Books.{machine_of}
+use Rattle.daig_session.specs.Books.{flow_in, machine_of}
 use Rattle.daig_session.specs.Holds.{Holds, IsReady}
-use Rattle.daig_session.specs.Reports.{checked_among, checked_at, findings, missing_of, work_on, HasCheck, HoldsAll, HoldsPart}
+use Rattle.daig_session.specs.Reports.{chain_count, checked_among, checked_at, findings, missing_of, work_on, HasCheck, HoldsAll, HoldsPart, HoldsWith}
 use Rattle.daig_session.proofs.CheckLemmas.{all_checks, among_both, among_next}
+use Rattle.daig_session.proofs.Answering.{work_both}
+use Rattle.daig_session.proofs.Counted.{kept_counted}
 use Rattle.daig_session.proofs.Standing.{names, stands}
-use Rattle.daig_session.proofs.Reported.{all_none, all_part, all_then, behind, part_more, part_then, ticks_then}
+use Rattle.daig_session.proofs.Reported.{all_none, all_part, all_then, behind, chains_both, part_more, part_then, ticks_then}
 
 among_at : (ps : List Procedure) (ns : List ℕ) (i n : ℕ) → slice_get ns i ≡ Some n → checked_among ps (take (i + 1) ns) ≡ checked_among ps (take i ns) ++ checked_at ps n
 among_at ps ns i n e = let k : i + 1 ≡ suc i = omega arith in ap (λ j. checked_among ps (take j ns)) k ∙ (ap (checked_among ps) (take_next ns i n e) ∙ among_next ps (take i ns) n)
@@ -104,6 +109,34 @@ module _ {S : Type 0} (dom : Operations S) (m : Machine) (ns : List ℕ) (i n : 
   pub next_ticked : (cost s t u each : ℕ) → t ≤ s + each * work_on dom m sofar → u ≤ t + each * work_on dom (behind dom m sofar cost) one → u ≤ s + each * work_on dom m (checked_among m.program (take (i + 1) ns))
   next_ticked cost s t u each h k = subst (λ cs. u ≤ s + each * work_on dom m cs) (sym next_is) (ticks_then dom m cost sofar one s t u each h k)
 
+-- How many cells are kept, and what they cost where a call fails.
+module _ {S : Type 0} (dom : Operations S) (store : Store S) (book : Book) (r : IsReady dom store book) where
+  cells_are : (m : Machine) → Holds dom store book m → len store.graph.cells ≡ length m.kept
+  cells_are m h = kept_counted dom (flow_in book) store m.kept r.right h.same h.cells.once
+
+  pub cells_with : (m : Machine) (xs : List CellName) → HoldsWith dom m store book xs → len store.graph.cells ≡ length m.kept + length xs
+  cells_with m xs h = cells_are (keeping (m.kept ++ xs) book.cost m) h ∙ length-append m.kept xs
+
+  pub cells_no_less : (m : Machine) (cs : List Checked) → HoldsPart dom m store book cs → length m.kept ≤ len store.graph.cells
+  cells_no_less m cs p = let e = cells_with m (take p.count (missing_of dom m cs)) p.some in omega arith
+
+-- as many as were missing
+pub all_added : {S : Type 0} (dom : Operations S) (old new : Store S) (before after : Book) (m : Machine) (cs : List Checked) → IsReady dom old before → Holds dom old before m → IsReady dom new after → HoldsAll dom m new after cs → length (missing_of dom m cs) ≡ added old new
+all_added dom old new before after m cs r h q k =
+    let a = cells_are dom old before r m h in
+    let b = cells_with dom new after q m (missing_of dom m cs) k in
+    omega arith
+
+no_more : (s u each i j : ℕ) → i ≤ j → u ≤ s + each * i → u ≤ s + each * j
+no_more s u each i j le h = let q = mul-le-mul_left each le in omega (arith, q, h)
+
+pub work_within : (s u each n a k : ℕ) → n ≡ a → u ≤ s + each * (n + 2 * k) → u ≤ s + each * suc (a + 2 * k)
+work_within s u each n a k e w = no_more s u each (n + 2 * k) (suc (a + 2 * k)) (omega (arith, e)) w
+
+work_sum : (s t u each n a b k l most : ℕ) → t ≤ s + each * (n + 2 * k) → u ≤ t + each * suc (a + 2 * l) → n + a ≤ b → k + l ≤ most → u ≤ s + each * suc (b + 2 * most)
+work_sum s t u each n a b k l most h g le few =
+    no_more s u each (n + 2 * k + suc (a + 2 * l)) (suc (b + 2 * most)) (omega (arith, le, few)) (work_both s t u each (n + 2 * k) (suc (a + 2 * l)) h g)
+
 -- What stands of the session itself, whichever machine it stands for.
 module _ {S : Type 0} (dom : Operations S) (old new : Store S) (before after : Book) (cs : List Procedure → List Checked) (r : IsReady dom old before) (part : (m : Machine) → Holds dom old before m → HoldsPart dom m new after (cs m.program)) where
   abbrev here : Machine
@@ -140,3 +173,24 @@ module _ {S : Type 0} (dom : Operations S) (m : Machine) (store : Store S) (book
 
 pub cost_here : {S : Type 0} (dom : Operations S) (store : Store S) (book : Book) (m : Machine) → Holds dom store book m → book.cost ≡ m.cost
 cost_here dom store book m h = ap (λ (z : Machine). z.cost) h.is
+
+-- One of some statements fails.
+module _ {S : Type 0} (dom : Operations S) (m : Machine) (ns : List ℕ) (i n : ℕ) (there : slice_get ns i ≡ Some n) where
+  few_chains : (rs : List Routine) → chain_count rs (checked_among m.program (take i ns)) + chain_count rs (checked_at m.program n) ≤ chain_count rs (checked_among m.program ns)
+  few_chains rs =
+      let a = ap (chain_count rs) (next_is dom m ns i n there) ∙ chains_both rs (checked_among m.program (take i ns)) (checked_at m.program n) in
+      let b = ap (chain_count rs) (sym (among_split m.program ns (i + 1))) ∙ chains_both rs (checked_among m.program (take (i + 1) ns)) (checked_among m.program (drop (i + 1) ns)) in
+      omega arith
+
+  pub failed_most : (old mid new : Store S) (before during after : Book) (s t u each : ℕ) →
+      IsReady dom old before → Holds dom old before m → IsReady dom mid during → HoldsAll dom m mid during (checked_among m.program (take i ns)) → IsReady dom new after → HoldsPart dom (behind dom m (checked_among m.program (take i ns)) during.cost) new after (checked_at m.program n) →
+      t ≤ s + each * work_on dom m (checked_among m.program (take i ns)) → u ≤ t + each * suc (added mid new + 2 * chain_count (routines_of m.program) (checked_at m.program n)) →
+      u ≤ s + each * suc (added old new + 2 * chain_count (routines_of m.program) (checked_among m.program ns))
+  failed_most old mid new before during after s t u each r h q k p part w v =
+      let cs = checked_among m.program (take i ns) in
+      let rs = routines_of m.program in
+      let a = cells_are dom old before r m h in
+      let b = cells_with dom mid during q m (missing_of dom m cs) k in
+      let d = cells_are dom mid during q (behind dom m cs during.cost) k in
+      let e = cells_no_less dom new after p (behind dom m cs during.cost) (checked_at m.program n) part in
+      work_sum s t u each (length (missing_of dom m cs)) (added mid new) (added old new) (chain_count rs cs) (chain_count rs (checked_at m.program n)) (chain_count rs (checked_among m.program ns)) w v (omega (arith, a, b, d, e)) (few_chains rs)

@@ -1,8 +1,8 @@
 -- A session that is ready stands for a machine.
-use Rattle.std.proofs.Common.{◌≡◌, ◌⊎◌, ℕ, zero, suc, Bool, true, false, ◌||◌, List, [], ◌∷◌, filter, Option, Some, None, is_some, slice_get, refl, sym, ap, subst, ◌∙◌, inl, inr, arith}
+use Rattle.std.proofs.Common.{◌≡◌, ℕ, suc, true, List, [], ◌∷◌, filter, Option, Some, None, is_some, slice_get, refl, sym, ap, subst, inl, inr, arith}
 use Rattle.std.proofs.lemmas.Bool.{false_from_ne_true}
 use std.Path.{fun_ext}
-use Rattle.plain_values.proofs.Cases.{or_either, some_inj}
+use Rattle.plain_values.proofs.Cases.{or_either}
 use Rattle.domain_laws.specs.Operations.{Operations}
 use Rattle.imp_check.specs.Slots.{routines_of}
 use Rattle.cell_names.specs.Known.{IsOnce}
@@ -18,7 +18,6 @@ use Rattle.named_cells.proofs.Numbers.{at_member, filled_named}
 use Rattle.daig_query.specs.declared.held.Held.{Held}
 use Rattle.daig_query.specs.declared.store.Store.{Store}
 use Rattle.daig_query.specs.Kept.{kept}
-use Rattle.session_machine.specs.Machine.{Machine}
 use Rattle.session_machine.proofs.Lists.{filter_distinct, filter_holds, filter_there}
 use Rattle.daig_session.specs.declared.book.Book.{Book}
 use Rattle.daig_session.specs.Books.{machine_of}

@@ -1,5 +1,5 @@
 //! Reports.
-ghost use Rattle.std.specs.Prelude.{◌≡◌, ℕ, ◌+◌, ◌*◌, ◌≤◌, [], ◌∷◌, ◌++◌, Contains, IfOk, IsFalse, IsSome, IsTrue, OnOk, Some, length};
+ghost use Rattle.std.specs.Prelude.{◌≡◌, ◌+◌, ◌*◌, ◌≤◌, [], ◌++◌, Contains, IfOk, IsFalse, IsSome, IsTrue, OnOk, Some, length, suc};
 ghost use Rattle.imp_syntax.specs.declared.edit.Location.TheVariants.{Before};
 ghost use Rattle.imp_slots.specs.ActionViews.{act_of};
 ghost use Rattle.imp_slots.specs.Plain.{Does, Effect};
@@ -13,10 +13,11 @@ ghost use Rattle.batch_meaning.specs.Report.{checked_one, checked_statements, ve
 ghost use Rattle.batch_sound.specs.Theorem.{IsFindingSound};
 ghost use Rattle.alarm_report.specs.Reporting.{verdict_for};
 ghost use Rattle.daig_query.specs.Answered.{Says};
+ghost use Rattle.daig_query.specs.Filled.{added};
 ghost use Rattle.session_machine.specs.Machine.{Machine};
 ghost use Rattle.session_machine.specs.Turns.{answer_at, missing_for_report};
 ghost use Rattle.daig_session.specs.Holds.{Holds, IsReady};
-ghost use Rattle.daig_session.specs.Reports.{checked_act, checked_among, checked_at, checked_chains, findings, work_on, HasCheck, HoldsAll, HoldsPart, Reports, Tells};
+ghost use Rattle.daig_session.specs.Reports.{checked_act, checked_among, chain_count, checked_at, checked_chains, findings, work_on, HasCheck, HoldsAll, HoldsPart, Reports, Tells};
 
 use crate::checks::{all_statements, checked_stmt};
 use crate::error::QueryError;
@@ -42,7 +43,8 @@ fn found_in<S>(value: &Value<S>) -> Found<'_, S>
     }
 }
 
-/// What a report makes of an answer, or of a refusal: a statement to which no chain comes is dead.
+/// What a report makes of an answer, or of a refusal: where no chain comes nothing is found, and any other refusal is told
+/// as an Over is.
 fn found_of<S>(known: &Result<Value<S>, Refusal>) -> Found<'_, S>
     ensures verdict { (dom : Operations S) (engine : BatchEngine) (a : Answer S) (e : Effect) → Tells a known.now → verdict_for dom (Does e) result ≡ verdict_on dom engine e a }
 {
@@ -119,6 +121,8 @@ impl<D: Domain> Session<D> {
         ensures least { steps.old ≤ steps.new }
         ensures ticked { OnOk result ((m : Machine) (e : Effect) (k : Check) → Holds (D.operations self.old.engine.domain) self.old.engine.store self.old.book m →
             steps.new ≤ steps.old + D.counted self.old.engine.domain * work_on (D.operations self.old.engine.domain) m (checked_one id e (Some k))) }
+        ensures most { (m : Machine) (e : Effect) (k : Check) → Holds (D.operations self.old.engine.domain) self.old.engine.store self.old.book m →
+            steps.new ≤ steps.old + D.counted self.old.engine.domain * suc (added self.old.engine.store self.new.engine.store + 2 * chain_count (routines_of m.program) (checked_one id e (Some k))) }
     {
         match self.query(alloc, &Location::Before(id), &[], steps) {
             Ok(value) => Ok(Ok(value)),
@@ -147,6 +151,8 @@ impl<D: Domain> Session<D> {
         ensures least { steps.old ≤ steps.new }
         ensures ticked { OnOk result ((m : Machine) → Holds (D.operations self.old.engine.domain) self.old.engine.store self.old.book m →
             steps.new ≤ steps.old + D.counted self.old.engine.domain * work_on (D.operations self.old.engine.domain) m (checked_at m.program id)) }
+        ensures most { (m : Machine) → Holds (D.operations self.old.engine.domain) self.old.engine.store self.old.book m →
+            steps.new ≤ steps.old + D.counted self.old.engine.domain * suc (added self.old.engine.store self.new.engine.store + 2 * chain_count (routines_of m.program) (checked_at m.program id)) }
     {
         if !self.has_check(id) {
             return Ok(());
@@ -176,6 +182,8 @@ impl<D: Domain> Session<D> {
         ensures least { steps.old ≤ steps.new }
         ensures ticked { OnOk result ((m : Machine) → Holds (D.operations self.old.engine.domain) self.old.engine.store self.old.book m →
             steps.new ≤ steps.old + D.counted self.old.engine.domain * work_on (D.operations self.old.engine.domain) m (checked_among m.program stmts.now)) }
+        ensures most { (m : Machine) → Holds (D.operations self.old.engine.domain) self.old.engine.store self.old.book m →
+            steps.new ≤ steps.old + D.counted self.old.engine.domain * suc (added self.old.engine.store self.new.engine.store + 2 * chain_count (routines_of m.program) (checked_among m.program stmts.now)) }
     {
         for stmt in stmts {
             self.add_finding(alloc, *stmt, found, steps)?;
@@ -201,6 +209,8 @@ impl<D: Domain> Session<D> {
         ensures least { steps.old ≤ steps.new }
         ensures ticked { OnOk result ((m : Machine) → Holds (D.operations self.old.engine.domain) self.old.engine.store self.old.book m →
             steps.new ≤ steps.old + D.counted self.old.engine.domain * work_on (D.operations self.old.engine.domain) m (checked_statements (routines_of m.program))) }
+        ensures most { (m : Machine) → Holds (D.operations self.old.engine.domain) self.old.engine.store self.old.book m →
+            steps.new ≤ steps.old + D.counted self.old.engine.domain * suc (added self.old.engine.store self.new.engine.store + 2 * checked_chains m) }
     {
         let stmts = all_statements(alloc, &self.book.history.table().view())?;
         let mut found = Items::new(alloc);
@@ -213,7 +223,8 @@ impl<D: Domain> Session<D> {
     ///
     /// Only what is missing is computed, for one statement after another; it is kept, and `cost` tells how many cells that
     /// were. It ticks at most once an operation of the domain for each of these, and twice for each chain to each checked
-    /// statement. Beside these it takes time linear in the program.
+    /// statement. Where it fails it ticks at most so for what it filled then, and for one operation more. Beside these it
+    /// takes time linear in the program.
     ///
     /// # Errors
     ///
@@ -233,6 +244,8 @@ impl<D: Domain> Session<D> {
         ensures least { steps.old ≤ steps.new }
         ensures ticked { (m : Machine) → Holds (D.operations self.old.engine.domain) self.old.engine.store self.old.book m →
             OnOk result (steps.new ≤ steps.old + D.counted self.old.engine.domain * (length (missing_for_report (D.operations self.old.engine.domain) m) + 2 * checked_chains m)) }
+        ensures most { (m : Machine) → Holds (D.operations self.old.engine.domain) self.old.engine.store self.old.book m →
+            steps.new ≤ steps.old + D.counted self.old.engine.domain * suc (added self.old.engine.store self.new.engine.store + 2 * checked_chains m) }
     {
         reports_are_sound::<D>();
         let cost = self.book.cost;

@@ -85,7 +85,8 @@ fn locations_that_are_not_there(rt: HostRuntime) -> Result<(), Fail> {
 
 #[test]
 fn reports(rt: HostRuntime) -> Result<(), Fail> {
-    let text = "proc dead() { assert 0 == 0; } proc main() { var i: int; i = 0; while (i < 10) { i = i + 1; assert i < 11; } assert i == 10; }";
+    let text =
+        "proc dead() { assert 0 == 0; } proc main() { var i: int; i = 0; while (i < 10) { i = i + 1; assert i < 11; } assert i == 10; }";
     let script = [
         Line::Query("before", 5),
         Line::Cost,

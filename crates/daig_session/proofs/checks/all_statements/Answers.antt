@@ -1,4 +1,4 @@
-use Rattle.std.proofs.Common.{◌≡◌, ◌++◌, sym, ap, ◌∙◌, arith}
+use Rattle.std.proofs.Common.{◌++◌, ap, ◌∙◌, arith}
 use Rattle.imp_syntax.specs.Plain.{program_numbers}
 use Rattle.imp_check.specs.Walks.{numbers_at}
 use Rattle.daig_session.proofs.CheckLemmas.{numbers_step}

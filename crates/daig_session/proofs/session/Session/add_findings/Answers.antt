@@ -1,11 +1,13 @@
-use Rattle.std.proofs.Common.{◌≡◌, ◌≤◌, ◌+◌, ◌*◌, ◌++◌, List, length, take, Some, sym, ap, subst, ◌∙◌, arith}
+use Rattle.std.proofs.Common.{◌≡◌, ◌≤◌, suc, ◌+◌, ◌*◌, ◌++◌, List, length, take, Some, sym, ap, subst, ◌∙◌, arith}
 use Rattle.std.proofs.lemmas.Option.{slice_get-get_or}
 use Rattle.batch_meaning.specs.Report.{Checked}
+use Rattle.imp_check.specs.Slots.{routines_of}
+use Rattle.daig_query.specs.Filled.{added}
 use Rattle.session_machine.specs.Machine.{Machine}
-use Rattle.daig_session.specs.Holds.{Holds}
-use Rattle.daig_session.specs.Reports.{checked_among, checked_at, findings, work_on, HoldsAll, HoldsPart}
+use Rattle.daig_session.specs.Holds.{Holds, IsReady}
+use Rattle.daig_session.specs.Reports.{chain_count, checked_among, checked_at, findings, missing_of, work_on, HoldsAll, HoldsPart}
 use Rattle.daig_session.proofs.Reported.{all_part, behind}
-use Rattle.daig_session.proofs.Reporting.{among_end, next_all, next_found, next_part, next_ticked}
+use Rattle.daig_session.proofs.Reporting.{all_added, among_end, failed_most, next_all, next_found, next_part, next_ticked, work_within}
 use Rattle.daig_session.proofs.session.Session.add_findings.Goals as goal
 
 pub loop-stmt-preserved : goal.loop-stmt-preserved
@@ -86,3 +88,39 @@ returns-clause-ticked g c = λ m h.
     let i = c.loop-stmt.stmt-index in
     let e = among_end m.program ns i (omega (arith, c.loop-stmt-test.false)) in
     subst (λ (cs : List Checked). c.loop-stmt.steps ≤ c.args.steps.now + g.D.Domain.counted old.engine.domain * work_on dom m cs) e (c.loop-stmt.invariant.ticked m h)
+
+pub returns-in_err-add_finding-clause-most : goal.returns-in_err-add_finding-clause-most
+returns-in_err-add_finding-clause-most g c = λ m h.
+    let old = c.args.self.now in
+    let mid = c.loop-stmt.self in
+    let new = c.add_finding.new.self in
+    let ops = g.D.Domain.operations in
+    let dom = ops old.engine.domain in
+    let ns = c.args.stmts.now in
+    let i = c.loop-stmt.stmt-index in
+    let n = c.stmt-item.result in
+    let inv = c.loop-stmt.invariant in
+    let there = slice_get-get_or ns i n c.loop-stmt-test.true ∙ ap Some (sym c.stmt-item.is) in
+    let then = λ (m : Machine). behind dom m (checked_among m.program (take i ns)) mid.book.cost in
+    let stands = λ (m : Machine) (h : Holds dom old.engine.store old.book m). subst (λ d. Holds (ops d) mid.engine.store mid.book (then m)) (sym inv.domain) (inv.all m h) in
+    failed_most dom m ns i n there old.engine.store mid.engine.store new.engine.store old.book mid.book new.book c.args.steps.now c.loop-stmt.steps c.add_finding.new.steps (g.D.Domain.counted old.engine.domain) c.requires.ready h
+    (subst (λ d. IsReady (ops d) mid.engine.store mid.book) inv.domain inv.ready) (inv.all m h)
+    (subst (λ d. IsReady (ops d) new.engine.store new.book) (c.add_finding.ensures.domain ∙ inv.domain) c.add_finding.ensures.ready)
+    (subst (λ d. HoldsPart (ops d) (then m) new.engine.store new.book (checked_at m.program n)) inv.domain (c.add_finding.ensures.part (then m) (stands m h)))
+    (inv.ticked m h)
+    (subst (λ d. c.add_finding.new.steps ≤ c.loop-stmt.steps + g.D.Domain.counted d * suc (added mid.engine.store new.engine.store + 2 * chain_count (routines_of m.program) (checked_at m.program n))) inv.domain (c.add_finding.ensures.most (then m) (stands m h)))
+
+pub returns-clause-most : goal.returns-clause-most
+returns-clause-most g c = λ m h.
+    let old = c.args.self.now in
+    let last = c.loop-stmt.self in
+    let ops = g.D.Domain.operations in
+    let dom = ops old.engine.domain in
+    let ns = c.args.stmts.now in
+    let i = c.loop-stmt.stmt-index in
+    let inv = c.loop-stmt.invariant in
+    let e = among_end m.program ns i (omega (arith, c.loop-stmt-test.false)) in
+    let all = subst (HoldsAll dom m last.engine.store last.book) e (inv.all m h) in
+    let ticks = subst (λ (cs : List Checked). c.loop-stmt.steps ≤ c.args.steps.now + g.D.Domain.counted old.engine.domain * work_on dom m cs) e (inv.ticked m h) in
+    work_within c.args.steps.now c.loop-stmt.steps (g.D.Domain.counted old.engine.domain) (length (missing_of dom m (checked_among m.program ns))) (added old.engine.store last.engine.store) (chain_count (routines_of m.program) (checked_among m.program ns))
+    (all_added dom old.engine.store last.engine.store old.book last.book m (checked_among m.program ns) c.requires.ready h (subst (λ d. IsReady (ops d) last.engine.store last.book) inv.domain inv.ready) all) ticks

@@ -1,4 +1,4 @@
-use Rattle.std.proofs.Common.{◌≡◌, true, is_some, List, sym, ap, ◌∙◌}
+use Rattle.std.proofs.Common.{is_some, List, sym, ap, ◌∙◌}
 use Rattle.std.specs.Option.{option_copied}
 use Rattle.imp_syntax.specs.Plain.{Procedure}
 use Rattle.daig_session.specs.Reports.{checked_at}

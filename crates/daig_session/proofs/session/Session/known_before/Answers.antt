@@ -1,14 +1,15 @@
-use Rattle.std.proofs.Common.{◌≡◌, ◌+◌, ◌*◌, ◌≤◌, [], Err, Some, sym, subst, arith}
+use Rattle.std.proofs.Common.{◌+◌, ◌*◌, ◌≤◌, suc, [], Err, Some, subst, arith}
 use Rattle.imp_syntax.specs.declared.edit.Location.TheVariants.{Before}
 use Rattle.imp_slots.specs.Plain.{Skip}
 use Rattle.domain_laws.specs.Checks.{IsCell}
 use Rattle.batch_meaning.specs.Report.{checked_one}
 use Rattle.session_machine.specs.Turns.{asked}
+use Rattle.daig_query.specs.Filled.{added}
 use Rattle.daig_session.specs.declared.error.QueryError.{QueryError}
 use Rattle.daig_session.specs.Holds.{Holds}
-use Rattle.daig_session.specs.Reports.{work_on, IsUnticked}
+use Rattle.daig_session.specs.Reports.{IsUnticked}
 use Rattle.daig_session.specs.Turns.{Questions}
-use Rattle.daig_session.proofs.Reported.{one_answered, one_asked, one_refused, one_work}
+use Rattle.daig_session.proofs.Reported.{one_answered, one_asked, one_chains, one_refused, one_work}
 use Rattle.daig_session.proofs.Reporting.{checked_here, same_program}
 use Rattle.daig_session.proofs.session.Session.known_before.Goals as goal
 
@@ -117,3 +118,18 @@ pub returns-in-Err-Refused-clause-ticked : goal.returns-in-Err-Refused-clause-ti
 returns-in-Err-Refused-clause-ticked g c = λ m e k h.
     let q = subst (λ (r : QueryError). IsUnticked c.args.steps.now c.query.new.steps r) c.in-Err-Refused.field-0-is c.in-Err-Refused.ensures.unticked in
     omega (arith, q)
+
+pub returns-in-Ok-clause-most : goal.returns-in-Ok-clause-most
+returns-in-Ok-clause-most g c = λ m e k h.
+    let s = c.args.self.now in
+    subst (λ w. c.query.new.steps ≤ c.args.steps.now + g.D.Domain.counted s.engine.domain * suc (added s.engine.store c.query.new.self.engine.store + 2 * w)) (one_chains (g.D.Domain.operations s.engine.domain) m c.args.id e k) (c.query.ensures.most m h)
+
+pub returns-in-Err-Refused-clause-most : goal.returns-in-Err-Refused-clause-most
+returns-in-Err-Refused-clause-most g c = λ m e k h.
+    let s = c.args.self.now in
+    subst (λ w. c.query.new.steps ≤ c.args.steps.now + g.D.Domain.counted s.engine.domain * suc (added s.engine.store c.query.new.self.engine.store + 2 * w)) (one_chains (g.D.Domain.operations s.engine.domain) m c.args.id e k) (c.query.ensures.most m h)
+
+pub returns-clause-most : goal.returns-clause-most
+returns-clause-most g c = λ m e k h.
+    let s = c.args.self.now in
+    subst (λ w. c.query.new.steps ≤ c.args.steps.now + g.D.Domain.counted s.engine.domain * suc (added s.engine.store c.query.new.self.engine.store + 2 * w)) (one_chains (g.D.Domain.operations s.engine.domain) m c.args.id e k) (c.query.ensures.most m h)
