@@ -6,3 +6,4 @@ pub mod WordsLemmas
 pub mod TallyLemmas
 pub mod SourceLemmas
 pub mod ServedLemmas
+pub mod GeneratedLemmas

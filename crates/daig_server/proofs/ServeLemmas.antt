@@ -95,7 +95,7 @@ if_zero : (readings : Readings) (task : Task) (settings : Settings) (source scri
 if_zero readings task settings source script true short is =
     let found = source_zero readings task settings (source_of readings source) script is in
     let few : length source ≤ most_source = grind (arith, nat_tests) in
-    (found.0, few, found.1)
+    (found.0, (few, found.1))
 if_zero readings task settings source script false short is = absurd (omega (arith, is))
 
 file_zero : (readings : Readings) (task : Task) (settings : Settings) (file : Option (List ℕ)) (script : List ℕ) → (file_output readings task settings file script).status ≡ 0 → (program : List Procedure) × IsProgram readings file program
@@ -184,8 +184,21 @@ accepted_read readings (Some (job.Gen seed size domain)) folder program is = (ge
 accepted_read readings None folder program is = absurd is
 
 -- a file that was loaded is the one that is told, and is not too long
+told_file : (told : Option (List ℕ → Option (List ℕ))) (folder : List ℕ → Option (List ℕ)) (name file : List ℕ) → told ≡ Some folder → IfSome told (λ files. files name ≡ Some file) → folder name ≡ Some file
+told_file told folder name file is bytes = rw is at bytes
+
 pub loaded : (readings : Readings) (told : Option (List ℕ → Option (List ℕ))) (folder : List ℕ → Option (List ℕ)) (name file : List ℕ) (program : List Procedure) →
     told ≡ Some folder → IfSome told (λ files. files name ≡ Some file) → length file ≤ most_source → source_of readings file ≡ Ok program → IsProgram readings (folder name) program
-loaded readings told folder name file program is bytes short accepted =
-    let here : folder name ≡ Some file = rw is at bytes in
-    rw here (short, accepted)
+loaded readings told folder name file program is bytes short accepted = rw (told_file told folder name file is bytes) (short, accepted)
+
+short_output : (readings : Readings) (task : Task) (settings : Settings) (file script : List ℕ) (test : Bool) → nat_le (length file) most_source ≡ test → length file ≤ most_source →
+    (if test then source_output readings task settings (source_of readings file) script else record { status = 9; bytes = [] }) ≡ source_output readings task settings (source_of readings file) script
+short_output readings task settings file script true is short = refl
+short_output readings task settings file script false is short = absurd (grind (arith, nat_tests))
+
+pub loaded_output : (readings : Readings) (task : Task) (settings : Settings) (told : Option (List ℕ → Option (List ℕ))) (folder : List ℕ → Option (List ℕ)) (name file script : List ℕ) →
+    told ≡ Some folder → IfSome told (λ files. files name ≡ Some file) → length file ≤ most_source →
+    file_output readings task settings (folder name) script ≡ source_output readings task settings (source_of readings file) script
+loaded_output readings task settings told folder name file script is bytes short =
+    ap (λ (found : Option (List ℕ)). file_output readings task settings found script) (told_file told folder name file is bytes)
+    ∙ short_output readings task settings file script (nat_le (length file) most_source) refl short

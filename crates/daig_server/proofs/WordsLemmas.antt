@@ -29,8 +29,8 @@ if_some false o a is = cc
 first_some : {A B C : Type 0} (f : A → B → C) (a : Option A) (b : Option B) (c : C) → both f a b ≡ Some c → (x : A) × (y : B) × (a ≡ Some x) × (b ≡ Some y) × (f x y ≡ c)
 first_some f a b c is =
     let outer = then_some (λ x. option_map (f x) b) a c is in
-    let inner = map_some (f outer.0) b c outer.1.1 in
-    (outer.0, inner.0, outer.1.0, inner.1.0, inner.1.1)
+    let inner = map_some (f outer.0) b c outer.2 in
+    (outer.0, inner.0, outer.1, inner.1, inner.2)
 
 both_true : (a b c : Bool) → (a && b && c) ≡ true → (b ≡ true) × (c ≡ true)
 both_true true true true is = (refl, refl)
@@ -54,7 +54,7 @@ within least most text n is =
 value_within : (least most : ℕ) (name : Text) (rows : List Row) (n : ℕ) → value_in (number_in least most) name rows ≡ Some n → (least ≤ n) × (n ≤ most)
 value_within least most name rows n is =
     let read = then_some (number_in least most) (first_of name rows) n is in
-    within least most read.0 n read.1.1
+    within least most read.0 n read.2
 
 -- a job of serve, and of gen
 same_memo : (s t : Settings) (m n : ℕ) (f g : List ℕ) → job.Serve s m f ≡ job.Serve t n g → m ≡ n
@@ -66,14 +66,14 @@ same_size s t m n f g is = cc
 serve_within : (rows : List Row) (settings : Settings) (memo : ℕ) (file : List ℕ) → serve_in rows ≡ Some (job.Serve settings memo file) → 1 ≤ memo
 serve_within rows settings memo file is =
     let outer = then_some (λ s. both (job.Serve s) (value_in (number_in 1 65536) (codes "memo") rows) (file_in rows)) (settings_in rows) (job.Serve settings memo file) is in
-    let inner = first_some (job.Serve outer.0) (value_in (number_in 1 65536) (codes "memo") rows) (file_in rows) (job.Serve settings memo file) outer.1.1 in
-    rw (sym (same_memo outer.0 settings inner.0 memo inner.1.0 file inner.1.1.1.1)) (value_within 1 65536 (codes "memo") rows inner.0 inner.1.1.0).0
+    let inner = first_some (job.Serve outer.0) (value_in (number_in 1 65536) (codes "memo") rows) (file_in rows) (job.Serve settings memo file) outer.2 in
+    rw (sym (same_memo outer.0 settings inner.0 memo inner.1 file inner.4)) (value_within 1 65536 (codes "memo") rows inner.0 inner.2).0
 
 gen_within : (rows : List Row) (seed size : ℕ) (domain : DomainName) → gen_in rows ≡ Some (job.Gen seed size domain) → size ≤ 1000
 gen_within rows seed size domain is =
     let outer = then_some (λ d. both (gen_with d) (value_in (number_in 0 most_seed) (codes "seed") rows) (value_in (number_in 1 1000) (codes "size") rows)) (value_in domain_of (codes "domain") rows) (job.Gen seed size domain) is in
-    let inner = first_some (gen_with outer.0) (value_in (number_in 0 most_seed) (codes "seed") rows) (value_in (number_in 1 1000) (codes "size") rows) (job.Gen seed size domain) outer.1.1 in
-    rw (sym (same_size inner.0 seed inner.1.0 size outer.0 domain inner.1.1.1.1)) (value_within 1 1000 (codes "size") rows inner.1.0 inner.1.1.1.0).1
+    let inner = first_some (gen_with outer.0) (value_in (number_in 0 most_seed) (codes "seed") rows) (value_in (number_in 1 1000) (codes "size") rows) (job.Gen seed size domain) outer.2 in
+    rw (sym (same_size inner.0 seed inner.1 size outer.0 domain inner.4)) (value_within 1 1000 (codes "size") rows inner.1 inner.3).1
 
 -- no job of one command is one of another
 batch_serve : (s t : Settings) (f : List ℕ) (m : ℕ) (g : List ℕ) → job.Batch s f ≡ job.Serve t m g → ⊥
@@ -99,23 +99,23 @@ serve_bounded rows (job.Serve settings memo file) is = serve_within rows setting
 serve_bounded rows (job.Batch settings file) is = tt
 serve_bounded rows (job.Gen seed size domain) is =
     let outer = then_some (λ s. both (job.Serve s) (value_in (number_in 1 65536) (codes "memo") rows) (file_in rows)) (settings_in rows) (job.Gen seed size domain) is in
-    let inner = first_some (job.Serve outer.0) (value_in (number_in 1 65536) (codes "memo") rows) (file_in rows) (job.Gen seed size domain) outer.1.1 in
-    absurd (serve_gen outer.0 inner.0 inner.1.0 seed size domain inner.1.1.1.1)
+    let inner = first_some (job.Serve outer.0) (value_in (number_in 1 65536) (codes "memo") rows) (file_in rows) (job.Gen seed size domain) outer.2 in
+    absurd (serve_gen outer.0 inner.0 inner.1 seed size domain inner.4)
 
 batch_bounded : (rows : List Row) (j : Job) → batch_in rows ≡ Some j → Bounded j
 batch_bounded rows (job.Serve settings memo file) is =
     let inner = first_some job.Batch (settings_in rows) (file_in rows) (job.Serve settings memo file) is in
-    absurd (batch_serve inner.0 settings inner.1.0 memo file inner.1.1.1.1)
+    absurd (batch_serve inner.0 settings inner.1 memo file inner.4)
 batch_bounded rows (job.Batch settings file) is = tt
 batch_bounded rows (job.Gen seed size domain) is =
     let inner = first_some job.Batch (settings_in rows) (file_in rows) (job.Gen seed size domain) is in
-    absurd (batch_gen inner.0 inner.1.0 seed size domain inner.1.1.1.1)
+    absurd (batch_gen inner.0 inner.1 seed size domain inner.4)
 
 gen_bounded : (rows : List Row) (j : Job) → gen_in rows ≡ Some j → Bounded j
 gen_bounded rows (job.Serve settings memo file) is =
     let outer = then_some (λ d. both (gen_with d) (value_in (number_in 0 most_seed) (codes "seed") rows) (value_in (number_in 1 1000) (codes "size") rows)) (value_in domain_of (codes "domain") rows) (job.Serve settings memo file) is in
-    let inner = first_some (gen_with outer.0) (value_in (number_in 0 most_seed) (codes "seed") rows) (value_in (number_in 1 1000) (codes "size") rows) (job.Serve settings memo file) outer.1.1 in
-    absurd (gen_serve inner.0 inner.1.0 outer.0 settings memo file inner.1.1.1.1)
+    let inner = first_some (gen_with outer.0) (value_in (number_in 0 most_seed) (codes "seed") rows) (value_in (number_in 1 1000) (codes "size") rows) (job.Serve settings memo file) outer.2 in
+    absurd (gen_serve inner.0 inner.1 outer.0 settings memo file inner.4)
 gen_bounded rows (job.Batch settings file) is = tt
 gen_bounded rows (job.Gen seed size domain) is = gen_within rows seed size domain is
 
@@ -136,7 +136,7 @@ words_bounded : (words : List Text) (j : Job) → job_of words ≡ Some j → Bo
 unfolding job_of
 words_bounded words j is =
     let found = then_some job_in (subcommand_of daig_app words) j (if_some (is_empty (fault_of daig_app words)) (option_and_then job_in (subcommand_of daig_app words)) j is) in
-    command_bounded found.0 j found.1.1
+    command_bounded found.0 j found.2
 
 -- one result is remembered, or more
 pub memo_some : (words : List Text) (settings : Settings) (memo : ℕ) (file : List ℕ) → job_of words ≡ Some (job.Serve settings memo file) → 0 < memo

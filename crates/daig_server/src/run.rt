@@ -20,6 +20,7 @@ use crate::task::{Drawn, Task};
 use crate::work::do_work;
 use command_words::{DomainName, Job, Settings, WordsError, read_words};
 use generated_sources::sources_are_accepted;
+use imp_parse::each_text_has_one_answer;
 use io_edge::{Failed, Files, LoadFault, Sink, Source};
 use line_answers::texts_are_read;
 use program_chains::Widening;
@@ -151,6 +152,7 @@ fn run_generated<I: Source, O: Sink, L: Ledger>(
     ensures sink_failed { result ≡ Status.Sink → Rose (O.faults out.old) (O.faults out.new) }
 {
     sources_are_accepted();
+    each_text_has_one_answer();
     texts_are_read();
     let Ok(source) = daig_gen::source(alloc, drawn.seed, drawn.size) else {
         return Status::Memory;
