@@ -13,7 +13,7 @@ from typing import Protocol
 
 from daig_process import DaigProcess, Gone, NotStarted, Refused, Reply, Settings
 from imp_edits import NoPlan, plan
-from imp_pieces import Fault, span_of_fault
+from imp_pieces import Fault
 from imp_text import TextReader
 from imp_tree import Proc, Program, Span, Stmt, listing_text, number_from_one, program_text
 from imp_words import over_words, refusal_words
@@ -229,7 +229,7 @@ class Document:
         try:
             server = await DaigProcess.start(self.settings, text.data)
         except Refused as refused:
-            self.refusal = _refusal_of(refused.reply, text, program)
+            self.refusal = self._refusal_of(refused.reply, text, program)
             return
         except NotStarted as why:
             words = f"daig serve cannot be asked: {why}"
@@ -247,6 +247,14 @@ class Document:
             self.watcher.log(f"the server takes a text that this editor cannot read: {fault}")
             return
         self.good = Good(text, program, number_from_one(program))
+
+    def _refusal_of(self, reply: Reply, text: SourceText, program: Program | None) -> Refusal:
+        """A refusal of a text, at its place."""
+        name, at = str(reply["name"]), int(str(reply["at"]))
+        if reply["refused"] == 7:
+            return Refusal(self._reader.span_of_fault(text.data, name, at), refusal_words(name))
+        span = _place_of_check(program, name, at, str(reply.get("proc", ""))) if program else Span(0, 0)
+        return Refusal(span, refusal_words(name))
 
     async def _compare_at_times(self) -> None:
         """Compares the server's program with the text after every so many edits."""
@@ -384,15 +392,6 @@ class Document:
             return None
         calls = {it.number: it.callee for it in self.good.program.statements() if it.number in self.string}
         return calls.get(self.string[-1]) if len(calls) == len(set(self.string)) else None
-
-
-def _refusal_of(reply: Reply, text: SourceText, program: Program | None) -> Refusal:
-    """A refusal of a text, at its place."""
-    name, at = str(reply["name"]), int(str(reply["at"]))
-    if reply["refused"] == 7:
-        return Refusal(span_of_fault(text.data, name, at), refusal_words(name))
-    span = _place_of_check(program, name, at, str(reply.get("proc", ""))) if program else Span(0, 0)
-    return Refusal(span, refusal_words(name))
 
 
 def _place_of_check(program: Program, name: str, at: int, proc_name: str) -> Span:

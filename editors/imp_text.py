@@ -7,12 +7,14 @@ from __future__ import annotations
 
 import re
 from dataclasses import dataclass
+from typing import Iterator
 
-from imp_pieces import Fault, Piece, PieceKind, PieceReader, tokens
+from imp_pieces import Fault, Piece, PieceKind, PieceReader, token_at, tokens
 from imp_tree import Proc, Program, Span, Stmt, StmtKind, Variable
 
 MOST_NESTING = 32
 MOST_PIECES_KEPT = 100_000
+SPELLING_FAULTS = ("BadByte", "NameTooLong", "NumberTooBig")
 
 _SEPARATOR = re.compile(rb"//[^\n]*|([;{}])")
 
@@ -25,22 +27,42 @@ class TextReader:
 
     def read(self, text: bytes) -> Program:
         """The program of a text; raises its first fault."""
-        try:
-            return self._read(text)
-        except Fault as fault:
-            # A fault of spelling anywhere goes before all others.
-            tokens(text)
-            raise fault
-
-    def _read(self, text: bytes) -> Program:
         builder = _Builder()
         start = 0
-        for match in _SEPARATOR.finditer(text):
-            if match.lastindex:
-                end = match.end()
+        try:
+            for start, end in _places(text):
                 builder.add(self._piece(text, start, end), start)
                 start = end
-        return builder.finish(text, start)
+            return builder.finish(text, start)
+        except Fault:
+            # A fault of spelling goes before all others. In front of this piece there is none.
+            self._test_spelling(text, start)
+            raise
+
+    def span_of_fault(self, text: bytes, name: str, at: int) -> Span:
+        """Where a fault in the server's words stands: at a byte for one of spelling, else at a token by its number."""
+        if name in SPELLING_FAULTS:
+            return token_at(text, at)
+        last, left = 0, at
+        for start, end in [*_places(text), (_end_of_pieces(text), len(text))]:
+            piece = self._pieces.get(text[start:end])
+            if piece and piece.count <= left:
+                last, left = start + piece.end, left - piece.count
+                continue
+            found = tokens(text[start:end])
+            if left < len(found):
+                return _moved_span(found[left].span, start)
+            last, left = (start + found[-1].span.end if found else last), left - len(found)
+        return Span(last, last)
+
+    def _test_spelling(self, text: bytes, start: int) -> None:
+        """Raises the first fault of spelling behind a place where a piece begins."""
+        for place, end in [*_places(text, start), (_end_of_pieces(text), len(text))]:
+            if text[place:end] not in self._pieces:
+                try:
+                    tokens(text[place:end])
+                except Fault as fault:
+                    raise _moved(fault, place) from None
 
     def _piece(self, text: bytes, start: int, end: int) -> Piece | _Unread:
         """What the piece between two places says."""
@@ -55,6 +77,23 @@ class TextReader:
                 self._pieces.clear()
             self._pieces[spelling] = piece
         return piece
+
+
+def _places(text: bytes, start: int = 0) -> Iterator[tuple[int, int]]:
+    """Where the pieces of a text begin and end, from a place where one begins."""
+    for match in _SEPARATOR.finditer(text, start):
+        if match.lastindex:
+            end = match.end()
+            yield start, end
+            start = end
+
+
+def _end_of_pieces(text: bytes) -> int:
+    """Where the last piece of a text ends."""
+    end = 0
+    for _, end in _places(text):
+        pass
+    return end
 
 
 @dataclass(frozen=True, slots=True)
@@ -163,8 +202,8 @@ class _Builder:
         if self.proc is None and self.procs and len(reader.tokens) == 1:
             return Program(self.procs)
         if len(reader.tokens) == 1:
-            end = _end_of_last(text)
-            raise Fault("Unexpected", Span(end, end))
+            # The last token is the one that ends the last piece.
+            raise Fault("Unexpected", Span(start, start))
         try:
             reader.piece()
         except Fault as fault:
@@ -172,18 +211,16 @@ class _Builder:
         raise AssertionError("a piece without its end is read")
 
 
-def _end_of_last(text: bytes) -> int:
-    """Where the last token of a text ends."""
-    found = tokens(text)
-    return found[-1].span.end if found else 0
+def _moved_span(span: Span, offset: int) -> Span:
+    """A span of a piece that begins at a place."""
+    return Span(span.start + offset, span.end + offset)
 
 
 def _moved(fault: Fault, offset: int) -> Fault:
     """A fault of a piece that begins at a place."""
-    return Fault(fault.name, Span(fault.span.start + offset, fault.span.end + offset))
+    return Fault(fault.name, _moved_span(fault.span, offset))
 
 
 def _shifted(variable: Variable, offset: int) -> Variable:
     """A variable of a piece that begins at a place."""
-    span = Span(variable.span.start + offset, variable.span.end + offset)
-    return Variable(variable.name, variable.kind, span)
+    return Variable(variable.name, variable.kind, _moved_span(variable.span, offset))

@@ -17,7 +17,6 @@ from pathlib import Path
 from random import Random
 
 from imp_sources import ChangeMaker, SourceMaker, TextChange
-from imp_pieces import span_of_fault
 from imp_text import TextReader
 from imp_tree import number_from_one
 from lsp_client import Client, Json
@@ -146,7 +145,7 @@ class Session:
         assert f"({name})" in str(errors[0]["message"]), f"{errors} for {refusal}"
         source = SourceText.of(data, False)
         if refusal["refused"] == 7:
-            assert errors[0]["range"] == source.range(span_of_fault(data, name, at)), f"{errors} for {refusal}"
+            assert errors[0]["range"] == source.range(TextReader().span_of_fault(data, name, at)), f"{errors} for {refusal}"
         elif at:
             program = self.reader.read(data)
             number_from_one(program)

@@ -13,7 +13,7 @@ from pathlib import Path
 from random import Random
 
 from imp_sources import ChangeMaker, SourceMaker
-from imp_pieces import Fault, span_of_fault
+from imp_pieces import Fault
 from imp_text import TextReader
 from imp_tree import listing_text, number_from_one, program_text
 
@@ -37,7 +37,7 @@ def compare(reader: TextReader, text: bytes, said: list[dict[str, object]]) -> s
     first = said[0]
     if first.get("refused") == 7:
         assert fault is not None, f"the server refuses {text!r}: {first}"
-        span = span_of_fault(text, str(first["name"]), int(str(first["at"])))
+        span = TextReader().span_of_fault(text, str(first["name"]), int(str(first["at"])))
         assert (fault.name, fault.span) == (first["name"], span), f"{fault} and {first} of {text!r}"
         return str(first["name"])
     assert program is not None, f"the server reads {text!r}, but: {fault}"
