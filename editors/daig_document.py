@@ -378,7 +378,7 @@ class Document:
     # Call strings
 
     def choose_call(self, proc: Proc, call: Stmt) -> None:
-        """Lets states in the called procedure be those of this call. The call that its own procedure is seen from stays."""
+        """Lets states in the called procedure be those of this call, seen as its own procedure is seen."""
         front = self.string[-1:] if self._called_by_string() == proc.name else []
         self.string = [*front, call.number]
 

@@ -194,7 +194,7 @@ Pair = tuple[Stmt | None, Stmt | None]
 
 
 def aligned(old: list[Stmt], new: list[Stmt]) -> list[Pair]:
-    """The statements of two blocks side by side, in order: both where one stays or changes, else the one that there is."""
+    """The statements of two blocks side by side: both where one stays or changes, else the one that there is."""
     front, back = _equal_ends(old, new)
     pairs: list[Pair] = list(zip(old[:front], new[:front]))
     pairs += _middle(old[front : len(old) - back], new[front : len(new) - back])
@@ -277,7 +277,7 @@ def _path(
 
 
 def _distance(had: Stmt, has: Stmt, apart: int) -> int:
-    """About how many statements change where one becomes the other; `apart` is the cost of a `delete` and an `insert`."""
+    """About how many statements change where one becomes the other; `apart` is the cost where none does."""
     if had.key == has.key:
         return 0
     if had.kind is not has.kind:

@@ -92,7 +92,7 @@ class PieceKind(Enum):
 
 @dataclass(frozen=True, slots=True)
 class Piece:
-    """What one piece says. `first` is its first token's span, `end` where its last token ends, `count` how many it has."""
+    """What one piece says: its first token's span, where its last token ends, how many it has, and its parts."""
 
     kind: PieceKind
     first: Span

@@ -67,7 +67,7 @@ class Session:
     def __init__(self, client: Client, daig: str, domain: str, folder: Path, random: Random, name: str) -> None:
         self.client, self.daig, self.domain, self.folder = client, daig, domain, folder
         self.random = random
-        self.maker = SourceMaker(random)
+        self.maker = SourceMaker(random, random.choice([4, 12, 40]))
         self.changer = ChangeMaker(random, self.maker)
         self.uri = f"file:///{name}.imp"
         self.text = self.maker.source(random.randrange(4))
