@@ -15,7 +15,7 @@ from daig_process import DaigProcess, Gone, NotStarted, Refused, Reply, Settings
 from imp_edits import NoPlan, plan
 from imp_pieces import Fault
 from imp_text import TextReader
-from imp_tree import Proc, Program, Span, Stmt, listing_text, number_from_one, program_text
+from imp_tree import Placed, Proc, Program, Span, Stmt, listing_text, number_from_one, program_text
 from imp_words import over_words, refusal_words
 from lsp_wire import Shift, SourceText
 
@@ -51,7 +51,7 @@ class Good:
 class Finding:
     """What the report says of a statement."""
 
-    stmt: Stmt
+    place: Placed
     check: str
     verdict: str
 
@@ -60,7 +60,7 @@ class Finding:
 class Over:
     """A loop that used up its budget, and what to say of it."""
 
-    loop: Stmt
+    loop: Placed
     words: str
 
 
@@ -204,6 +204,7 @@ class Document:
                 return False
             next_number = request.next
             self.counts.requests += 1
+        found.commit()
         self.good = Good(text, program, found.next)
         self.counts.edits += 1
         return True
@@ -304,7 +305,7 @@ class Document:
         self._test_fresh(changes)
         found = (await self._server.ask(do="report")).get("report", [])
         self._test_fresh(changes)
-        by_number = {it.number: it for it in self.good.program.statements()}
+        by_number = {it.stmt.number: it for it in self.good.program.placed()}
         findings = [Finding(by_number[it["id"]], it["check"], it["verdict"]) for it in found]
         over = None
         if "over" in answer:
@@ -362,12 +363,8 @@ class Document:
 
     def line_of_stmt(self, number: int) -> int:
         """The line, from 1, of a statement of the last good program; 0 where it has none of that number."""
-        if self.good is None:
-            return 0
-        for stmt in self.good.program.statements():
-            if stmt.number == number:
-                return self.good.text.line_of(stmt.span.start) + 1
-        return 0
+        found = self.good.program.find(number) if self.good else None
+        return self.good.text.line_of(found.span.start) + 1 if self.good and found else 0
 
     def over_text(self, head: int, chain: list[int]) -> str:
         """What an Over says, in words."""
@@ -397,8 +394,7 @@ class Document:
 def _place_of_check(program: Program, name: str, at: int, proc_name: str) -> Span:
     """Where a fault of the check stands: at its statement, else at the name of a variable or a procedure."""
     if at:
-        number_from_one(program)
-        return next((it.head for it in program.statements() if it.number == at), Span(0, 0))
+        return next((it.head for number, it in enumerate(program.placed(), 1) if number == at), Span(0, 0))
     named = [it for it in program.procs if it.name == proc_name]
     if not named:
         return Span(0, 0)

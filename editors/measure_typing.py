@@ -118,7 +118,7 @@ def told(name: str, times: list[float]) -> str:
 def measure(daig: str, domain: str, name: str, text: str) -> None:
     """Types at places from the whole source, and tells the times."""
     program = TextReader().read(text.encode())
-    simple = [it for it in program.statements() if it.kind is StmtKind.SIMPLE and it.text.startswith("i = ")]
+    simple = [it for it in program.placed() if it.stmt.kind is StmtKind.SIMPLE and it.stmt.text.startswith("i = ")]
     client = Client({"daig": daig, "domain": domain, "compareEvery": 1_000_000})
     typist = Typist(client, text)
     opened = typist.open()

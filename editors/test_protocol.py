@@ -126,7 +126,7 @@ class Session:
         """The diagnostics are those of a new report, at the statements of the text."""
         program = self.reader.read(data)
         number_from_one(program)
-        heads = {it.number: it.head for it in program.statements()}
+        heads = {it.stmt.number: it.head for it in program.placed()}
         source = SourceText.of(data, False)
         severities = {"may": 2, "dead": 4}
         wanted = [
@@ -149,7 +149,7 @@ class Session:
         elif at:
             program = self.reader.read(data)
             number_from_one(program)
-            head = next(it.head for it in program.statements() if it.number == at)
+            head = next(it.head for it in program.placed() if it.stmt.number == at)
             assert errors[0]["range"] == source.range(head), f"{errors} for {refusal}"
 
 
