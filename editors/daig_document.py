@@ -66,7 +66,7 @@ class Over:
 
 @dataclass(frozen=True)
 class Report:
-    """The findings on a text, and the loop that used up its budget, if one did."""
+    """The findings on a text but the safe ones, and the loop that used up its budget, if one did."""
 
     text: SourceText
     findings: list[Finding]
@@ -305,11 +305,12 @@ class Document:
         self._test_fresh(changes)
         found = (await self._server.ask(do="report")).get("report", [])
         self._test_fresh(changes)
-        by_number = {it.stmt.number: it for it in self.good.program.placed()}
-        findings = [Finding(by_number[it["id"]], it["check"], it["verdict"]) for it in found]
+        told = [it for it in found if it["verdict"] != "safe"]
+        places = self.good.program.find_all({it["id"] for it in told} | {answer.get("over")})
+        findings = [Finding(places[it["id"]], it["check"], it["verdict"]) for it in told]
         over = None
         if "over" in answer:
-            over = Over(by_number[answer["over"]], self.over_text(answer["over"], answer["chain"]))
+            over = Over(places[answer["over"]], self.over_text(answer["over"], answer["chain"]))
         self.report = Report(self.good.text, findings, over)
 
     def _test_fresh(self, changes: int) -> None:
@@ -363,8 +364,8 @@ class Document:
 
     def line_of_stmt(self, number: int) -> int:
         """The line, from 1, of a statement of the last good program; 0 where it has none of that number."""
-        found = self.good.program.find(number) if self.good else None
-        return self.good.text.line_of(found.span.start) + 1 if self.good and found else 0
+        found = self.good.program.find_all({number}) if self.good else {}
+        return self.good.text.line_of(found[number].span.start) + 1 if self.good and found else 0
 
     def over_text(self, head: int, chain: list[int]) -> str:
         """What an Over says, in words."""

@@ -134,32 +134,33 @@ class _Planner:
 
     def block(self, old: list[Stmt], new: list[Stmt], place: str) -> None:
         """Leads a block to another; `place` is where statements at its start are put."""
+        front: Stmt | None = None
         came: list[Stmt] = []
         for had, has in aligned(old, new):
-            if has is not None and had is None:
-                came.append(has)
+            if had is None:
+                came += [has] if has else []
                 continue
-            place = self.insert(came, place)
-            came = []
-            if had is not None and has is None:
+            if came:
+                self.insert(came, front, place)
+                front, came = came[-1], []
+            if has is None:
                 self.send(do="delete", id=had.number)
-            elif had is not None and has is not None:
+                continue
+            if has is not had:
                 self.change(had, has)
-                place = f"after {self.number_of(has)}"
-        self.insert(came, place)
+            front = has
+        self.insert(came, front, place)
 
-    def insert(self, stmts: list[Stmt], place: str) -> str:
-        """Inserts statements at a place, in texts that fit a line; answers the place behind them."""
+    def insert(self, stmts: list[Stmt], front: Stmt | None, place: str) -> None:
+        """Inserts statements behind another one, or at a place where there is none, in texts that fit a line."""
         for part in _parts(stmts):
+            at = f"after {self.number_of(front)}" if front else place
             self.number(part)
-            self.send(do="insert", place=place, text=_sendable(stmts_text(part)))
-            place = f"after {self.number_of(part[-1])}"
-        return place
+            self.send(do="insert", place=at, text=_sendable(stmts_text(part)))
+            front = part[-1]
 
     def change(self, had: Stmt, has: Stmt) -> None:
         """Leads a statement to another of its shape."""
-        if had is has:
-            return
         if had.key == has.key:
             for old, new in zip(had.within(), has.within()):
                 self.keep(old, new)

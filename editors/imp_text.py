@@ -1,8 +1,8 @@
 """Reads the text of an `.imp` program into a tree.
 
-A text is cut into pieces, and a piece is read once for each spelling and kept. Outermost statements in front of a change
-and behind it are taken over from the program of the last text, so that a text of which little has changed is read again
-quickly. Where this reader and the server differ, the server is right.
+A text is cut into pieces, and a piece is read once for each spelling and kept. Outermost statements in front of a
+change and behind it are taken over from the program of the last text, so that a text of which little has changed is
+read again quickly. Where this reader and the server differ, the server is right.
 """
 from __future__ import annotations
 

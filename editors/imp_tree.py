@@ -160,9 +160,13 @@ class Program:
         for proc in self.procs:
             yield from proc.placed()
 
-    def find(self, number: int) -> Placed | None:
-        """The statement of this number."""
-        return next((it for it in self.placed() if it.stmt.number == number), None)
+    def find_all(self, numbers: set[int]) -> dict[int, Placed]:
+        """The statements of these numbers, as far as there are some."""
+        found: dict[int, Placed] = {}
+        for proc in self.procs if numbers else []:
+            for stmt, base in zip(proc.body, proc.starts):
+                found.update({it.number: Placed(it, base) for it in stmt.within() if it.number in numbers})
+        return found
 
     def proc(self, name: str) -> Proc | None:
         """The procedure of this name."""

@@ -31,7 +31,7 @@ def diagnostics(document: Document) -> list[Json]:
     if report.over and over:
         told.append(_diagnostic(document, over, INFORMATION, report.over.words, code="budget"))
     for finding in report.findings:
-        span = shift.span(finding.place.head) if finding.verdict != "safe" else None
+        span = shift.span(finding.place.head)
         if span:
             told.append(_finding(document, finding, span))
     return told

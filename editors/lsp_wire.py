@@ -3,9 +3,9 @@ from __future__ import annotations
 
 import asyncio
 import json
-import re
 import sys
 from dataclasses import dataclass, field
+from itertools import accumulate
 from typing import BinaryIO
 
 from imp_text import equal_front
@@ -21,8 +21,6 @@ INTERNAL_ERROR = -32603
 NOT_INITIALIZED = -32002
 REQUEST_CANCELLED = -32800
 CONTENT_MODIFIED = -32801
-
-_LINE_END = re.compile(rb"\r\n|\n|\r")
 
 
 @dataclass(frozen=True)
@@ -80,7 +78,10 @@ class SourceText:
     @staticmethod
     def of(data: bytes, utf8: bool) -> SourceText:
         """The text of these bytes."""
-        return SourceText(data, utf8, [0, *(it.end() for it in _LINE_END.finditer(data))])
+        lines = data.splitlines(keepends=True)
+        if not lines or lines[-1].endswith((b"\n", b"\r")):
+            lines.append(b"")
+        return SourceText(data, utf8, [0, *accumulate(map(len, lines[:-1]))])
 
     def line_of(self, place: int) -> int:
         """The line of a byte, from 0."""

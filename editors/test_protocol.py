@@ -145,7 +145,8 @@ class Session:
         assert f"({name})" in str(errors[0]["message"]), f"{errors} for {refusal}"
         source = SourceText.of(data, False)
         if refusal["refused"] == 7:
-            assert errors[0]["range"] == source.range(TextReader().span_of_fault(data, name, at)), f"{errors} for {refusal}"
+            span = TextReader().span_of_fault(data, name, at)
+            assert errors[0]["range"] == source.range(span), f"{errors} for {refusal}"
         elif at:
             program = self.reader.read(data)
             number_from_one(program)
