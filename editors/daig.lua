@@ -1,6 +1,7 @@
 -- Neovim for `.imp` files: `dofile("PATH/editors/daig.lua")` in init.lua; settings stand in vim.g.daig before it.
 local here = vim.fn.fnamemodify(debug.getinfo(1, "S").source:sub(2), ":p:h")
-local config = { name = "daig", cmd = { "python3", here .. "/daig_lsp.py" }, root_dir = here, init_options = vim.g.daig }
+local config = { name = "daig", cmd = { "python3", here .. "/daig_lsp.py" }, root_dir = here }
+config.init_options = vim.g.daig or vim.empty_dict()
 vim.opt.runtimepath:append(here)
 vim.api.nvim_create_autocmd({ "BufRead", "BufNewFile" }, { pattern = "*.imp", command = "set filetype=imp" })
 vim.api.nvim_create_autocmd("FileType", { pattern = "imp", callback = function(event)

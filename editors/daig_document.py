@@ -13,9 +13,9 @@ from typing import Protocol
 
 from daig_process import DaigProcess, Gone, NotStarted, Refused, Reply, Settings
 from imp_edits import NoPlan, plan
-from imp_pieces import Fault, span_of_fault
+from imp_pieces import Fault
 from imp_text import TextReader
-from imp_tree import Proc, Program, Span, Stmt, listing_text, number_from_one, program_text
+from imp_tree import Placed, Proc, Program, Span, Stmt, listing_text, number_from_one, program_text
 from imp_words import over_words, refusal_words
 from lsp_wire import Shift, SourceText
 
@@ -51,7 +51,7 @@ class Good:
 class Finding:
     """What the report says of a statement."""
 
-    stmt: Stmt
+    place: Placed
     check: str
     verdict: str
 
@@ -60,13 +60,13 @@ class Finding:
 class Over:
     """A loop that used up its budget, and what to say of it."""
 
-    loop: Stmt
+    loop: Placed
     words: str
 
 
 @dataclass(frozen=True)
 class Report:
-    """The findings on a text, and the loop that used up its budget, if one did."""
+    """The findings on a text but the safe ones, and the loop that used up its budget, if one did."""
 
     text: SourceText
     findings: list[Finding]
@@ -204,6 +204,7 @@ class Document:
                 return False
             next_number = request.next
             self.counts.requests += 1
+        found.commit()
         self.good = Good(text, program, found.next)
         self.counts.edits += 1
         return True
@@ -229,7 +230,7 @@ class Document:
         try:
             server = await DaigProcess.start(self.settings, text.data)
         except Refused as refused:
-            self.refusal = _refusal_of(refused.reply, text, program)
+            self.refusal = self._refusal_of(refused.reply, text, program)
             return
         except NotStarted as why:
             words = f"daig serve cannot be asked: {why}"
@@ -247,6 +248,14 @@ class Document:
             self.watcher.log(f"the server takes a text that this editor cannot read: {fault}")
             return
         self.good = Good(text, program, number_from_one(program))
+
+    def _refusal_of(self, reply: Reply, text: SourceText, program: Program | None) -> Refusal:
+        """A refusal of a text, at its place."""
+        name, at = str(reply["name"]), int(str(reply["at"]))
+        if reply["refused"] == 7:
+            return Refusal(self._reader.span_of_fault(text.data, name, at), refusal_words(name))
+        span = _place_of_check(program, name, at, str(reply.get("proc", ""))) if program else Span(0, 0)
+        return Refusal(span, refusal_words(name))
 
     async def _compare_at_times(self) -> None:
         """Compares the server's program with the text after every so many edits."""
@@ -296,11 +305,12 @@ class Document:
         self._test_fresh(changes)
         found = (await self._server.ask(do="report")).get("report", [])
         self._test_fresh(changes)
-        by_number = {it.number: it for it in self.good.program.statements()}
-        findings = [Finding(by_number[it["id"]], it["check"], it["verdict"]) for it in found]
+        told = [it for it in found if it["verdict"] != "safe"]
+        places = self.good.program.find_all({it["id"] for it in told} | {answer.get("over")})
+        findings = [Finding(places[it["id"]], it["check"], it["verdict"]) for it in told]
         over = None
         if "over" in answer:
-            over = Over(by_number[answer["over"]], self.over_text(answer["over"], answer["chain"]))
+            over = Over(places[answer["over"]], self.over_text(answer["over"], answer["chain"]))
         self.report = Report(self.good.text, findings, over)
 
     def _test_fresh(self, changes: int) -> None:
@@ -354,12 +364,8 @@ class Document:
 
     def line_of_stmt(self, number: int) -> int:
         """The line, from 1, of a statement of the last good program; 0 where it has none of that number."""
-        if self.good is None:
-            return 0
-        for stmt in self.good.program.statements():
-            if stmt.number == number:
-                return self.good.text.line_of(stmt.span.start) + 1
-        return 0
+        found = self.good.program.find_all({number}) if self.good else {}
+        return self.good.text.line_of(found[number].span.start) + 1 if self.good and found else 0
 
     def over_text(self, head: int, chain: list[int]) -> str:
         """What an Over says, in words."""
@@ -370,7 +376,7 @@ class Document:
     # Call strings
 
     def choose_call(self, proc: Proc, call: Stmt) -> None:
-        """Lets states in the called procedure be those of this call. The call that its own procedure is seen from stays."""
+        """Lets states in the called procedure be those of this call, seen as its own procedure is seen."""
         front = self.string[-1:] if self._called_by_string() == proc.name else []
         self.string = [*front, call.number]
 
@@ -386,20 +392,10 @@ class Document:
         return calls.get(self.string[-1]) if len(calls) == len(set(self.string)) else None
 
 
-def _refusal_of(reply: Reply, text: SourceText, program: Program | None) -> Refusal:
-    """A refusal of a text, at its place."""
-    name, at = str(reply["name"]), int(str(reply["at"]))
-    if reply["refused"] == 7:
-        return Refusal(span_of_fault(text.data, name, at), refusal_words(name))
-    span = _place_of_check(program, name, at, str(reply.get("proc", ""))) if program else Span(0, 0)
-    return Refusal(span, refusal_words(name))
-
-
 def _place_of_check(program: Program, name: str, at: int, proc_name: str) -> Span:
     """Where a fault of the check stands: at its statement, else at the name of a variable or a procedure."""
     if at:
-        number_from_one(program)
-        return next((it.head for it in program.statements() if it.number == at), Span(0, 0))
+        return next((it.head for number, it in enumerate(program.placed(), 1) if number == at), Span(0, 0))
     named = [it for it in program.procs if it.name == proc_name]
     if not named:
         return Span(0, 0)

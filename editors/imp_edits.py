@@ -31,10 +31,16 @@ class Request:
 
 @dataclass(frozen=True, slots=True)
 class Plan:
-    """Requests in the order in which they are sent. After them the new program's statements have their numbers."""
+    """Requests in the order in which they are sent, and what numbers the new program's statements have after them."""
 
     requests: list[Request]
+    numbers: list[tuple[Stmt, int]]
     next: int
+
+    def commit(self) -> None:
+        """Gives the new program's statements their numbers. Those of the old one, which may be the same, are lost."""
+        for stmt, number in self.numbers:
+            stmt.number = number
 
 
 class NoPlan(Exception):
@@ -42,10 +48,10 @@ class NoPlan(Exception):
 
 
 def plan(old: Program, new: Program, next_number: int) -> Plan:
-    """The requests from the old program to the new one, whose statements get their numbers; raises `NoPlan`."""
+    """The requests from the old program to the new one; raises `NoPlan`. Neither program changes."""
     planner = _Planner(next_number)
     planner.programs(old, new)
-    return Plan(planner.requests, planner.next)
+    return Plan(planner.requests, list(planner.numbers.values()), planner.next)
 
 
 def size(stmt: Stmt) -> int:
@@ -58,6 +64,7 @@ class _Planner:
 
     def __init__(self, next_number: int) -> None:
         self.requests: list[Request] = []
+        self.numbers: dict[int, tuple[Stmt, int]] = {}
         self.next = next_number
 
     def send(self, **fields: object) -> None:
@@ -70,8 +77,17 @@ class _Planner:
         """Gives new statements their numbers, in the order of the text."""
         for stmt in stmts:
             for inner in stmt.within():
-                inner.number = self.next
+                self.numbers[id(inner)] = (inner, self.next)
                 self.next += 1
+
+    def keep(self, had: Stmt, has: Stmt) -> None:
+        """Gives a statement the number of another one."""
+        if has is not had:
+            self.numbers[id(has)] = (has, had.number)
+
+    def number_of(self, stmt: Stmt) -> int:
+        """The number of a statement of the new program."""
+        return self.numbers.get(id(stmt), (stmt, stmt.number))[1]
 
     # Procedures.
 
@@ -118,51 +134,46 @@ class _Planner:
 
     def block(self, old: list[Stmt], new: list[Stmt], place: str) -> None:
         """Leads a block to another; `place` is where statements at its start are put."""
+        front: Stmt | None = None
         came: list[Stmt] = []
         for had, has in aligned(old, new):
-            if has is not None and had is None:
-                came.append(has)
+            if had is None:
+                came += [has] if has else []
                 continue
-            place = self.insert(came, place)
-            came = []
-            if had is not None and has is None:
+            if came:
+                self.insert(came, front, place)
+                front, came = came[-1], []
+            if has is None:
                 self.send(do="delete", id=had.number)
-            elif had is not None and has is not None:
+                continue
+            if has is not had:
                 self.change(had, has)
-                place = f"after {has.number}"
-        self.insert(came, place)
+            front = has
+        self.insert(came, front, place)
 
-    def insert(self, stmts: list[Stmt], place: str) -> str:
-        """Inserts statements at a place, in texts that fit a line; answers the place behind them."""
+    def insert(self, stmts: list[Stmt], front: Stmt | None, place: str) -> None:
+        """Inserts statements behind another one, or at a place where there is none, in texts that fit a line."""
         for part in _parts(stmts):
+            at = f"after {self.number_of(front)}" if front else place
             self.number(part)
-            self.send(do="insert", place=place, text=_sendable(stmts_text(part)))
-            place = f"after {part[-1].number}"
-        return place
+            self.send(do="insert", place=at, text=_sendable(stmts_text(part)))
+            front = part[-1]
 
     def change(self, had: Stmt, has: Stmt) -> None:
         """Leads a statement to another of its shape."""
         if had.key == has.key:
-            _keep_numbers(had, has)
+            for old, new in zip(had.within(), has.within()):
+                self.keep(old, new)
         elif has.kind is StmtKind.SIMPLE:
             self.number([has])
             self.send(do="replace", id=had.number, text=_sendable(has.text))
         else:
-            has.number = had.number
+            self.keep(had, has)
             if had.text != has.text:
                 self.send(do="guard", id=had.number, text=_sendable(has.text))
             first = "then" if has.kind is StmtKind.IF else "body"
-            self.block(had.then, has.then, f"{first} {has.number}")
-            self.block(had.other, has.other, f"else {has.number}")
-
-
-def _keep_numbers(had: Stmt, has: Stmt) -> None:
-    """Gives a statement the numbers of one that is equal."""
-    has.number = had.number
-    for old, new in zip(had.then, has.then):
-        _keep_numbers(old, new)
-    for old, new in zip(had.other, has.other):
-        _keep_numbers(old, new)
+            self.block(had.then, has.then, f"{first} {had.number}")
+            self.block(had.other, has.other, f"else {had.number}")
 
 
 def _sendable(text: str) -> str:
@@ -194,7 +205,7 @@ Pair = tuple[Stmt | None, Stmt | None]
 
 
 def aligned(old: list[Stmt], new: list[Stmt]) -> list[Pair]:
-    """The statements of two blocks side by side, in order: both where one stays or changes, else the one that there is."""
+    """The statements of two blocks side by side: both where one stays or changes, else the one that there is."""
     front, back = _equal_ends(old, new)
     pairs: list[Pair] = list(zip(old[:front], new[:front]))
     pairs += _middle(old[front : len(old) - back], new[front : len(new) - back])
@@ -277,7 +288,7 @@ def _path(
 
 
 def _distance(had: Stmt, has: Stmt, apart: int) -> int:
-    """About how many statements change where one becomes the other; `apart` is the cost of a `delete` and an `insert`."""
+    """About how many statements change where one becomes the other; `apart` is the cost where none does."""
     if had.key == has.key:
         return 0
     if had.kind is not has.kind:

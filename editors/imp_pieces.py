@@ -70,16 +70,10 @@ def _test_spelling(match: re.Match[bytes], offset: int) -> None:
         raise Fault("NumberTooBig", span)
 
 
-def span_of_fault(text: bytes, name: str, at: int) -> Span:
-    """Where a fault of the server's words stands: at a byte for a fault of spelling, else at a token."""
-    if name in ("BadByte", "NameTooLong", "NumberTooBig"):
-        match = _TOKEN.match(text, at)
-        return Span(at, match.end() if match else at)
-    found = tokens(text)
-    if at < len(found):
-        return found[at].span
-    end = found[-1].span.end if found else 0
-    return Span(end, end)
+def token_at(text: bytes, place: int) -> Span:
+    """The span of the token, or of the byte that is none, at a place."""
+    match = _TOKEN.match(text, place)
+    return Span(place, match.end() if match else place)
 
 
 # ---------------------------------------------------------------------------------------------------------------------
@@ -98,11 +92,12 @@ class PieceKind(Enum):
 
 @dataclass(frozen=True, slots=True)
 class Piece:
-    """What one piece says. `first` is its first token's span, `end` where its last token ends."""
+    """What one piece says: its first token's span, where its last token ends, how many it has, and its parts."""
 
     kind: PieceKind
     first: Span
     end: int
+    count: int
     text: str = ""
     callee: str | None = None
     name: Variable | None = None
@@ -331,28 +326,28 @@ class PieceReader:
 
     def piece(self) -> Piece:
         """The whole piece."""
-        first, end = self.tokens[0].span, self.tokens[-1].span.end
+        place = (self.tokens[0].span, self.tokens[-1].span.end, len(self.tokens) - 1)
         word = self.peek()
         if word == "proc":
-            return self.proc_head(first, end)
+            return self.proc_head(place)
         if word == "var":
             self.take("var")
             name = self.variable()
             self.take(";")
-            return Piece(PieceKind.VAR, first, end, name=name)
+            return Piece(PieceKind.VAR, *place, name=name)
         if word in ("if", "while"):
-            return Piece(PieceKind(word), first, end, self.guarded())
+            return Piece(PieceKind(word), *place, self.guarded())
         if word == "else":
             self.take("else")
             self.take("{")
-            return Piece(PieceKind.ELSE, first, end)
+            return Piece(PieceKind.ELSE, *place)
         if word == "}":
-            return Piece(PieceKind.CLOSE, first, end)
+            return Piece(PieceKind.CLOSE, *place)
         text, callee = self.simple()
-        return Piece(PieceKind.SIMPLE, first, end, text, callee)
+        return Piece(PieceKind.SIMPLE, *place, text, callee)
 
-    def proc_head(self, first: Span, end: int) -> Piece:
-        """A procedure's head, up to its `{`."""
+    def proc_head(self, place: tuple[Span, int, int]) -> Piece:
+        """A procedure's head, up to its `{`; `place` is its first token, its end and its count of tokens."""
         self.take("proc")
         name = self.name()
         self.take("(")
@@ -369,7 +364,7 @@ class PieceReader:
             result = self.variable()
         self.take("{")
         named = Variable(name.word, "proc", name.span)
-        return Piece(PieceKind.PROC, first, end, "", None, named, tuple(params), result)
+        return Piece(PieceKind.PROC, *place, "", None, named, tuple(params), result)
 
 
 def _wrapped(part: tuple[str, int], rank: int) -> str:

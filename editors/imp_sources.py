@@ -190,7 +190,7 @@ class TextChange:
 
 @dataclass
 class ChangeMaker:
-    """Makes random changes of a text: lines that come, go, move and change, and single bytes."""
+    """Makes random changes of a text: of lines, blocks, names and procedures, and of single bytes."""
 
     random: Random
     maker: SourceMaker
@@ -216,15 +216,28 @@ class ChangeMaker:
         if pick < 0.84:
             block = "".join(f"{it}\n" for it in self.maker.compound(self.scope(), 3, 1))
             return TextChange(start, start, block)
-        if pick < 0.88:
+        if pick < 0.86:
             return TextChange(start, start, f"  var x{self.random.randrange(9)}: {self.random.choice(KINDS)};\n")
-        if pick < 0.91:
+        if pick < 0.88:
+            two = lines[index : index + 2]
+            return TextChange(start, start + len("".join(two)), "".join(reversed(two)))
+        if pick < 0.90 and line.strip().endswith(";"):
+            return TextChange(start, start + len(line), f"  while ({self.maker.cond(self.scope())}) {{\n{line}  }}\n")
+        if pick < 0.92:
+            return self.renamed(source, start)
+        if pick < 0.94:
             return self.new_proc(source)
-        if pick < 0.95:
+        if pick < 0.97:
             place = self.random.randrange(len(source))
             return TextChange(place, min(len(source), place + self.random.randrange(3)), "")
         place = self.random.randrange(len(source))
         return TextChange(place, place, self.random.choice(list("xi0; {}()=+<-@&")))
+
+    def renamed(self, source: str, start: int) -> TextChange:
+        """A variable that becomes another one in some lines from a place on."""
+        end = min(len(source), start + self.random.randrange(300))
+        old, new = self.random.sample(["i0", "i1", "i2"], 2)
+        return TextChange(start, end, source[start:end].replace(old, new))
 
     def scope(self) -> Scope:
         """The variables that each procedure has."""

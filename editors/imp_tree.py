@@ -1,6 +1,8 @@
 """Programs as trees whose parts have their byte ranges in the text, and how the server prints them.
 
-All places are bytes from the start of the text. A span has its end behind its last byte.
+All places are bytes from the start of the text, but for the spans of statements: these count from the start of the
+outermost statement around, so that a statement that moves as a whole stays as it is. A span has its end behind its last
+byte.
 """
 from __future__ import annotations
 
@@ -19,6 +21,10 @@ class Span(NamedTuple):
         """Whether a cursor at this place touches the span."""
         return self.start <= place <= self.end
 
+    def moved(self, many: int) -> Span:
+        """The span so many bytes further on."""
+        return Span(self.start + many, self.end + many)
+
 
 class StmtKind(Enum):
     """The three shapes of a statement."""
@@ -30,10 +36,11 @@ class StmtKind(Enum):
 
 @dataclass(slots=True)
 class Stmt:
-    """A statement with its place, and its number in the server's program (0 where it has none yet).
+    """A statement, and its number in the server's program (0 where it has none yet).
 
     `text` is the statement as the server prints it, or the condition of an `if` or a loop. `head` is the span up to
-    the `{` of an `if` or a loop, and the whole span of a simple statement. `key` is equal exactly where the trees are.
+    the `{` of an `if` or a loop, and the whole span of a simple statement; both spans count from the start of the
+    outermost statement around. `key` is equal exactly where the trees are.
     """
 
     kind: StmtKind
@@ -54,6 +61,23 @@ class Stmt:
                 yield from stmt.within()
 
 
+class Placed(NamedTuple):
+    """A statement with the place in the text from which its spans count."""
+
+    stmt: Stmt
+    base: int
+
+    @property
+    def span(self) -> Span:
+        """The statement's place in the text."""
+        return self.stmt.span.moved(self.base)
+
+    @property
+    def head(self) -> Span:
+        """The place of its head in the text."""
+        return self.stmt.head.moved(self.base)
+
+
 @dataclass(frozen=True, slots=True)
 class Variable:
     """A variable: its name, its kind, and where its name stands."""
@@ -67,10 +91,14 @@ class Variable:
         """The variable as it is declared."""
         return f"{self.name}: {self.kind}"
 
+    def moved(self, many: int) -> Variable:
+        """The variable so many bytes further on."""
+        return Variable(self.name, self.kind, self.span.moved(many))
+
 
 @dataclass(slots=True)
 class Proc:
-    """A procedure: its head, its local variables and its statements."""
+    """A procedure: its head, its local variables, its statements, and where each of these begins."""
 
     name: str
     name_span: Span
@@ -78,6 +106,7 @@ class Proc:
     result: Variable | None
     locals: list[Variable]
     body: list[Stmt]
+    starts: list[int]
     span: Span
 
     @property
@@ -99,6 +128,21 @@ class Proc:
         for stmt in self.body:
             yield from stmt.within()
 
+    def placed(self) -> Iterator[Placed]:
+        """All statements with their places."""
+        for stmt, base in zip(self.body, self.starts):
+            for inner in stmt.within():
+                yield Placed(inner, base)
+
+    def moved(self, many: int) -> Proc:
+        """The procedure so many bytes further on."""
+        params = tuple(it.moved(many) for it in self.params)
+        result = self.result.moved(many) if self.result else None
+        variables = [it.moved(many) for it in self.locals]
+        starts = [it + many for it in self.starts]
+        name_span, span = self.name_span.moved(many), self.span.moved(many)
+        return Proc(self.name, name_span, params, result, variables, self.body, starts, span)
+
 
 @dataclass(slots=True)
 class Program:
@@ -111,29 +155,30 @@ class Program:
         for proc in self.procs:
             yield from proc.statements()
 
+    def placed(self) -> Iterator[Placed]:
+        """All statements with their places."""
+        for proc in self.procs:
+            yield from proc.placed()
+
+    def find_all(self, numbers: set[int]) -> dict[int, Placed]:
+        """The statements of these numbers, as far as there are some."""
+        found: dict[int, Placed] = {}
+        for proc in self.procs if numbers else []:
+            for stmt, base in zip(proc.body, proc.starts):
+                found.update({it.number: Placed(it, base) for it in stmt.within() if it.number in numbers})
+        return found
+
     def proc(self, name: str) -> Proc | None:
         """The procedure of this name."""
         return next((it for it in self.procs if it.name == name), None)
 
-    def at(self, place: int) -> tuple[Proc, list[Stmt]] | None:
-        """The procedure at a place, and the statements there, the outermost first."""
+    def at(self, place: int) -> tuple[Proc, Placed | None] | None:
+        """The procedure at a place, and the innermost statement there."""
         for proc in self.procs:
             if proc.span.holds(place):
-                return proc, _around(proc.body, place)
+                inside = [it for it in proc.placed() if it.span.holds(place)]
+                return proc, inside[-1] if inside else None
         return None
-
-
-def _around(block: list[Stmt], place: int) -> list[Stmt]:
-    """The statements of a block that hold a place, the outermost first."""
-    path: list[Stmt] = []
-    inner: Stmt | None = None
-    while True:
-        inner = next((it for it in block if it.span.holds(place)), None)
-        if inner is None:
-            return path
-        path.append(inner)
-        in_then = any(it.span.holds(place) for it in inner.then)
-        block = inner.then if in_then else inner.other
 
 
 def number_from_one(program: Program) -> int:

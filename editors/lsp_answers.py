@@ -31,7 +31,7 @@ def diagnostics(document: Document) -> list[Json]:
     if report.over and over:
         told.append(_diagnostic(document, over, INFORMATION, report.over.words, code="budget"))
     for finding in report.findings:
-        span = shift.span(finding.stmt.head) if finding.verdict != "safe" else None
+        span = shift.span(finding.place.head)
         if span:
             told.append(_finding(document, finding, span))
     return told
@@ -62,10 +62,10 @@ async def hover(document: Document, place: int) -> Json | None:
     found = document.good.program.at(inside)
     if found is None:
         return None
-    proc, path = found
+    proc, here = found
     string = document.string_in(proc)
-    if path:
-        asked, span = _points_of(path[-1]), path[-1].head
+    if here:
+        asked, span = _points_of(here.stmt), here.head
     elif proc.name_span.holds(inside):
         asked, span = [("at the end", f"end {proc.name}")], proc.name_span
     else:
@@ -74,9 +74,9 @@ async def hover(document: Document, place: int) -> Json | None:
     for words, at in asked:
         lines += _told(document, words, await document.state(at, string))
     shift = document.shift()
-    here = shift.span(span) if shift else None
+    shown = shift.span(span) if shift else None
     contents = {"kind": "markdown", "value": "\n".join(lines)}
-    return {"contents": contents, **({"range": document.text.range(here)} if here else {})}
+    return {"contents": contents, **({"range": document.text.range(shown)} if shown else {})}
 
 
 def _points_of(stmt: Stmt) -> list[tuple[str, str]]:
@@ -120,11 +120,11 @@ async def inlay_hints(document: Document, start: int, end: int) -> list[Json]:
         return []
     hints: list[Json] = []
     for proc in good.program.procs:
-        for stmt in proc.statements():
-            span = shift.span(stmt.head)
-            if stmt.kind is not StmtKind.WHILE or span is None or span.end < start or span.start > end:
+        for place in proc.placed():
+            span = shift.span(place.head) if place.stmt.kind is StmtKind.WHILE else None
+            if span is None or span.end < start or span.start > end:
                 continue
-            reply = await document.state(f"head {stmt.number}", document.string_in(proc))
+            reply = await document.state(f"head {place.stmt.number}", document.string_in(proc))
             hints.append(_hint(document, span, reply))
     return hints
 
@@ -211,6 +211,6 @@ def call_at(document: Document, place: int) -> tuple[Proc, Stmt] | None:
     """The call at a place, with the procedure that holds it."""
     inside = document.good_place(place)
     found = document.good.program.at(inside) if document.good and inside is not None else None
-    if found and found[1] and found[1][-1].callee:
-        return found[0], found[1][-1]
+    if found and found[1] and found[1].stmt.callee:
+        return found[0], found[1].stmt
     return None

@@ -83,7 +83,8 @@ class Client:
 
     def change(self, uri: str, version: int, changes: list[Json]) -> None:
         """Changes a file."""
-        self.notify("textDocument/didChange", {"textDocument": {"uri": uri, "version": version}, "contentChanges": changes})
+        document = {"uri": uri, "version": version}
+        self.notify("textDocument/didChange", {"textDocument": document, "contentChanges": changes})
 
     def diagnostics(self, version: int) -> list[Json]:
         """The diagnostics of a version."""

@@ -3,11 +3,12 @@ from __future__ import annotations
 
 import asyncio
 import json
-import re
 import sys
 from dataclasses import dataclass, field
+from itertools import accumulate
 from typing import BinaryIO
 
+from imp_text import equal_front
 from imp_tree import Span
 
 Json = dict[str, object]
@@ -20,8 +21,6 @@ INTERNAL_ERROR = -32603
 NOT_INITIALIZED = -32002
 REQUEST_CANCELLED = -32800
 CONTENT_MODIFIED = -32801
-
-_LINE_END = re.compile(rb"\r\n|\n|\r")
 
 
 @dataclass(frozen=True)
@@ -79,7 +78,10 @@ class SourceText:
     @staticmethod
     def of(data: bytes, utf8: bool) -> SourceText:
         """The text of these bytes."""
-        return SourceText(data, utf8, [0, *(it.end() for it in _LINE_END.finditer(data))])
+        lines = data.splitlines(keepends=True)
+        if not lines or lines[-1].endswith((b"\n", b"\r")):
+            lines.append(b"")
+        return SourceText(data, utf8, [0, *accumulate(map(len, lines[:-1]))])
 
     def line_of(self, place: int) -> int:
         """The line of a byte, from 0."""
@@ -142,11 +144,11 @@ class Shift:
     def between(old: bytes, new: bytes) -> Shift:
         """The shift from one text to another. A difference over several lines is taken as one of whole lines."""
         most = min(len(old), len(new))
-        front = _common(old, new, most)
-        back = _common(old[::-1], new[::-1], most - front)
+        front = equal_front(old, new, most)
+        back = equal_front(old[::-1], new[::-1], most - front)
         if b"\n" in old[front : len(old) - back] or b"\n" in new[front : len(new) - back]:
             front = old.rfind(b"\n", 0, front) + 1
-            back = _whole_lines(old, _common(old[::-1], new[::-1], most - front))
+            back = _whole_lines(old, equal_front(old[::-1], new[::-1], most - front))
         return Shift(front, back, len(old), len(new))
 
     def forth(self, place: int) -> int | None:
@@ -172,15 +174,3 @@ def _whole_lines(text: bytes, back: int) -> int:
         return back
     end = text.find(b"\n", start)
     return len(text) - end - 1 if end >= 0 else 0
-
-
-def _common(left: bytes, right: bytes, most: int) -> int:
-    """How many bytes two texts have in common at the front, at most so many."""
-    low, high = 0, most
-    while low < high:
-        middle = (low + high + 1) // 2
-        if left[low:middle] == right[low:middle]:
-            low = middle
-        else:
-            high = middle - 1
-    return low

@@ -8,6 +8,7 @@ again. Key strokes after which the text is a program, and those after which it i
 """
 from __future__ import annotations
 
+import os
 import statistics
 import sys
 import time
@@ -22,7 +23,7 @@ URI = "file:///typed.imp"
 PLACES = 12
 
 
-def source(statements: int) -> str:
+def loops(statements: int) -> str:
     """A main of groups of eight statements: a loop in a loop, with a check in each."""
     lines = ["proc main() {", "  var i: int;", "  var j: int;", "  var s: int;", "  var a: array;", "  a = array 100;"]
     for group in range((statements - 1) // 8):
@@ -34,6 +35,28 @@ def source(statements: int) -> str:
             "      s = a[j];",
             "      j = j + 1;",
             "    }",
+            "    i = i + 1;",
+            "  }",
+            "  assert i < 20;",
+        ]
+    return "\n".join([*lines, "}", ""])
+
+
+def plain(statements: int) -> str:
+    """A main of groups of ten statements: assignments, a choice, a read of an array, and one loop."""
+    lines = ["proc main() {", "  var i: int;", "  var n: int;", "  var s: int;", "  var a: array;", "  a = array 100;"]
+    for group in range((statements - 1) // 10):
+        lines += [
+            f"  n = {group % 7};",
+            "  s = input;",
+            "  if (s < n) {",
+            "    s = n + 1;",
+            "  } else {",
+            "    n = n - 1;",
+            "  }",
+            "  i = 0;",
+            "  while (i < 10) {",
+            "    s = a[i];",
             "    i = i + 1;",
             "  }",
             "  assert i < 20;",
@@ -92,14 +115,10 @@ def told(name: str, times: list[float]) -> str:
     return f"{len(times)} {name}: median {median:.1f} ms, worst {worst:.1f} ms"
 
 
-def main() -> None:
+def measure(daig: str, domain: str, name: str, text: str) -> None:
     """Types at places from the whole source, and tells the times."""
-    daig = sys.argv[1]
-    statements = int(sys.argv[2]) if len(sys.argv) > 2 else 5000
-    domain = sys.argv[3] if len(sys.argv) > 3 else "interval"
-    text = source(statements)
     program = TextReader().read(text.encode())
-    simple = [it for it in program.statements() if it.kind is StmtKind.SIMPLE and it.text.startswith("i = ")]
+    simple = [it for it in program.placed() if it.stmt.kind is StmtKind.SIMPLE and it.stmt.text.startswith("i = ")]
     client = Client({"daig": daig, "domain": domain, "compareEvery": 1_000_000})
     typist = Typist(client, text)
     opened = typist.open()
@@ -108,8 +127,18 @@ def main() -> None:
         typist.statement(stmt.span.end)
     client.close()
     count = sum(1 for _ in program.statements())
-    print(f"measure_typing: {count} statements, {domain}, opened in {opened * 1000:.0f} ms")
+    print(f"measure_typing: {name}, {count} statements, {domain}, opened in {opened * 1000:.0f} ms")
     print(f"measure_typing: key strokes, {told('to a program', typist.good)}; {told('to none', typist.bad)}")
+
+
+def main() -> None:
+    """Measures both sources."""
+    daig = sys.argv[1]
+    statements = int(sys.argv[2]) if len(sys.argv) > 2 else 5000
+    domain = sys.argv[3] if len(sys.argv) > 3 else "interval"
+    measure(daig, domain, "choices and loops", plain(statements))
+    measure(daig, domain, "loops in loops", loops(statements))
+    print(f"measure_typing: load of the machine {os.getloadavg()[0]:.1f}, processors {os.cpu_count()}")
 
 
 if __name__ == "__main__":

@@ -42,7 +42,8 @@ def main() -> None:
     counts = result["counts"]
     assert counts["starts"] == 1 and counts["requests"] == CHANGES, counts
     assert max(waits) < LONGEST_WAIT < took - typed, f"waits {waits}, all {took}"
-    print(f"test_busy: {CHANGES} changes followed in {max(waits) * 1000:.0f} ms at most beside {took - typed:.1f} s of work")
+    most = max(waits) * 1000
+    print(f"test_busy: {CHANGES} changes followed in {most:.0f} ms at most, beside {took - typed:.1f} s of work")
 
 
 if __name__ == "__main__":

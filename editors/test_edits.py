@@ -24,7 +24,7 @@ CASES: list[tuple[str, str, str, list[dict[str, object]]]] = [
     ("layout alone", "i = 1;", "// one\n    i   =  (1) ;", []),
     ("a statement becomes another", "i = 1;", "i = 7;", [{"do": "replace", "id": 2, "text": "i = 7;"}]),
     ("a number grows", "i < 9", "i < 99", [{"do": "guard", "id": 3, "text": "i < 99"}]),
-    ("the first of a procedure", "i = 1;", "skip; i = 1;", [{"do": "insert", "place": "start main", "text": "skip;\n"}]),
+    ("the first of main", "i = 1;", "skip; i = 1;", [{"do": "insert", "place": "start main", "text": "skip;\n"}]),
     ("one behind another", "i = 1;", "i = 1; skip;", [{"do": "insert", "place": "after 2", "text": "skip;\n"}]),
     ("the first of a loop", "{ i = i", "{ skip; i = i", [{"do": "insert", "place": "body 3", "text": "skip;\n"}]),
     ("the first of a block", "{ skip", "{ i = 5; skip", [{"do": "insert", "place": "then 5", "text": "i = 5;\n"}]),
@@ -33,7 +33,12 @@ CASES: list[tuple[str, str, str, list[dict[str, object]]]] = [
     ("one goes", "i = i + 1;", "", [{"do": "delete", "id": 4}]),
     ("a loop goes", "while (i < 9) { i = i + 1; }", "", [{"do": "delete", "id": 3}]),
     ("an else goes", "else { i = 2; }", "", [{"do": "delete", "id": 7}]),
-    ("a variable comes", "i: int;", "i: int; var k: list;", [{"do": "declare", "proc": "main", "name": "k", "kind": "list"}]),
+    (
+        "a variable comes",
+        "i: int;",
+        "i: int; var k: list;",
+        [{"do": "declare", "proc": "main", "name": "k", "kind": "list"}],
+    ),
     (
         "a procedure comes",
         "proc main",

@@ -43,7 +43,8 @@ local function open(name)
 end
 
 local function ask(method, line, column, more)
-  local params = { textDocument = vim.lsp.util.make_text_document_params(), position = { line = line - 1, character = column } }
+  local document, position = vim.lsp.util.make_text_document_params(), { line = line - 1, character = column }
+  local params = { textDocument = document, position = position }
   local answers = vim.lsp.buf_request_sync(0, method, vim.tbl_extend("force", params, more or {}), 20000)
   for _, it in pairs(answers or {}) do
     check(not it.error, method .. ": " .. vim.inspect(it.error))
@@ -70,7 +71,8 @@ local function arrays()
   expect("12 WARN bounds", "the read behind the end may fail, the write in the loop does not")
   has(hover(8, 3), "each time at the head")
   has(hover(12, 3), "i = len a")
-  check(hints() == "8 0 ≤ i ≤ 1000000, 0 ≤ n ≤ 1000000, i ≤ n, i ≤ len a, len a = n", "the hints are " .. hints())
+  local shown = hints()
+  check(shown == "8 0 ≤ i ≤ 1000000, 0 ≤ n ≤ 1000000, i ≤ n, i ≤ len a, len a = n", "the hints are " .. shown)
   check(vim.fn.synIDattr(vim.fn.synID(1, 1, 1), "name") == "impDeclaration", "the syntax is not highlighted")
   keys("12GOif (i < len a) {<Esc>")
   expect("13 WARN bounds, 14 ERROR unexpected here (Unexpected)", "the guard's block has no end yet")

@@ -20,7 +20,10 @@ STATES = [
     ("x=[min,max] y=[min,max] -x-y<=2 x-y<=-5", ["x + y ≥ -2, x ≤ y - 5"]),
     ("p=nil q=nil", ["p = q = null"]),
     ("p=1 q=2 1:one(2) 2:seg(nil)", ["p: 1 cell to q, q: 1 or more cells to null"]),
-    ("p=1 q=2 1:one(3) 2:seg(3) 3:one(nil)", ["p: 1 cell to cell 3, q: 1 or more cells to cell 3, cell 3: 1 cell to null"]),
+    (
+        "p=1 q=2 1:one(3) 2:seg(3) 3:one(nil)",
+        ["p: 1 cell to cell 3, q: 1 or more cells to cell 3, cell 3: 1 cell to null"],
+    ),
     ("p=nil | p=1 1:seg(1)", ["p = null or p: 1 or more cells to p"]),
     ("x=[1,1] & p=nil", ["x = 1", "p = null"]),
     ("none & none", ["never reached", "never reached"]),

@@ -17,7 +17,6 @@ from pathlib import Path
 from random import Random
 
 from imp_sources import ChangeMaker, SourceMaker, TextChange
-from imp_pieces import span_of_fault
 from imp_text import TextReader
 from imp_tree import number_from_one
 from lsp_client import Client, Json
@@ -68,7 +67,7 @@ class Session:
     def __init__(self, client: Client, daig: str, domain: str, folder: Path, random: Random, name: str) -> None:
         self.client, self.daig, self.domain, self.folder = client, daig, domain, folder
         self.random = random
-        self.maker = SourceMaker(random)
+        self.maker = SourceMaker(random, random.choice([4, 12, 40]))
         self.changer = ChangeMaker(random, self.maker)
         self.uri = f"file:///{name}.imp"
         self.text = self.maker.source(random.randrange(4))
@@ -127,7 +126,7 @@ class Session:
         """The diagnostics are those of a new report, at the statements of the text."""
         program = self.reader.read(data)
         number_from_one(program)
-        heads = {it.number: it.head for it in program.statements()}
+        heads = {it.stmt.number: it.head for it in program.placed()}
         source = SourceText.of(data, False)
         severities = {"may": 2, "dead": 4}
         wanted = [
@@ -146,11 +145,12 @@ class Session:
         assert f"({name})" in str(errors[0]["message"]), f"{errors} for {refusal}"
         source = SourceText.of(data, False)
         if refusal["refused"] == 7:
-            assert errors[0]["range"] == source.range(span_of_fault(data, name, at)), f"{errors} for {refusal}"
+            span = TextReader().span_of_fault(data, name, at)
+            assert errors[0]["range"] == source.range(span), f"{errors} for {refusal}"
         elif at:
             program = self.reader.read(data)
             number_from_one(program)
-            head = next(it.head for it in program.statements() if it.number == at)
+            head = next(it.head for it in program.placed() if it.stmt.number == at)
             assert errors[0]["range"] == source.range(head), f"{errors} for {refusal}"
 
 

@@ -1,6 +1,8 @@
 #!/usr/bin/env python3
 """Compares the reader of texts with the server: the same programs, the same numbers, the same first faults.
 
+Each text is also read from nothing: what is shared with the text before it stands at the same places.
+
     editors/test_text.py DAIG [TEXTS [SEED]]
 """
 from __future__ import annotations
@@ -13,9 +15,9 @@ from pathlib import Path
 from random import Random
 
 from imp_sources import ChangeMaker, SourceMaker
-from imp_pieces import Fault, span_of_fault
+from imp_pieces import Fault
 from imp_text import TextReader
-from imp_tree import listing_text, number_from_one, program_text
+from imp_tree import Program, listing_text, number_from_one, program_text
 
 SCRIPT = b'{"do":"program"}\n{"do":"listing"}\n'
 
@@ -37,16 +39,26 @@ def compare(reader: TextReader, text: bytes, said: list[dict[str, object]]) -> s
     first = said[0]
     if first.get("refused") == 7:
         assert fault is not None, f"the server refuses {text!r}: {first}"
-        span = span_of_fault(text, str(first["name"]), int(str(first["at"])))
+        span = TextReader().span_of_fault(text, str(first["name"]), int(str(first["at"])))
         assert (fault.name, fault.span) == (first["name"], span), f"{fault} and {first} of {text!r}"
         return str(first["name"])
     assert program is not None, f"the server reads {text!r}, but: {fault}"
     if "refused" in first:
         return "check"
+    assert places(program) == places(TextReader().read(text)), f"what is shared stands elsewhere in {text!r}"
     number_from_one(program)
     assert first["program"] == program_text(program), text
     assert said[1]["listing"] == listing_text(program), text
     return "program"
+
+
+def places(program: Program) -> list[object]:
+    """All places of a program."""
+    told: list[object] = []
+    for proc in program.procs:
+        told += [proc.span, proc.name_span, *proc.variables()]
+        told += [(it.span, it.head, it.stmt.key) for it in proc.placed()]
+    return told
 
 
 def deep_texts() -> list[str]:
@@ -78,9 +90,10 @@ def main() -> None:
         for _ in range(many):
             maker = SourceMaker(random)
             text = maker.source(random.randrange(4))
+            texts.append(text)
             for _ in range(random.randrange(4)):
                 text = ChangeMaker(random, maker).change(text).of(text)
-            texts.append(text)
+                texts.append(text)
         for text in texts:
             data = text.encode("latin-1")
             word = compare(reader, data, replies(daig, Path(folder), data))
