@@ -292,7 +292,9 @@ class Document:
         except Gone as gone:
             # The next change loads the text anew.
             await self._lose(gone)
+            self.report = None
             self.watcher.show(f"daig serve ended: {gone}")
+            self.watcher.publish(self)
             await self._tell("_judged", changes)
 
     async def _ask_report(self) -> None:
