@@ -329,6 +329,7 @@ class Document:
             self._test_fresh(changes)
             asked = await server.ask(do="ask", at=at, string=string or [])
             if asked.get("refused") == 3:
+                # A server without tickets answers at once.
                 return await server.ask(do="state", at=at, string=string or [])
             if "ticket" not in asked:
                 return asked
