@@ -1,6 +1,7 @@
 -- Neovim for `.imp` files: `dofile("PATH/editors/daig.lua")` in init.lua; settings stand in vim.g.daig before it.
 local here = vim.fn.fnamemodify(debug.getinfo(1, "S").source:sub(2), ":p:h")
 local config = { name = "daig", cmd = { "python3", here .. "/daig_lsp.py" }, root_dir = here }
+local client
 config.init_options = vim.g.daig or vim.empty_dict()
 vim.opt.runtimepath:append(here)
 vim.api.nvim_create_autocmd({ "BufRead", "BufNewFile" }, { pattern = "*.imp", command = "set filetype=imp" })
@@ -8,8 +9,8 @@ vim.api.nvim_create_autocmd("FileType", { pattern = "imp", callback = function(e
   if vim.lsp.start then -- Neovim 0.8 and later
     vim.lsp.start(config)
   else
-    DaigClient = DaigClient or vim.lsp.start_client(config)
-    vim.lsp.buf_attach_client(event.buf, DaigClient)
+    client = client or vim.lsp.start_client(config)
+    vim.lsp.buf_attach_client(event.buf, client)
   end
   vim.keymap.set("n", "K", vim.lsp.buf.hover, { buffer = event.buf })
   vim.keymap.set("n", "gd", vim.lsp.buf.definition, { buffer = event.buf })

@@ -292,7 +292,9 @@ class Document:
         except Gone as gone:
             # The next change loads the text anew.
             await self._lose(gone)
+            self.report = None
             self.watcher.show(f"daig serve ended: {gone}")
+            self.watcher.publish(self)
             await self._tell("_judged", changes)
 
     async def _ask_report(self) -> None:
@@ -327,6 +329,7 @@ class Document:
             self._test_fresh(changes)
             asked = await server.ask(do="ask", at=at, string=string or [])
             if asked.get("refused") == 3:
+                # A server without tickets answers at once.
                 return await server.ask(do="state", at=at, string=string or [])
             if "ticket" not in asked:
                 return asked

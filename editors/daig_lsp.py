@@ -31,7 +31,7 @@ from lsp_wire import (
     write_message,
 )
 
-ERROR_MESSAGE, WARNING_MESSAGE, LOG_MESSAGE = 1, 2, 4
+ERROR_MESSAGE, LOG_MESSAGE = 1, 4
 CHOOSE_CALL, ALL_CALLS, SERVER_PROGRAM = "daig.chooseCall", "daig.allCalls", "daig.serverProgram"
 INCREMENTAL = 2
 
@@ -130,9 +130,11 @@ class LanguageServer:
         return await self._requests[method](params)
 
     def _send(self, **message: object) -> None:
+        """Sends a message."""
         write_message(self._out, message)
 
     def _fail(self, request_id: object, error: RpcError) -> None:
+        """Answers a request by an error."""
         self._send(id=request_id, error={"code": error.code, "message": error.message})
 
     def _ask_client(self, method: str) -> None:
@@ -180,6 +182,7 @@ class LanguageServer:
         return {"capabilities": self._capabilities(), "serverInfo": {"name": "daig"}}
 
     def _capabilities(self) -> Json:
+        """What this server can do."""
         return {
             "positionEncoding": "utf-8" if self._utf8 else "utf-16",
             "textDocumentSync": {"openClose": True, "change": INCREMENTAL},
@@ -197,6 +200,7 @@ class LanguageServer:
         await self._close_all()
 
     async def _close_all(self) -> None:
+        """Closes all files."""
         documents, self._documents = self._documents, {}
         for document in documents.values():
             await document.close()

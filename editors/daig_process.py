@@ -69,7 +69,11 @@ class DaigProcess:
                 file.write(text)
             process = await _spawned(settings, path)
             server = DaigProcess(process)
-            await server._greet()
+            try:
+                await server._greet()
+            except asyncio.CancelledError:
+                await server.stop()
+                raise
             return server
         finally:
             os.unlink(path)

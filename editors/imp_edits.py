@@ -126,7 +126,7 @@ class _Planner:
             raise NoPlan(f"the head of procedure {old.name} changed")
         had, has = [it.text for it in old.locals], [it.text for it in new.locals]
         if has[: len(had)] != had:
-            raise NoPlan(f"a declaration of procedure {old.name} went or changed")
+            raise NoPlan(f"the declarations of procedure {old.name} changed, and not at their end alone")
         for variable in new.locals[len(had) :]:
             self.send(do="declare", proc=new.name, name=variable.name, kind=variable.kind)
 

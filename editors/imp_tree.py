@@ -221,6 +221,7 @@ def _lines(program: Program) -> Iterator[tuple[str, int]]:
 
 
 def _proc_lines(proc: Proc) -> Iterator[tuple[str, int]]:
+    """The lines of a procedure."""
     yield f"{proc.head} {{", 0
     for variable in proc.locals:
         yield f"  var {variable.text};", 0
@@ -229,6 +230,7 @@ def _proc_lines(proc: Proc) -> Iterator[tuple[str, int]]:
 
 
 def _block_lines(block: list[Stmt], nesting: int) -> Iterator[tuple[str, int]]:
+    """The lines of a block."""
     space = "  " * nesting
     for stmt in block:
         if stmt.kind is StmtKind.SIMPLE:

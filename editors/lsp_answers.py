@@ -38,6 +38,7 @@ def diagnostics(document: Document) -> list[Json]:
 
 
 def _diagnostic(document: Document, span: Span, severity: int, message: str, **more: object) -> Json:
+    """One diagnostic."""
     return {"range": document.text.range(span), "severity": severity, "source": SOURCE, "message": message, **more}
 
 
@@ -167,6 +168,7 @@ def _proc_symbol(document: Document, shift: Shift, proc: Proc) -> Json | None:
 
 
 def _variable_symbol(document: Document, shift: Shift, variable: Variable) -> Json | None:
+    """A variable."""
     span = shift.span(variable.span)
     if span is None:
         return None

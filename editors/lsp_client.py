@@ -39,6 +39,7 @@ class Client:
             self.messages.put(json.loads(self.process.stdout.read(length)))
 
     def _write(self, message: Json) -> None:
+        """Sends a message."""
         assert self.process.stdin
         body = json.dumps({"jsonrpc": "2.0", **message}).encode()
         self.process.stdin.write(b"Content-Length: %d\r\n\r\n" % len(body) + body)
@@ -90,6 +91,7 @@ class Client:
         """The diagnostics of a version."""
 
         def is_it(message: Json) -> bool:
+            """Whether a message has them."""
             params = message.get("params")
             published = message.get("method") == "textDocument/publishDiagnostics"
             return published and isinstance(params, dict) and params.get("version") == version

@@ -13,7 +13,6 @@ from imp_tree import Span
 
 Json = dict[str, object]
 
-PARSE_ERROR = -32700
 INVALID_REQUEST = -32600
 METHOD_NOT_FOUND = -32601
 INVALID_PARAMS = -32602

@@ -5,6 +5,9 @@
 """
 from __future__ import annotations
 
+import os
+import signal
+import subprocess
 import sys
 
 from lsp_client import Client, Json
@@ -57,6 +60,23 @@ def test_settled(daig: str) -> None:
     where = {"start": {"line": 0, "character": 0}, "end": {"line": 6, "character": 0}}
     hints = client.request("textDocument/inlayHint", {"textDocument": {"uri": URI}, "range": where})
     assert [(it["label"], it["position"]) for it in hints] == [("0 ≤ i ≤ 10", {"line": 2, "character": 18})], hints
+    client.close()
+
+
+def test_broken(daig: str) -> None:
+    """While the text is no program, the last good one is asked, where the text around is the same."""
+    client, _ = opened({"daig": daig}, COUNTING)
+    words = hover(client, 2, 3)
+    client.change(URI, 2, [{"text": "// more\n" + COUNTING.replace("i + 1", "i +").replace("i == 10", "i == 11")}])
+    told = client.diagnostics(2)
+    assert [(it["severity"], it["range"]["start"]) for it in told] == [(1, {"line": 4, "character": 11})], told
+    assert hover(client, 4, 6) == "" and hover(client, 7, 0) == hover(client, 0, 0) == ""
+    client.change(URI, 3, [{"text": COUNTING.replace("i + 1", "i +")}])
+    assert len(client.diagnostics(3)) == 1 and hover(client, 2, 3) == words
+    client.change(URI, 4, [{"text": COUNTING.replace("i == 10", "i == 11")}])
+    assert [(it["severity"], it["code"]) for it in client.diagnostics(4)] == [(2, "assert")]
+    result = client.command("daig.serverProgram", URI)
+    assert result["counts"]["starts"] == 1 and result["counts"]["requests"] == 1, result
     client.close()
 
 
@@ -119,6 +139,18 @@ def test_settings(daig: str) -> None:
     client.close()
 
 
+def test_lost(daig: str) -> None:
+    """Where the server is killed, the next change starts another one."""
+    client, told = opened({"daig": daig}, CALLS)
+    words = ["ps", "-o", "pid=", "--ppid", str(client.process.pid)]
+    for pid in subprocess.run(words, capture_output=True, text=True, check=True).stdout.split():
+        os.kill(int(pid), signal.SIGKILL)
+    client.change(URI, 2, [{"text": CALLS.replace("call f(5)", "call f(7)")}])
+    assert client.diagnostics(2) == told == [] and "1 ≤ x ≤ 7" in hover(client, 1, 3)
+    assert any("given up" in it for it in client.log), client.log
+    client.close()
+
+
 def test_errors(daig: str) -> None:
     """Requests that cannot be answered get an error, and the server goes on."""
     client, _ = opened({"daig": daig}, COUNTING)
@@ -138,7 +170,8 @@ def test_errors(daig: str) -> None:
 
 def main() -> None:
     """Runs all."""
-    tests = (test_budget, test_settled, test_calls, test_names, test_refusals, test_settings, test_errors)
+    tests = (test_budget, test_settled, test_broken, test_calls, test_names)
+    tests += (test_refusals, test_settings, test_lost, test_errors)
     for test in tests:
         test(sys.argv[1])
     print(f"test_answers: {len(tests)} tests of answers")

@@ -63,7 +63,9 @@ def places(program: Program) -> list[object]:
 
 def deep_texts() -> list[str]:
     """Texts at the limits of nesting and of operators."""
+
     def main(body: str) -> str:
+        """A main with these statements."""
         return f"proc main() {{ var x: int; {body} }}"
 
     texts = [main("if (x < 1) {" * n + "}" * n) for n in (32, 33, 34)]
