@@ -1,28 +1,27 @@
 -- What a question answers is the machine's.
-use Rattle.std.proofs.Common.{◌≡◌, ℕ, ◌+◌, ◌*◌, ◌≤◌, List, [], ◌∷◌, ◌++◌, take, length, Some, Ok, Err, refl, sym, ap, subst, ◌∙◌, arith}
+use Rattle.std.proofs.Common.{◌≡◌, ℕ, suc, ◌+◌, ◌*◌, ◌≤◌, List, [], ◌∷◌, ◌++◌, length, Some, Err, refl, sym, ap, subst, ◌∙◌, arith}
 use Rattle.imp_syntax.specs.declared.edit.Location.{Location}
 use Rattle.imp_slots.specs.Fits.{IsChecked}
-use Rattle.imp_check.specs.Slots.{routines_of}
 use Rattle.domain_laws.specs.Operations.{Operations}
 use Rattle.batch_meaning.specs.Answers.{answer}
 use Rattle.cell_names.specs.Paths.{CellName}
 use Rattle.cell_rows.specs.Targets.{Target}
-use Rattle.imp_flow.specs.Plans.{Plan}
 use Rattle.daig_graph.specs.declared.value.Value.{Value}
 use Rattle.daig_query.specs.declared.store.Store.{Store}
 use Rattle.daig_query.specs.Answered.{Says}
 use Rattle.daig_query.specs.Filled.{Fills}
 use Rattle.session_machine.specs.Machine.{Machine, keeping}
-use Rattle.session_machine.specs.Turns.{IsBetween, added, answer_at, asked, missing_at, targets_of}
+use Rattle.session_machine.specs.Turns.{IsBetween, answer_at, missing_at, targets_of}
 use Rattle.session_machine.specs.Claims.{FillingKeeps}
 use Rattle.daig_session.specs.declared.book.Book.{Book}
 use Rattle.daig_session.specs.declared.error.QueryError.{QueryError}
 use Rattle.daig_session.specs.declared.error.QueryError.TheVariants.{Refused, Memory}
-use Rattle.daig_session.specs.Books.{flow_in, machine_of}
+use Rattle.daig_session.specs.Books.{flow_in}
 use Rattle.daig_session.specs.Going.{IsAsked, IsRefused}
-use Rattle.daig_session.specs.Holds.{Holds, IsReady}
+use Rattle.daig_session.specs.Holds.{Holds}
+use Rattle.daig_session.specs.Reports.{IsUnticked}
 use Rattle.daig_session.specs.Turns.{Questions}
-use Rattle.daig_session.proofs.Filled.{added_holds, as_many, missing_here}
+use Rattle.daig_session.proofs.Filled.{added_holds, as_many}
 
 append_none : {A : Type 0} (xs : List A) → xs ++ [] ≡ xs
 append_none [] = refl
@@ -32,9 +31,21 @@ append_none (x ∷ xs) = ap (λ ys. x ∷ ys) (append_none xs)
 pub between_none : (xs : List CellName) (m : Machine) (stands : Machine → Type 0) → stands m → IsBetween xs m stands
 between_none xs m stands h = record { count = 0; some = subst stands (ap (λ ks. keeping ks m.cost m) (sym (append_none m.kept))) h }
 
+-- a refusal takes no steps
+pub no_steps : (n : ℕ) (e : QueryError) → IsUnticked n n e
+no_steps n (Refused r) = refl
+no_steps n Memory = tt
+
 -- bounds of work
 pub work_both : (s t u each n k : ℕ) → t ≤ s + each * n → u ≤ t + each * k → u ≤ s + each * (n + k)
 work_both s t u each n k h g = omega arith
+
+-- one operation more
+pub work_first : (s u each n k : ℕ) → u ≤ s + each * suc n → u ≤ s + each * suc (n + k)
+work_first s u each n k h = omega arith
+
+work_most : (s t u each n k : ℕ) → t ≤ s + each * n → u ≤ t + each * k → u ≤ s + each * suc (n + k)
+work_most s t u each n k h g = omega arith
 
 module _ {S : Type 0} (dom : Operations S) (book : Book) (store : Store S) where
   -- the answer of the flow is that of the machine
@@ -56,3 +67,7 @@ module _ {S : Type 0} (dom : Operations S) (book : Book) (store : Store S) where
   pub work_here : (m : Machine) (l : Location) (string : List ℕ) (ts : List Target) (s u each n : ℕ) → Holds dom store book m → IsAsked (flow_in book).program l string ts → n ≡ length (missing_at dom l string m) → u ≤ s + each * (n + 2 * length ts) → u ≤ s + each * (length (missing_at dom l string m) + 2 * length (targets_of m l string))
   work_here m l string ts s u each n h a e w =
       subst (λ k. u ≤ s + each * (length (missing_at dom l string m) + 2 * k)) (as_many dom book store store m l string ts h a) (subst (λ k. u ≤ s + each * (k + 2 * length ts)) e w)
+
+  pub most_here : (m : Machine) (l : Location) (string : List ℕ) (ts : List Target) (s t u each n k : ℕ) → Holds dom store book m → IsAsked (flow_in book).program l string ts → n ≡ k → t ≤ s + each * n → u ≤ t + each * (2 * length ts) → u ≤ s + each * suc (k + 2 * length (targets_of m l string))
+  most_here m l string ts s t u each n k h a e fill read =
+      subst (λ j. u ≤ s + each * suc (k + 2 * j)) (as_many dom book store store m l string ts h a) (work_most s t u each k (2 * length ts) (subst (λ j. t ≤ s + each * j) e fill) read)

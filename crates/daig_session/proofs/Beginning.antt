@@ -1,5 +1,5 @@
 -- The beginning of a session.
-use Rattle.std.proofs.Common.{◌≡◌, ℕ, ◌<◌, ◌≤◌, Bool, true, false, List, [], ◌∷◌, map, refl, sym, ap, subst, ◌∙◌}
+use Rattle.std.proofs.Common.{◌≡◌, ℕ, ◌<◌, ◌≤◌, true, false, List, [], map, sym, subst}
 use Rattle.imp_syntax.specs.Plain.{Procedure}
 use Rattle.imp_slots.specs.Fits.{IsChecked}
 use Rattle.imp_check.specs.Fine.{IsFine}
@@ -13,7 +13,7 @@ use Rattle.daig_query.specs.declared.store.Store.{Store}
 use Rattle.daig_query.specs.Kept.{kept}
 use Rattle.daig_query.specs.Right.{IsRight}
 use Rattle.open_tickets.specs.Tickets.{ticket, AreOpen}
-use Rattle.session_machine.specs.Machine.{Machine, beginning}
+use Rattle.session_machine.specs.Machine.{beginning}
 use Rattle.daig_session.specs.declared.book.Book.{Book}
 use Rattle.daig_session.specs.Books.{flow_in, AreBelow, AreBehind, AreAhead}
 use Rattle.daig_session.specs.Going.{AreWaiting}

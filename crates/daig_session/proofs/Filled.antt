@@ -1,5 +1,5 @@
 -- What is filled is kept by the machine.
-use Rattle.std.proofs.Common.{◌≡◌, ℕ, zero, suc, ◌≤◌, Bool, ◌||◌, List, [], ◌∷◌, ◌++◌, map, take, length, Some, refl, sym, ap, subst, ◌∙◌, arith}
+use Rattle.std.proofs.Common.{◌≡◌, ℕ, ◌||◌, List, [], ◌∷◌, ◌++◌, take, length, refl, sym, ap, subst, ◌∙◌}
 use Rattle.imp_syntax.specs.declared.edit.Location.{Location}
 use Rattle.imp_slots.specs.Fits.{IsChecked}
 use Rattle.imp_check.specs.Slots.{routines_of}
@@ -10,7 +10,6 @@ use Rattle.demand_order.specs.Order.{member, fill_all}
 use Rattle.demand_order.proofs.OrderLemmas.{member-append}
 use Rattle.demand_laws.specs.Claims.{found_by, names_of}
 use Rattle.named_cells.specs.Same.{same_name}
-use Rattle.imp_flow.specs.Plans.{Plan}
 use Rattle.daig_query.specs.declared.store.Store.{Store}
 use Rattle.daig_query.specs.Kept.{kept}
 use Rattle.daig_query.specs.Right.{found}
@@ -18,7 +17,7 @@ use Rattle.daig_query.specs.Walked.{AreTargets}
 use Rattle.daig_query.specs.Filled as engine
 use Rattle.daig_query.specs.Filled.{Fills}
 use Rattle.session_machine.specs.Machine.{Machine, keeping}
-use Rattle.session_machine.specs.Turns.{is_kept, missing, missing_at, targets_of, asked, added}
+use Rattle.session_machine.specs.Turns.{missing, missing_at, targets_of, asked, added}
 use Rattle.session_machine.specs.Claims.{AreKept, FillingKeeps, KeepsCells}
 use Rattle.daig_session.specs.declared.book.Book.{Book}
 use Rattle.daig_session.specs.Books.{flow_in, machine_of}

@@ -11,3 +11,7 @@ pub mod Answering
 pub mod Ticketed
 pub mod Unchanged
 pub mod Stepped
+pub mod CheckLemmas
+pub mod Reported
+pub mod Standing
+pub mod Reporting

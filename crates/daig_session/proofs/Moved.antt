@@ -1,15 +1,13 @@
 -- Moves to other programs.
-use Rattle.std.proofs.Common.{◌≡◌, ◌↔◌, ℕ, ◌<◌, ◌≤◌, Bool, true, false, List, [], ◌∷◌, map, take, filter, length, inl, inr, refl, sym, ap, subst, ◌∙◌, arith}
+use Rattle.std.proofs.Common.{◌≡◌, ℕ, ◌<◌, ◌≤◌, Bool, true, false, List, [], ◌∷◌, map, take, filter, length, inl, inr, refl, sym, ap, subst, ◌∙◌, arith}
 use Rattle.imp_syntax.specs.Plain.{Procedure}
 use Rattle.imp_syntax.specs.declared.edit.Edit.{Edit}
-use Rattle.imp_slots.specs.Fits.{IsChecked}
-use Rattle.imp_slots.specs.Plain.{Routine}
 use Rattle.imp_check.specs.Fine.{IsFine}
 use Rattle.imp_check.specs.Slots.{routines_of}
 use Rattle.imp_check.specs.Changes.{AreWithin, Makes}
 use Rattle.imp_check.specs.declared.change.Change.{Change}
 use Rattle.imp_check.specs.declared.change.Put.{Put}
-use Rattle.imp_edit.specs.Edited.{edited, next_after, Continues}
+use Rattle.imp_edit.specs.Edited.{edited, next_after}
 use Rattle.domain_laws.specs.Operations.{Operations}
 use Rattle.batch_meaning.specs.Batch.{Engine}
 use Rattle.call_contexts.specs.Settings.{Setting}
@@ -21,22 +19,19 @@ use Rattle.kept_after.specs.After.{kept_after}
 use Rattle.named_cells.specs.Same.{same_name}
 use Rattle.named_cells.specs.Holds.{HoldsCells}
 use Rattle.named_cells.specs.Named as named
-use Rattle.imp_flow.specs.Plans.{Plan}
 use Rattle.edit_history.specs.After.{after, Leads, LeadsOn}
 use Rattle.edit_history.proofs.AfterLemmas.{after_is}
-use Rattle.edit_invalidate.specs.Claims.{edit_of}
 use Rattle.edits_keep_cells.specs.Claims.{AreOneApart, IsEdited, flow_of}
 use Rattle.edits_keep_cells.proofs.Apart.{leave_kept}
 use Rattle.cell_removal.specs.Removal.{without, IsOrder}
-use Rattle.daig_query.specs.declared.held.Held.{Held}
 use Rattle.daig_query.specs.declared.store.Store.{Store}
 use Rattle.daig_query.specs.Claims.{Lessens}
 use Rattle.daig_query.specs.Kept.{kept}
 use Rattle.daig_query.specs.Right.{found, IsRight}
 use Rattle.daig_query.proofs.Holding.{right_holds, rest_is_right}
 use Rattle.open_tickets.specs.Tickets.{ticket}
-use Rattle.session_machine.specs.Machine.{Machine, turned_to}
-use Rattle.session_machine.specs.Turns.{back_to, committed, is_kept, moved, on_to, redone, undone}
+use Rattle.session_machine.specs.Machine.{Machine}
+use Rattle.session_machine.specs.Turns.{back_to, committed, moved, on_to, redone, undone}
 use Rattle.session_machine.specs.Claims.{AreKept, KeepsCells}
 use Rattle.session_machine.proofs.Moving.{left_is, move_keeps}
 use Rattle.daig_session.specs.declared.book.Book.{Book}
@@ -50,7 +45,7 @@ use Rattle.daig_session.proofs.Ordered.{below_more, behind_more, behind_take, tu
 use Rattle.daig_session.proofs.TicketLemmas.{tickets_anew}
 use Rattle.daig_session.proofs.Waiting.{waiting_anew}
 
-both_ways : (a b : Bool) → (a ≡ true → b ≡ true) → (b ≡ true → a ≡ true) → a ≡ b
+pub both_ways : (a b : Bool) → (a ≡ true → b ≡ true) → (b ≡ true → a ≡ true) → a ≡ b
 both_ways true true f g = refl
 both_ways true false f g = absurd (let e = f refl in cc)
 both_ways false true f g = absurd (let e = g refl in cc)

@@ -1,15 +1,14 @@
 -- Books that stay in order.
-use Rattle.std.proofs.Common.{◌≡◌, ℕ, zero, suc, ◌+◌, ◌<◌, ◌≤◌, List, [], ◌∷◌, map, take, refl, sym, ap, subst, ◌∙◌, arith}
+use Rattle.std.proofs.Common.{◌≡◌, ℕ, zero, suc, ◌<◌, ◌≤◌, List, [], ◌∷◌, map, take, sym, ap, subst, ◌∙◌, arith}
 use Rattle.imp_syntax.specs.Plain.{Procedure}
 use Rattle.imp_slots.specs.Plain.{Routine}
 use Rattle.imp_check.specs.Fine.{IsFine}
 use Rattle.imp_check.specs.Slots.{routines_of}
 use Rattle.batch_meaning.specs.Batch.{Engine}
 use Rattle.call_contexts.specs.Settings.{Setting, setting_of}
-use Rattle.edits_keep_cells.specs.Claims.{IsEdited}
 use Rattle.open_tickets.specs.Tickets.{number, AreOpen}
 use Rattle.daig_session.specs.declared.book.Book.{Book}
-use Rattle.daig_session.specs.Books.{AreBelow, AreBehind, AreAhead, IsInOrder, IsSame, IsSet, IsTurned}
+use Rattle.daig_session.specs.Books.{AreBelow, AreBehind, AreAhead, IsInOrder, IsSame, IsTurned}
 use Rattle.daig_session.proofs.TicketLemmas.{still_open, numbers_anew}
 
 pub set_again : (s : Setting) (e : Engine) (rs : List Routine) → s ≡ setting_of e rs → s ≡ setting_of s.engine rs

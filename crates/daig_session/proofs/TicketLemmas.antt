@@ -1,12 +1,11 @@
 -- Tickets that keep their numbers.
-use Rattle.std.proofs.Common.{◌≡◌, ℕ, zero, suc, ◌+◌, ◌<◌, ◌≤◌, List, [], ◌∷◌, ◌++◌, map, length, take, drop, Some, None, slice_get, slice_set, get_or, refl, sym, ap, subst, ◌∙◌, arith}
+use Rattle.std.proofs.Common.{◌≡◌, ℕ, zero, suc, ◌<◌, List, [], ◌∷◌, map, length, Some, slice_get, slice_set, get_or, refl, sym, ap, subst, ◌∙◌, arith}
 use Rattle.std.proofs.lemmas.List.{length-map}
 use Rattle.plain_values.proofs.Cases.{some_inj}
 use Rattle.imp_slots.specs.Fits.{Distinct}
-use Rattle.session_machine.specs.Machine.{Ticket}
 use Rattle.open_tickets.specs.declared.tickets.Open.{Open}
 use Rattle.open_tickets.specs.declared.tickets.Tickets.{Tickets}
-use Rattle.open_tickets.specs.Tickets.{anew, number, ticket, tickets, AreBelow, AreOpen}
+use Rattle.open_tickets.specs.Tickets.{anew, number, ticket, AreBelow, AreOpen}
 
 module _ {G : Type 0} where
   numbers_below : (n : ℕ) (os us : List (Open G)) → map number us ≡ map number os → AreBelow n os → AreBelow n us

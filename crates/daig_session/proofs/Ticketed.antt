@@ -1,6 +1,5 @@
 -- What is done for tickets is the machine's.
-use Rattle.std.proofs.Common.{◌≡◌, ◌==◌, ℕ, zero, suc, ◌+◌, ◌*◌, ◌<◌, ◌≤◌, Bool, false, List, [], ◌∷◌, ◌++◌, map, take, drop, length, if◌then◌else◌, Option, Some, None, Ok, Err, slice_get, slice_set, refl, sym, ap, subst, ◌∙◌, inl, inr, arith}
-use Rattle.std.specs.Prelude.{nat_lt, IfSome}
+use Rattle.std.proofs.Common.{◌≡◌, ℕ, zero, suc, ◌+◌, ◌<◌, ◌≤◌, List, [], ◌∷◌, ◌++◌, map, take, drop, length, if◌then◌else◌, Some, None, Err, slice_get, refl, sym, ap, subst, ◌∙◌, inr, arith}
 use Rattle.std.proofs.lemmas.List.{length-map}
 use Rattle.plain_values.proofs.Cases.{by_test, some_inj}
 use Rattle.imp_syntax.specs.declared.edit.Location.{Location}
@@ -8,16 +7,13 @@ use Rattle.imp_slots.specs.Fits.{Absent, Distinct, IsChecked}
 use Rattle.edits_keep_cells.specs.Claims.{flow_of}
 use Rattle.edit_history.specs.Times.{Times}
 use Rattle.daig_query.specs.Right.{IsRight}
-use Rattle.analysis_words.specs.declared.refusal.Refusal.TheVariants.{LongString}
 use Rattle.domain_laws.specs.Operations.{Operations}
-use Rattle.batch_meaning.specs.Answers.{answer, Refuses}
+use Rattle.batch_meaning.specs.Answers.{answer}
 use Rattle.cell_rows.specs.Targets.{Target}
-use Rattle.daig_graph.specs.declared.value.Value.{Value}
 use Rattle.daig_query.specs.declared.store.Store.{Store}
-use Rattle.daig_query.specs.Answered.{Says}
 use Rattle.daig_query.specs.Filled.{Fills}
 use Rattle.session_machine.specs.Machine.{Machine, Ticket, keeping, ticket_of, ticketed, without_ticket}
-use Rattle.session_machine.specs.Turns.{IsBetween, answer_at, asked, closed, ended, filled, missing_at, opened, stepped}
+use Rattle.session_machine.specs.Turns.{asked, closed, ended, missing_at, opened, stepped}
 use Rattle.session_machine.specs.Claims.{FillingKeeps}
 use Rattle.open_tickets.specs.declared.tickets.Open.{Open}
 use Rattle.open_tickets.specs.declared.tickets.Tickets.{Tickets}
@@ -26,13 +22,12 @@ use Rattle.daig_session.specs.declared.book.Book.{Book}
 use Rattle.daig_session.specs.declared.book.Going.{Going}
 use Rattle.daig_session.specs.declared.error.QueryError.{QueryError}
 use Rattle.daig_session.specs.declared.error.QueryError.TheVariants.{Refused, Memory}
-use Rattle.daig_session.specs.Books.{flow_in, machine_of, IsInOrder, IsWithout}
-use Rattle.daig_session.specs.Going.{AreWaiting, IsAsked, IsGoing, IsRefused, IsWaiting}
+use Rattle.daig_session.specs.Books.{flow_in, machine_of, IsWithout}
+use Rattle.daig_session.specs.Going.{AreWaiting, IsAsked, IsGoing, IsRefused}
 use Rattle.daig_session.specs.Holds.{Holds, IsReady}
-use Rattle.daig_session.specs.Turns.{ask_error, Opens, IsDone, IsGone, IsPending}
-use Rattle.daig_session.proofs.Answering.{answer_here, says_here}
-use Rattle.daig_session.proofs.Asked.{asked_answered}
-use Rattle.daig_session.proofs.Filled.{asked_holds, keeping_holds, missing_here, fills_ready}
+use Rattle.daig_session.specs.Turns.{ask_error, Opens}
+use Rattle.daig_session.proofs.Answering.{answer_here}
+use Rattle.daig_session.proofs.Filled.{asked_holds, keeping_holds}
 use Rattle.daig_session.proofs.Ordered.{order_like}
 use Rattle.daig_session.proofs.TicketLemmas.{numbers_set, set_there, still_open, tickets_set}
 use Rattle.daig_session.proofs.Waiting.{waiting_get, waiting_push, waiting_rest, waiting_set}

@@ -1,5 +1,5 @@
 -- Tickets that wait.
-use Rattle.std.proofs.Common.{◌≡◌, ℕ, zero, suc, ◌+◌, List, [], ◌∷◌, ◌++◌, map, take, drop, Option, Some, None, slice_get, slice_set, refl, sym, ap, subst, ◌∙◌, arith}
+use Rattle.std.proofs.Common.{◌≡◌, ℕ, zero, suc, ◌+◌, List, [], ◌∷◌, ◌++◌, map, take, drop, Option, Some, None, slice_get, slice_set, subst, arith}
 use Rattle.std.specs.Prelude.{IfSome}
 use Rattle.plain_values.proofs.Cases.{some_inj}
 use Rattle.imp_syntax.specs.declared.edit.Location.{Location}

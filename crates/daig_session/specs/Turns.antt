@@ -11,7 +11,7 @@ use Rattle.batch_meaning.specs.Answers.{Refuses}
 use Rattle.daig_graph.specs.declared.value.Value.{Value}
 use Rattle.daig_query.specs.Answered.{Covers, Says}
 use Rattle.open_tickets.specs.declared.tickets.NoTicket.{NoTicket}
-use Rattle.session_machine.specs.Machine.{Machine, Ticket, ticket_of}
+use Rattle.session_machine.specs.Machine.{Machine, Ticket}
 use Rattle.session_machine.specs.Turns.{IsBetween, answer_at, asked, closed, ended, missing_at, opened, stepped, targets_of}
 use Rattle.daig_session.specs.declared.error.QueryError.{QueryError}
 use Rattle.daig_session.specs.declared.error.QueryError.TheVariants as query

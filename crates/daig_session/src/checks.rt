@@ -26,6 +26,7 @@ fn add_statements(stmts: &[StmtId], found: &mut Items<StmtId>) -> Result<(), Mem
 }
 
 /// The statements of a program, in the order of the text. It takes time linear in the program.
+#[tactic(auto, using(crate::proofs::CheckLemmas::numbers_end))]
 pub(crate) fn all_statements(alloc: Global, view: &View<'_>) -> Result<Items<StmtId>, Memory>
     ensures are { IfOk result (λ ns. ns ≡ program_numbers view.now) }
 {

@@ -1,5 +1,5 @@
 //! Queries.
-ghost use Rattle.std.specs.Prelude.{◌≡◌, ℕ, ◌+◌, ◌*◌, ◌≤◌, List, length, map, Some, IfErr, IfOk, OnOk};
+ghost use Rattle.std.specs.Prelude.{◌≡◌, ℕ, suc, ◌+◌, ◌*◌, ◌≤◌, List, length, map, Some, IfErr, IfOk, OnOk};
 ghost use Rattle.imp_syntax.specs.declared.edit.Location.{Location};
 ghost use Rattle.imp_check.specs.Slots.{routines_of};
 ghost use Rattle.cell_rows.specs.Targets.{Target as PlainTarget};
@@ -45,6 +45,7 @@ fn fill_all<D: Domain, L: Ledger>(
     ensures filled { OnOk result (AreFilled (D.operations engine.old.domain) engine.new.store going.new.walk (flow_in book.now) (map target_of going.old.targets)) }
     ensures least { steps.old ≤ steps.new }
     ensures ticked { IfOk result (λ n. steps.new ≤ steps.old + D.counted engine.old.domain * n) }
+    ensures most { steps.new ≤ steps.old + D.counted engine.old.domain * suc (added engine.old.store engine.new.store) }
 {
     let flow = book.flow();
     let Going { targets, walk } = going;
@@ -56,7 +57,8 @@ impl<D: Domain> Session<D> {
     /// present program, interpreted from scratch. A state covers each configuration that a run reaches there.
     ///
     /// Only what is missing is computed; it is kept, and `cost` tells how many cells that were. It ticks at most once an
-    /// operation of the domain for each of these, and twice for each chain.
+    /// operation of the domain for each of these, and twice for each chain. Where it fails it ticks at most so for what it
+    /// filled then, and for one operation more.
     ///
     /// # Errors
     ///
@@ -82,6 +84,8 @@ impl<D: Domain> Session<D> {
         ensures unticked { IfErr result (IsUnticked steps.old steps.new) }
         ensures ticked { (m : Machine) → Holds (D.operations self.old.engine.domain) self.old.engine.store self.old.book m →
             IfOk result (λ _. steps.new ≤ steps.old + D.counted self.old.engine.domain * (length (missing_at (D.operations self.old.engine.domain) at.now string.now m) + 2 * length (targets_of m at.now string.now))) }
+        ensures most { (m : Machine) → Holds (D.operations self.old.engine.domain) self.old.engine.store self.old.book m →
+            steps.new ≤ steps.old + D.counted self.old.engine.domain * suc (added self.old.engine.store self.new.engine.store + 2 * length (targets_of m at.now string.now)) }
     {
         questions_keep_cells::<D>();
         let flow = self.book.flow();

@@ -1,5 +1,5 @@
 //! Reports.
-ghost use Rattle.std.specs.Prelude.{◌≡◌, ℕ, ◌+◌, ◌*◌, ◌≤◌, [], ◌∷◌, ◌++◌, Contains, IfOk, IsFalse, IsSome, IsTrue, OnOk, Some, length};
+ghost use Rattle.std.specs.Prelude.{◌≡◌, ◌+◌, ◌*◌, ◌≤◌, [], ◌++◌, Contains, IfOk, IsFalse, IsSome, IsTrue, OnOk, Some, length, suc};
 ghost use Rattle.imp_syntax.specs.declared.edit.Location.TheVariants.{Before};
 ghost use Rattle.imp_slots.specs.ActionViews.{act_of};
 ghost use Rattle.imp_slots.specs.Plain.{Does, Effect};
@@ -7,16 +7,17 @@ ghost use Rattle.imp_check.specs.Slots.{routines_of};
 ghost use Rattle.analysis_words.specs.declared.findings.Finding.{Finding as AnyFinding};
 ghost use Rattle.domain_laws.specs.Checks.{Check, kind_in, kind_of};
 ghost use Rattle.domain_laws.specs.Operations.{Operations};
-ghost use Rattle.batch_meaning.specs.Answers.{Answer, Refuses};
+ghost use Rattle.batch_meaning.specs.Answers.{Answer};
 ghost use Rattle.batch_meaning.specs.Batch.{Engine as BatchEngine};
 ghost use Rattle.batch_meaning.specs.Report.{checked_one, checked_statements, verdict_on};
 ghost use Rattle.batch_sound.specs.Theorem.{IsFindingSound};
 ghost use Rattle.alarm_report.specs.Reporting.{verdict_for};
 ghost use Rattle.daig_query.specs.Answered.{Says};
+ghost use Rattle.daig_query.specs.Filled.{added};
 ghost use Rattle.session_machine.specs.Machine.{Machine};
 ghost use Rattle.session_machine.specs.Turns.{answer_at, missing_for_report};
 ghost use Rattle.daig_session.specs.Holds.{Holds, IsReady};
-ghost use Rattle.daig_session.specs.Reports.{checked_act, checked_among, checked_at, checked_chains, findings, work_on, HasCheck, HoldsAll, HoldsPart, Reports, Tells};
+ghost use Rattle.daig_session.specs.Reports.{checked_act, checked_among, chain_count, checked_at, checked_chains, findings, work_on, HasCheck, HoldsAll, HoldsPart, Reports, Tells};
 
 use crate::checks::{all_statements, checked_stmt};
 use crate::error::QueryError;
@@ -32,19 +33,6 @@ use plain_values::{Items, Memory};
 use std::alloc::Global;
 use std::sync::ledger::Ledger;
 
-/// What a report makes of a refusal: a statement to which no chain comes is dead.
-fn found_without<'a, S>(why: Refusal) -> Found<'a, S>
-    ensures verdict { (dom : Operations S) (engine : BatchEngine) (e : Effect) → verdict_for dom (Does e) result ≡ verdict_on dom engine e (Refuses why) }
-{
-    match why {
-        Refusal::NoChain => Found::Absent,
-        Refusal::LongString => Found::Over,
-        Refusal::NoProcedure => Found::Over,
-        Refusal::NoStatement => Found::Over,
-        Refusal::WrongStatement => Found::Over,
-    }
-}
-
 /// What a report makes of an answer.
 fn found_in<S>(value: &Value<S>) -> Found<'_, S>
     ensures verdict { (dom : Operations S) (engine : BatchEngine) (a : Answer S) (e : Effect) → Says a (Some value.now) → verdict_for dom (Does e) result ≡ verdict_on dom engine e a }
@@ -55,13 +43,18 @@ fn found_in<S>(value: &Value<S>) -> Found<'_, S>
     }
 }
 
-/// What a report makes of an answer, or of none.
+/// What a report makes of an answer, or of a refusal: where no chain comes nothing is found, and any other refusal is told
+/// as an Over is.
 fn found_of<S>(known: &Result<Value<S>, Refusal>) -> Found<'_, S>
     ensures verdict { (dom : Operations S) (engine : BatchEngine) (a : Answer S) (e : Effect) → Tells a known.now → verdict_for dom (Does e) result ≡ verdict_on dom engine e a }
 {
     match known {
         Ok(value) => found_in(value),
-        Err(why) => found_without(*why),
+        Err(Refusal::NoChain) => Found::Absent,
+        Err(Refusal::LongString) => Found::Over,
+        Err(Refusal::NoProcedure) => Found::Over,
+        Err(Refusal::NoStatement) => Found::Over,
+        Err(Refusal::WrongStatement) => Found::Over,
     }
 }
 
@@ -128,6 +121,8 @@ impl<D: Domain> Session<D> {
         ensures least { steps.old ≤ steps.new }
         ensures ticked { OnOk result ((m : Machine) (e : Effect) (k : Check) → Holds (D.operations self.old.engine.domain) self.old.engine.store self.old.book m →
             steps.new ≤ steps.old + D.counted self.old.engine.domain * work_on (D.operations self.old.engine.domain) m (checked_one id e (Some k))) }
+        ensures most { (m : Machine) (e : Effect) (k : Check) → Holds (D.operations self.old.engine.domain) self.old.engine.store self.old.book m →
+            steps.new ≤ steps.old + D.counted self.old.engine.domain * suc (added self.old.engine.store self.new.engine.store + 2 * chain_count (routines_of m.program) (checked_one id e (Some k))) }
     {
         match self.query(alloc, &Location::Before(id), &[], steps) {
             Ok(value) => Ok(Ok(value)),
@@ -156,12 +151,15 @@ impl<D: Domain> Session<D> {
         ensures least { steps.old ≤ steps.new }
         ensures ticked { OnOk result ((m : Machine) → Holds (D.operations self.old.engine.domain) self.old.engine.store self.old.book m →
             steps.new ≤ steps.old + D.counted self.old.engine.domain * work_on (D.operations self.old.engine.domain) m (checked_at m.program id)) }
+        ensures most { (m : Machine) → Holds (D.operations self.old.engine.domain) self.old.engine.store self.old.book m →
+            steps.new ≤ steps.old + D.counted self.old.engine.domain * suc (added self.old.engine.store self.new.engine.store + 2 * chain_count (routines_of m.program) (checked_at m.program id)) }
     {
         if !self.has_check(id) {
             return Ok(());
         }
         let known = self.known_before(alloc, id, steps)?;
-        found.push(self.found_at(alloc, id, &known)?)
+        let finding = self.found_at(alloc, id, &known)?;
+        found.push(finding)
     }
 
     /// Adds what is found of those of some statements that have a check, one after another.
@@ -184,6 +182,8 @@ impl<D: Domain> Session<D> {
         ensures least { steps.old ≤ steps.new }
         ensures ticked { OnOk result ((m : Machine) → Holds (D.operations self.old.engine.domain) self.old.engine.store self.old.book m →
             steps.new ≤ steps.old + D.counted self.old.engine.domain * work_on (D.operations self.old.engine.domain) m (checked_among m.program stmts.now)) }
+        ensures most { (m : Machine) → Holds (D.operations self.old.engine.domain) self.old.engine.store self.old.book m →
+            steps.new ≤ steps.old + D.counted self.old.engine.domain * suc (added self.old.engine.store self.new.engine.store + 2 * chain_count (routines_of m.program) (checked_among m.program stmts.now)) }
     {
         for stmt in stmts {
             self.add_finding(alloc, *stmt, found, steps)?;
@@ -209,6 +209,8 @@ impl<D: Domain> Session<D> {
         ensures least { steps.old ≤ steps.new }
         ensures ticked { OnOk result ((m : Machine) → Holds (D.operations self.old.engine.domain) self.old.engine.store self.old.book m →
             steps.new ≤ steps.old + D.counted self.old.engine.domain * work_on (D.operations self.old.engine.domain) m (checked_statements (routines_of m.program))) }
+        ensures most { (m : Machine) → Holds (D.operations self.old.engine.domain) self.old.engine.store self.old.book m →
+            steps.new ≤ steps.old + D.counted self.old.engine.domain * suc (added self.old.engine.store self.new.engine.store + 2 * checked_chains m) }
     {
         let stmts = all_statements(alloc, &self.book.history.table().view())?;
         let mut found = Items::new(alloc);
@@ -221,7 +223,8 @@ impl<D: Domain> Session<D> {
     ///
     /// Only what is missing is computed, for one statement after another; it is kept, and `cost` tells how many cells that
     /// were. It ticks at most once an operation of the domain for each of these, and twice for each chain to each checked
-    /// statement. Beside these it takes time linear in the program.
+    /// statement. Where it fails it ticks at most so for what it filled then, and for one operation more. Beside these it
+    /// takes time linear in the program.
     ///
     /// # Errors
     ///
@@ -234,13 +237,15 @@ impl<D: Domain> Session<D> {
         requires ready { IsReady (D.operations self.old.engine.domain) self.old.engine.store self.old.book }
         ensures ready { IsReady (D.operations self.new.engine.domain) self.new.engine.store self.new.book }
         ensures domain { self.new.engine.domain ≡ self.old.engine.domain }
+        ensures next_ticket { self.new.book.tickets.next ≡ self.old.book.tickets.next }
         ensures reports { (m : Machine) → Holds (D.operations self.old.engine.domain) self.old.engine.store self.old.book m →
             Reports (D.operations self.old.engine.domain) m (Holds (D.operations self.new.engine.domain) self.new.engine.store self.new.book) result }
         ensures sound { IfOk result (λ found. (f : AnyFinding) → Contains found f → IsFindingSound (routines_of self.old.book.history.now) f) }
         ensures least { steps.old ≤ steps.new }
         ensures ticked { (m : Machine) → Holds (D.operations self.old.engine.domain) self.old.engine.store self.old.book m →
             OnOk result (steps.new ≤ steps.old + D.counted self.old.engine.domain * (length (missing_for_report (D.operations self.old.engine.domain) m) + 2 * checked_chains m)) }
-        ensures rises { self.new.book.tickets.next ≡ self.old.book.tickets.next }
+        ensures most { (m : Machine) → Holds (D.operations self.old.engine.domain) self.old.engine.store self.old.book m →
+            steps.new ≤ steps.old + D.counted self.old.engine.domain * suc (added self.old.engine.store self.new.engine.store + 2 * checked_chains m) }
     {
         reports_are_sound::<D>();
         let cost = self.book.cost;

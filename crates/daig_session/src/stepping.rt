@@ -1,5 +1,5 @@
 //! Steps of tickets.
-ghost use Rattle.std.specs.Prelude.{◌≡◌, ◌+◌, ◌*◌, ◌<◌, ◌≤◌, ◌↔◌, ℕ, List, length, map, min, Some, IfOk, IfErr, IfSome, IsTrue, slice_get};
+ghost use Rattle.std.specs.Prelude.{◌≡◌, ◌+◌, ◌*◌, ◌<◌, ◌≤◌, ◌↔◌, ℕ, suc, List, length, map, min, Some, IfOk, IfErr, IfSome, IsTrue, MatchOption, slice_get};
 ghost use Rattle.imp_syntax.specs.declared.edit.Location.{Location};
 ghost use Rattle.batch_meaning.specs.Answers.{answer};
 ghost use Rattle.imp_check.specs.Slots.{routines_of};
@@ -7,6 +7,7 @@ ghost use Rattle.imp_flow.specs.Reached.{target_of};
 ghost use Rattle.daig_query.specs.Answered.{AreFilled};
 ghost use Rattle.daig_query.specs.Filled.{added, missing, Fills};
 ghost use Rattle.session_machine.specs.Machine.{Machine, ticket_of};
+ghost use Rattle.session_machine.specs.Turns.{targets_of};
 ghost use Rattle.open_tickets.specs.declared.tickets.Open.{Open as AnyOpen};
 ghost use Rattle.daig_session.specs.declared.book.Going.{Going as AnyGoing};
 ghost use Rattle.daig_session.specs.Books.{flow_in, IsWithout};
@@ -82,6 +83,7 @@ fn fill_some<D: Domain, L: Ledger>(
     ensures filled { IfOk result (λ p. IsTrue p.done → AreFilled (D.operations engine.old.domain) engine.new.store going.new.walk (flow_in book.now) (map target_of going.old.targets)) }
     ensures least { steps.old ≤ steps.new }
     ensures ticked { IfOk result (λ p. steps.new ≤ steps.old + D.counted engine.old.domain * p.filled) }
+    ensures most { steps.new ≤ steps.old + D.counted engine.old.domain * suc (added engine.old.store engine.new.store) }
 {
     let flow = book.flow();
     let Going { targets, walk } = going;
@@ -110,6 +112,8 @@ impl<D: Domain> Session<D> {
         ensures least { steps.old ≤ steps.new }
         ensures ticked { (m : Machine) (o : AnyOpen AnyGoing) → Holds (D.operations self.old.engine.domain) self.old.engine.store self.old.book m → slice_get self.old.book.tickets.open_ones.items place ≡ Some o →
             IfOk result (λ turn. steps.new ≤ steps.old + D.counted self.old.engine.domain * work_of (D.operations self.old.engine.domain) m (ticket o) turn) }
+        ensures most { (m : Machine) (o : AnyOpen AnyGoing) → Holds (D.operations self.old.engine.domain) self.old.engine.store self.old.book m → slice_get self.old.book.tickets.open_ones.items place ≡ Some o →
+            steps.new ≤ steps.old + D.counted self.old.engine.domain * suc (added self.old.engine.store self.new.engine.store + 2 * length (targets_of m o.at o.string)) }
     {
         questions_keep_cells::<D>();
         let progress = fill_some(alloc, &mut self.engine, &self.book, &mut going, most, steps)?;
@@ -152,6 +156,8 @@ impl<D: Domain> Session<D> {
         ensures least { steps.old ≤ steps.new }
         ensures ticked { (m : Machine) → Holds (D.operations self.old.engine.domain) self.old.engine.store self.old.book m →
             IfOk result (λ turn. IfSome (ticket_of ticket m.tickets) (λ t. steps.new ≤ steps.old + D.counted self.old.engine.domain * work_of (D.operations self.old.engine.domain) m t turn)) }
+        ensures most { (m : Machine) → Holds (D.operations self.old.engine.domain) self.old.engine.store self.old.book m →
+            MatchOption (ticket_of ticket m.tickets) (steps.new ≡ steps.old) (λ t. steps.new ≤ steps.old + D.counted self.old.engine.domain * suc (added self.old.engine.store self.new.engine.store + 2 * length (targets_of m t.at t.string))) }
     {
         let Some(place) = self.book.tickets.place_of(ticket) else {
             return Err(StepError::NoTicket);

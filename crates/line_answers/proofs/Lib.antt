@@ -8,5 +8,5 @@ mod SmallEdits
 mod Carried
 mod FineLemmas
 mod FineTurns
-mod Sources
+pub mod Sources
 mod SoundTurns

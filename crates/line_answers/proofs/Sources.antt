@@ -34,14 +34,20 @@ counted_below ps count is =
     never_below (next_number ps) (program_numbers ps)
     (λ m high. subst (λ (ns : List ℕ). often m ns ≡ 0) (sym is) (counting_high 1 count m (omega (arith, many, high))))
 
+-- The numbers of a program that is read are 1 or more, stand once, and are below the next one.
+pub tree_numbered : (text : List ℕ) (ps : List Procedure) → HasTree ProgramText outside text ps → AreNumbered ps
+tree_numbered text ps tree = counted_numbered ps (program_count ps) (program_counts (kinds tree.0) ps tree.2.0)
+
+pub tree_below : (text : List ℕ) (ps : List Procedure) → HasTree ProgramText outside text ps → All (λ (n : ℕ). n < next_number ps) (program_numbers ps)
+tree_below text ps tree = counted_below ps (program_count ps) (program_counts (kinds tree.0) ps tree.2.0)
+
 source_fine : (source : List ℕ) (program : List Procedure) → HasTree ProgramText outside source program → check_fault program ≡ None → IsFineBelow (next_number program) program
 source_fine source program tree faultless =
-    let counts = program_counts (kinds tree.0) program tree.2.0 in
     let small = program_small program (printable source program tree) in
     record {
-      fine = fine_of program small faultless (counted_numbered program (program_count program) counts);
+      fine = fine_of program small faultless (tree_numbered source program tree);
       small = small;
-      below = counted_below program (program_count program) counts;
+      below = tree_below source program tree;
     }
 
 pub sources_fine : SourcesAreFine

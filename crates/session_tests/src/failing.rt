@@ -19,13 +19,10 @@ enum Which {
 }
 
 /// Intervals, of whose operations some run out of memory.
+#[derive(Drop)]
 pub(crate) struct Failing {
     which: Which,
     left: Cell<u32>,
-}
-
-impl Drop for Failing {
-    fn drop(&mut self) {}
 }
 
 impl Failing {

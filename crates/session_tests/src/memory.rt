@@ -40,7 +40,7 @@ fn query_fills_the_rest(rt: HostRuntime) -> Result<(), Fail> {
         let found = asked_again(rt.alloc(), number)?;
         assert_eq!(rt; found.as_str(), "Memory 0; i=[10,max] n=[10,10] 11");
     }
-    let found = asked_again(rt.alloc(), 12)?;
+    let found = asked_again(rt.alloc(), 13)?;
     assert_eq!(rt;
         found.as_str(),
         "i=[10,max] n=[10,10] 11; i=[10,max] n=[10,10] 11"

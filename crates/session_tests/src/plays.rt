@@ -84,6 +84,27 @@ fn locations_that_are_not_there(rt: HostRuntime) -> Result<(), Fail> {
 }
 
 #[test]
+fn reports(rt: HostRuntime) -> Result<(), Fail> {
+    let text =
+        "proc dead() { assert 0 == 0; } proc main() { var i: int; i = 0; while (i < 10) { i = i + 1; assert i < 11; } assert i == 10; }";
+    let script = [
+        Line::Query("before", 5),
+        Line::Cost,
+        Line::Report,
+        Line::Cost,
+        Line::Report,
+        Line::Cost,
+        Line::Edit(Told::After(2, "assert i < 1;")),
+        Line::Cost,
+        Line::Report,
+        Line::Cost,
+    ];
+    let wanted =
+        "i=[1,10]; cost 11 kept 11; report 1 Dead 5 Safe 6 May; cost 1 kept 12; report 1 Dead 5 Safe 6 May; cost 0 kept 12; next 8; cost 0 kept 2; report 1 Dead 7 Safe 5 Safe 6 May; cost 11 kept 13; ";
+    plays(&rt, rt.alloc(), Setup { text, ..PLAIN }, &script, wanted)
+}
+
+#[test]
 fn call_strings(rt: HostRuntime) -> Result<(), Fail> {
     let text = "proc f(x: int) { skip; skip; skip; } proc main() { call f(1); call f(2); }";
     let script = [

@@ -2,7 +2,7 @@
 ghost use Rattle.std.specs.Prelude.{◌≡◌, ◌<◌, IfOk};
 ghost use Rattle.daig_session.specs.Holds.{IsReady};
 
-use crate::turns::{asked, cancelled, cost, edited, moved, queried, stepped};
+use crate::turns::{asked, cancelled, cost, edited, moved, queried, reported, stepped};
 use daig_session::Session;
 use domain_laws::{Domain, Steps};
 use program_chains::Widening;
@@ -19,6 +19,8 @@ pub(crate) enum Line<'a> {
     Query(&'a str, u32),
     /// What is answered at the end of a procedure under a call string.
     Under(&'a str, &'a [u32]),
+    /// What is found of the statements that have a check.
+    Report,
     /// A ticket for a location is opened.
     Ask(&'a str, u32),
     /// So many cells are filled for a ticket.
@@ -89,6 +91,7 @@ pub(crate) fn play<D: Domain, L: Ledger>(
         Line::Under(proc, string) => {
             queried(alloc, session, &location(alloc, proc, 0)?, string, steps)
         }
+        Line::Report => reported(alloc, session, steps),
         Line::Ask(kind, number) => asked(alloc, session, location(alloc, kind, number)?),
         Line::Step(ticket, most) => stepped(alloc, session, ticket, most, steps),
         Line::Cancel(ticket) => cancelled(alloc, session, ticket),

@@ -5,7 +5,7 @@ ghost use Rattle.daig_session.specs.Holds.{IsReady};
 use call_contexts::place_of;
 use daig_graph::Value;
 use daig_session::{Session, Turn};
-use domain_laws::{Domain, Steps};
+use domain_laws::{Domain, Findings, Steps};
 use imp_check::Table;
 use imp_syntax::{Location, ProcId};
 use plain_values::Items;
@@ -54,6 +54,28 @@ pub(crate) fn queried<D: Domain, L: Ledger>(
         Ok(value) => answered(alloc, session, proc_at(session.program(), at), &value),
         Err(why) => Ok(format!(in alloc; "{why:?}")?),
     }
+}
+
+/// The numbers of statements, with what is found of them.
+fn found_in(alloc: Global, found: &Findings) -> Result<String, Fail> {
+    let mut all = String::from_str(alloc, "report")?;
+    for one in found.as_slice() {
+        all.push_str(&format!(in alloc; " {} {:?}", one.id.number(), one.verdict)?)?;
+    }
+    Ok(all)
+}
+
+/// What is found of the statements that have a check.
+pub(crate) fn reported<D: Domain, L: Ledger>(
+    alloc: Global,
+    session: &mut Session<D>,
+    steps: &mut Steps<L>,
+) -> Result<String, Fail>
+    requires ready { IsReady (D.operations session.old.engine.domain) session.old.engine.store session.old.book }
+    ensures ready { IfOk result (λ _. IsReady (D.operations session.new.engine.domain) session.new.engine.store session.new.book) }
+{
+    let found = session.report(alloc, steps)?;
+    found_in(alloc, &found)
 }
 
 /// Opens a ticket for a location.

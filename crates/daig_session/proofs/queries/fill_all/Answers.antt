@@ -1,5 +1,4 @@
 use Rattle.std.proofs.Common.{List, map, sym, subst}
-use Rattle.cell_rows.specs.Targets.{Target as PlainTarget}
 use Rattle.imp_flow.specs.Plans.{Plan}
 use Rattle.imp_flow.specs.Reached.{target_of}
 use Rattle.imp_flow.specs.declared.steps.Target.{Target}

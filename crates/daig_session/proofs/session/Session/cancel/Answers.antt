@@ -1,6 +1,4 @@
-use Rattle.std.proofs.Common.{None, Some, Ok, Err, sym, subst}
-use Rattle.session_machine.specs.Machine.{ticket_of}
-use Rattle.open_tickets.specs.Tickets.{ticket}
+use Rattle.std.proofs.Common.{Ok, Err, sym, subst}
 use Rattle.daig_session.specs.Holds.{Holds}
 use Rattle.daig_session.specs.Turns.{Cancels}
 use Rattle.daig_session.proofs.TicketLemmas.{there_within}

@@ -1,4 +1,5 @@
-use Rattle.std.proofs.Common.{◌≡◌, ◌*◌, ◌+◌, ◌≤◌, length, map, Some, Err, rules, sym, ap, subst, ◌∙◌}
+use Rattle.std.proofs.Common.{◌≡◌, ◌*◌, ◌+◌, ◌≤◌, length, map, Some, Err, rules, sym, ap, subst, ◌∙◌, arith}
+use Rattle.std.specs.Prelude.{IfErr}
 use Rattle.std.proofs.lemmas.Result.{err_from_is_err_and}
 use Rattle.imp_check.specs.Slots.{routines_of}
 use Rattle.imp_flow.specs.Plans.{Plan}
@@ -7,12 +8,13 @@ use Rattle.batch_meaning.specs.Answers.{answer}
 use Rattle.daig_query.specs.Answered.{AreFilled, Covers, Says}
 use Rattle.daig_query.specs.Filled.{added}
 use Rattle.daig_query.specs.Right.{IsRight}
-use Rattle.session_machine.specs.Turns.{asked, missing_at, IsBetween}
+use Rattle.session_machine.specs.Turns.{asked, missing_at, targets_of, IsBetween}
 use Rattle.daig_session.specs.Books.{flow_in}
 use Rattle.daig_session.specs.Going.{IsGoing, IsRefused}
 use Rattle.daig_session.specs.Holds.{Holds, IsReady}
+use Rattle.daig_session.specs.Reports.{IsUnticked}
 use Rattle.daig_session.specs.Turns.{Questions}
-use Rattle.daig_session.proofs.Answering.{between_some, refused_turn, says_here, work_both, work_here}
+use Rattle.daig_session.proofs.Answering.{between_some, most_here, no_steps, refused_turn, says_here, work_both, work_first, work_here}
 use Rattle.daig_session.proofs.Filled.{asked_holds, fills_ready, missing_here}
 use Rattle.daig_session.proofs.session.Session.query.Goals as goal
 
@@ -33,6 +35,12 @@ returns-in_err-going-clause-answers g c = λ m h.
     let is = subst (λ (p : Plan). IsRefused (answer dom p.engine p.program c.args.at.now c.args.string.now) c.in_err-going.field-0.0) c.flow-flow.ensures.is c.in_err-going.ensures.refused in
     let e : c.from_residual.result ≡ Err c.in_err-going.field-0.0 = search rules in
     subst (Questions dom m (Holds dom s.engine.store s.book) c.args.at.now c.args.string.now) (sym e) (refused_turn dom s.book s.engine.store m c.args.at.now c.args.string.now c.in_err-going.field-0.0 h is)
+
+pub returns-in_err-going-clause-unticked : goal.returns-in_err-going-clause-unticked
+returns-in_err-going-clause-unticked g c =
+    let n = c.args.steps.now in
+    let e : c.from_residual.result ≡ Err c.in_err-going.field-0.0 = search rules in
+    subst (λ r. IfErr r (IsUnticked n n)) (sym e) (no_steps n c.in_err-going.field-0.0)
 
 pub returns-in_err-filled-clause-ready : goal.returns-in_err-filled-clause-ready
 returns-in_err-filled-clause-ready g c =
@@ -159,3 +167,41 @@ returns-clause-ticked g c = λ m h.
     let e = c.in_ok-filled.ensures.all ∙ ap length (missing_here dom s.book s.engine.store new m l string ts h going.asked) in
     let read = subst (λ d. c.read_answer.new.steps ≤ c.fill_all.new.steps + g.D.Domain.counted d * (2 * length ts)) c.fill_all.ensures.domain (c.read_answer.ensures.ticked (flow_in s.book) ts filled) in
     work_here dom s.book s.engine.store m l string ts c.args.steps.now c.read_answer.new.steps each n h going.asked e (work_both c.args.steps.now c.fill_all.new.steps c.read_answer.new.steps each n (2 * length ts) c.in_ok-filled.ensures.ticked read)
+
+pub returns-in_err-going-clause-most : goal.returns-in_err-going-clause-most
+returns-in_err-going-clause-most g c = λ m h. omega arith
+
+pub returns-in_err-filled-clause-most : goal.returns-in_err-filled-clause-most
+returns-in_err-filled-clause-most g c = λ m h.
+    let s = c.args.self.now in
+    work_first c.args.steps.now c.fill_all.new.steps (g.D.Domain.counted s.engine.domain) (added s.engine.store c.fill_all.new.engine.store) (2 * length (targets_of m c.args.at.now c.args.string.now)) c.fill_all.ensures.most
+
+pub returns-in_err-value-clause-most : goal.returns-in_err-value-clause-most
+returns-in_err-value-clause-most g c = λ m h.
+    let s = c.args.self.now in
+    let ops = g.D.Domain.operations in
+    let dom = ops s.engine.domain in
+    let each = g.D.Domain.counted s.engine.domain in
+    let new = c.fill_all.new.engine.store in
+    let l = c.args.at.now in
+    let string = c.args.string.now in
+    let ts = map target_of c.in_ok-going.going.targets in
+    let going = subst (λ (p : Plan). IsGoing dom p s.engine.store l string c.in_ok-going.going) c.flow-flow.ensures.is c.in_ok-going.ensures.going in
+    let filled = subst (λ d. AreFilled (ops d) new c.fill_all.new.going.walk (flow_in s.book) ts) (sym c.fill_all.ensures.domain) c.in_ok-filled.ensures.filled in
+    let read = subst (λ d. c.read_answer.new.steps ≤ c.fill_all.new.steps + g.D.Domain.counted d * (2 * length ts)) c.fill_all.ensures.domain (c.read_answer.ensures.ticked (flow_in s.book) ts filled) in
+    most_here dom s.book s.engine.store m l string ts c.args.steps.now c.fill_all.new.steps c.read_answer.new.steps each c.in_ok-filled.filled (added s.engine.store new) h going.asked c.in_ok-filled.ensures.counted c.in_ok-filled.ensures.ticked read
+
+pub returns-clause-most : goal.returns-clause-most
+returns-clause-most g c = λ m h.
+    let s = c.args.self.now in
+    let ops = g.D.Domain.operations in
+    let dom = ops s.engine.domain in
+    let each = g.D.Domain.counted s.engine.domain in
+    let new = c.fill_all.new.engine.store in
+    let l = c.args.at.now in
+    let string = c.args.string.now in
+    let ts = map target_of c.in_ok-going.going.targets in
+    let going = subst (λ (p : Plan). IsGoing dom p s.engine.store l string c.in_ok-going.going) c.flow-flow.ensures.is c.in_ok-going.ensures.going in
+    let filled = subst (λ d. AreFilled (ops d) new c.fill_all.new.going.walk (flow_in s.book) ts) (sym c.fill_all.ensures.domain) c.in_ok-filled.ensures.filled in
+    let read = subst (λ d. c.read_answer.new.steps ≤ c.fill_all.new.steps + g.D.Domain.counted d * (2 * length ts)) c.fill_all.ensures.domain (c.read_answer.ensures.ticked (flow_in s.book) ts filled) in
+    most_here dom s.book s.engine.store m l string ts c.args.steps.now c.fill_all.new.steps c.read_answer.new.steps each c.in_ok-filled.filled (added s.engine.store new) h going.asked c.in_ok-filled.ensures.counted c.in_ok-filled.ensures.ticked read

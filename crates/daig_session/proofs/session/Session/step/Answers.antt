@@ -1,10 +1,11 @@
-use Rattle.std.proofs.Common.{◌≡◌, ◌*◌, ◌+◌, ◌≤◌, Err, None, refl, sym, subst, ◌∙◌}
+use Rattle.std.proofs.Common.{◌≡◌, ◌*◌, ◌+◌, ◌≤◌, suc, length, Err, None, refl, sym, subst, ◌∙◌, arith}
 use Rattle.std.specs.Prelude.{IfOk, IfSome, MatchOption}
 use Rattle.imp_check.specs.Slots.{routines_of}
 use Rattle.edit_history.specs.Times.{Times}
 use Rattle.imp_flow.specs.Plans.{Plan}
 use Rattle.session_machine.specs.Machine.{ticket_of}
-use Rattle.session_machine.specs.Turns.{missing_at}
+use Rattle.daig_query.specs.Filled.{added}
+use Rattle.session_machine.specs.Turns.{missing_at, targets_of}
 use Rattle.open_tickets.specs.Tickets.{anew, ticket, tickets, IsAt}
 use Rattle.daig_session.specs.declared.error.StepError.TheVariants.{Gone, Memory, NoTicket}
 use Rattle.daig_session.specs.Going.{IsGoing}
@@ -119,3 +120,41 @@ returns-in-Err-Memory-clause-steps g c = λ m h.
     let w = c.resumed.ensures.left in
     subst (λ o. IsStepOf dom m (Holds dom s.engine.store c.resumed.new.book) c.args.most o (Err Memory)) (sym (ticket_here dom s.engine.store s.book m c.args.ticket c.in-Some.place at.one h c.requires.ready.order.are_open at.there at.same)) (
     between_none (missing_at dom at.one.at at.one.string m) m (Holds dom s.engine.store c.resumed.new.book) (without_holds dom s.engine.store c.in-Some.place s.book c.resumed.new.book w at.one at.there m h))
+
+pub returns-in_default-clause-most : goal.returns-in_default-clause-most
+returns-in_default-clause-most g c = λ m h.
+    let s = c.args.self.now in
+    let dom = g.D.Domain.operations s.engine.domain in
+    let each = g.D.Domain.counted s.engine.domain in
+    let steps = c.args.steps.now in
+    let none = subst (λ r. MatchOption r (ticket_of c.args.ticket (tickets s.book.tickets) ≡ None) (IsAt s.book.tickets c.args.ticket)) c.in_default.is c.place_of.ensures.is in
+    subst (λ o. MatchOption o (steps ≡ steps) (λ t. steps ≤ steps + each * suc (added s.engine.store s.engine.store + 2 * length (targets_of m t.at t.string)))) (sym (no_ticket dom s.engine.store s.book m c.args.ticket h none)) refl
+
+pub returns-in-Ok-clause-most : goal.returns-in-Ok-clause-most
+returns-in-Ok-clause-most g c = λ m h.
+    let s = c.args.self.now in
+    let dom = g.D.Domain.operations s.engine.domain in
+    let each = g.D.Domain.counted s.engine.domain in
+    let at = c.in-Some.ensures.is in
+    let w = c.resumed.ensures.left in
+    let new = c.step_on.new.self in
+    subst (λ o. MatchOption o (c.step_on.new.steps ≡ c.args.steps.now) (λ t. c.step_on.new.steps ≤ c.args.steps.now + each * suc (added s.engine.store new.engine.store + 2 * length (targets_of m t.at t.string)))) (sym (ticket_here dom s.engine.store s.book m c.args.ticket c.in-Some.place at.one h c.requires.ready.order.are_open at.there at.same)) (
+    c.step_on.ensures.most m (anew at.one) (without_holds dom s.engine.store c.in-Some.place s.book c.resumed.new.book w at.one at.there m h) (without_there dom s.engine.store c.in-Some.place s.book c.resumed.new.book w at.one at.there))
+
+pub returns-in-Err-Refused-clause-most : goal.returns-in-Err-Refused-clause-most
+returns-in-Err-Refused-clause-most g c = λ m h.
+    let s = c.args.self.now in
+    let dom = g.D.Domain.operations s.engine.domain in
+    let each = g.D.Domain.counted s.engine.domain in
+    let steps = c.args.steps.now in
+    let at = c.in-Some.ensures.is in
+    subst (λ o. MatchOption o (steps ≡ steps) (λ t. steps ≤ steps + each * suc (added s.engine.store s.engine.store + 2 * length (targets_of m t.at t.string)))) (sym (ticket_here dom s.engine.store s.book m c.args.ticket c.in-Some.place at.one h c.requires.ready.order.are_open at.there at.same)) (omega arith)
+
+pub returns-in-Err-Memory-clause-most : goal.returns-in-Err-Memory-clause-most
+returns-in-Err-Memory-clause-most g c = λ m h.
+    let s = c.args.self.now in
+    let dom = g.D.Domain.operations s.engine.domain in
+    let each = g.D.Domain.counted s.engine.domain in
+    let steps = c.args.steps.now in
+    let at = c.in-Some.ensures.is in
+    subst (λ o. MatchOption o (steps ≡ steps) (λ t. steps ≤ steps + each * suc (added s.engine.store s.engine.store + 2 * length (targets_of m t.at t.string)))) (sym (ticket_here dom s.engine.store s.book m c.args.ticket c.in-Some.place at.one h c.requires.ready.order.are_open at.there at.same)) (omega arith)

@@ -1,4 +1,4 @@
-use Rattle.std.proofs.Common.{◌≡◌, ◌*◌, ◌+◌, ◌<◌, ◌≤◌, true, false, length, map, Some, slice_get, refl, sym, ap, subst, ◌∙◌, arith}
+use Rattle.std.proofs.Common.{◌≡◌, ◌*◌, ◌+◌, ◌<◌, ◌≤◌, true, false, length, map, Some, refl, sym, ap, subst, ◌∙◌, arith}
 use Rattle.std.proofs.lemmas.Result.{err_from_is_err_and}
 use Rattle.plain_values.proofs.Cases.{some_inj}
 use Rattle.imp_check.specs.Slots.{routines_of}
@@ -6,14 +6,14 @@ use Rattle.imp_flow.specs.Reached.{target_of}
 use Rattle.batch_meaning.specs.Answers.{answer}
 use Rattle.daig_query.specs.Answered.{AreFilled, Covers, Says}
 use Rattle.daig_query.specs.Filled.{added, Fills}
-use Rattle.session_machine.specs.Turns.{ended, missing_at, stepped, IsBetween}
+use Rattle.session_machine.specs.Turns.{ended, missing_at, stepped, targets_of, IsBetween}
 use Rattle.open_tickets.specs.declared.tickets.Open.{Open}
 use Rattle.open_tickets.specs.Tickets.{number, ticket}
 use Rattle.daig_session.specs.declared.book.Going.{Going}
 use Rattle.daig_session.specs.Books.{flow_in}
 use Rattle.daig_session.specs.Going.{AreWaiting, IsAsked}
 use Rattle.daig_session.specs.Holds.{Holds, IsReady}
-use Rattle.daig_session.proofs.Answering.{between_some, says_here, work_both, work_here}
+use Rattle.daig_session.proofs.Answering.{between_some, most_here, says_here, work_both, work_first, work_here}
 use Rattle.daig_session.proofs.Filled.{fills_ready, missing_here}
 use Rattle.daig_session.proofs.Stepped.{all_of, as_many_as, is_more}
 use Rattle.daig_session.proofs.TicketLemmas.{numbers_set, still_open, there_within, tickets_set}
@@ -196,3 +196,43 @@ returns-clause-ticked g c = λ m o h e.
     let missing = missing_here dom s.book s.engine.store new m o.at o.string ts h a in
     let read = subst (λ d. c.read_answer.new.steps ≤ c.fill_some.new.steps + g.D.Domain.counted d * (2 * length ts)) c.fill_some.ensures.domain (c.read_answer.ensures.ticked (flow_in s.book) ts filled) in
     work_here dom s.book s.engine.store m o.at o.string ts c.args.steps.now c.read_answer.new.steps each n h a (all_of n c.args.most _ _ c.in_ok-progress.ensures.first (c.in_ok-progress.ensures.all.0 done) (ap length missing)) (work_both c.args.steps.now c.fill_some.new.steps c.read_answer.new.steps each n (2 * length ts) c.in_ok-progress.ensures.ticked read)
+
+pub returns-in_err-progress-clause-most : goal.returns-in_err-progress-clause-most
+returns-in_err-progress-clause-most g c = λ m o h e.
+    let s = c.args.self.now in
+    work_first c.args.steps.now c.fill_some.new.steps (g.D.Domain.counted s.engine.domain) (added s.engine.store c.fill_some.new.engine.store) (2 * length (targets_of m o.at o.string)) c.fill_some.ensures.most
+
+pub returns-then-not-progress-clause-most : goal.returns-then-not-progress-clause-most
+returns-then-not-progress-clause-most g c = λ m o h e.
+    let s = c.args.self.now in
+    work_first c.args.steps.now c.fill_some.new.steps (g.D.Domain.counted s.engine.domain) (added s.engine.store c.fill_some.new.engine.store) (2 * length (targets_of m o.at o.string)) c.fill_some.ensures.most
+
+pub returns-in_err-value-clause-most : goal.returns-in_err-value-clause-most
+returns-in_err-value-clause-most g c = λ m o h e.
+    let s = c.args.self.now in
+    let ops = g.D.Domain.operations in
+    let dom = ops s.engine.domain in
+    let each = g.D.Domain.counted s.engine.domain in
+    let new = c.fill_some.new.engine.store in
+    let ts = map target_of c.args.going.targets in
+    let n = c.in_ok-progress.progress.filled in
+    let done : c.in_ok-progress.progress.done ≡ true = grind (arith, c.if-not-progress.false) in
+    let a = subst (λ (x : Open Going). IsAsked (flow_in s.book).program x.at x.string ts) (some_inj c.requires.there.one o (sym c.requires.there.there ∙ e)) c.requires.there.going.asked in
+    let filled = subst (λ d. AreFilled (ops d) new c.fill_some.new.going.walk (flow_in s.book) ts) (sym c.fill_some.ensures.domain) (c.in_ok-progress.ensures.filled done) in
+    let read = subst (λ d. c.read_answer.new.steps ≤ c.fill_some.new.steps + g.D.Domain.counted d * (2 * length ts)) c.fill_some.ensures.domain (c.read_answer.ensures.ticked (flow_in s.book) ts filled) in
+    most_here dom s.book s.engine.store m o.at o.string ts c.args.steps.now c.fill_some.new.steps c.read_answer.new.steps each n (added s.engine.store new) h a c.in_ok-progress.ensures.counted c.in_ok-progress.ensures.ticked read
+
+pub returns-clause-most : goal.returns-clause-most
+returns-clause-most g c = λ m o h e.
+    let s = c.args.self.now in
+    let ops = g.D.Domain.operations in
+    let dom = ops s.engine.domain in
+    let each = g.D.Domain.counted s.engine.domain in
+    let new = c.fill_some.new.engine.store in
+    let ts = map target_of c.args.going.targets in
+    let n = c.in_ok-progress.progress.filled in
+    let done : c.in_ok-progress.progress.done ≡ true = grind (arith, c.if-not-progress.false) in
+    let a = subst (λ (x : Open Going). IsAsked (flow_in s.book).program x.at x.string ts) (some_inj c.requires.there.one o (sym c.requires.there.there ∙ e)) c.requires.there.going.asked in
+    let filled = subst (λ d. AreFilled (ops d) new c.fill_some.new.going.walk (flow_in s.book) ts) (sym c.fill_some.ensures.domain) (c.in_ok-progress.ensures.filled done) in
+    let read = subst (λ d. c.read_answer.new.steps ≤ c.fill_some.new.steps + g.D.Domain.counted d * (2 * length ts)) c.fill_some.ensures.domain (c.read_answer.ensures.ticked (flow_in s.book) ts filled) in
+    most_here dom s.book s.engine.store m o.at o.string ts c.args.steps.now c.fill_some.new.steps c.read_answer.new.steps each n (added s.engine.store new) h a c.in_ok-progress.ensures.counted c.in_ok-progress.ensures.ticked read

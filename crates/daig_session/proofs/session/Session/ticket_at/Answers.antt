@@ -7,10 +7,10 @@ use Rattle.daig_session.proofs.TicketLemmas.{read_is, there_within}
 use Rattle.daig_session.proofs.Ticketed.{no_ticket, ticket_here}
 use Rattle.daig_session.proofs.session.Session.ticket_at.Goals as goal
 
-pub returns-in-None-clause-is : goal.returns-in-None-clause-is
-returns-in-None-clause-is g c = λ m h.
+pub returns-in-None : goal.returns-in-None
+returns-in-None g c =
     let s = c.args.self.now in
-    sym (ap (option_map (λ (t : Ticket). t.at)) (no_ticket (g.D.Domain.operations s.engine.domain) s.engine.store s.book m c.args.ticket h c.in-None.ensures.is))
+    record { is = λ m h. sym (ap (option_map (λ (t : Ticket). t.at)) (no_ticket (g.D.Domain.operations s.engine.domain) s.engine.store s.book m c.args.ticket h c.in-None.ensures.is)) }
 
 pub index-one-requires : goal.index-one-requires
 index-one-requires g c =
@@ -19,9 +19,9 @@ index-one-requires g c =
     let within = there_within os.items c.in-Some.place at.one at.there in
     omega (arith, within, os.ok.0)
 
-pub returns-in-Some-clause-is : goal.returns-in-Some-clause-is
-returns-in-Some-clause-is g c = λ m h.
+pub returns-in-Some : goal.returns-in-Some
+returns-in-Some g c =
     let s = c.args.self.now in
     let at = c.in-Some.ensures.is in
     let is = read_is s.book.tickets.open_ones.items c.in-Some.place c.index-one.result.now at.one c.index-one.ensures at.there in
-    ap (λ (o : Open Going). Some o.at) is ∙ sym (ap (option_map (λ (t : Ticket). t.at)) (ticket_here (g.D.Domain.operations s.engine.domain) s.engine.store s.book m c.args.ticket c.in-Some.place at.one h c.requires.ready.order.are_open at.there at.same))
+    record { is = λ m h. ap (λ (o : Open Going). Some o.at) is ∙ sym (ap (option_map (λ (t : Ticket). t.at)) (ticket_here (g.D.Domain.operations s.engine.domain) s.engine.store s.book m c.args.ticket c.in-Some.place at.one h c.requires.ready.order.are_open at.there at.same)) }

@@ -1,0 +1,216 @@
+-- Checked statements one after another: what is missing of them, and what is kept then.
+use Rattle.std.proofs.Common.{◌≡◌, ℕ, zero, suc, ◌+◌, ◌*◌, ◌≤◌, Bool, ◌||◌, List, [], ◌∷◌, ◌++◌, map, take, length, Option, Some, None, Result, Ok, Err, refl, sym, ap, subst, ◌∙◌, arith, append_assoc, append-nil}
+use Rattle.std.proofs.lemmas.List.{length-append, map-append}
+use std.Path.{fun_ext}
+use Rattle.imp_syntax.specs.declared.edit.Location.TheVariants.{Before}
+use Rattle.imp_slots.specs.Fits.{IsChecked}
+use Rattle.imp_slots.specs.Plain.{Effect, Routine}
+use Rattle.imp_check.specs.Slots.{routines_of}
+use Rattle.analysis_words.specs.declared.refusal.Refusal.{Refusal}
+use Rattle.domain_laws.specs.Checks.{Check}
+use Rattle.domain_laws.specs.Operations.{Operations}
+use Rattle.batch_meaning.specs.Answers.{Answers, Found, In, Misses, Refuses, procedure_of}
+use Rattle.batch_meaning.specs.Report.{Checked, checked_one}
+use Rattle.cell_names.specs.Paths.{CellName}
+use Rattle.cell_rows.specs.Targets.{Target, demanded, targets}
+use Rattle.demand_order.specs.InTurn.{missing_in_turn}
+use Rattle.demand_order.specs.Order.{System, fill_all, member, seen}
+use Rattle.demand_order.proofs.OrderLemmas.{member-append, or_assoc, or_false_right}
+use Rattle.demand_laws.specs.Claims.{names_of}
+use Rattle.demand_laws.specs.Reports as reports
+use Rattle.demand_laws.specs.Reports.{check_targets}
+use Rattle.named_cells.specs.Same.{same_name}
+use Rattle.daig_graph.specs.declared.value.Value.{Value}
+use Rattle.daig_query.specs.declared.store.Store.{Store}
+use Rattle.session_machine.specs.Machine.{Machine, keeping}
+use Rattle.session_machine.specs.Turns as turns
+use Rattle.session_machine.specs.Turns.{IsBetween, answer_at, asked, found, is_kept, missing_at, targets_of}
+use Rattle.daig_session.specs.declared.book.Book.{Book}
+use Rattle.daig_session.specs.declared.error.QueryError.{QueryError}
+use Rattle.daig_session.specs.declared.error.QueryError.TheVariants as query
+use Rattle.daig_session.specs.Going.{IsAnswered}
+use Rattle.daig_session.specs.Holds.{Holds}
+use Rattle.daig_session.specs.Reports.{chain_count, missing_of, work_on, HoldsAll, HoldsPart}
+use Rattle.daig_session.specs.Turns.{Questions}
+use Rattle.daig_session.proofs.Answering.{work_both}
+use Rattle.daig_session.proofs.Asked.{asked_answered}
+use Rattle.daig_session.proofs.Filled.{take_all}
+
+-- Fronts of lists.
+take_over : {A : Type 0} (xs ys : List A) (n : ℕ) → take (length xs + n) (xs ++ ys) ≡ xs ++ take n ys
+take_over [] ys n = let e : 0 + n ≡ n = omega arith in ap (λ k. take k ys) e
+take_over (x ∷ xs) ys n = let e : suc (length xs) + n ≡ suc (length xs + n) = omega arith in ap (λ k. take k (x ∷ (xs ++ ys))) e ∙ ap (λ zs. x ∷ zs) (take_over xs ys n)
+
+take_within : {A : Type 0} (xs ys : List A) (n : ℕ) → (k : ℕ) × (take k (xs ++ ys) ≡ take n xs)
+take_within xs ys zero = (0, refl)
+take_within [] ys (suc n) = (0, refl)
+take_within (x ∷ xs) ys (suc n) = let p = take_within xs ys n in (suc p.0, ap (λ zs. x ∷ zs) p.1)
+
+-- Demands in turn.
+module _ {T : Type 0} (s : System T) where
+  seen_both : (kept : T → Bool) (xs ys : List T) → seen s (seen s kept xs) ys ≡ seen s kept (xs ++ ys)
+  seen_both kept xs ys = fun_ext (λ x. or_assoc (kept x) (member s.same xs x) (member s.same ys x) ∙ ap (λ b. kept x || b) (sym (member-append s.same xs ys x)))
+
+  seen_none : (kept : T → Bool) → kept ≡ seen s kept []
+  seen_none kept = fun_ext (λ x. sym (or_false_right (kept x)))
+
+  turns_both : (kept : T → Bool) (xss yss : List (List T)) → missing_in_turn s kept (xss ++ yss) ≡ missing_in_turn s kept xss ++ missing_in_turn s (seen s kept (missing_in_turn s kept xss)) yss
+  turns_both kept [] yss = ap (λ k. missing_in_turn s k yss) (seen_none kept)
+  turns_both kept (xs ∷ xss) yss =
+      let first = fill_all s kept [] xs in
+      let then = seen s kept first in
+      let more = missing_in_turn s then xss in
+      ap (λ v. first ++ v) (turns_both then xss yss)
+      ∙ sym (append_assoc first more (missing_in_turn s (seen s then more) yss))
+      ∙ ap (λ k. (first ++ more) ++ missing_in_turn s k yss) (seen_both kept first more)
+
+pub chains_both : (program : List Routine) (cs ds : List Checked) → chain_count program (cs ++ ds) ≡ chain_count program cs + chain_count program ds
+chains_both program [] ds = omega arith
+chains_both program (c ∷ cs) ds = let e = chains_both program cs ds in omega arith
+
+module _ {S : Type 0} (dom : Operations S) (m : Machine) where
+  abbrev demands : Checked → List CellName
+  demands c = demanded (found dom m) (check_targets (routines_of m.program) c)
+
+  -- the machine behind some of them
+  abbrev pub behind : List Checked → (cost : ℕ) → Machine
+  behind cs cost = keeping (m.kept ++ missing_of dom m cs) cost m
+
+  missing_both : (cost : ℕ) (cs ds : List Checked) → missing_of dom m (cs ++ ds) ≡ missing_of dom m cs ++ missing_of dom (behind cs cost) ds
+  missing_both cost cs ds =
+      let s = names_of dom m.engine (routines_of m.program) same_name in
+      let xs = missing_of dom m cs in
+      ap (missing_in_turn s (is_kept m)) (map-append demands cs ds)
+      ∙ turns_both s (is_kept m) (map demands cs) (map demands ds)
+      ∙ ap (λ k. xs ++ missing_in_turn s k (map demands ds)) (fun_ext (λ x. sym (member-append same_name m.kept xs x)))
+
+  work_then : (cost : ℕ) (cs ds : List Checked) → work_on dom m (cs ++ ds) ≡ work_on dom m cs + work_on dom (behind cs cost) ds
+  work_then cost cs ds =
+      let e = ap length (missing_both cost cs ds) ∙ length-append (missing_of dom m cs) (missing_of dom (behind cs cost) ds) in
+      let k = chains_both (routines_of m.program) cs ds in
+      omega arith
+
+  pub ticks_then : (cost : ℕ) (cs ds : List Checked) (s t u each : ℕ) → t ≤ s + each * work_on dom m cs → u ≤ t + each * work_on dom (behind cs cost) ds → u ≤ s + each * work_on dom m (cs ++ ds)
+  ticks_then cost cs ds s t u each h k = subst (λ w. u ≤ s + each * w) (sym (work_then cost cs ds)) (work_both s t u each (work_on dom m cs) (work_on dom (behind cs cost) ds) h k)
+
+  module _ (store : Store S) (book : Book) where
+    -- the cost is what it is
+    pub at_cost : (ks : List CellName) (cost : ℕ) → Holds dom store book (keeping ks cost m) → Holds dom store book (keeping ks book.cost m)
+    at_cost ks cost h = record {
+      is = ap (λ (z : Machine). keeping ks book.cost z) h.is;
+      same = h.same;
+      cells = h.cells;
+    }
+
+    pub all_none : Holds dom store book m → HoldsAll dom m store book []
+    all_none h = subst (λ ks. Holds dom store book (keeping ks book.cost m)) (sym (append-nil m.kept)) (at_cost m.kept m.cost h)
+
+    pub part_none : (cs : List Checked) → Holds dom store book m → HoldsPart dom m store book cs
+    part_none cs h = record { count = 0; some = all_none h }
+
+    pub all_part : (cs : List Checked) → HoldsAll dom m store book cs → HoldsPart dom m store book cs
+    all_part cs h =
+        let xs = missing_of dom m cs in
+        record { count = length xs; some = subst (λ ys. Holds dom store book (keeping (m.kept ++ ys) book.cost m)) (sym (take_all xs)) h }
+
+    pub all_then : (cost : ℕ) (cs ds : List Checked) → HoldsAll dom (behind cs cost) store book ds → HoldsAll dom m store book (cs ++ ds)
+    all_then cost cs ds h =
+        let xs = missing_of dom m cs in
+        let ys = missing_of dom (behind cs cost) ds in
+        subst (λ ks. Holds dom store book (keeping ks book.cost m)) (append_assoc m.kept xs ys ∙ ap (λ zs. m.kept ++ zs) (sym (missing_both cost cs ds))) h
+
+    pub part_then : (cost : ℕ) (cs ds : List Checked) → HoldsPart dom (behind cs cost) store book ds → HoldsPart dom m store book (cs ++ ds)
+    part_then cost cs ds p =
+        let xs = missing_of dom m cs in
+        let ys = missing_of dom (behind cs cost) ds in
+        record {
+          count = length xs + p.count;
+          some = subst (λ ks. Holds dom store book (keeping ks book.cost m)) (append_assoc m.kept xs (take p.count ys) ∙ ap (λ zs. m.kept ++ zs) (sym (ap (take (length xs + p.count)) (missing_both cost cs ds) ∙ take_over xs ys p.count))) p.some;
+        }
+
+    pub part_more : (cs ds : List Checked) → HoldsPart dom m store book cs → HoldsPart dom m store book (cs ++ ds)
+    part_more cs ds p =
+        let xs = missing_of dom m cs in
+        let q = take_within xs (missing_of dom (behind cs m.cost) ds) p.count in
+        record {
+          count = q.0;
+          some = subst (λ zs. Holds dom store book (keeping (m.kept ++ zs) book.cost m)) (sym (ap (take q.0) (missing_both m.cost cs ds) ∙ q.1)) p.some;
+        }
+
+  -- One checked statement is a question in front of it.
+  module _ (n : ℕ) (e : Effect) (k : Check) where
+    abbrev one : List Checked
+    one = checked_one n e (Some k)
+
+    abbrev one_targets : List Target
+    one_targets = check_targets (routines_of m.program) (record { number = n; effect = e; check = k })
+
+    targets_same : (f : Found) → turns.targets_in m (Before n) [] f ≡ reports.targets_in (routines_of m.program) (Before n) f
+    targets_same (Misses r) = refl
+    targets_same (In p) = go (targets (routines_of m.program) p (Before n) [])
+      where
+        go : (o : Option (List Target)) → turns.or_none o ≡ reports.or_none o
+        go None = refl
+        go (Some ts) = refl
+
+    one_asks : targets_of m (Before n) [] ≡ one_targets
+    one_asks = targets_same (procedure_of (routines_of m.program) (Before n))
+
+    one_missing : missing_at dom (Before n) [] m ≡ missing_of dom m one
+    one_missing =
+        let s = names_of dom m.engine (routines_of m.program) same_name in
+        ap (λ ts. fill_all s (is_kept m) [] (demanded (found dom m) ts)) one_asks
+        ∙ sym (append-nil (fill_all s (is_kept m) [] (demanded (found dom m) one_targets)))
+
+    pub one_work : length (missing_at dom (Before n) [] m) + 2 * length (targets_of m (Before n) []) ≡ work_on dom m one
+    one_work =
+        let a = ap length one_missing in
+        let b = ap length one_asks in
+        omega arith
+
+    pub one_chains : length (targets_of m (Before n) []) ≡ chain_count (routines_of m.program) one
+    one_chains = let e = ap length one_asks in omega arith
+
+    -- It is refused only where it has no targets.
+    none_refused : (r : Refusal) → IsChecked (routines_of m.program) → answer_at dom (Before n) [] m ≡ Refuses r → targets_of m (Before n) [] ≡ []
+    none_refused r checked a = go (procedure_of (routines_of m.program) (Before n)) refl
+      where
+        not_answered : IsAnswered (answer_at dom (Before n) [] m) → ⊥
+        not_answered i = let q : Answers i.0 ≡ Refuses r = sym i.1 ∙ a in cc
+
+        some : (p : ℕ) → procedure_of (routines_of m.program) (Before n) ≡ In p → (o : Option (List Target)) → targets (routines_of m.program) p (Before n) [] ≡ o → turns.or_none o ≡ []
+        some p there None t = refl
+        some p there (Some []) t = refl
+        some p there (Some (x ∷ xs)) t = absurd (not_answered (asked_answered dom m.engine (routines_of m.program) (Before n) [] (x ∷ xs) checked (record { place = p; there = there; are = t; some = λ q. cc; short = refl })))
+
+        go : (f : Found) → procedure_of (routines_of m.program) (Before n) ≡ f → turns.targets_in m (Before n) [] f ≡ []
+        go (Misses why) there = refl
+        go (In p) there = some p there (targets (routines_of m.program) p (Before n) []) refl
+
+    none_missing : (r : Refusal) → IsChecked (routines_of m.program) → answer_at dom (Before n) [] m ≡ Refuses r → missing_of dom m one ≡ []
+    none_missing r checked a =
+        let s = names_of dom m.engine (routines_of m.program) same_name in
+        sym one_missing ∙ ap (λ ts. fill_all s (is_kept m) [] (demanded (found dom m) ts)) (none_refused r checked a)
+
+    module _ (store : Store S) (book : Book) where
+      pub one_answered : Holds dom store book (asked dom (Before n) [] m) → HoldsAll dom m store book one
+      one_answered h =
+          let xs = missing_at dom (Before n) [] m in
+          subst (λ ys. Holds dom store book (keeping (m.kept ++ ys) book.cost m)) one_missing (at_cost store book (m.kept ++ xs) (length xs) h)
+
+      pub one_refused : (r : Refusal) → IsChecked (routines_of m.program) → answer_at dom (Before n) [] m ≡ Refuses r → Holds dom store book m → HoldsAll dom m store book one
+      one_refused r checked a h = subst (λ ys. Holds dom store book (keeping (m.kept ++ ys) book.cost m)) (sym (none_missing r checked a)) (all_none store book h)
+
+      pub one_between : IsBetween (missing_at dom (Before n) [] m) m (Holds dom store book) → HoldsPart dom m store book one
+      one_between b =
+          let xs = missing_at dom (Before n) [] m in
+          record {
+            count = b.count;
+            some = subst (λ ys. Holds dom store book (keeping (m.kept ++ take b.count ys) book.cost m)) one_missing (at_cost store book (m.kept ++ take b.count xs) m.cost b.some);
+          }
+
+      -- After the question some of what was missing is kept, however it ends.
+      pub one_asked : IsChecked (routines_of m.program) → (r : Result (Value S) QueryError) → Questions dom m (Holds dom store book) (Before n) [] r → HoldsPart dom m store book one
+      one_asked checked (Ok v) q = all_part store book one (one_answered q.1)
+      one_asked checked (Err (query.Refused r)) q = all_part store book one (one_refused r checked q.0 q.1)
+      one_asked checked (Err query.Memory) q = one_between q

@@ -1,0 +1,196 @@
+-- Reports, a statement at a time.
+use Rattle.std.proofs.Common.{◌≡◌, ℕ, zero, suc, ◌+◌, ◌-◌, ◌*◌, ◌≤◌, List, [], ◌∷◌, ◌++◌, take, drop, length, Some, Result, Ok, Err, slice_get, refl, sym, ap, subst, ◌∙◌, arith, append_assoc, append-nil}
+use Rattle.std.specs.Prelude.{OnOk}
+use Rattle.std.specs.FinMap.{len}
+use Rattle.std.proofs.Math.Nat.{mul-le-mul_left}
+use Rattle.std.proofs.lemmas.List.{length-append, map-append, take-append-drop}
+use Rattle.imp_syntax.specs.Plain.{Procedure, program_numbers}
+use Rattle.imp_check.specs.Programs.{AreNumbered}
+use Rattle.imp_check.specs.Slots.{routines_of}
+use Rattle.imp_slots.specs.Fits.{IsChecked}
+use Rattle.imp_slots.specs.Plain.{Effect, Routine}
+use Rattle.imp_syntax.specs.declared.edit.Location.TheVariants.{Before}
+use Rattle.analysis_words.specs.declared.findings.Finding.{Finding}
+use Rattle.domain_laws.specs.Operations.{Operations}
+use Rattle.domain_laws.specs.Checks.{Check, kind_of}
+use Rattle.batch_meaning.specs.Report.{Checked, checked_one, checked_statements, finding, verdict_on}
+use Rattle.daig_query.specs.declared.store.Store.{Store}
+use Rattle.daig_query.specs.Filled.{added}
+use Rattle.daig_query.proofs.Lists.{take_next}
+use Rattle.cell_names.specs.Paths.{CellName}
+use Rattle.session_machine.specs.Machine.{Machine, keeping}
+use Rattle.session_machine.specs.Turns.{IsBetween, answer_at, missing_for_report, reported}
+use Rattle.daig_session.specs.declared.book.Book.{Book}
+use Rattle.daig_session.specs.Books.{flow_in, machine_of}
+use Rattle.daig_session.specs.Holds.{Holds, IsReady}
+use Rattle.daig_session.specs.Reports.{chain_count, checked_among, checked_at, findings, missing_of, work_on, HasCheck, HoldsAll, HoldsPart, HoldsWith}
+use Rattle.daig_session.proofs.CheckLemmas.{all_checks, among_both, among_next}
+use Rattle.daig_session.proofs.Answering.{work_both}
+use Rattle.daig_session.proofs.Counted.{kept_counted}
+use Rattle.daig_session.proofs.Standing.{names, stands}
+use Rattle.daig_session.proofs.Reported.{all_none, all_part, all_then, behind, chains_both, part_more, part_then, ticks_then}
+
+among_at : (ps : List Procedure) (ns : List ℕ) (i n : ℕ) → slice_get ns i ≡ Some n → checked_among ps (take (i + 1) ns) ≡ checked_among ps (take i ns) ++ checked_at ps n
+among_at ps ns i n e = let k : i + 1 ≡ suc i = omega arith in ap (λ j. checked_among ps (take j ns)) k ∙ (ap (checked_among ps) (take_next ns i n e) ∙ among_next ps (take i ns) n)
+
+pub among_end : (ps : List Procedure) (ns : List ℕ) (i : ℕ) → length ns ≤ i → checked_among ps (take i ns) ≡ checked_among ps ns
+among_end ps ns i h = ap (checked_among ps) (all ns i h)
+  where
+    all : (ns : List ℕ) (i : ℕ) → length ns ≤ i → take i ns ≡ ns
+    all [] zero h = refl
+    all [] (suc i) h = refl
+    all (n ∷ ns) zero h = absurd (omega arith)
+    all (n ∷ ns) (suc i) h = ap (λ ms. n ∷ ms) (all ns i (omega arith))
+
+among_split : (ps : List Procedure) (ns : List ℕ) (k : ℕ) → checked_among ps (take k ns) ++ checked_among ps (drop k ns) ≡ checked_among ps ns
+among_split ps ns k = sym (among_both ps (take k ns) (drop k ns)) ∙ ap (checked_among ps) (take-append-drop k ns)
+
+module _ {S : Type 0} (dom : Operations S) (store : Store S) (book : Book) where
+  -- the machine's program is the session's
+  pub at_is : (m : Machine) (n : ℕ) → Holds dom store book m → checked_at m.program n ≡ checked_at book.history.now n
+  at_is m n h = ap (λ (z : Machine). checked_at z.program n) (sym h.is)
+
+  pub checked_is : (m : Machine) (n : ℕ) → Holds dom store book m → (there : HasCheck book.history.now n) → checked_at m.program n ≡ checked_one n there.0 (Some there.1)
+  checked_is m n h there = at_is m n h ∙ there.2
+
+  pub all_among : (m : Machine) (ns : List ℕ) → Holds dom store book m → AreNumbered book.history.now → ns ≡ program_numbers book.history.now → checked_among m.program ns ≡ checked_statements (routines_of m.program)
+  all_among m ns h once e = subst (λ (z : Machine). checked_among z.program ns ≡ checked_statements (routines_of z.program)) h.is (ap (checked_among book.history.now) e ∙ all_checks book.history.now once)
+
+  pub checked_here : (m : Machine) → Holds dom store book m → IsChecked (routines_of book.history.now) → IsChecked (routines_of m.program)
+  checked_here m h c = subst (λ (z : Machine). IsChecked (routines_of z.program)) h.is c
+
+  pub none_all : (m : Machine) (n : ℕ) → Holds dom store book m → checked_at book.history.now n ≡ [] → HoldsAll dom m store book (checked_at m.program n)
+  none_all m n h e = subst (HoldsAll dom m store book) (sym (at_is m n h ∙ e)) (all_none dom m store book h)
+
+  pub none_part : (m : Machine) (n : ℕ) → Holds dom store book m → checked_at book.history.now n ≡ [] → HoldsPart dom m store book (checked_at m.program n)
+  none_part m n h e = all_part dom m store book (checked_at m.program n) (none_all m n h e)
+
+pub found_none : {S : Type 0} (dom : Operations S) (m : Machine) (cs : List Checked) (xs : List Finding) → cs ≡ [] → xs ≡ xs ++ findings dom m cs
+found_none dom m cs xs e = sym (ap (λ ds. xs ++ findings dom m ds) e ∙ append-nil xs)
+
+pub found_one : {S : Type 0} (dom : Operations S) (m : Machine) (n : ℕ) (e : Effect) (k : Check) (cs : List Checked) (before after : List Finding) (f : Finding) → cs ≡ checked_one n e (Some k) → after ≡ before ++ f ∷ [] →
+    f ≡ record { id = n; check = kind_of k; verdict = verdict_on dom m.engine e (answer_at dom (Before n) [] m) } → after ≡ before ++ findings dom m cs
+found_one dom m n e k cs before after f is a b = a ∙ (ap (λ (g : Finding). before ++ g ∷ []) b ∙ ap (λ ds. before ++ findings dom m ds) (sym is))
+
+-- what holds where a call is well
+pub ok_then : {A E P Q : Type 0} (r : Result A E) → OnOk r P → (P → Q) → OnOk r Q
+ok_then (Ok x) p f = f p
+ok_then (Err e) p f = tt
+
+pub ok_all : {A E Q : Type 0} (r : Result A E) → Q → OnOk r Q
+ok_all (Ok x) q = q
+ok_all (Err e) q = tt
+
+-- One more of some statements.
+module _ {S : Type 0} (dom : Operations S) (m : Machine) (ns : List ℕ) (i n : ℕ) (there : slice_get ns i ≡ Some n) where
+  abbrev sofar : List Checked
+  sofar = checked_among m.program (take i ns)
+
+  abbrev one : List Checked
+  one = checked_at m.program n
+
+  next_is : checked_among m.program (take (i + 1) ns) ≡ sofar ++ one
+  next_is = among_at m.program ns i n there
+
+  pub next_all : (cost : ℕ) (store : Store S) (book : Book) → HoldsAll dom (behind dom m sofar cost) store book one → HoldsAll dom m store book (checked_among m.program (take (i + 1) ns))
+  next_all cost store book h = subst (HoldsAll dom m store book) (sym next_is) (all_then dom m store book cost sofar one h)
+
+  pub next_part : (cost : ℕ) (store : Store S) (book : Book) → HoldsPart dom (behind dom m sofar cost) store book one → HoldsPart dom m store book (checked_among m.program ns)
+  next_part cost store book p =
+      subst (HoldsPart dom m store book) (ap (λ cs. cs ++ checked_among m.program (drop (i + 1) ns)) (sym next_is) ∙ among_split m.program ns (i + 1))
+      (part_more dom m store book (sofar ++ one) (checked_among m.program (drop (i + 1) ns)) (part_then dom m store book cost sofar one p))
+
+  pub next_found : (before mid after : List Finding) → mid ≡ before ++ findings dom m sofar → after ≡ mid ++ findings dom m one → after ≡ before ++ findings dom m (checked_among m.program (take (i + 1) ns))
+  next_found before mid after e k =
+      k ∙ (ap (λ xs. xs ++ findings dom m one) e
+      ∙ (append_assoc before (findings dom m sofar) (findings dom m one)
+      ∙ ap (λ xs. before ++ xs) (sym (ap (findings dom m) next_is ∙ map-append (finding dom m.engine (routines_of m.program)) sofar one))))
+
+  pub next_ticked : (cost s t u each : ℕ) → t ≤ s + each * work_on dom m sofar → u ≤ t + each * work_on dom (behind dom m sofar cost) one → u ≤ s + each * work_on dom m (checked_among m.program (take (i + 1) ns))
+  next_ticked cost s t u each h k = subst (λ cs. u ≤ s + each * work_on dom m cs) (sym next_is) (ticks_then dom m cost sofar one s t u each h k)
+
+-- How many cells are kept, and what they cost where a call fails.
+module _ {S : Type 0} (dom : Operations S) (store : Store S) (book : Book) (r : IsReady dom store book) where
+  cells_are : (m : Machine) → Holds dom store book m → len store.graph.cells ≡ length m.kept
+  cells_are m h = kept_counted dom (flow_in book) store m.kept r.right h.same h.cells.once
+
+  pub cells_with : (m : Machine) (xs : List CellName) → HoldsWith dom m store book xs → len store.graph.cells ≡ length m.kept + length xs
+  cells_with m xs h = cells_are (keeping (m.kept ++ xs) book.cost m) h ∙ length-append m.kept xs
+
+  pub cells_no_less : (m : Machine) (cs : List Checked) → HoldsPart dom m store book cs → length m.kept ≤ len store.graph.cells
+  cells_no_less m cs p = let e = cells_with m (take p.count (missing_of dom m cs)) p.some in omega arith
+
+-- as many as were missing
+pub all_added : {S : Type 0} (dom : Operations S) (old new : Store S) (before after : Book) (m : Machine) (cs : List Checked) → IsReady dom old before → Holds dom old before m → IsReady dom new after → HoldsAll dom m new after cs → length (missing_of dom m cs) ≡ added old new
+all_added dom old new before after m cs r h q k =
+    let a = cells_are dom old before r m h in
+    let b = cells_with dom new after q m (missing_of dom m cs) k in
+    omega arith
+
+no_more : (s u each i j : ℕ) → i ≤ j → u ≤ s + each * i → u ≤ s + each * j
+no_more s u each i j le h = let q = mul-le-mul_left each le in omega (arith, q, h)
+
+pub work_within : (s u each n a k : ℕ) → n ≡ a → u ≤ s + each * (n + 2 * k) → u ≤ s + each * suc (a + 2 * k)
+work_within s u each n a k e w = no_more s u each (n + 2 * k) (suc (a + 2 * k)) (omega (arith, e)) w
+
+work_sum : (s t u each n a b k l most : ℕ) → t ≤ s + each * (n + 2 * k) → u ≤ t + each * suc (a + 2 * l) → n + a ≤ b → k + l ≤ most → u ≤ s + each * suc (b + 2 * most)
+work_sum s t u each n a b k l most h g le few =
+    no_more s u each (n + 2 * k + suc (a + 2 * l)) (suc (b + 2 * most)) (omega (arith, le, few)) (work_both s t u each (n + 2 * k) (suc (a + 2 * l)) h g)
+
+-- What stands of the session itself, whichever machine it stands for.
+module _ {S : Type 0} (dom : Operations S) (old new : Store S) (before after : Book) (cs : List Procedure → List Checked) (r : IsReady dom old before) (part : (m : Machine) → Holds dom old before m → HoldsPart dom m new after (cs m.program)) where
+  abbrev here : Machine
+  here = machine_of before (names dom old before r)
+
+  pub same_program : after.history.now ≡ before.history.now
+  same_program = let p = part here (stands dom old before r) in ap (λ (z : Machine). z.program) p.some.is
+
+  pub same_ticket : after.tickets.next ≡ before.tickets.next
+  same_ticket = let p = part here (stands dom old before r) in ap (λ (z : Machine). z.next_ticket) p.some.is
+
+-- A report ends.
+module _ {S : Type 0} (dom : Operations S) (m : Machine) (store : Store S) (book : Book) where
+  recosted : (ks : List CellName) (was cost : ℕ) → Holds dom store book (keeping ks was m) → Holds dom store (record book { cost = cost }) (keeping ks cost m)
+  recosted ks was cost h = record {
+    is = ap (λ (z : Machine). keeping ks cost z) h.is;
+    same = h.same;
+    cells = h.cells;
+  }
+
+  -- so many more cells are kept
+  pub as_filled : (was now : ℕ) → was ≡ length m.kept → now ≡ length (m.kept ++ missing_for_report dom m) → (was ≤ now) × (now - was ≡ length (missing_for_report dom m))
+  as_filled was now e k = let both = k ∙ length-append m.kept (missing_for_report dom m) in (omega arith, omega arith)
+
+  pub ended_holds : (cost : ℕ) → HoldsAll dom m store book (checked_statements (routines_of m.program)) → cost ≡ length (missing_for_report dom m) → Holds dom store (record book { cost = cost }) (reported dom m)
+  ended_holds cost h e =
+      let xs = missing_for_report dom m in
+      subst (λ k. Holds dom store (record book { cost = cost }) (keeping (m.kept ++ xs) k m)) e (recosted (m.kept ++ xs) book.cost cost h)
+
+  pub failed_holds : (cost : ℕ) → HoldsPart dom m store book (checked_statements (routines_of m.program)) → cost ≡ m.cost → IsBetween (missing_for_report dom m) m (Holds dom store (record book { cost = cost }))
+  failed_holds cost p e =
+      let xs = take p.count (missing_for_report dom m) in
+      record { count = p.count; some = subst (λ k. Holds dom store (record book { cost = cost }) (keeping (m.kept ++ xs) k m)) e (recosted (m.kept ++ xs) book.cost cost p.some) }
+
+pub cost_here : {S : Type 0} (dom : Operations S) (store : Store S) (book : Book) (m : Machine) → Holds dom store book m → book.cost ≡ m.cost
+cost_here dom store book m h = ap (λ (z : Machine). z.cost) h.is
+
+-- One of some statements fails.
+module _ {S : Type 0} (dom : Operations S) (m : Machine) (ns : List ℕ) (i n : ℕ) (there : slice_get ns i ≡ Some n) where
+  few_chains : (rs : List Routine) → chain_count rs (checked_among m.program (take i ns)) + chain_count rs (checked_at m.program n) ≤ chain_count rs (checked_among m.program ns)
+  few_chains rs =
+      let a = ap (chain_count rs) (next_is dom m ns i n there) ∙ chains_both rs (checked_among m.program (take i ns)) (checked_at m.program n) in
+      let b = ap (chain_count rs) (sym (among_split m.program ns (i + 1))) ∙ chains_both rs (checked_among m.program (take (i + 1) ns)) (checked_among m.program (drop (i + 1) ns)) in
+      omega arith
+
+  pub failed_most : (old mid new : Store S) (before during after : Book) (s t u each : ℕ) →
+      IsReady dom old before → Holds dom old before m → IsReady dom mid during → HoldsAll dom m mid during (checked_among m.program (take i ns)) → IsReady dom new after → HoldsPart dom (behind dom m (checked_among m.program (take i ns)) during.cost) new after (checked_at m.program n) →
+      t ≤ s + each * work_on dom m (checked_among m.program (take i ns)) → u ≤ t + each * suc (added mid new + 2 * chain_count (routines_of m.program) (checked_at m.program n)) →
+      u ≤ s + each * suc (added old new + 2 * chain_count (routines_of m.program) (checked_among m.program ns))
+  failed_most old mid new before during after s t u each r h q k p part w v =
+      let cs = checked_among m.program (take i ns) in
+      let rs = routines_of m.program in
+      let a = cells_are dom old before r m h in
+      let b = cells_with dom mid during q m (missing_of dom m cs) k in
+      let d = cells_are dom mid during q (behind dom m cs during.cost) k in
+      let e = cells_no_less dom new after p (behind dom m cs during.cost) (checked_at m.program n) part in
+      work_sum s t u each (length (missing_of dom m cs)) (added mid new) (added old new) (chain_count rs cs) (chain_count rs (checked_at m.program n)) (chain_count rs (checked_among m.program ns)) w v (omega (arith, a, b, d, e)) (few_chains rs)

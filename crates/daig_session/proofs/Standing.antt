@@ -1,0 +1,64 @@
+-- A session that is ready stands for a machine.
+use Rattle.std.proofs.Common.{◌≡◌, ℕ, suc, true, List, [], ◌∷◌, filter, Option, Some, None, is_some, slice_get, refl, sym, ap, subst, inl, inr, arith}
+use Rattle.std.proofs.lemmas.Bool.{false_from_ne_true}
+use std.Path.{fun_ext}
+use Rattle.plain_values.proofs.Cases.{or_either}
+use Rattle.domain_laws.specs.Operations.{Operations}
+use Rattle.imp_check.specs.Slots.{routines_of}
+use Rattle.cell_names.specs.Known.{IsOnce}
+use Rattle.cell_names.specs.Paths.{CellName}
+use Rattle.demand_order.specs.Order.{member}
+use Rattle.demand_order.specs.OrderLaws.{IsDistinct}
+use Rattle.kept_set.specs.Touched.{AreCells}
+use Rattle.daig_graph.specs.Cells.{Filled}
+use Rattle.named_cells.specs.Same.{same_name}
+use Rattle.named_cells.specs.Named.{filled_at}
+use Rattle.named_cells.proofs.Same.{same_is}
+use Rattle.named_cells.proofs.Numbers.{at_member, filled_named}
+use Rattle.daig_query.specs.declared.held.Held.{Held}
+use Rattle.daig_query.specs.declared.store.Store.{Store}
+use Rattle.daig_query.specs.Kept.{kept}
+use Rattle.session_machine.proofs.Lists.{filter_distinct, filter_holds, filter_there}
+use Rattle.daig_session.specs.declared.book.Book.{Book}
+use Rattle.daig_session.specs.Books.{machine_of}
+use Rattle.daig_session.specs.Holds.{Holds, IsReady}
+use Rattle.daig_session.proofs.Moved.{both_ways}
+
+-- a name among others has a place there
+member_at : (xs : List CellName) (x : CellName) → member same_name xs x ≡ true → (k : ℕ) × (slice_get xs k ≡ Some x)
+member_at [] x m = absurd cc
+member_at (y ∷ ys) x m =
+    elim (or_either (same_name x y) (member same_name ys x) m) [
+      | inl e ↦ (0, ap Some (sym (same_is.same_true x y e)))
+      | inr k ↦ let p = member_at ys x k in (suc p.0, p.1)
+    ]
+
+once_distinct : (xs : List CellName) → IsOnce xs → IsDistinct same_name xs
+once_distinct [] once = tt
+once_distinct (x ∷ xs) once = (
+  false_from_ne_true (member same_name xs x) (λ m. let p = member_at xs x m in let e : 0 ≡ suc p.0 = once 0 (suc p.0) x refl p.1 in omega arith),
+  once_distinct xs (λ k n y h j. (let e : suc k ≡ suc n = once (suc k) (suc n) y h j in omega arith)),
+)
+
+module _ {S : Type 0} (dom : Operations S) (store : Store S) (book : Book) (r : IsReady dom store book) where
+  abbrev pub names : List CellName
+  names = filter (kept store) store.names.names
+
+  named : (x : CellName) (o : Option (Filled Held)) → filled_at store.graph.cells store.names.names x ≡ o → is_some o ≡ true → member same_name store.names.names x ≡ true
+  named x None e h = absurd cc
+  named x (Some f) e h = let p = filled_named store.graph.cells store.names.names x f e in at_member store.names.names p.0 x p.1
+
+  same_names : (x : CellName) → kept store x ≡ member same_name names x
+  same_names x = both_ways (kept store x) (member same_name names x)
+      (λ h. filter_there same_name same_is.same_true (kept store) store.names.names x (named x (filled_at store.graph.cells store.names.names x) refl h) h)
+      (λ m. filter_holds same_name same_is.same_true (kept store) store.names.names x m)
+
+  pub stands : Holds dom store book (machine_of book names)
+  stands = record {
+    is = refl;
+    same = same_names;
+    cells = record {
+      cells = subst (AreCells dom book.setting.engine (routines_of book.history.now) same_name) (fun_ext same_names) r.right.kept;
+      once = filter_distinct same_name (kept store) store.names.names (once_distinct store.names.names r.right.once);
+    };
+  }

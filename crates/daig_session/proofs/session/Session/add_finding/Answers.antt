@@ -1,0 +1,140 @@
+use Rattle.std.proofs.Common.{◌≡◌, ◌≤◌, suc, ◌+◌, ◌*◌, [], List, refl, sym, ap, subst, ◌∙◌, arith}
+use Rattle.imp_syntax.specs.Plain.{Procedure}
+use Rattle.imp_syntax.specs.declared.edit.Location.TheVariants.{Before}
+use Rattle.domain_laws.specs.Checks.{kind_of}
+use Rattle.batch_meaning.specs.Report.{Checked, verdict_on}
+use Rattle.imp_check.specs.Slots.{routines_of}
+use Rattle.daig_query.specs.Filled.{added}
+use Rattle.session_machine.specs.Turns.{answer_at}
+use Rattle.daig_session.specs.Reports.{chain_count, checked_at, work_on, HasCheck, HoldsAll, HoldsPart}
+use Rattle.daig_session.proofs.Reporting.{at_is, checked_is, found_none, found_one, none_all, none_part, ok_all, ok_then}
+use Rattle.daig_session.proofs.session.Session.add_finding.Goals as goal
+
+pub returns-then-not-has_check-clause-part : goal.returns-then-not-has_check-clause-part
+returns-then-not-has_check-clause-part g c = λ m h.
+    let s = c.args.self.now in
+    let ops = g.D.Domain.operations in
+    let dom = ops s.engine.domain in
+    let n = c.args.id in
+    none_part dom s.engine.store s.book m n h (c.if-not-has_check.ensures.none refl)
+
+pub returns-then-not-has_check-clause-all : goal.returns-then-not-has_check-clause-all
+returns-then-not-has_check-clause-all g c = λ m h.
+    let s = c.args.self.now in
+    let ops = g.D.Domain.operations in
+    let dom = ops s.engine.domain in
+    let n = c.args.id in
+    none_all dom s.engine.store s.book m n h (c.if-not-has_check.ensures.none refl)
+
+pub returns-then-not-has_check-clause-found : goal.returns-then-not-has_check-clause-found
+returns-then-not-has_check-clause-found g c = λ m h.
+    let s = c.args.self.now in
+    let ops = g.D.Domain.operations in
+    let dom = ops s.engine.domain in
+    let n = c.args.id in
+    found_none dom m (checked_at m.program n) c.args.found.now (at_is dom s.engine.store s.book m n h ∙ (c.if-not-has_check.ensures.none refl))
+
+pub returns-then-not-has_check-clause-ticked : goal.returns-then-not-has_check-clause-ticked
+returns-then-not-has_check-clause-ticked g c = λ m h.
+    omega arith
+
+pub found_at-requires : goal.found_at-requires
+found_at-requires g c =
+    let s = c.args.self.now in
+    let ops = g.D.Domain.operations in
+    let dom = ops s.engine.domain in
+    let n = c.args.id in
+    let new = c.known_before.new.self in
+    let there = c.if-not-has_check.ensures.there refl in
+    record { there = subst (λ (ps : List Procedure). HasCheck ps n) (sym c.known_before.ensures.program) there }
+
+pub returns-in_err-known-clause-part : goal.returns-in_err-known-clause-part
+returns-in_err-known-clause-part g c = λ m h.
+    let s = c.args.self.now in
+    let ops = g.D.Domain.operations in
+    let dom = ops s.engine.domain in
+    let n = c.args.id in
+    let new = c.known_before.new.self in
+    let there = c.if-not-has_check.ensures.there refl in
+    subst (HoldsPart dom m new.engine.store new.book) (sym (checked_is dom s.engine.store s.book m n h there)) (c.known_before.ensures.part m there.0 there.1 h)
+
+pub returns-in_err-finding-clause-part : goal.returns-in_err-finding-clause-part
+returns-in_err-finding-clause-part g c = λ m h.
+    let s = c.args.self.now in
+    let ops = g.D.Domain.operations in
+    let dom = ops s.engine.domain in
+    let n = c.args.id in
+    let new = c.known_before.new.self in
+    let there = c.if-not-has_check.ensures.there refl in
+    subst (HoldsPart dom m new.engine.store new.book) (sym (checked_is dom s.engine.store s.book m n h there)) (c.known_before.ensures.part m there.0 there.1 h)
+
+pub returns-clause-part : goal.returns-clause-part
+returns-clause-part g c = λ m h.
+    let s = c.args.self.now in
+    let ops = g.D.Domain.operations in
+    let dom = ops s.engine.domain in
+    let n = c.args.id in
+    let new = c.known_before.new.self in
+    let there = c.if-not-has_check.ensures.there refl in
+    subst (HoldsPart dom m new.engine.store new.book) (sym (checked_is dom s.engine.store s.book m n h there)) (c.known_before.ensures.part m there.0 there.1 h)
+
+pub returns-clause-all : goal.returns-clause-all
+returns-clause-all g c =
+    let s = c.args.self.now in
+    let ops = g.D.Domain.operations in
+    let dom = ops s.engine.domain in
+    let n = c.args.id in
+    let new = c.known_before.new.self in
+    let there = c.if-not-has_check.ensures.there refl in
+    ok_all c.push.result (λ m h. subst (HoldsAll dom m new.engine.store new.book) (sym (checked_is dom s.engine.store s.book m n h there)) (c.in_ok-known.ensures.all m there.0 there.1 h))
+
+pub returns-clause-found : goal.returns-clause-found
+returns-clause-found g c =
+    let s = c.args.self.now in
+    let ops = g.D.Domain.operations in
+    let dom = ops s.engine.domain in
+    let n = c.args.id in
+    let new = c.known_before.new.self in
+    let there = c.if-not-has_check.ensures.there refl in
+    let f = c.in_ok-finding.finding in
+    ok_then c.push.result c.push.ensures.added (λ a m h. (
+    found_one dom m n there.0 there.1 (checked_at m.program n) c.args.found.now c.push.new.self f (checked_is dom s.engine.store s.book m n h there) a (
+    subst (λ d. f ≡ record { id = n; check = kind_of there.1; verdict = verdict_on (ops d) m.engine there.0 (answer_at dom (Before n) [] m) }) c.known_before.ensures.domain (
+    c.in_ok-finding.ensures.is m.engine (answer_at dom (Before n) [] m) there.0 there.1 (c.in_ok-known.ensures.tells m h) (ap (λ (ps : List Procedure). checked_at ps n) c.known_before.ensures.program ∙ there.2)))))
+
+pub returns-clause-ticked : goal.returns-clause-ticked
+returns-clause-ticked g c =
+    let s = c.args.self.now in
+    let ops = g.D.Domain.operations in
+    let dom = ops s.engine.domain in
+    let n = c.args.id in
+    let new = c.known_before.new.self in
+    let there = c.if-not-has_check.ensures.there refl in
+    ok_all c.push.result (λ m h. subst (λ (cs : List Checked). c.known_before.new.steps ≤ c.args.steps.now + g.D.Domain.counted s.engine.domain * work_on dom m cs) (sym (checked_is dom s.engine.store s.book m n h there)) (c.in_ok-known.ensures.ticked m there.0 there.1 h))
+
+pub returns-then-not-has_check-clause-most : goal.returns-then-not-has_check-clause-most
+returns-then-not-has_check-clause-most g c = λ m h. omega arith
+
+pub returns-in_err-known-clause-most : goal.returns-in_err-known-clause-most
+returns-in_err-known-clause-most g c = λ m h.
+    let s = c.args.self.now in
+    let dom = g.D.Domain.operations s.engine.domain in
+    let n = c.args.id in
+    let there = c.if-not-has_check.ensures.there refl in
+    subst (λ (cs : List Checked). c.known_before.new.steps ≤ c.args.steps.now + g.D.Domain.counted s.engine.domain * suc (added s.engine.store c.known_before.new.self.engine.store + 2 * chain_count (routines_of m.program) cs)) (sym (checked_is dom s.engine.store s.book m n h there)) (c.known_before.ensures.most m there.0 there.1 h)
+
+pub returns-in_err-finding-clause-most : goal.returns-in_err-finding-clause-most
+returns-in_err-finding-clause-most g c = λ m h.
+    let s = c.args.self.now in
+    let dom = g.D.Domain.operations s.engine.domain in
+    let n = c.args.id in
+    let there = c.if-not-has_check.ensures.there refl in
+    subst (λ (cs : List Checked). c.known_before.new.steps ≤ c.args.steps.now + g.D.Domain.counted s.engine.domain * suc (added s.engine.store c.known_before.new.self.engine.store + 2 * chain_count (routines_of m.program) cs)) (sym (checked_is dom s.engine.store s.book m n h there)) (c.known_before.ensures.most m there.0 there.1 h)
+
+pub returns-clause-most : goal.returns-clause-most
+returns-clause-most g c = λ m h.
+    let s = c.args.self.now in
+    let dom = g.D.Domain.operations s.engine.domain in
+    let n = c.args.id in
+    let there = c.if-not-has_check.ensures.there refl in
+    subst (λ (cs : List Checked). c.known_before.new.steps ≤ c.args.steps.now + g.D.Domain.counted s.engine.domain * suc (added s.engine.store c.known_before.new.self.engine.store + 2 * chain_count (routines_of m.program) cs)) (sym (checked_is dom s.engine.store s.book m n h there)) (c.known_before.ensures.most m there.0 there.1 h)

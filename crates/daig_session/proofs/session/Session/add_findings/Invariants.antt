@@ -1,0 +1,19 @@
+use Rattle.std.proofs.Common.{◌≡◌, ◌+◌, ◌*◌, ◌≤◌, ◌++◌, take}
+use Rattle.session_machine.specs.Machine.{Machine}
+use Rattle.daig_session.specs.Holds.{Holds, IsReady}
+use Rattle.daig_session.specs.Reports.{checked_among, findings, work_on, HoldsAll}
+use Rattle.daig_session.proofs.session.Session.add_findings.Given as goal
+
+-- the session stands for the machine behind the statements so far
+abbrev pub invariant-loop-stmt : goal.invariant-loop-stmt
+invariant-loop-stmt g l =
+    let old = l.initial.self in
+    let dom = g.D.Domain.operations old.engine.domain in
+    record {
+      ready : IsReady (g.D.Domain.operations l.self.engine.domain) l.self.engine.store l.self.book;
+      domain : l.self.engine.domain ≡ old.engine.domain;
+      all : (m : Machine) → Holds dom old.engine.store old.book m → HoldsAll dom m l.self.engine.store l.self.book (checked_among m.program (take l.stmt-index l.stmts));
+      found : (m : Machine) → Holds dom old.engine.store old.book m → l.found ≡ l.initial.found ++ findings dom m (checked_among m.program (take l.stmt-index l.stmts));
+      least : l.initial.steps ≤ l.steps;
+      ticked : (m : Machine) → Holds dom old.engine.store old.book m → l.steps ≤ l.initial.steps + g.D.Domain.counted old.engine.domain * work_on dom m (checked_among m.program (take l.stmt-index l.stmts));
+    }

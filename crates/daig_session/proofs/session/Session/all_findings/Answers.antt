@@ -1,0 +1,83 @@
+use Rattle.std.proofs.Common.{◌≤◌, suc, ◌+◌, ◌*◌, ◌++◌, List, ap, subst, ◌∙◌, arith}
+use Rattle.imp_syntax.specs.Plain.{program_numbers}
+use Rattle.imp_check.specs.Slots.{routines_of}
+use Rattle.analysis_words.specs.declared.findings.Finding.{Finding}
+use Rattle.batch_meaning.specs.Report.{Checked, checked_statements}
+use Rattle.daig_query.specs.Filled.{added}
+use Rattle.daig_session.specs.Reports.{chain_count, checked_among, findings, work_on, HoldsAll, HoldsPart}
+use Rattle.daig_session.proofs.Reported.{part_none}
+use Rattle.daig_session.proofs.Reporting.{all_among}
+use Rattle.daig_session.proofs.session.Session.all_findings.Goals as goal
+
+pub returns-in_err-stmts-clause-part : goal.returns-in_err-stmts-clause-part
+returns-in_err-stmts-clause-part g c = λ m h.
+    let s = c.args.self.now in
+    let ops = g.D.Domain.operations in
+    let dom = ops s.engine.domain in
+    part_none dom m s.engine.store s.book (checked_statements (routines_of m.program)) h
+
+pub returns-in_err-add_findings-clause-part : goal.returns-in_err-add_findings-clause-part
+returns-in_err-add_findings-clause-part g c = λ m h.
+    let s = c.args.self.now in
+    let ops = g.D.Domain.operations in
+    let dom = ops s.engine.domain in
+    let new = c.add_findings.new.self in
+    let same = all_among dom s.engine.store s.book m c.as_slice.result.now h c.requires.ready.order.fine.numbered (c.as_slice.ensures.same ∙ (c.in_ok-stmts.ensures.are ∙ ap program_numbers (c.view.ensures.is ∙ c.table.ensures.is))) in
+    subst (HoldsPart dom m new.engine.store new.book) same (c.add_findings.ensures.part m h)
+
+pub returns-clause-part : goal.returns-clause-part
+returns-clause-part g c = λ m h.
+    let s = c.args.self.now in
+    let ops = g.D.Domain.operations in
+    let dom = ops s.engine.domain in
+    let new = c.add_findings.new.self in
+    let same = all_among dom s.engine.store s.book m c.as_slice.result.now h c.requires.ready.order.fine.numbered (c.as_slice.ensures.same ∙ (c.in_ok-stmts.ensures.are ∙ ap program_numbers (c.view.ensures.is ∙ c.table.ensures.is))) in
+    subst (HoldsPart dom m new.engine.store new.book) same (c.add_findings.ensures.part m h)
+
+pub returns-clause-all : goal.returns-clause-all
+returns-clause-all g c = λ m h.
+    let s = c.args.self.now in
+    let ops = g.D.Domain.operations in
+    let dom = ops s.engine.domain in
+    let new = c.add_findings.new.self in
+    let same = all_among dom s.engine.store s.book m c.as_slice.result.now h c.requires.ready.order.fine.numbered (c.as_slice.ensures.same ∙ (c.in_ok-stmts.ensures.are ∙ ap program_numbers (c.view.ensures.is ∙ c.table.ensures.is))) in
+    subst (HoldsAll dom m new.engine.store new.book) same (c.in_ok-add_findings.ensures.all m h)
+
+pub returns-clause-found : goal.returns-clause-found
+returns-clause-found g c = λ m h.
+    let s = c.args.self.now in
+    let ops = g.D.Domain.operations in
+    let dom = ops s.engine.domain in
+    let new = c.add_findings.new.self in
+    let same = all_among dom s.engine.store s.book m c.as_slice.result.now h c.requires.ready.order.fine.numbered (c.as_slice.ensures.same ∙ (c.in_ok-stmts.ensures.are ∙ ap program_numbers (c.view.ensures.is ∙ c.table.ensures.is))) in
+    c.in_ok-add_findings.ensures.found m h ∙ (ap (λ (fs : List Finding). fs ++ findings dom m (checked_among m.program c.as_slice.result.now)) c.new-found.ensures.empty ∙ ap (findings dom m) same)
+
+pub returns-clause-ticked : goal.returns-clause-ticked
+returns-clause-ticked g c = λ m h.
+    let s = c.args.self.now in
+    let ops = g.D.Domain.operations in
+    let dom = ops s.engine.domain in
+    let new = c.add_findings.new.self in
+    let same = all_among dom s.engine.store s.book m c.as_slice.result.now h c.requires.ready.order.fine.numbered (c.as_slice.ensures.same ∙ (c.in_ok-stmts.ensures.are ∙ ap program_numbers (c.view.ensures.is ∙ c.table.ensures.is))) in
+    subst (λ (cs : List Checked). c.add_findings.new.steps ≤ c.args.steps.now + g.D.Domain.counted s.engine.domain * work_on dom m cs) same (c.in_ok-add_findings.ensures.ticked m h)
+
+pub returns-in_err-add_findings-clause-most : goal.returns-in_err-add_findings-clause-most
+returns-in_err-add_findings-clause-most g c = λ m h.
+    let s = c.args.self.now in
+    let ops = g.D.Domain.operations in
+    let dom = ops s.engine.domain in
+    let new = c.add_findings.new.self in
+    let same = all_among dom s.engine.store s.book m c.as_slice.result.now h c.requires.ready.order.fine.numbered (c.as_slice.ensures.same ∙ (c.in_ok-stmts.ensures.are ∙ ap program_numbers (c.view.ensures.is ∙ c.table.ensures.is))) in
+    subst (λ (cs : List Checked). c.add_findings.new.steps ≤ c.args.steps.now + g.D.Domain.counted s.engine.domain * suc (added s.engine.store new.engine.store + 2 * chain_count (routines_of m.program) cs)) same (c.add_findings.ensures.most m h)
+
+pub returns-clause-most : goal.returns-clause-most
+returns-clause-most g c = λ m h.
+    let s = c.args.self.now in
+    let ops = g.D.Domain.operations in
+    let dom = ops s.engine.domain in
+    let new = c.add_findings.new.self in
+    let same = all_among dom s.engine.store s.book m c.as_slice.result.now h c.requires.ready.order.fine.numbered (c.as_slice.ensures.same ∙ (c.in_ok-stmts.ensures.are ∙ ap program_numbers (c.view.ensures.is ∙ c.table.ensures.is))) in
+    subst (λ (cs : List Checked). c.add_findings.new.steps ≤ c.args.steps.now + g.D.Domain.counted s.engine.domain * suc (added s.engine.store new.engine.store + 2 * chain_count (routines_of m.program) cs)) same (c.add_findings.ensures.most m h)
+
+pub returns-in_err-stmts-clause-most : goal.returns-in_err-stmts-clause-most
+returns-in_err-stmts-clause-most g c = λ m h. omega arith

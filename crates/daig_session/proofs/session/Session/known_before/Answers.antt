@@ -1,0 +1,135 @@
+use Rattle.std.proofs.Common.{◌+◌, ◌*◌, ◌≤◌, suc, [], Err, Some, subst, arith}
+use Rattle.imp_syntax.specs.declared.edit.Location.TheVariants.{Before}
+use Rattle.imp_slots.specs.Plain.{Skip}
+use Rattle.domain_laws.specs.Checks.{IsCell}
+use Rattle.batch_meaning.specs.Report.{checked_one}
+use Rattle.session_machine.specs.Turns.{asked}
+use Rattle.daig_query.specs.Filled.{added}
+use Rattle.daig_session.specs.declared.error.QueryError.{QueryError}
+use Rattle.daig_session.specs.Holds.{Holds}
+use Rattle.daig_session.specs.Reports.{IsUnticked}
+use Rattle.daig_session.specs.Turns.{Questions}
+use Rattle.daig_session.proofs.Reported.{one_answered, one_asked, one_chains, one_refused, one_work}
+use Rattle.daig_session.proofs.Reporting.{checked_here, same_program}
+use Rattle.daig_session.proofs.session.Session.known_before.Goals as goal
+
+pub returns-in-Ok-clause-program : goal.returns-in-Ok-clause-program
+returns-in-Ok-clause-program g c =
+    let s = c.args.self.now in
+    let ops = g.D.Domain.operations in
+    let dom = ops s.engine.domain in
+    let new = c.query.new.self in
+    let n = c.args.id in
+    same_program dom s.engine.store new.engine.store s.book new.book (λ _. checked_one n Skip (Some (IsCell 0))) c.requires.ready (λ m h. (
+    one_asked dom m n Skip (IsCell 0) new.engine.store new.book (checked_here dom s.engine.store s.book m h c.requires.ready.order.fine.fit) c.query.result (
+    subst (λ d. Questions dom m (Holds (ops d) new.engine.store new.book) (Before n) [] c.query.result) c.query.ensures.domain (c.query.ensures.answers m h))))
+
+pub returns-in-Ok-clause-part : goal.returns-in-Ok-clause-part
+returns-in-Ok-clause-part g c = λ m e k h.
+    let s = c.args.self.now in
+    let ops = g.D.Domain.operations in
+    let dom = ops s.engine.domain in
+    let new = c.query.new.self in
+    let n = c.args.id in
+    one_asked dom m n e k new.engine.store new.book (checked_here dom s.engine.store s.book m h c.requires.ready.order.fine.fit) c.query.result (
+    subst (λ d. Questions dom m (Holds (ops d) new.engine.store new.book) (Before n) [] c.query.result) c.query.ensures.domain (c.query.ensures.answers m h))
+
+pub returns-in-Err-Refused-clause-program : goal.returns-in-Err-Refused-clause-program
+returns-in-Err-Refused-clause-program g c =
+    let s = c.args.self.now in
+    let ops = g.D.Domain.operations in
+    let dom = ops s.engine.domain in
+    let new = c.query.new.self in
+    let n = c.args.id in
+    same_program dom s.engine.store new.engine.store s.book new.book (λ _. checked_one n Skip (Some (IsCell 0))) c.requires.ready (λ m h. (
+    one_asked dom m n Skip (IsCell 0) new.engine.store new.book (checked_here dom s.engine.store s.book m h c.requires.ready.order.fine.fit) c.query.result (
+    subst (λ d. Questions dom m (Holds (ops d) new.engine.store new.book) (Before n) [] c.query.result) c.query.ensures.domain (c.query.ensures.answers m h))))
+
+pub returns-in-Err-Refused-clause-part : goal.returns-in-Err-Refused-clause-part
+returns-in-Err-Refused-clause-part g c = λ m e k h.
+    let s = c.args.self.now in
+    let ops = g.D.Domain.operations in
+    let dom = ops s.engine.domain in
+    let new = c.query.new.self in
+    let n = c.args.id in
+    one_asked dom m n e k new.engine.store new.book (checked_here dom s.engine.store s.book m h c.requires.ready.order.fine.fit) c.query.result (
+    subst (λ d. Questions dom m (Holds (ops d) new.engine.store new.book) (Before n) [] c.query.result) c.query.ensures.domain (c.query.ensures.answers m h))
+
+pub returns-clause-program : goal.returns-clause-program
+returns-clause-program g c =
+    let s = c.args.self.now in
+    let ops = g.D.Domain.operations in
+    let dom = ops s.engine.domain in
+    let new = c.query.new.self in
+    let n = c.args.id in
+    same_program dom s.engine.store new.engine.store s.book new.book (λ _. checked_one n Skip (Some (IsCell 0))) c.requires.ready (λ m h. (
+    one_asked dom m n Skip (IsCell 0) new.engine.store new.book (checked_here dom s.engine.store s.book m h c.requires.ready.order.fine.fit) c.query.result (
+    subst (λ d. Questions dom m (Holds (ops d) new.engine.store new.book) (Before n) [] c.query.result) c.query.ensures.domain (c.query.ensures.answers m h))))
+
+pub returns-clause-part : goal.returns-clause-part
+returns-clause-part g c = λ m e k h.
+    let s = c.args.self.now in
+    let ops = g.D.Domain.operations in
+    let dom = ops s.engine.domain in
+    let new = c.query.new.self in
+    let n = c.args.id in
+    one_asked dom m n e k new.engine.store new.book (checked_here dom s.engine.store s.book m h c.requires.ready.order.fine.fit) c.query.result (
+    subst (λ d. Questions dom m (Holds (ops d) new.engine.store new.book) (Before n) [] c.query.result) c.query.ensures.domain (c.query.ensures.answers m h))
+
+pub returns-in-Ok-clause-all : goal.returns-in-Ok-clause-all
+returns-in-Ok-clause-all g c = λ m e k h.
+    let s = c.args.self.now in
+    let ops = g.D.Domain.operations in
+    let dom = ops s.engine.domain in
+    let new = c.query.new.self in
+    let n = c.args.id in
+    one_answered dom m n e k new.engine.store new.book (subst (λ d. Holds (ops d) new.engine.store new.book (asked dom (Before n) [] m)) c.query.ensures.domain (c.in-Ok.ensures.answers m h).1)
+
+pub returns-in-Ok-clause-tells : goal.returns-in-Ok-clause-tells
+returns-in-Ok-clause-tells g c = λ m h. (c.in-Ok.ensures.answers m h).0
+
+pub returns-in-Ok-clause-ticked : goal.returns-in-Ok-clause-ticked
+returns-in-Ok-clause-ticked g c = λ m e k h.
+    let s = c.args.self.now in
+    let dom = g.D.Domain.operations s.engine.domain in
+    subst (λ w. c.query.new.steps ≤ c.args.steps.now + g.D.Domain.counted s.engine.domain * w) (one_work dom m c.args.id e k) (c.in-Ok.ensures.ticked m h)
+
+pub returns-in-Err-Refused-clause-all : goal.returns-in-Err-Refused-clause-all
+returns-in-Err-Refused-clause-all g c = λ m e k h.
+    let s = c.args.self.now in
+    let ops = g.D.Domain.operations in
+    let dom = ops s.engine.domain in
+    let new = c.query.new.self in
+    let n = c.args.id in
+    let q = subst (λ (r : QueryError). Questions dom m (Holds (ops new.engine.domain) new.engine.store new.book) (Before n) [] (Err r)) c.in-Err-Refused.field-0-is (c.in-Err-Refused.ensures.answers m h) in
+    one_refused dom m n e k new.engine.store new.book c.in-Err-Refused.why (checked_here dom s.engine.store s.book m h c.requires.ready.order.fine.fit) q.0 (subst (λ d. Holds (ops d) new.engine.store new.book m) c.query.ensures.domain q.1)
+
+pub returns-in-Err-Refused-clause-tells : goal.returns-in-Err-Refused-clause-tells
+returns-in-Err-Refused-clause-tells g c = λ m h.
+    let s = c.args.self.now in
+    let ops = g.D.Domain.operations in
+    let dom = ops s.engine.domain in
+    let new = c.query.new.self in
+    let n = c.args.id in
+    let q = subst (λ (r : QueryError). Questions dom m (Holds (ops new.engine.domain) new.engine.store new.book) (Before n) [] (Err r)) c.in-Err-Refused.field-0-is (c.in-Err-Refused.ensures.answers m h) in
+    q.0
+
+pub returns-in-Err-Refused-clause-ticked : goal.returns-in-Err-Refused-clause-ticked
+returns-in-Err-Refused-clause-ticked g c = λ m e k h.
+    let q = subst (λ (r : QueryError). IsUnticked c.args.steps.now c.query.new.steps r) c.in-Err-Refused.field-0-is c.in-Err-Refused.ensures.unticked in
+    omega (arith, q)
+
+pub returns-in-Ok-clause-most : goal.returns-in-Ok-clause-most
+returns-in-Ok-clause-most g c = λ m e k h.
+    let s = c.args.self.now in
+    subst (λ w. c.query.new.steps ≤ c.args.steps.now + g.D.Domain.counted s.engine.domain * suc (added s.engine.store c.query.new.self.engine.store + 2 * w)) (one_chains (g.D.Domain.operations s.engine.domain) m c.args.id e k) (c.query.ensures.most m h)
+
+pub returns-in-Err-Refused-clause-most : goal.returns-in-Err-Refused-clause-most
+returns-in-Err-Refused-clause-most g c = λ m e k h.
+    let s = c.args.self.now in
+    subst (λ w. c.query.new.steps ≤ c.args.steps.now + g.D.Domain.counted s.engine.domain * suc (added s.engine.store c.query.new.self.engine.store + 2 * w)) (one_chains (g.D.Domain.operations s.engine.domain) m c.args.id e k) (c.query.ensures.most m h)
+
+pub returns-clause-most : goal.returns-clause-most
+returns-clause-most g c = λ m e k h.
+    let s = c.args.self.now in
+    subst (λ w. c.query.new.steps ≤ c.args.steps.now + g.D.Domain.counted s.engine.domain * suc (added s.engine.store c.query.new.self.engine.store + 2 * w)) (one_chains (g.D.Domain.operations s.engine.domain) m c.args.id e k) (c.query.ensures.most m h)
