@@ -10,7 +10,7 @@ use Rattle.batch_meaning.specs.Values.{Value, State, Over}
 use Rattle.batch_meaning.specs.Answers.{Answer, Refuses, Answers, Found, In, Misses, procedure_of}
 use Rattle.imp_check.specs.Slots.{routines_of}
 use Rattle.session_machine.specs.Machine.{Machine, Ticket, ticket_of}
-use Rattle.session_machine.specs.Turns.{answer_at, missing_at, redone, undone}
+use Rattle.session_machine.specs.Turns.{answer_at, asked, missing_at, redone, undone}
 use Rattle.request_json.specs.declared.error.ReadError.{ReadError}
 use Rattle.request_json.specs.declared.request.Query.{Query}
 use Rattle.request_json.specs.declared.request.Request.{Request}
@@ -65,7 +65,7 @@ move_cost (p ∷ ps) otherwise there m = λ is. cc
 
 state_cost : {S : Type 0} (dom : Operations S) (query : Query) (a : Answer S) (m : Machine) → TellsCost (state_by dom query a m)
 state_cost dom query (Refuses why) m = λ is. cc
-state_cost dom query (Answers v) m = told_cost dom query.at v m _
+state_cost dom query (Answers v) m = told_cost dom query.at v m (asked dom query.at query.string m)
 
 edit_by_cost : {S : Type 0} (dom : Operations S) (e : Edit) (error : Option EditError) (m : Machine) → TellsCost (edit_by dom e error m)
 edit_by_cost dom e None m = λ is. cc

@@ -198,8 +198,8 @@ pub(crate) fn run<F: Files, I: Source, O: Sink, L: Ledger>(
     ensures long { result ≡ Status.LongScript → AsksToServe (asked words.now) × ((text : List ℕ) → I.told script.old ≡ Some text → ReadBytes (2 ^ 40) text (I.told script.new)) }
     ensures script_failed { result ≡ Status.Script → AsksToServe (asked words.now) × Rose (I.faults script.old) (I.faults script.new) }
     ensures sink_failed { result ≡ Status.Sink → Rose (O.faults out.old) (O.faults out.new) }
+    ensures generated { AsksToGenerate (asked words.now) → (result ≡ Status.Done) ⊎ ((result ≡ Status.Sink) ⊎ (result ≡ Status.Memory)) }
     ensures quiet { (result ≡ Status.Files) ⊎ (result ≡ Status.LongFile) → O.told out.new ≡ O.told out.old }
-    ensures no_words { result ≡ Status.Words → ⊥ }
     ensures files_failed { result ≡ Status.Files → (Rose (F.faults files.old) (F.faults files.new)) ⊎ (LacksFile (F.told files.old) (asked words.now)) }
 {
     match read_words(alloc, words) {

@@ -7,6 +7,7 @@ ghost use Rattle.daig_server.specs.Jobs.{engine_of, Serves};
 ghost use Rattle.daig_server.specs.Output.{batch_bytes, gen_bytes, program_bytes, served_bytes};
 ghost use Rattle.line_answers.specs.Readings.{Readings};
 ghost use Rattle.line_answers.specs.Fine.{opening};
+ghost use Rattle.line_answers.specs.Lines.{Served};
 ghost use Rattle.daig_server.specs.Works.{program_in, task_in, IsNumbered, Remembers};
 
 use crate::batch::listed;
@@ -22,10 +23,39 @@ use dom_octagon::Octagon;
 use dom_product::Pair;
 use imp_check::{Checked, Table};
 use io_edge::{Failed, Sink, Source};
-use script_loop::{Stop, answer_script, write_all};
+use script_loop::{Answerer, Stop, answer_script, write_all};
 use std::alloc::Global;
 use std::sync::ledger::Ledger;
 use step_counter::Steps;
+
+/// Answers the script.
+fn serve_lines<D: Named, I: Source, O: Sink, L: Ledger>(
+    alloc: Global,
+    server: &mut Server<D>,
+    script: &mut I,
+    out: &mut O,
+    steps: &mut Steps<L>,
+) -> Status
+    requires lasts { ⟦<Server<D> as Answerer>⟧.lasts server.old (2 ^ 40) }
+    ensures fits { Fits result 0 }
+    ensures wrote { (first : Served) → ⟦<Server<D> as Answerer>⟧.stands server.old first → (text taken : List ℕ) → I.told script.old ≡ Some text → O.told out.old ≡ Some taken
+        → Wrote result (record { status = 0; bytes = served_bytes D.name first text }) text taken (I.told script.new) (O.told out.new) }
+    ensures ended { result ≡ Status.Done → (text : List ℕ) → I.told script.old ≡ Some text → ReadToEnd text (I.told script.new) }
+    ensures long { result ≡ Status.LongScript → (text : List ℕ) → I.told script.old ≡ Some text → ReadBytes (2 ^ 40) text (I.told script.new) }
+    ensures script_failed { result ≡ Status.Script → Rose (I.faults script.old) (I.faults script.new) }
+    ensures sink_failed { result ≡ Status.Sink → Rose (O.faults out.old) (O.faults out.new) }
+    ensures no_file { result ≡ Status.Files → ⊥ }
+    ensures no_words { result ≡ Status.Words → ⊥ }
+    ensures no_long_file { result ≡ Status.LongFile → ⊥ }
+{
+    match answer_script(alloc, server, script, out, steps) {
+        Ok(()) => Status::Done,
+        Err(Stop::Script) => Status::Script,
+        Err(Stop::Sink) => Status::Sink,
+        Err(Stop::Memory) => Status::Memory,
+        Err(Stop::Long) => Status::LongScript,
+    }
+}
 
 /// Answers the script by a session with the program, which remembers so many results.
 fn serve_program<D: Named, I: Source, O: Sink, L: Ledger>(
@@ -51,15 +81,9 @@ fn serve_program<D: Named, I: Source, O: Sink, L: Ledger>(
     ensures no_words { result ≡ Status.Words → ⊥ }
     ensures no_long_file { result ≡ Status.LongFile → ⊥ }
 {
-    let Ok(mut server) = Server::start(alloc, domain, settings, memo, table) else {
-        return Status::Memory;
-    };
-    match answer_script(alloc, &mut server, script, out, steps) {
-        Ok(()) => Status::Done,
-        Err(Stop::Script) => Status::Script,
-        Err(Stop::Sink) => Status::Sink,
-        Err(Stop::Memory) => Status::Memory,
-        Err(Stop::Long) => Status::LongScript,
+    match Server::start(alloc, domain, settings, memo, table) {
+        Ok(mut server) => serve_lines(alloc, &mut server, script, out, steps),
+        Err(_) => Status::Memory,
     }
 }
 

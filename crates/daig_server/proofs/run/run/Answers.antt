@@ -4,19 +4,19 @@ use Rattle.daig_server.proofs.run.run.Goals as goal
 pub returns-in-Ok-Serve-clause-fits : goal.returns-in-Ok-Serve-clause-fits
 returns-in-Ok-Serve-clause-fits g c = λ readings folder text told.
     let is = rw c.in-Ok-Serve.field-0-is at (c.in-Ok-Serve.ensures {u = tt}).job in
-    rw is (rw c.as_str.ensures.is at (c.run_file.ensures.fits readings folder text (rw is at told)))
+    rw is (rw c.as_str-name.ensures.is at (c.run_file.ensures.fits readings folder text (rw is at told)))
 
 pub returns-in-Ok-Serve-clause-wrote : goal.returns-in-Ok-Serve-clause-wrote
 returns-in-Ok-Serve-clause-wrote g c = λ readings folder text taken told script sink.
     let is = rw c.in-Ok-Serve.field-0-is at (c.in-Ok-Serve.ensures {u = tt}).job in
-    rw is (rw c.as_str.ensures.is at (c.run_file.ensures.wrote readings folder text taken (rw is at told) (rw c.as_str.ensures.is (rw is at script)) sink))
+    rw is (rw c.as_str-name.ensures.is at (c.run_file.ensures.wrote readings folder text taken (rw is at told) (rw c.as_str-name.ensures.is (rw is at script)) sink))
 
 pub returns-in-Ok-Batch-clause-fits : goal.returns-in-Ok-Batch-clause-fits
 returns-in-Ok-Batch-clause-fits g c = λ readings folder text told.
     let is = rw c.in-Ok-Batch.field-0-is at (c.in-Ok-Batch.ensures {u = tt}).job in
-    rw is (rw c.as_str-in-Ok-Batch.ensures.is at (c.run_file-in-Ok-Batch.ensures.fits readings folder text (rw is at told)))
+    rw is (rw c.as_str-name-in-Ok-Batch.ensures.is at (c.run_file-in-Ok-Batch.ensures.fits readings folder text (rw is at told)))
 
 pub returns-in-Ok-Batch-clause-wrote : goal.returns-in-Ok-Batch-clause-wrote
 returns-in-Ok-Batch-clause-wrote g c = λ readings folder text taken told script sink.
     let is = rw c.in-Ok-Batch.field-0-is at (c.in-Ok-Batch.ensures {u = tt}).job in
-    rw is (rw c.as_str-in-Ok-Batch.ensures.is at (c.run_file-in-Ok-Batch.ensures.wrote readings folder text taken (rw is at told) (rw c.as_str-in-Ok-Batch.ensures.is (rw is at script)) sink))
+    rw is (rw c.as_str-name-in-Ok-Batch.ensures.is at (c.run_file-in-Ok-Batch.ensures.wrote readings folder text taken (rw is at told) (rw c.as_str-name-in-Ok-Batch.ensures.is (rw is at script)) sink))

@@ -18,3 +18,6 @@ returns-in-Ok-clause-wrote g c = λ readings text taken script told.
     let is = (c.in-Ok.ensures {u = tt}).accepted readings in
     let task = (c.in-Ok.ensures {u = tt}).task in
     rw (is, ← task) (c.do_work.ensures.wrote readings text taken (λ serves. script (rw task at serves) _ is) told)
+
+pub returns-in-Ok-clause-ended : goal.returns-in-Ok-clause-ended
+returns-in-Ok-clause-ended g c = λ done serves. c.do_work.ensures.ended done (rw (c.in-Ok.ensures {u = tt}).task serves)

@@ -1,0 +1,10 @@
+use Rattle.std.proofs.Common.{Err, ap}
+use Rattle.script_loop.specs.Lines.{all_lines}
+use Rattle.daig_server.specs.Domains.{meaning_of}
+use Rattle.daig_server.proofs.LineLemmas.{wrote_whole}
+use Rattle.daig_server.proofs.work.serve_lines.Goals as goal
+
+pub returns-in-Err-Memory-clause-wrote : goal.returns-in-Err-Memory-clause-wrote
+returns-in-Err-Memory-clause-wrote g c = λ first stands text taken told_text told_taken.
+    wrote_whole (meaning_of g.D.Named.name).operations first (all_lines text) taken _
+    ((c.in-Err-Memory.ensures {u = tt}).memory_lines (ap Err c.in-Err-Memory.field-0-is) first stands text taken told_text told_taken)
