@@ -7,3 +7,4 @@ pub mod TallyLemmas
 pub mod SourceLemmas
 pub mod ServedLemmas
 pub mod GeneratedLemmas
+pub mod LengthLemmas

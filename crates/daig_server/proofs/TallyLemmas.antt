@@ -1,5 +1,5 @@
 -- Tallies of the replies to lines.
-use Rattle.std.proofs.Common.{◌≡◌, ◌∙◌, ◌++◌, ℕ, ℤ, nat_le, nat_lt, Bool, true, false, List, [], ◌∷◌, length, Option, Some, None, Result, Ok, Err, if◌then◌else◌, refl, ap}
+use Rattle.std.proofs.Common.{◌≡◌, ◌∙◌, ◌++◌, ◌+◌, ◌*◌, ◌^◌, ◌≤◌, ℕ, ℤ, nat_le, nat_lt, Bool, true, false, List, [], ◌∷◌, length, Option, Some, None, Result, Ok, Err, IfOk, if◌then◌else◌, refl, ap, arith}
 use Rattle.imp_syntax.specs.declared.edit.Edit.{Edit}
 use Rattle.imp_syntax.specs.declared.edit.Location.{Location}
 use Rattle.imp_syntax.specs.Plain.{Procedure}
@@ -31,21 +31,32 @@ use Rattle.line_answers.specs.Readings.{Readings}
 use Rattle.gen_summary.specs.declared.kind.Kind.{Kind}
 use Rattle.gen_summary.specs.declared.kind.Kind.TheVariants.{Cost}
 use Rattle.gen_summary.specs.declared.tally.Tally.{Tally}
-use Rattle.gen_summary.specs.Summary.{added, cost_in, kind_of}
-use Rattle.daig_server.specs.Output.{tallied}
+use Rattle.gen_summary.specs.Summary.{added, cost_in, kind_of, nothing, summary_text, IsWithin}
+use Rattle.batch_meaning.specs.Batch.{Engine}
+use Rattle.command_words.specs.declared.job.DomainName.{DomainName}
+use Rattle.script_loop.specs.Lines.{whole_lines}
+use Rattle.daig_gen.specs.Script.{script_of}
+use Rattle.line_answers.specs.Fine.{opening}
+use Rattle.daig_server.specs.Domains.{meaning_of}
+use Rattle.daig_server.specs.Output.{gen_bytes, served_after, tallied}
 
--- what serves after lines
-abbrev pub moved : {S : Type 0} → Operations S → List (List ℕ) → Served → Served
-moved dom [] s = s
-moved dom (x ∷ xs) s = moved dom xs ((server dom).next s x)
+pub after-append : {S : Type 0} (dom : Operations S) (xs ys : List (List ℕ)) (s : Served) → served_after dom (xs ++ ys) s ≡ served_after dom ys (served_after dom xs s)
+after-append dom [] ys s = refl
+after-append dom (x ∷ xs) ys s = after-append dom xs ys ((server dom).next s x)
 
-pub moved-append : {S : Type 0} (dom : Operations S) (xs ys : List (List ℕ)) (s : Served) → moved dom (xs ++ ys) s ≡ moved dom ys (moved dom xs s)
-moved-append dom [] ys s = refl
-moved-append dom (x ∷ xs) ys s = moved-append dom xs ys ((server dom).next s x)
-
-pub tallied-append : {S : Type 0} (dom : Operations S) (xs ys : List (List ℕ)) (s : Served) (t : Tally) → tallied dom (xs ++ ys) s t ≡ tallied dom ys (moved dom xs s) (tallied dom xs s t)
+pub tallied-append : {S : Type 0} (dom : Operations S) (xs ys : List (List ℕ)) (s : Served) (t : Tally) → tallied dom (xs ++ ys) s t ≡ tallied dom ys (served_after dom xs s) (tallied dom xs s t)
 tallied-append dom [] ys s t = refl
 tallied-append dom (x ∷ xs) ys s t = tallied-append dom xs ys ((server dom).next s x) (added (line_turn s.readings dom x s.machine).reply t)
+
+-- as many replies, or one more
+pub within_more : (n : ℕ) (t : Tally) → IsWithin n t → IsWithin (n + 1) t
+within_more n t w = record {
+  edits = let few : t.edits ≤ n = w.edits in omega (arith, few);
+  filled = let few : t.filled ≤ n * 2 ^ 64 = w.filled in omega (arith, few);
+  over = let few : t.over ≤ n = w.over in omega (arith, few);
+  refused = let few : t.refused ≤ n = w.refused in omega (arith, few);
+  states = let few : t.states ≤ n = w.states in omega (arith, few);
+}
 
 -- A turn that tells a cost tells that of the machine after it.
 abbrev pub TellsCost : Turn → Type 0
@@ -143,3 +154,14 @@ read_cost readings dom (Ok request) m = request_cost readings dom request m
 -- so is each line's
 pub line_cost : {S : Type 0} (readings : Readings) (dom : Operations S) (line : List ℕ) (m : Machine) → TellsCost (line_turn readings dom line m)
 line_cost readings dom line m = read_cost readings dom (request_of line) m
+
+-- the summary of a script
+pub summed : {A E : Type 0} (r : Result A E) (bytes : A → List ℕ) (stands : Served → Type 0) (t : Tally) (domain : DomainName) (engine : Engine) (program : List Procedure) (seed size : ℕ) (script : List ℕ) →
+    script ≡ script_of seed size → ((s : Served) → stands s → t ≡ tallied (meaning_of domain).operations (whole_lines [] script) s nothing) →
+    ((readings : Readings) → stands (opening readings engine program)) → IfOk r (λ v. bytes v ≡ summary_text t) →
+    IfOk r (λ v. (readings : Readings) → bytes v ≡ gen_bytes domain (opening readings engine program) seed size)
+unfolding gen_bytes
+summed (Ok v) bytes stands t domain engine program seed size script is tally begins told = λ readings.
+    told ∙ ap summary_text (tally (opening readings engine program) (begins readings))
+    ∙ ap (λ (text : List ℕ). summary_text (tallied (meaning_of domain).operations (whole_lines [] text) (opening readings engine program) nothing)) is
+summed (Err e) bytes stands t domain engine program seed size script is tally begins told = tt

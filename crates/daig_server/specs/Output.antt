@@ -51,6 +51,11 @@ served_bytes domain first script = replies (server (meaning_of domain).operation
 unfoldable pub batch_bytes : DomainName → Engine → List Procedure → List ℕ
 batch_bytes domain engine program = listing program ++ reply_text (r.Report (report (meaning_of domain).operations engine (routines_of program)))
 
+-- what serves after lines
+abbrev pub served_after : {S : Type 0} → Operations S → List (List ℕ) → Served → Served
+served_after dom [] s = s
+served_after dom (line ∷ lines) s = served_after dom lines ((server dom).next s line)
+
 -- what the replies to lines come to, each added to the tally
 abbrev pub tallied : {S : Type 0} → Operations S → List (List ℕ) → Served → Tally → Tally
 tallied dom [] s t = t

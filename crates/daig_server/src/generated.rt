@@ -1,14 +1,14 @@
 //! The generated script over a generated program, summed up.
-ghost use Rattle.std.specs.Prelude.{◌≡◌, ◌<◌, ◌+◌, ◌^◌, ℕ, [], suc, length, IfOk, OnOk};
+ghost use Rattle.std.specs.Prelude.{◌≡◌, ◌<◌, ◌+◌, ◌^◌, ℕ, [], ◌∷◌, suc, length, IfOk, OnOk};
 ghost use Rattle.std.specs.String.{string_bytes};
 ghost use Rattle.gen_summary.specs.Summary.{added, nothing, IsWithin};
-ghost use Rattle.script_loop.specs.Lines.{whole_lines};
+ghost use Rattle.script_loop.specs.Lines.{last_part, whole_lines};
 ghost use Rattle.line_answers.specs.Fine.{opening};
 ghost use Rattle.line_answers.specs.Lines.{Served, line_turn, server as machine};
 ghost use Rattle.line_answers.specs.Readings.{Readings};
 ghost use Rattle.daig_server.specs.Domains.{meaning_of};
 ghost use Rattle.daig_server.specs.Jobs.{engine_of};
-ghost use Rattle.daig_server.specs.Output.{gen_bytes, tallied};
+ghost use Rattle.daig_server.specs.Output.{gen_bytes, served_after, tallied};
 ghost use Rattle.daig_server.specs.Works.{IsNumbered};
 
 use crate::domains::Named;
@@ -46,6 +46,33 @@ fn tally_line<D: Named, L: Ledger>(
     Ok(())
 }
 
+/// Goes on by one byte: LF ends the pending line, which is answered; any other byte goes on with it.
+#[tactic(auto, using(crate::proofs::TallyLemmas::within_more))]
+fn tally_byte<D: Named, L: Ledger>(
+    alloc: Global,
+    server: &mut Server<D>,
+    line: &mut Vec<u8>,
+    byte: u8,
+    tally: &mut Tally,
+    steps: &mut Steps<L>,
+) -> Result<(), Memory>
+    requires lasts { (n : ℕ) × ⟦<Server<D> as Answerer>⟧.lasts server.old (suc n) }
+    requires room { (n : ℕ) × (n < 2 ^ 62) × IsWithin n tally.old }
+    ensures line { OnOk result (line.new.items ≡ last_part line.old.items (byte ∷ [])) }
+    ensures lasts { OnOk result ((n : ℕ) → ⟦<Server<D> as Answerer>⟧.lasts server.old (suc n) → ⟦<Server<D> as Answerer>⟧.lasts server.new n) }
+    ensures within { OnOk result ((n : ℕ) → IsWithin n tally.old → IsWithin (n + 1) tally.new) }
+    ensures next { OnOk result ((s : Served) → ⟦<Server<D> as Answerer>⟧.stands server.old s → ⟦<Server<D> as Answerer>⟧.stands server.new (served_after (meaning_of D.name).operations (whole_lines line.old.items (byte ∷ [])) s)) }
+    ensures tally { OnOk result ((s : Served) → ⟦<Server<D> as Answerer>⟧.stands server.old s → tally.new ≡ tallied (meaning_of D.name).operations (whole_lines line.old.items (byte ∷ [])) s tally.old) }
+{
+    if byte == b'\n' {
+        tally_line(alloc, server, line.as_slice(), tally, steps)?;
+        line.clear();
+    } else {
+        line.push(byte)?;
+    }
+    Ok(())
+}
+
 /// Answers the lines of a script, each with its LF, and tallies the replies.
 fn tally_lines<D: Named, L: Ledger>(
     alloc: Global,
@@ -60,12 +87,7 @@ fn tally_lines<D: Named, L: Ledger>(
     let mut tally = Tally::new();
     let mut line = Vec::new(alloc);
     for byte in script {
-        if *byte == b'\n' {
-            tally_line(alloc, server, line.as_slice(), &mut tally, steps)?;
-            line.clear();
-        } else {
-            line.push(*byte)?;
-        }
+        tally_byte(alloc, server, &mut line, *byte, &mut tally, steps)?;
     }
     Ok(tally)
 }

@@ -1,4 +1,4 @@
-use Rattle.std.proofs.Common.{refl}
+use Rattle.daig_server.proofs.WordsLemmas.{memo_some, size_few}
 use Rattle.daig_server.proofs.run.run.Goals as goal
 
 pub returns-in-Ok-Serve-clause-fits : goal.returns-in-Ok-Serve-clause-fits
@@ -20,3 +20,12 @@ pub returns-in-Ok-Batch-clause-wrote : goal.returns-in-Ok-Batch-clause-wrote
 returns-in-Ok-Batch-clause-wrote g c = λ readings folder text taken told script sink.
     let is = rw c.in-Ok-Batch.field-0-is at (c.in-Ok-Batch.ensures {u = tt}).job in
     rw is (rw c.as_str-name-in-Ok-Batch.ensures.is at (c.run_file-in-Ok-Batch.ensures.wrote readings folder text taken (rw is at told) (rw c.as_str-name-in-Ok-Batch.ensures.is (rw is at script)) sink))
+
+pub run_file-requires : goal.run_file-requires
+run_file-requires g c = record { remembers = memo_some _ _ _ _ (rw c.in-Ok-Serve.field-0-is at (c.in-Ok-Serve.ensures {u = tt}).job) }
+
+pub run_generated-requires : goal.run_generated-requires
+run_generated-requires g c = record { few = size_few _ _ _ _ (rw c.in-Ok-Gen.field-0-is at (c.in-Ok-Gen.ensures {u = tt}).job) }
+
+pub returns-in-Ok-Serve-clause-ended : goal.returns-in-Ok-Serve-clause-ended
+returns-in-Ok-Serve-clause-ended g c = λ done _. c.run_file.ensures.ended done tt
