@@ -27,13 +27,13 @@ use Rattle.daig_session.proofs.Asked.{asked_answered, too_long}
 -- ---- no program refuses a call string as too long but where it is
 
 or_not_long : (why : Refusal) (o : Option ℕ) → (why ≡ LongString → ⊥) → found_or why o ≡ Misses LongString → ⊥
-or_not_long why None no is = no cc
-or_not_long why (Some p) no is = cc
+or_not_long why None other is = other cc
+or_not_long why (Some p) other is = cc
 
 loop_not_long : (b : Bool) (f : Found) → (f ≡ Misses LongString → ⊥) → found_loop b f ≡ Misses LongString → ⊥
-loop_not_long b (Misses why) no is = no is
-loop_not_long true (In p) no is = cc
-loop_not_long false (In p) no is = cc
+loop_not_long b (Misses why) other is = other is
+loop_not_long true (In p) other is = cc
+loop_not_long false (In p) other is = cc
 
 place_not_long : (program : List Routine) (l : Location) → procedure_of program l ≡ Misses LongString → ⊥
 place_not_long program (Before n) is = or_not_long NoStatement (holder n program) (λ (e : NoStatement ≡ LongString). cc) is
@@ -49,8 +49,8 @@ module _ {S : Type 0} (dom : Operations S) (engine : Engine) where
   sum_not_long (Some (v ∷ vs)) is = cc
 
   in_not_long : (program : List Routine) (l : Location) (string : List ℕ) (f : Found) → (f ≡ Misses LongString → ⊥) → answer_in dom engine program l string f ≡ Refuses LongString → ⊥
-  in_not_long program l string (Misses why) no is = no cc
-  in_not_long program l string (In p) no is = sum_not_long (all_values dom engine (value_at dom engine program l) (selected program p string)) is
+  in_not_long program l string (Misses why) other is = other cc
+  in_not_long program l string (In p) other is = sum_not_long (all_values dom engine (value_at dom engine program l) (selected program p string)) is
 
   pub short_not_long : (program : List Routine) (l : Location) (string : List ℕ) → nat_lt 2 (length string) ≡ false → answer dom engine program l string ≡ Refuses LongString → ⊥
   short_not_long program l string short is =
@@ -61,7 +61,7 @@ module _ {S : Type 0} (dom : Operations S) (engine : Engine) where
 -- ---- a question that is answered
 
 answered_not : {S : Type 0} (a : Answer S) (why : Refusal) → IsAnswered a → a ≡ Refuses why → ⊥
-answered_not a why (v, is) no = let e : Answers v ≡ Refuses why = sym is ∙ no in cc
+answered_not a why (v, is) other = let e : Answers v ≡ Refuses why = sym is ∙ other in cc
 
 module _ {S : Type 0} (dom : Operations S) (m : Machine) (l : Location) (string : List ℕ) where
   -- .. has a call string that is not too long

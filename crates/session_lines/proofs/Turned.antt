@@ -177,6 +177,10 @@ module _ (m : Machine) (stands : Machine → Type 0) where
   cancel_none number None none h = record { is = refl; after = h }
   cancel_none number (Some t) none h = absurd h
 
+  pub cancel_stays : (number : ℕ) (o : Option Ticket) (none : NoTicket) → Cancels m stands number o (Err none) → stands m
+  cancel_stays number None none h = h
+  cancel_stays number (Some t) none h = absurd h
+
   -- ---- undo and redo
 
   pub move_done : (side : List (List Procedure)) (otherwise : Refusal) (there : Machine) (n : ℕ) → Goes m stands side there (Ok n) → IsReplied (move_turn side otherwise there m) stands (r.Next m.next)
