@@ -1,4 +1,4 @@
-use Rattle.std.proofs.Common.{◌≡◌, IfOk, Some, subst, ap, sym, ◌∙◌}
+use Rattle.std.proofs.Common.{◌≡◌, ℕ, IfOk, Some, subst, ap, sym, ◌∙◌}
 use Rattle.imp_check.specs.Slots.{routines_of}
 use Rattle.batch_meaning.specs.Answers.{Answer}
 use Rattle.batch_meaning.specs.Values as plain
