@@ -1,6 +1,5 @@
-use Rattle.std.proofs.Common.{◌≡◌, ℕ, List, inl, IfOk, IfErr, Ok, Err, Result, subst, ◌∙◌}
+use Rattle.std.proofs.Common.{◌≡◌, ℕ, List, inl, Ok, Err, subst, ◌∙◌}
 use Rattle.imp_check.specs.Slots.{routines_of}
-use Rattle.session_machine.specs.Machine.{Machine}
 use Rattle.session_machine.specs.Turns.{answer_at, asked, missing_at}
 use Rattle.daig_session.specs.declared.error.QueryError.{QueryError}
 use Rattle.daig_session.specs.declared.error.QueryError.TheVariants as question
@@ -34,8 +33,8 @@ returns-in-Err-Refused-clause-turn g c = λ m h.
     let stands = Holds (g.D.Domain.operations c.query.new.self.engine.domain) c.query.new.self.engine.store c.query.new.self.book in
     let string : c.as_slice.result.now ≡ c.args.query.now.string = c.as_slice.ensures.same ∙ c.in_ok-string.ensures.numbers in
     let is : Questions dom m stands at c.args.query.now.string (Err (question.Refused c.in-Err-Refused.why)) =
-        subst (λ (why : QueryError). Questions dom m stands at c.args.query.now.string (Err why)) c.in-Err-Refused.field-0-is
-        (subst (λ (s : List ℕ). Questions dom m stands at s (Err c.in-Err-Refused.field-0)) string (c.in-Err-Refused.ensures.answers m h)) in
+    subst (λ (why : QueryError). Questions dom m stands at c.args.query.now.string (Err why)) c.in-Err-Refused.field-0-is
+    (subst (λ (s : List ℕ). Questions dom m stands at s (Err c.in-Err-Refused.field-0)) string (c.in-Err-Refused.ensures.answers m h)) in
     follows c.refused.result (λ v. v.items) (state_turn dom c.args.query.now m) stands (r.Refused (refusal.Query c.in-Err-Refused.why)) (state_refused dom m stands c.args.query.now c.in-Err-Refused.why is) c.refused.ensures.line
 
 pub returns-in-Err-Refused-clause-between : goal.returns-in-Err-Refused-clause-between
@@ -45,8 +44,8 @@ returns-in-Err-Refused-clause-between g c = λ m h.
     let stands = Holds (g.D.Domain.operations c.query.new.self.engine.domain) c.query.new.self.engine.store c.query.new.self.book in
     let string : c.as_slice.result.now ≡ c.args.query.now.string = c.as_slice.ensures.same ∙ c.in_ok-string.ensures.numbers in
     let is : Questions dom m stands at c.args.query.now.string (Err (question.Refused c.in-Err-Refused.why)) =
-        subst (λ (why : QueryError). Questions dom m stands at c.args.query.now.string (Err why)) c.in-Err-Refused.field-0-is
-        (subst (λ (s : List ℕ). Questions dom m stands at s (Err c.in-Err-Refused.field-0)) string (c.in-Err-Refused.ensures.answers m h)) in
+    subst (λ (why : QueryError). Questions dom m stands at c.args.query.now.string (Err why)) c.in-Err-Refused.field-0-is
+    (subst (λ (s : List ℕ). Questions dom m stands at s (Err c.in-Err-Refused.field-0)) string (c.in-Err-Refused.ensures.answers m h)) in
     let xs = missing_at dom at c.args.query.now.string m in
     let turn = state_turn dom c.args.query.now m in
     on_error c.refused.result (IsHalted xs turn m stands) (halted_before xs turn m stands is.1)
@@ -58,6 +57,6 @@ returns-clause-between g c = λ m h.
     let stands = Holds (g.D.Domain.operations c.query.new.self.engine.domain) c.query.new.self.engine.store c.query.new.self.book in
     let string : c.as_slice.result.now ≡ c.args.query.now.string = c.as_slice.ensures.same ∙ c.in_ok-string.ensures.numbers in
     let is : Questions dom m stands at c.args.query.now.string (Err question.Memory) =
-        subst (λ (why : QueryError). Questions dom m stands at c.args.query.now.string (Err why)) c.in-Err-Memory.field-0-is
-        (subst (λ (s : List ℕ). Questions dom m stands at s (Err c.in-Err-Memory.field-0)) string (c.in-Err-Memory.ensures.answers m h)) in
+    subst (λ (why : QueryError). Questions dom m stands at c.args.query.now.string (Err why)) c.in-Err-Memory.field-0-is
+    (subst (λ (s : List ℕ). Questions dom m stands at s (Err c.in-Err-Memory.field-0)) string (c.in-Err-Memory.ensures.answers m h)) in
     inl is
