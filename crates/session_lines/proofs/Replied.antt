@@ -1,5 +1,5 @@
 -- Replies that are written, and what stands then.
-use Rattle.std.proofs.Common.{◌≡◌, inl, inr, ℕ, List, [], ◌∷◌, ◌++◌, Result, Ok, Err, IfOk, IfErr, refl, sym, ap, subst, ◌∙◌}
+use Rattle.std.proofs.Common.{◌≡◌, inl, inr, ℕ, List, Result, Ok, Err, IfOk, IfErr, sym, ap, ◌∙◌}
 use Rattle.cell_names.specs.Paths.{CellName}
 use Rattle.session_machine.specs.Machine.{Machine}
 use Rattle.request_json.specs.declared.reply.Reply.{Reply}
@@ -21,12 +21,13 @@ module _ {V E : Type 0} (r : Result V E) (items : V → List ℕ) where
   abbrev pub IsFollowed : Turn → (Machine → Type 0) → Type 0
   IsFollowed turn stands = IfOk r (λ v. Follows turn stands (items v))
 
-written : {V E : Type 0} (r : Result V E) (items : V → List ℕ) (turn : Turn) (stands : Machine → Type 0) (reply : Reply) → IsReplied turn stands reply → Writes r items reply → IsFollowed r items turn stands
-written (Ok v) items turn stands reply h is = record { reply = is ∙ ap reply_text (sym h.is); machine = h.after }
-written (Err e) items turn stands reply h is = tt
+-- .. as a line
+pub line_follows : (turn : Turn) (stands : Machine → Type 0) (reply : Reply) (line : List ℕ) → IsReplied turn stands reply → line ≡ reply_text reply → Follows turn stands line
+line_follows turn stands reply line h is = record { reply = is ∙ ap reply_text (sym h.is); machine = h.after }
 
 pub follows : {V E : Type 0} (r : Result V E) (items : V → List ℕ) (turn : Turn) (stands : Machine → Type 0) (reply : Reply) → IsReplied turn stands reply → Writes r items reply → IsFollowed r items turn stands
-follows r items turn stands reply h is = written r items turn stands reply h is
+follows (Ok v) items turn stands reply h is = line_follows turn stands reply (items v) h is
+follows (Err e) items turn stands reply h is = tt
 
 -- what holds in any case holds for want of memory
 pub on_error : {V E : Type 0} (r : Result V E) (A : Type 0) → A → IfErr r (λ _. A)
