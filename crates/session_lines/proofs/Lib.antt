@@ -1,4 +1,4 @@
 pub mod Replied
 pub mod Places
-pub mod Tickets
-pub mod Edits
+pub mod Turned
+pub mod Edited
