@@ -1,19 +1,18 @@
 -- Questions that have an answer, and those that have none.
-use Rattle.std.proofs.Common.{◌≡◌, ◌<◌, ℕ, Bool, true, false, List, [], ◌∷◌, length, Option, Some, None, if◌then◌else◌, refl, sym, ap, subst, ◌∙◌, arith}
+use Rattle.std.proofs.Common.{◌≡◌, ◌<◌, ℕ, Bool, true, false, List, [], ◌∷◌, length, Option, Some, None, if◌then◌else◌, refl, sym, ap, ◌∙◌, arith}
 use Rattle.std.specs.Prelude.{nat_lt}
-use Rattle.plain_values.proofs.Cases.{by_bool}
 use Rattle.imp_syntax.specs.declared.edit.Location.{Location}
 use Rattle.imp_syntax.specs.declared.edit.Location.TheVariants.{Before, After, Head, End}
 use Rattle.imp_slots.specs.Fits.{IsChecked}
 use Rattle.imp_slots.specs.Plain.{Routine}
 use Rattle.analysis_words.specs.declared.refusal.Refusal.{Refusal}
-use Rattle.analysis_words.specs.declared.refusal.Refusal.TheVariants.{LongString, NoProcedure, NoStatement, WrongStatement, NoChain}
+use Rattle.analysis_words.specs.declared.refusal.Refusal.TheVariants.{LongString, NoProcedure, NoStatement}
 use Rattle.program_chains.specs.Chains.{selected, holder, named, is_while}
 use Rattle.domain_laws.specs.Operations.{Operations}
 use Rattle.batch_meaning.specs.Values as plain
 use Rattle.batch_meaning.specs.Batch.{Engine}
 use Rattle.batch_meaning.specs.Places.{value_at}
-use Rattle.batch_meaning.specs.Answers.{Answer, Answers, Refuses, Found, In, Misses, all_values, answer, answer_in, found_loop, found_or, procedure_of, sum_of}
+use Rattle.batch_meaning.specs.Answers.{Answer, Refuses, Found, In, Misses, all_values, answer, answer_in, found_loop, found_or, procedure_of, sum_of}
 use Rattle.cell_rows.specs.Targets.{Target, targets}
 use Rattle.imp_check.specs.Slots.{routines_of}
 use Rattle.daig_graph.specs.declared.value.Value.{Value}
@@ -22,18 +21,18 @@ use Rattle.daig_query.specs.Answered.{Says}
 use Rattle.session_machine.specs.Machine.{Machine}
 use Rattle.session_machine.specs.Turns.{answer_at, missing, missing_at, or_none, targets_in, targets_of}
 use Rattle.daig_session.specs.Going.{IsAnswered}
-use Rattle.daig_session.proofs.Asked.{asked_answered, too_long}
+use Rattle.daig_session.proofs.Asked.{asked_answered}
 
 -- ---- no program refuses a call string as too long but where it is
 
 or_not_long : (why : Refusal) (o : Option ℕ) → (why ≡ LongString → ⊥) → found_or why o ≡ Misses LongString → ⊥
-or_not_long why None other is = other cc
-or_not_long why (Some p) other is = cc
+or_not_long why None differs is = differs cc
+or_not_long why (Some p) differs is = cc
 
 loop_not_long : (b : Bool) (f : Found) → (f ≡ Misses LongString → ⊥) → found_loop b f ≡ Misses LongString → ⊥
-loop_not_long b (Misses why) other is = other is
-loop_not_long true (In p) other is = cc
-loop_not_long false (In p) other is = cc
+loop_not_long b (Misses why) differs is = differs is
+loop_not_long true (In p) differs is = cc
+loop_not_long false (In p) differs is = cc
 
 place_not_long : (program : List Routine) (l : Location) → procedure_of program l ≡ Misses LongString → ⊥
 place_not_long program (Before n) is = or_not_long NoStatement (holder n program) (λ (e : NoStatement ≡ LongString). cc) is
@@ -49,26 +48,18 @@ module _ {S : Type 0} (dom : Operations S) (engine : Engine) where
   sum_not_long (Some (v ∷ vs)) is = cc
 
   in_not_long : (program : List Routine) (l : Location) (string : List ℕ) (f : Found) → (f ≡ Misses LongString → ⊥) → answer_in dom engine program l string f ≡ Refuses LongString → ⊥
-  in_not_long program l string (Misses why) other is = other cc
-  in_not_long program l string (In p) other is = sum_not_long (all_values dom engine (value_at dom engine program l) (selected program p string)) is
+  in_not_long program l string (Misses why) differs is = differs cc
+  in_not_long program l string (In p) differs is = sum_not_long (all_values dom engine (value_at dom engine program l) (selected program p string)) is
 
   pub short_not_long : (program : List Routine) (l : Location) (string : List ℕ) → nat_lt 2 (length string) ≡ false → answer dom engine program l string ≡ Refuses LongString → ⊥
   short_not_long program l string short is =
       let e : answer dom engine program l string ≡ answer_in dom engine program l string (procedure_of program l) =
-          ap (λ (b : Bool). if b then Refuses LongString else answer_in dom engine program l string (procedure_of program l)) short in
+      ap (λ (b : Bool). if b then Refuses LongString else answer_in dom engine program l string (procedure_of program l)) short in
       in_not_long program l string (procedure_of program l) (place_not_long program l) (sym e ∙ is)
 
 -- ---- a question that is answered
 
-answered_not : {S : Type 0} (a : Answer S) (why : Refusal) → IsAnswered a → a ≡ Refuses why → ⊥
-answered_not a why (v, is) other = let e : Answers v ≡ Refuses why = sym is ∙ other in cc
-
 module _ {S : Type 0} (dom : Operations S) (m : Machine) (l : Location) (string : List ℕ) where
-  -- .. has a call string that is not too long
-  pub answered_short : IsAnswered (answer_at dom l string m) → nat_lt 2 (length string) ≡ false
-  answered_short a =
-      by_bool (nat_lt 2 (length string)) (λ long. absurd (answered_not (answer_at dom l string m) LongString a (too_long dom m.engine (routines_of m.program) l string long))) (λ short. short)
-
   -- A question for which something is missing has an answer.
   found_answered : (p : ℕ) (o : Option (List Target)) → IsChecked (routines_of m.program) → nat_lt 2 (length string) ≡ false → procedure_of (routines_of m.program) l ≡ In p → targets (routines_of m.program) p l string ≡ o → (or_none o ≡ [] → ⊥) → IsAnswered (answer_at dom l string m)
   found_answered p None checked short there are some = absurd (some refl)
@@ -81,8 +72,8 @@ module _ {S : Type 0} (dom : Operations S) (m : Machine) (l : Location) (string 
   pub missing_answered : IsChecked (routines_of m.program) → nat_lt 2 (length string) ≡ false → (n : ℕ) → n < length (missing_at dom l string m) → IsAnswered (answer_at dom l string m)
   missing_answered checked short n more =
       placed_answered (procedure_of (routines_of m.program) l) checked short refl (λ (none : targets_of m l string ≡ []).
-          let k : length (missing_at dom l string m) ≡ 0 = ap (λ (ts : List Target). length (missing dom ts m)) none in
-          omega (arith, k, more))
+      let k : length (missing_at dom l string m) ≡ 0 = ap (λ (ts : List Target). length (missing dom ts m)) none in
+      omega (arith, k, more))
 
 -- what is said of a question that is answered
 pub says_answered : {S : Type 0} (a : Answer S) (v : Value S) → Says a (Some v) → IsAnswered a

@@ -1,5 +1,5 @@
 -- Replies that are written, and what stands then.
-use Rattle.std.proofs.Common.{◌≡◌, inl, inr, ℕ, List, [], ◌∷◌, ◌++◌, Result, Ok, Err, IfOk, IfErr, refl, sym, ap, subst, ◌∙◌}
+use Rattle.std.proofs.Common.{◌≡◌, inl, inr, ℕ, List, Result, Ok, Err, IfOk, IfErr, sym, ap, ◌∙◌}
 use Rattle.cell_names.specs.Paths.{CellName}
 use Rattle.session_machine.specs.Machine.{Machine}
 use Rattle.request_json.specs.declared.reply.Reply.{Reply}

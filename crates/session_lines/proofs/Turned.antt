@@ -1,5 +1,5 @@
 -- What requests for questions, tickets, undo and redo are replied.
-use Rattle.std.proofs.Common.{◌≡◌, ◌⊎◌, inl, inr, ◌==◌, ◌<◌, ◌≤◌, ℕ, Bool, true, false, List, [], ◌∷◌, map, length, Option, Some, None, Result, Ok, Err, IfOk, if◌then◌else◌, refl, sym, ap, subst, ◌∙◌, arith}
+use Rattle.std.proofs.Common.{◌≡◌, ◌⊎◌, inl, inr, ◌<◌, ◌≤◌, ℕ, Bool, true, false, List, [], ◌∷◌, map, length, Option, Some, None, Result, Ok, Err, if◌then◌else◌, refl, sym, ap, subst, ◌∙◌, arith}
 use Rattle.std.specs.Prelude.{nat_le, nat_lt, IfSome, option_map}
 use Rattle.std.proofs.lemmas.Bool.Decides.{nat_tests}
 use Rattle.plain_values.proofs.Cases.{by_bool, by_test}
@@ -10,14 +10,13 @@ use Rattle.imp_check.specs.Slots.{routines_of}
 use Rattle.analysis_words.specs.declared.refusal.Refusal as cause
 use Rattle.analysis_words.specs.declared.refusal.Refusal.TheVariants.{LongString}
 use Rattle.domain_laws.specs.Operations.{Operations}
-use Rattle.batch_meaning.specs.Values as plain
 use Rattle.batch_meaning.specs.Answers.{Answer, Answers, Refuses}
 use Rattle.imp_flow.specs.Plans.{Plan}
 use Rattle.daig_graph.specs.declared.value.Value.{Value}
 use Rattle.daig_query.specs.declared.store.Store.{Store}
 use Rattle.daig_query.specs.Answered.{Says}
 use Rattle.session_machine.specs.Machine.{Machine, Ticket, ticket_of}
-use Rattle.session_machine.specs.Turns.{answer_at, asked, closed, ended, missing_at, opened, stepped}
+use Rattle.session_machine.specs.Turns.{answer_at, asked, closed, ended, missing_at, stepped}
 use Rattle.open_tickets.specs.declared.tickets.Open.{Open}
 use Rattle.open_tickets.specs.declared.tickets.NoTicket.{NoTicket}
 use Rattle.open_tickets.specs.Tickets.{ticket}
@@ -25,7 +24,6 @@ use Rattle.daig_session.specs.declared.book.Book.{Book}
 use Rattle.daig_session.specs.declared.book.Going.{Going}
 use Rattle.daig_session.specs.declared.error.QueryError.TheVariants as question
 use Rattle.daig_session.specs.declared.error.AskError.TheVariants as ask
-use Rattle.daig_session.specs.declared.error.StepError.TheVariants as step
 use Rattle.daig_session.specs.declared.error.UndoError.TheVariants as undo
 use Rattle.daig_session.specs.declared.stepping.Turn.TheVariants.{Pending, Done}
 use Rattle.daig_session.specs.Going.{AreWaiting, IsAnswered}
@@ -37,8 +35,8 @@ use Rattle.request_json.specs.declared.reply.Reply.TheVariants as r
 use Rattle.request_json.specs.declared.reply.Refusal.{Refusal}
 use Rattle.request_json.specs.declared.reply.Refusal.TheVariants as refusal
 use Rattle.line_replies.specs.States.{answer_reply, layout_at}
-use Rattle.line_answers.specs.Turns.{Turn, ask_by, ask_turn, cancel_by, goes, move_turn, refused, state_by, state_turn, step_by, step_of, step_turn, told}
-use Rattle.session_lines.proofs.Places.{answered_short, missing_answered, says_answered, short_not_long}
+use Rattle.line_answers.specs.Turns.{Turn, ask_by, ask_turn, cancel_by, goes, move_turn, refused, state_by, state_turn, step_by, step_of, told}
+use Rattle.session_lines.proofs.Places.{missing_answered, says_answered, short_not_long}
 use Rattle.session_lines.proofs.Replied.{IsFollowed, IsReplied, Writes, follows}
 
 -- the ticket that is found has the number
@@ -97,17 +95,13 @@ module _ {S : Type 0} (dom : Operations S) (m : Machine) (query : Query) where
   has_none many = grind (arith, nat_tests)
 
   module _ (stands : Machine → Type 0) where
-    pub ask_opened : (n : ℕ) → Opens dom m stands query.at query.string (Ok n) → IsReplied (ask_turn dom query m) stands (r.Ticket m.next_ticket)
-    ask_opened n (number, few, a, h) =
-        subst (λ (turn : Turn). IsReplied turn stands (r.Ticket m.next_ticket)) (sym (room_turn (Answers a.0) (answered_short dom m query.at query.string a) (has_room few) a.1)) (record { is = refl; after = h })
-
     refused_turn : (why : cause.Refusal) → answer_at dom query.at query.string m ≡ Refuses why → (why ≡ LongString) ⊎ (length m.tickets < 16) → ask_turn dom query m ≡ refused (refusal.Query why) m
     refused_turn why is first =
         by_bool (nat_lt 2 (length query.string))
         (λ long.
-            let e : Refuses why ≡ Refuses LongString = sym is ∙ too_long dom m.engine (routines_of m.program) query.at query.string long in
-            let w : LongString ≡ why = cc in
-            long_turn long ∙ ap (λ (u : cause.Refusal). refused (refusal.Query u) m) w)
+        let e : Refuses why ≡ Refuses LongString = sym is ∙ too_long dom m.engine (routines_of m.program) query.at query.string long in
+        let w : LongString ≡ why = cc in
+        long_turn long ∙ ap (λ (u : cause.Refusal). refused (refusal.Query u) m) w)
         (λ short. elim first [
           | inl w ↦ absurd (short_not_long dom m.engine (routines_of m.program) query.at query.string short (is ∙ ap Refuses w))
           | inr few ↦ room_turn (Refuses why) short (has_room few) is
@@ -126,14 +120,14 @@ module _ {S : Type 0} (dom : Operations S) (m : Machine) (stands : Machine → T
   pending_by t a (v, is) more h =
       let test : nat_lt most (length (missing_at dom t.at t.string m)) ≡ true = grind (arith, nat_tests) in
       let e : step_by dom t most a m ≡ goes (r.Pending most) (stepped dom t most m) =
-          ap (λ (b : Answer S). step_by dom t most b m) is ∙ ap (λ (b : Bool). if b then goes (r.Pending most) (stepped dom t most m) else goes (told dom t.at v m) (ended dom t m)) test in
+      ap (λ (b : Answer S). step_by dom t most b m) is ∙ ap (λ (b : Bool). if b then goes (r.Pending most) (stepped dom t most m) else goes (told dom t.at v m) (ended dom t m)) test in
       subst (λ (turn : Turn). IsReplied turn stands (r.Pending most)) (sym e) (record { is = refl; after = h })
 
   done_by : (t : Ticket) (a : Answer S) → IsAnswered a → length (missing_at dom t.at t.string m) ≤ most → stands (ended dom t m) → IsReplied (step_by dom t most a m) stands (answer_reply dom (layout_at (routines_of m.program) t.at) a)
   done_by t a (v, is) few h =
       let test : nat_lt most (length (missing_at dom t.at t.string m)) ≡ false = grind (arith, nat_tests) in
       let e : step_by dom t most (Answers v) m ≡ goes (told dom t.at v m) (ended dom t m) =
-          ap (λ (b : Bool). if b then goes (r.Pending most) (stepped dom t most m) else goes (told dom t.at v m) (ended dom t m)) test in
+      ap (λ (b : Bool). if b then goes (r.Pending most) (stepped dom t most m) else goes (told dom t.at v m) (ended dom t m)) test in
       subst (λ (b : Answer S). IsReplied (step_by dom t most b m) stands (answer_reply dom (layout_at (routines_of m.program) t.at) b)) (sym is) (
       subst (λ (turn : Turn). IsReplied turn stands (told dom t.at v m)) (sym e) (record { is = refl; after = h }))
 
@@ -153,18 +147,6 @@ module _ {S : Type 0} (dom : Operations S) (m : Machine) (stands : Machine → T
       follows line items (step_by dom t most a m) stands (answer_reply dom (layout_at (routines_of m.program) t.at) a) (done_by t a (says_answered a v h.says) h.few h.after)
       (subst (λ (l : Location). Writes line items (answer_reply dom (layout_at (routines_of m.program) l) a)) same (is (ended dom t m) a h.after h.says))
 
-  pub step_after : (o : Option Ticket) (v : Value S) → IsStepOf dom m stands most o (Ok (Done v)) → stands (step_of dom most o m).machine
-  step_after None v h = absurd (let e = h.0 in cc)
-  step_after (Some t) v h = (done_by t (answer_at dom t.at t.string m) (says_answered (answer_at dom t.at t.string m) v h.says) h.few h.after).after
-
-  pub step_none : (o : Option Ticket) → IsStepOf dom m stands most o (Err step.NoTicket) → IsReplied (step_of dom most o m) stands (r.Refused refusal.NoTicket)
-  step_none None h = record { is = refl; after = h.1 }
-  step_none (Some t) h = absurd h
-
-  pub step_gone : (o : Option Ticket) → IsStepOf dom m stands most o (Err step.Gone) → IsReplied (step_of dom most o m) stands (r.Refused refusal.Gone)
-  step_gone None h = absurd (let e = h.0 in cc)
-  step_gone (Some t) h = subst (λ (a : Answer S). IsReplied (step_by dom t most a m) stands (r.Refused refusal.Gone)) (sym h.refused) (record { is = refl; after = h.after })
-
 -- ---- a ticket is closed
 
 module _ (m : Machine) (stands : Machine → Type 0) where
@@ -173,19 +155,11 @@ module _ (m : Machine) (stands : Machine → Type 0) where
   cancel_done number (Some t) done same h =
       subst (λ (k : ℕ). IsReplied (goes (r.Cancelled t.number) (closed t.number m)) stands (r.Cancelled k)) same (record { is = refl; after = subst (λ (k : ℕ). stands (closed k m)) (sym same) h })
 
-  pub cancel_none : (number : ℕ) (o : Option Ticket) (none : NoTicket) → Cancels m stands number o (Err none) → IsReplied (cancel_by o m) stands (r.Refused refusal.NoTicket)
-  cancel_none number None none h = record { is = refl; after = h }
-  cancel_none number (Some t) none h = absurd h
-
   pub cancel_stays : (number : ℕ) (o : Option Ticket) (none : NoTicket) → Cancels m stands number o (Err none) → stands m
   cancel_stays number None none h = h
   cancel_stays number (Some t) none h = absurd h
 
   -- ---- undo and redo
-
-  pub move_done : (side : List (List Procedure)) (otherwise : Refusal) (there : Machine) (n : ℕ) → Goes m stands side there (Ok n) → IsReplied (move_turn side otherwise there m) stands (r.Next m.next)
-  move_done [] otherwise there n h = absurd (let e = h.0 in omega arith)
-  move_done (p ∷ ps) otherwise there n h = record { is = refl; after = h.2 }
 
   pub move_none : (side : List (List Procedure)) (otherwise : Refusal) (there : Machine) → Goes m stands side there (Err undo.Nothing) → IsReplied (move_turn side otherwise there m) stands (r.Refused otherwise)
   move_none side otherwise there h = subst (λ (ps : List (List Procedure)). IsReplied (move_turn ps otherwise there m) stands (r.Refused otherwise)) (sym h.0) (record { is = refl; after = h.1 })

@@ -16,10 +16,7 @@ use request_json::Reply;
 use std::alloc::Global;
 
 /// How many cells the last question filled, and how many are kept.
-pub(crate) fn cost_line<D: Domain>(
-    alloc: Global,
-    session: &Session<D>,
-) -> Result<Vec<u8>, Memory>
+pub(crate) fn cost_line<D: Domain>(alloc: Global, session: &Session<D>) -> Result<Vec<u8>, Memory>
     requires ready { IsReady (D.operations session.now.engine.domain) session.now.engine.store session.now.book }
     ensures line { (m : Machine) → Holds (D.operations session.now.engine.domain) session.now.engine.store session.now.book m →
         IfOk result (λ v. v.items ≡ reply_text (cost_turn m).reply) }

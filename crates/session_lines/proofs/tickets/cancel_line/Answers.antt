@@ -1,5 +1,4 @@
-use Rattle.std.proofs.Common.{◌≡◌, IfErr}
-use Rattle.session_machine.specs.Machine.{Machine, ticket_of}
+use Rattle.session_machine.specs.Machine.{ticket_of}
 use Rattle.request_json.specs.declared.reply.Reply.TheVariants as r
 use Rattle.line_answers.specs.Turns.{cancel_turn}
 use Rattle.daig_session.specs.Holds.{Holds}

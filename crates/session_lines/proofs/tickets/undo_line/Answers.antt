@@ -1,5 +1,4 @@
-use Rattle.std.proofs.Common.{◌≡◌, IfOk, IfErr, Err, subst}
-use Rattle.session_machine.specs.Machine.{Machine}
+use Rattle.std.proofs.Common.{Err, subst}
 use Rattle.session_machine.specs.Turns.{undone}
 use Rattle.daig_session.specs.declared.error.UndoError.TheVariants as undo
 use Rattle.daig_session.specs.Holds.{Holds}
@@ -16,7 +15,7 @@ returns-in-Err-Nothing-clause-turn g c = λ m h.
     let dom = g.D.Domain.operations c.args.session.now.engine.domain in
     let stands = Holds (g.D.Domain.operations c.undo.new.self.engine.domain) c.undo.new.self.engine.store c.undo.new.self.book in
     let goes : Goes m stands m.past (undone dom m) (Err undo.Nothing) =
-        subst (λ why. Goes m stands m.past (undone dom m) (Err why)) c.in-Err-Nothing.field-0-is (c.in-Err-Nothing.ensures.goes m h) in
+    subst (λ why. Goes m stands m.past (undone dom m) (Err why)) c.in-Err-Nothing.field-0-is (c.in-Err-Nothing.ensures.goes m h) in
     follows c.refused.result (λ v. v.items) (undo_turn dom m) stands (r.Refused refusal.NothingToUndo) (move_none m stands m.past refusal.NothingToUndo (undone dom m) goes) c.refused.ensures.line
 
 pub returns-in-Err-Nothing-clause-unchanged : goal.returns-in-Err-Nothing-clause-unchanged
@@ -24,7 +23,7 @@ returns-in-Err-Nothing-clause-unchanged g c = λ m h.
     let dom = g.D.Domain.operations c.args.session.now.engine.domain in
     let stands = Holds (g.D.Domain.operations c.undo.new.self.engine.domain) c.undo.new.self.engine.store c.undo.new.self.book in
     let goes : Goes m stands m.past (undone dom m) (Err undo.Nothing) =
-        subst (λ why. Goes m stands m.past (undone dom m) (Err why)) c.in-Err-Nothing.field-0-is (c.in-Err-Nothing.ensures.goes m h) in
+    subst (λ why. Goes m stands m.past (undone dom m) (Err why)) c.in-Err-Nothing.field-0-is (c.in-Err-Nothing.ensures.goes m h) in
     on_error c.refused.result (stands m) goes.1
 
 pub returns-clause-unchanged : goal.returns-clause-unchanged

@@ -1,4 +1,4 @@
-use Rattle.std.proofs.Common.{◌≡◌, ◌<◌, ◌^◌, ℕ, List, IfOk, length, subst, ap, sym, ◌∙◌}
+use Rattle.std.proofs.Common.{◌≡◌, ◌<◌, ◌^◌, List, IfOk, length, subst, ap, sym, ◌∙◌}
 use Rattle.std.specs.Option.{option_copied}
 use Rattle.imp_slots.specs.Plain.{Routine}
 use Rattle.imp_check.specs.Slots.{routines_of}
@@ -18,6 +18,6 @@ returns g c = record {
   line = λ m h.
       let routines : c.as_slice.result.now ≡ routines_of m.program = c.as_slice.ensures.same ∙ (c.in_ok-routines.ensures.is ∙ ap routines_of (c.program-table.ensures.is m h)) in
       let e : c.in_ok-reply.reply ≡ asked_run (routines_of m.program) c.args.inputs.now c.args.fuel (option_copied c.args.at) =
-          c.in_ok-reply.ensures.reply ∙ ap (λ (rs : List Routine). asked_run rs c.args.inputs.now c.args.fuel (option_copied c.args.at)) routines in
+      c.in_ok-reply.ensures.reply ∙ ap (λ (rs : List Routine). asked_run rs c.args.inputs.now c.args.fuel (option_copied c.args.at)) routines in
       subst (λ (reply : Reply). IfOk c.line_of.result (λ v. v.items ≡ reply_text reply)) e c.line_of.ensures.line;
 }
