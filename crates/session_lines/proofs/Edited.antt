@@ -17,18 +17,19 @@ use Rattle.line_answers.specs.declared.edits.TextError.{TextError}
 use Rattle.line_answers.specs.Edits.{IsTextError}
 use Rattle.line_answers.specs.Refusals.{refusal_of}
 use Rattle.line_answers.specs.Turns.{edit_by, edit_turn}
-use Rattle.session_lines.specs.Followed.{Makes}
+use Rattle.request_json.specs.Replies.{reply_text}
+use Rattle.session_lines.specs.Followed.{Follows, Makes}
 use Rattle.session_lines.proofs.Replied.{IsReplied}
 
 refusal_is : (o : Option EditError) (e : EditError) → IsRefusal o e → (e ≡ error.Memory → ⊥) → o ≡ Some e
-refusal_is o error.NoProcedure is no = is
-refusal_is o error.NoStatement is no = is
-refusal_is o error.WrongStatement is no = is
-refusal_is o error.IsMain is no = is
-refusal_is o error.StillCalled is no = is
-refusal_is o error.Numbers is no = is
-refusal_is o (error.Fault f) is no = is
-refusal_is o error.Memory is no = absurd (no refl)
+refusal_is o error.NoProcedure is other = is
+refusal_is o error.NoStatement is other = is
+refusal_is o error.WrongStatement is other = is
+refusal_is o error.IsMain is other = is
+refusal_is o error.StillCalled is other = is
+refusal_is o error.Numbers is other = is
+refusal_is o (error.Fault f) is other = is
+refusal_is o error.Memory is other = absurd (other refl)
 
 module _ {S : Type 0} (dom : Operations S) (store : Store S) (book : Book) (e : Edit) (m : Machine) (h : Holds dom store book m) where
   -- the session's refusal is the machine's
@@ -44,8 +45,16 @@ module _ {S : Type 0} (dom : Operations S) (store : Store S) (book : Book) (e : 
         })
 
     pub edit_refused : (why : EditError) → IsRefusal (edit_refusal e book.history.now book.next) why → (why ≡ error.Memory → ⊥) → stands m → IsReplied (edit_turn dom (Ok e) m) stands (r.Refused (refusal_of m.program e why))
-    edit_refused why is no h2 =
-        subst (λ (o : Option EditError). IsReplied (edit_by dom e o m) stands (r.Refused (refusal_of m.program e why))) (sym (refusal_is (edit_refusal e book.history.now book.next) why is no) ∙ refusal_here) (record { is = refl; after = h2 })
+    edit_refused why is other h2 =
+        subst (λ (o : Option EditError). IsReplied (edit_by dom e o m) stands (r.Refused (refusal_of m.program e why))) (sym (refusal_is (edit_refusal e book.history.now book.next) why is other) ∙ refusal_here) (record { is = refl; after = h2 })
+
+-- The edit is made where another holds the same machine, under the same domain, and its line is written.
+pub edit_follows : {S X : Type 0} (ops : X → Operations S) (d : X) (store : Store S) (book : Book) (e : Edit) (m : Machine) → Holds (ops d) store book m → (stands : Machine → Type 0) (there : X) (store2 : Store S) (book2 : Book) (n : ℕ) (line : List ℕ) →
+    Holds (ops there) store2 book2 m → there ≡ d → edit_refusal e book.history.now book.next ≡ None → n ≡ next_after e book2.next → stands (committed (ops there) e m) → line ≡ reply_text (r.Next n) → Follows (edit_turn (ops d) (Ok e) m) stands line
+edit_follows ops d store book e m h stands there store2 book2 n line h2 same accepted next after is =
+    let number : n ≡ next_after e book.next = next ∙ ap (next_after e) (ap (λ (z : Machine). z.next) h2.is ∙ sym (ap (λ (z : Machine). z.next) h.is)) in
+    let rep = edit_made (ops d) store book e m h stands n accepted number (subst (λ x. stands (committed (ops x) e m)) same after) in
+    record { reply = is ∙ ap reply_text (sym rep.is); machine = rep.after }
 
 -- what is made of a text, whatever its reading
 pub makes : {R : Type 0} (of : R → Result Edit Refusal) (made : Result Edit TextError) → IfOk made (λ e. (readings : R) → of readings ≡ Ok e) → IfErr made (λ e. (readings : R) → IsTextError (of readings) e) → (readings : R) → Makes (of readings) made

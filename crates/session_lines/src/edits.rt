@@ -11,13 +11,18 @@ ghost use Rattle.line_answers.specs.Readings.{Readings};
 ghost use Rattle.session_lines.specs.Followed.{Edits, Follows, Makes};
 
 use crate::written::{line_of, refused};
-use daig_session::Session;
+use daig_session::{Prepared, Session};
 use domain_laws::Domain;
 use imp_syntax::{Declaration, Edit};
 use line_answers::{TextError, add_of, guard_of, insert_of, refusal_of, replace_of};
 use plain_values::Memory;
 use request_json::{Refusal, Reply, Request};
 use std::alloc::Global;
+
+/// Gives an edit up, which leaves the session as it is.
+fn give_up<D: Domain>(_prepared: Prepared<'_, D>)
+    ensures same { _prepared.exit.0.now ≡ _prepared.entry.session.now }
+{}
 
 /// An edit, whose statements carry the numbers from the next one on.
 pub(crate) fn edit_line<D: Domain>(
@@ -37,9 +42,16 @@ pub(crate) fn edit_line<D: Domain>(
 {
     match session.prepare(alloc, edit) {
         Ok(prepared) => {
-            let line = line_of(alloc, Reply::Next(prepared.next()))?;
-            prepared.commit();
-            Ok(line)
+            match line_of(alloc, Reply::Next(prepared.next())) {
+                Ok(line) => {
+                    prepared.commit();
+                    Ok(line)
+                }
+                Err(error) => {
+                    give_up(prepared);
+                    Err(error)
+                }
+            }
         }
         Err(error) => {
             let why = refusal_of(alloc, session.program(), edit, error)?;
