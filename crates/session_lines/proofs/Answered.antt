@@ -28,4 +28,4 @@ module _ {V E : Type 0} (r : Result V E) (items : V → List ℕ) (m : Machine) 
   ran inputs given fuel at place is there h line =
       told (run_turn inputs fuel at m) refl h
       (subst (λ (o : Option Location). Writes r items (run_turn inputs fuel o m).reply) there
-        (subst (λ (xs : List ℤ). Writes r items (run_turn xs fuel place m).reply) is line))
+      (subst (λ (xs : List ℤ). Writes r items (run_turn xs fuel place m).reply) is line))

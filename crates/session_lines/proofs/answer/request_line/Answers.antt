@@ -93,25 +93,25 @@ pub returns-in_default-clause-turn : goal.returns-in_default-clause-turn
 returns-in_default-clause-turn g c = λ readings m h.
     let other = c.in_default in
     let edits : Edits c.args.request =
-        (elim c.args.request as (λ (z : Request). c.args.request ≡ z → Edits z) [
-          | q.State query ↦ λ is. absurd (other.not-State query is)
-          | q.Report ↦ λ is. absurd (other.not-Report is)
-          | q.Cost ↦ λ is. absurd (other.not-Cost is)
-          | q.Program ↦ λ is. absurd (other.not-Program is)
-          | q.Listing ↦ λ is. absurd (other.not-Listing is)
-          | q.Run inputs fuel at ↦ λ is. absurd (other.not-Run inputs fuel at is)
-          | q.Replace id text ↦ λ is. tt
-          | q.Insert place text ↦ λ is. tt
-          | q.Delete id ↦ λ is. tt
-          | q.Guard id text ↦ λ is. tt
-          | q.Declare proc name kind ↦ λ is. tt
-          | q.Add before text ↦ λ is. tt
-          | q.Drop proc ↦ λ is. tt
-          | q.Why query ↦ λ is. absurd (other.not-Why query is)
-          | q.Undo ↦ λ is. absurd (other.not-Undo is)
-          | q.Redo ↦ λ is. absurd (other.not-Redo is)
-          | q.Ask query ↦ λ is. absurd (other.not-Ask query is)
-          | q.Step ticket n ↦ λ is. absurd (other.not-Step ticket n is)
-          | q.Cancel ticket ↦ λ is. absurd (other.not-Cancel ticket is)
-        ]) refl in
+    (elim c.args.request as (λ (z : Request). c.args.request ≡ z → Edits z) [
+      | q.State query ↦ λ is. absurd (other.not-State query is)
+      | q.Report ↦ λ is. absurd (other.not-Report is)
+      | q.Cost ↦ λ is. absurd (other.not-Cost is)
+      | q.Program ↦ λ is. absurd (other.not-Program is)
+      | q.Listing ↦ λ is. absurd (other.not-Listing is)
+      | q.Run inputs fuel at ↦ λ is. absurd (other.not-Run inputs fuel at is)
+      | q.Replace id text ↦ λ is. tt
+      | q.Insert place text ↦ λ is. tt
+      | q.Delete id ↦ λ is. tt
+      | q.Guard id text ↦ λ is. tt
+      | q.Declare proc name kind ↦ λ is. tt
+      | q.Add before text ↦ λ is. tt
+      | q.Drop proc ↦ λ is. tt
+      | q.Why query ↦ λ is. absurd (other.not-Why query is)
+      | q.Undo ↦ λ is. absurd (other.not-Undo is)
+      | q.Redo ↦ λ is. absurd (other.not-Redo is)
+      | q.Ask query ↦ λ is. absurd (other.not-Ask query is)
+      | q.Step ticket n ↦ λ is. absurd (other.not-Step ticket n is)
+      | q.Cancel ticket ↦ λ is. absurd (other.not-Cancel ticket is)
+    ]) refl in
     c.edit_request.ensures.turn readings m edits h
