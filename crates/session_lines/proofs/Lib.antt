@@ -2,3 +2,4 @@ pub mod Replied
 pub mod Places
 pub mod Turned
 pub mod Edited
+pub mod Requested
