@@ -10,7 +10,7 @@ use Rattle.request_json.specs.declared.request.Request.TheVariants as q
 use Rattle.line_answers.specs.Edits.{add_of, guard_of, insert_of, replace_of}
 use Rattle.line_answers.specs.Lines.{request_turn}
 use Rattle.line_answers.specs.Readings.{Readings}
-use Rattle.line_answers.specs.Turns.{edit_turn, Turn}
+use Rattle.line_answers.specs.Turns.{edit_turn}
 use Rattle.session_lines.proofs.Replied.{IsFollowed}
 
 -- The line of an edit is that of the request for it, where the numbers begin at the machine's next one.
