@@ -34,9 +34,9 @@ use Rattle.edit_entries.proofs.Programs.{old_program, new_program, scope_at}
 use Rattle.edit_entries.proofs.Sites.{sites, sites_stay, heads_stay}
 use Rattle.edit_entries.proofs.Standing.{Stands, site, old_is, all_has, known_has}
 use Rattle.imp_edit.specs.Changes.{guarded, in_program}
-use Rattle.imp_edit.specs.Refusals.{IsRefusal, entry_refusal, fits}
+use Rattle.imp_edit.specs.Refusals.{IsRefusal, fits}
 use Rattle.imp_edit.specs.declared.error.EditError.{EditError}
-use Rattle.imp_edit.specs.declared.error.EditError.TheVariants.{WrongStatement, Fault}
+use Rattle.imp_edit.specs.declared.error.EditError.TheVariants.{Fault}
 use Rattle.imp_edit.specs.Short.{IsMade}
 use Rattle.imp_edit.specs.declared.refusals.Needed.TheVariants.{Conditional}
 use Rattle.imp_edit.proofs.Exchanged.{program_edited}
@@ -213,13 +213,6 @@ guard_made n d P e y h next change fine k l f low numbered c g same puts no_head
     }
 
 -- What the code asks.
-pub guard_fits : (n : ℕ) (P : List Procedure) (e : Entry) → Some e ≡ entry_of (entries_of P) n → entry_refusal Conditional (entry_of (entries_of P) n) ≡ None → fits Conditional e.part ≡ true
-guard_fits n P e h r = go (fits Conditional e.part) (ap (entry_refusal Conditional) h ∙ r)
-  where
-    go : (b : Bool) → cond b None (Some WrongStatement) ≡ None → b ≡ true
-    go true w = refl
-    go false w = cc
-
 pub fine_of : (P : List Procedure) → check_fault P ≡ None → AreNumbered P → IsChecked (routines_of P) → IsFine P
 fine_of P z k w = record { faultless = z; numbered = k; fit = w }
 

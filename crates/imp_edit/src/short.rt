@@ -4,10 +4,8 @@ ghost use Rattle.std.specs.List.{All};
 ghost use Rattle.std.specs.Option.{option_map};
 ghost use Rattle.imp_syntax.specs.Plain.{Ends, If, program_numbers};
 ghost use Rattle.imp_syntax.specs.Changes.{with_condition};
-ghost use Rattle.imp_check.specs.Programs.{AreNumbered, check_fault, program_count};
+ghost use Rattle.imp_check.specs.Programs.{AreNumbered, check_fault};
 ghost use Rattle.imp_check.specs.Entries.{entries_of, entry_of};
-ghost use Rattle.imp_check.specs.Fine.{IsFine};
-ghost use Rattle.imp_check.specs.declared.entry.Entry.{Entry};
 ghost use Rattle.imp_edit.specs.declared.error.EditError.TheVariants.{Fault};
 ghost use Rattle.imp_edit.specs.declared.refusals.Needed.TheVariants.{Conditional};
 ghost use Rattle.imp_edit.specs.Changes.{guarded, in_program};
@@ -17,9 +15,9 @@ ghost use Rattle.imp_edit.specs.Short.{IsMade};
 
 use crate::alone::form_alone;
 use crate::error::EditError;
-use imp_check::{Change, Entry, Head, Place, Put, SlotForm, Table};
+use imp_check::{Change, Entry, Place, Put, SlotForm, Table};
 use imp_syntax::{Block, Cond, Edit, Stmt, StmtId, StmtNode};
-use plain_values::{Items, Memory};
+use plain_values::Memory;
 use std::alloc::Global;
 
 /// The change of an edit that gives a statement another condition; `None` for other edits, whose change is found
