@@ -328,9 +328,6 @@ class Document:
         async with self._tickets:
             self._test_fresh(changes)
             asked = await server.ask(do="ask", at=at, string=string or [])
-            if asked.get("refused") == 3:
-                # A server without tickets answers at once.
-                return await server.ask(do="state", at=at, string=string or [])
             if "ticket" not in asked:
                 return asked
             try:
