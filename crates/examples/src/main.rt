@@ -1,17 +1,16 @@
-//! Runs the examples: each program of `data/` by the script beside it. What is written is compared with the file that
-//! says so, and a line is printed for each.
+//! Runs the examples, and rows of requests with their replies: programs and scripts of `data/`. What is written is compared
+//! with what is told of it, and a line is printed for each file.
 #![tactic(auto)]
 
-ghost use Rattle.std.specs.Prelude.{◌≡◌, ◌<◌};
+mod rows;
+mod served;
 
-use daig_server::serve;
+use crate::rows::outcome_of;
+use crate::served::{MOST, status_of};
 use io_edge::{DiskFiles, FaultPlan, MemSink, MemSource};
 use std::alloc::Global;
 use std::fs;
 use std::io::Error;
-use std::marker::Brand;
-use std::sync::ledger::{Blank, Ledger};
-use step_counter::Steps;
 
 /// The examples, each a program with a script and what comes out, and the domain that answers.
 const SERVED: [(&str, &str); 11] = [
@@ -28,30 +27,10 @@ const SERVED: [(&str, &str); 11] = [
     ("asking", "interval"),
 ];
 
-/// The most bytes of a file.
-const MOST: usize = 1_048_576;
-
-/// The status of a run that counts nothing.
-fn status<L: Ledger>(
-    rt: &HostRuntime,
-    words: &[String],
-    script: &mut MemSource,
-    out: &mut MemSink,
-    blank: Blank,
-) -> u8
-    requires name { blank.name ≡ L.name }
-    requires parts { blank.parts ≡ L.parts }
-    requires some { 0 < blank.parts }
-{
-    let mut files = DiskFiles::new(rt);
-    let mut steps = Steps::<L>::new(blank);
-    serve(rt.alloc(), words, &mut files, script, out, &mut steps)
-}
-
-/// The status over the real files.
-fn status_of(rt: &HostRuntime, words: &[String], script: &mut MemSource, out: &mut MemSink) -> u8 {
-    status::<Brand>(rt, words, script, out, Blank::new(1))
-}
+/// The files of rows.
+const ROWS: [&str; 10] = [
+    "states", "calls", "edits", "tickets", "undo", "runs", "lines", "domains", "batches", "sources",
+];
 
 /// Runs an example, and tells whether it ends with 0 and writes exactly what it is to write. A file that is not
 /// there is an error.
@@ -60,9 +39,10 @@ fn is_as_expected(rt: &HostRuntime, name: &str, domain: &str) -> Result<bool, Er
     let script = fs::read(rt, &format!(in alloc; "{name}.jsonl")?)?;
     let wanted = fs::read(rt, &format!(in alloc; "{name}.expected")?)?;
     let words = words_for(alloc, name, domain)?;
+    let mut files = DiskFiles::new(rt);
     let mut script = MemSource::new(script, MOST, FaultPlan::none(alloc));
     let mut out = MemSink::new(alloc, MOST, FaultPlan::none(alloc));
-    let status = status_of(rt, words.as_slice(), &mut script, &mut out);
+    let status = status_of(alloc, words.as_slice(), &mut files, &mut script, &mut out);
     Ok(status == 0 && out.bytes() == wanted.as_slice())
 }
 
@@ -76,6 +56,18 @@ fn words_for(alloc: Global, name: &str, domain: &str) -> Result<Vec<String>, Err
     Ok(words)
 }
 
+/// Runs the rows of a file, and says how many are as expected, and which are not.
+fn tell_rows(rt: &HostRuntime, name: &str) -> Result<(), Error> {
+    let alloc = rt.alloc();
+    let text = fs::read(rt, &format!(in alloc; "{name}.rows")?)?;
+    let outcome = outcome_of(alloc, text.as_slice())?;
+    println!(rt; "{name}: {} rows as expected", outcome.held)?;
+    if !outcome.differing.is_empty() {
+        println!(rt; "differing:\n{}", outcome.differing)?;
+    }
+    Ok(())
+}
+
 fn main(rt: HostRuntime) -> Result<(), Error> {
     for (name, domain) in SERVED {
         let verdict = if is_as_expected(&rt, name, domain)? {
@@ -84,6 +76,9 @@ fn main(rt: HostRuntime) -> Result<(), Error> {
             "differs"
         };
         println!(rt; "{name}: {verdict}")?;
+    }
+    for name in ROWS {
+        tell_rows(&rt, name)?;
     }
     Ok(())
 }

@@ -3,23 +3,49 @@ use crate::table::{failing, folder, served, status, words_of};
 use io_edge::{FaultPlan, MemSink, MemSource};
 use std::test::Fail;
 
-const SERVE: &str = "daig serve f";
+const SERVE: &str = "daig serve --widening plain f";
 
-const SOURCE: &[u8] = b"proc main() { var x: int; x = 3; }";
+/// Counts to ten.
+const SOURCE: &[u8] =
+    b"proc main() { var i: int; var n: int; n = 10; i = 0; while (i < n) { i = i + 1; } }";
 
-const LINES: &[u8] = b"{\"at\":\"after 1\",\"do\":\"state\"}\n{\"do\":\"fly\"}\n";
+/// A state, an edit, what it leaves, the edit taken back, and the state again.
+const LINES: &[u8] = b"{\"at\":\"after 3\",\"do\":\"state\"}\n{\"do\":\"replace\",\"id\":1,\"text\":\"n = 20;\"}\n{\"do\":\"cost\"}\n{\"do\":\"undo\"}\n{\"at\":\"after 3\",\"do\":\"state\"}\n";
 
-const REPLIES: &[u8] = b"{\"state\":\"x=[3,3]\"}\n{\"refused\":3}\n";
+const REPLIES: &[u8] = b"{\"state\":\"i=[10,max] n=[10,10]\"}\n{\"next\":6}\n{\"cost\":11,\"kept\":1}\n{\"next\":6}\n{\"state\":\"i=[10,max] n=[10,10]\"}\n";
 
-/// The last line has no LF.
-const OPEN_LINES: &[u8] = b"{\"at\":\"after 1\",\"do\":\"state\"}\n{\"do\":\"fly\"}";
+/// How many bytes a device moves a call.
+const PIECES: [usize; 3] = [1, 2, 7];
+
+/// How many lines end in these bytes.
+fn lines_in(bytes: &[u8]) -> usize {
+    let mut lines: usize = 0;
+    for byte in bytes {
+        if *byte == b'\n' {
+            lines = lines.saturating_add(1);
+        }
+    }
+    lines
+}
+
+/// So many lines of the text.
+fn first_lines(text: &[u8], count: usize) -> &[u8] {
+    let mut end = 0;
+    for i in 0..text.len() {
+        if text[i] == b'\n' && lines_in(&text[..i]) < count {
+            end = i + 1;
+        }
+    }
+    &text[..end]
+}
 
 /// Whatever pieces the bytes come and go in, they are the same; a last line needs no LF.
 #[test]
 fn small_pieces(rt: HostRuntime) -> Result<(), Fail> {
     let alloc = rt.alloc();
+    let open = LINES.strip_suffix(b"\n").unwrap_or(LINES);
     for most in [1, 2, 7, 100_000] {
-        for script in [LINES, OPEN_LINES] {
+        for script in [LINES, open] {
             let (status, bytes) = served(alloc, SERVE, SOURCE, script, most)?;
             assert_eq!(rt; bytes.as_slice(), REPLIES, "{most}");
             assert_eq!(rt; status, 0, "{most}");
@@ -28,49 +54,41 @@ fn small_pieces(rt: HostRuntime) -> Result<(), Fail> {
     Ok(())
 }
 
-/// What a script that hands out a byte a call, and whose call of this number fails, gives: the replies to the
-/// lines whose LF came, and 4.
+/// Each read of a script fails in turn: there are the replies to the lines whose LF came, and 4.
 #[test]
 fn failing_reads(rt: HostRuntime) -> Result<(), Fail> {
     let alloc = rt.alloc();
     let words = words_of(alloc, SERVE)?;
-    let table: [(u64, &[u8]); 5] = [
-        (0, b""),
-        (29, b""),
-        (30, b"{\"state\":\"x=[3,3]\"}\n"),
-        (42, b"{\"state\":\"x=[3,3]\"}\n"),
-        (43, b"{\"state\":\"x=[3,3]\"}\n{\"refused\":3}\n"),
-    ];
-    for (call, wanted) in table {
-        let mut files = folder(alloc, SOURCE, FaultPlan::none(alloc))?;
-        let mut script = MemSource::new(LINES.to_vec(alloc)?, 1, failing(alloc, &[call])?);
-        let mut out = MemSink::new(alloc, 100, FaultPlan::none(alloc));
-        let code = status(alloc, words.as_slice(), &mut files, &mut script, &mut out);
-        assert_eq!(rt; code, 4, "{call}");
-        assert_eq!(rt; out.bytes(), wanted, "{call}");
+    for most in PIECES {
+        for call in 0..=LINES.len().div_ceil(most) {
+            let read = call.saturating_mul(most).min(LINES.len());
+            let wanted = first_lines(REPLIES, lines_in(&LINES[..read]));
+            let mut files = folder(alloc, SOURCE, FaultPlan::none(alloc))?;
+            let plan = failing(alloc, &[call as u64])?;
+            let mut script = MemSource::new(LINES.to_vec(alloc)?, most, plan);
+            let mut out = MemSink::new(alloc, 100, FaultPlan::none(alloc));
+            let code = status(alloc, words.as_slice(), &mut files, &mut script, &mut out);
+            assert_eq!(rt; code, 4, "{most} {call}");
+            assert_eq!(rt; out.bytes(), wanted, "{most} {call}");
+        }
     }
     Ok(())
 }
 
-/// What a sink that takes so many bytes a call, and whose call of this number fails, takes: a prefix, and 5.
+/// Each write of a sink fails in turn: a prefix went out, and 5 comes.
 #[test]
 fn failing_writes(rt: HostRuntime) -> Result<(), Fail> {
     let alloc = rt.alloc();
     let words = words_of(alloc, SERVE)?;
-    let table: [(usize, u64, &[u8]); 5] = [
-        (1, 0, b""),
-        (1, 1, b"{"),
-        (2, 3, b"{\"stat"),
-        (7, 3, b"{\"state\":\"x=[3,3]\"}\n"),
-        (100, 1, b"{\"state\":\"x=[3,3]\"}\n"),
-    ];
-    for (most, call, wanted) in table {
-        let mut files = folder(alloc, SOURCE, FaultPlan::none(alloc))?;
-        let mut script = MemSource::new(LINES.to_vec(alloc)?, 100, FaultPlan::none(alloc));
-        let mut out = MemSink::new(alloc, most, failing(alloc, &[call])?);
-        let code = status(alloc, words.as_slice(), &mut files, &mut script, &mut out);
-        assert_eq!(rt; code, 5, "{most} {call}");
-        assert_eq!(rt; out.bytes(), wanted, "{most} {call}");
+    for most in PIECES {
+        for call in 0..REPLIES.len().div_ceil(most) {
+            let mut files = folder(alloc, SOURCE, FaultPlan::none(alloc))?;
+            let mut script = MemSource::new(LINES.to_vec(alloc)?, 100, FaultPlan::none(alloc));
+            let mut out = MemSink::new(alloc, most, failing(alloc, &[call as u64])?);
+            let code = status(alloc, words.as_slice(), &mut files, &mut script, &mut out);
+            assert_eq!(rt; code, 5, "{most} {call}");
+            assert!(rt; REPLIES.starts_with(out.bytes()), "{most} {call}");
+        }
     }
     Ok(())
 }
@@ -80,7 +98,9 @@ fn failing_writes(rt: HostRuntime) -> Result<(), Fail> {
 fn files(rt: HostRuntime) -> Result<(), Fail> {
     let alloc = rt.alloc();
     let words = words_of(alloc, SERVE)?;
-    for (pad, calls, code) in [(0, 0, 7), (1_048_542, 1, 0), (1_048_543, 1, 9)] {
+    let room: usize = 1_048_576;
+    let pad = room.saturating_sub(SOURCE.len());
+    for (pad, calls, code) in [(0, 0, 7), (pad, 1, 0), (pad.saturating_add(1), 1, 9)] {
         let mut source = SOURCE.to_vec(alloc)?;
         for _ in 0..pad {
             source.push(b' ')?;

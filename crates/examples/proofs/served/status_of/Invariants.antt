@@ -1,4 +1,4 @@
-use Rattle.examples.proofs.status_of.Given as goal
+use Rattle.examples.proofs.served.status_of.Given as goal
 
 -- nothing is counted
 abbrev pub ghosts-status : goal.ghosts-status

@@ -1,0 +1,128 @@
+//! Runs that a text tells of: blocks of lines, an empty line behind each. The first byte of a line says what it is: `#` a
+//! remark, `$` the words, `:` a line of the source `f`, `>` a line of the script and `~` a last one without its end, `<` a
+//! line that is to be written, `?` the status to end with, 0 where none is told. What it holds stands behind a space.
+use crate::served::{MOST, status_of};
+use io_edge::{FaultPlan, MemFiles, MemSink, MemSource, NamedFile};
+use std::alloc::Global;
+use std::io::Error;
+
+/// A run, and what is to come of it.
+#[derive(Drop)]
+struct Row {
+    words: Vec<u8>,
+    source: Vec<u8>,
+    script: Vec<u8>,
+    wanted: Vec<u8>,
+    status: Vec<u8>,
+}
+
+impl Row {
+    /// A run of which nothing is told.
+    fn new(alloc: Global) -> Row {
+        Row {
+            words: Vec::new(alloc),
+            source: Vec::new(alloc),
+            script: Vec::new(alloc),
+            wanted: Vec::new(alloc),
+            status: Vec::new(alloc),
+        }
+    }
+
+    /// Adds what a line tells of the run.
+    fn add(&mut self, line: &[u8]) -> Result<(), Error> {
+        match line {
+            [b'$', b' ', words @ ..] => self.words.extend_from_slice(words)?,
+            [b':', b' ', source @ ..] => add_line(&mut self.source, source)?,
+            [b'>', b' ', request @ ..] => add_line(&mut self.script, request)?,
+            [b'>'] => self.script.push(b'\n')?,
+            [b'~', b' ', request @ ..] => self.script.extend_from_slice(request)?,
+            [b'<', b' ', reply @ ..] => add_line(&mut self.wanted, reply)?,
+            [b'?', b' ', status @ ..] => self.status.extend_from_slice(status)?,
+            _ => {}
+        }
+        Ok(())
+    }
+
+    /// Whether the run writes and ends with what is told.
+    fn holds(&self, alloc: Global) -> Result<bool, Error> {
+        let line = String::from_utf8_lossy(alloc, self.words.as_slice())?;
+        let words = words_of(alloc, line.as_str())?;
+        let file = NamedFile::new(String::from_str(alloc, "f")?, self.source.clone()?);
+        let mut files = MemFiles::new(vec![in alloc; file]?, FaultPlan::none(alloc));
+        let mut script = MemSource::new(self.script.clone()?, MOST, FaultPlan::none(alloc));
+        let mut out = MemSink::new(alloc, MOST, FaultPlan::none(alloc));
+        let status = status_of(alloc, words.as_slice(), &mut files, &mut script, &mut out);
+        Ok(out.bytes() == self.wanted.as_slice() && self.ends_with(alloc, status)?)
+    }
+
+    /// Whether this is the status to end with.
+    fn ends_with(&self, alloc: Global, status: u8) -> Result<bool, Error> {
+        let told = format!(in alloc; "{status}")?;
+        Ok(match self.status.as_slice() {
+            [] => status == 0,
+            wanted => wanted == told.as_bytes(),
+        })
+    }
+}
+
+/// Adds a line with its end.
+fn add_line(text: &mut Vec<u8>, line: &[u8]) -> Result<(), Error> {
+    text.extend_from_slice(line)?;
+    text.push(b'\n')?;
+    Ok(())
+}
+
+/// The words of a line.
+fn words_of(alloc: Global, line: &str) -> Result<Vec<String>, Error> {
+    let mut words = Vec::new(alloc);
+    for word in line.split_whitespace() {
+        words.push(String::from_str(alloc, word)?)?;
+    }
+    Ok(words)
+}
+
+/// How the runs of a text came out.
+#[derive(Drop)]
+pub(crate) struct Outcome {
+    /// How many are as expected.
+    pub(crate) held: u32,
+    /// The words and scripts of those that are not.
+    pub(crate) differing: String,
+}
+
+impl Outcome {
+    /// Counts a run of which something is told.
+    fn count(&mut self, alloc: Global, row: &Row) -> Result<(), Error> {
+        if row.words.is_empty() {
+            return Ok(());
+        }
+        if row.holds(alloc)? {
+            self.held = self.held.saturating_add(1);
+            return Ok(());
+        }
+        let words = String::from_utf8_lossy(alloc, row.words.as_slice())?;
+        let script = String::from_utf8_lossy(alloc, row.script.as_slice())?;
+        self.differing.push_str(words.as_str())?;
+        self.differing.push_str("\n")?;
+        self.differing.push_str(script.as_str())?;
+        Ok(())
+    }
+}
+
+/// Makes each run that a text tells of.
+pub(crate) fn outcome_of(alloc: Global, text: &[u8]) -> Result<Outcome, Error> {
+    let text = String::from_utf8_lossy(alloc, text)?;
+    let mut outcome = Outcome {
+        held: 0,
+        differing: String::new(alloc),
+    };
+    let mut row = Row::new(alloc);
+    for line in text.split('\n') {
+        row.add(line.as_bytes())?;
+        if line.is_empty() {
+            outcome.count(alloc, &row)?;
+            row = Row::new(alloc);
+        }
+    }
+    Ok(outcome)
+}
