@@ -28,8 +28,9 @@ const SERVED: [(&str, &str); 11] = [
 ];
 
 /// The files of rows.
-const ROWS: [&str; 10] = [
-    "states", "calls", "edits", "tickets", "undo", "runs", "lines", "domains", "batches", "sources",
+const ROWS: [&str; 13] = [
+    "states", "calls", "edits", "tickets", "undo", "runs", "lines", "domains", "batches",
+    "sources", "texts", "faults", "words",
 ];
 
 /// Runs an example, and tells whether it ends with 0 and writes exactly what it is to write. A file that is not
@@ -63,7 +64,8 @@ fn tell_rows(rt: &HostRuntime, name: &str) -> Result<(), Error> {
     let outcome = outcome_of(alloc, text.as_slice())?;
     println!(rt; "{name}: {} rows as expected", outcome.held)?;
     if !outcome.differing.is_empty() {
-        println!(rt; "differing:\n{}", outcome.differing)?;
+        let differing = String::from_utf8_lossy(alloc, outcome.differing.as_slice())?;
+        println!(rt; "differing:\n{}", differing)?;
     }
     Ok(())
 }

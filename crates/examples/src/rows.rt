@@ -43,8 +43,8 @@ impl Row {
         Ok(())
     }
 
-    /// Whether the run writes and ends with what is told.
-    fn holds(&self, alloc: Global) -> Result<bool, Error> {
+    /// What the run writes, where that or its status is not what is told.
+    fn differs(&self, alloc: Global) -> Result<Option<Vec<u8>>, Error> {
         let line = String::from_utf8_lossy(alloc, self.words.as_slice())?;
         let words = words_of(alloc, line.as_str())?;
         let file = NamedFile::new(String::from_str(alloc, "f")?, self.source.clone()?);
@@ -52,7 +52,10 @@ impl Row {
         let mut script = MemSource::new(self.script.clone()?, MOST, FaultPlan::none(alloc));
         let mut out = MemSink::new(alloc, MOST, FaultPlan::none(alloc));
         let status = status_of(alloc, words.as_slice(), &mut files, &mut script, &mut out);
-        Ok(out.bytes() == self.wanted.as_slice() && self.ends_with(alloc, status)?)
+        if out.bytes() == self.wanted.as_slice() && self.ends_with(alloc, status)? {
+            return Ok(None);
+        }
+        Ok(Some(out.bytes().to_vec(alloc)?))
     }
 
     /// Whether this is the status to end with.
@@ -86,8 +89,8 @@ fn words_of(alloc: Global, line: &str) -> Result<Vec<String>, Error> {
 pub(crate) struct Outcome {
     /// How many are as expected.
     pub(crate) held: u32,
-    /// The words and scripts of those that are not.
-    pub(crate) differing: String,
+    /// The words of the others, and what they wrote.
+    pub(crate) differing: Vec<u8>,
 }
 
 impl Outcome {
@@ -96,15 +99,13 @@ impl Outcome {
         if row.words.is_empty() {
             return Ok(());
         }
-        if row.holds(alloc)? {
-            self.held = self.held.saturating_add(1);
-            return Ok(());
+        match row.differs(alloc)? {
+            None => self.held = self.held.saturating_add(1),
+            Some(written) => {
+                add_line(&mut self.differing, row.words.as_slice())?;
+                add_line(&mut self.differing, written.as_slice())?;
+            }
         }
-        let words = String::from_utf8_lossy(alloc, row.words.as_slice())?;
-        let script = String::from_utf8_lossy(alloc, row.script.as_slice())?;
-        self.differing.push_str(words.as_str())?;
-        self.differing.push_str("\n")?;
-        self.differing.push_str(script.as_str())?;
         Ok(())
     }
 }
@@ -114,7 +115,7 @@ pub(crate) fn outcome_of(alloc: Global, text: &[u8]) -> Result<Outcome, Error> {
     let text = String::from_utf8_lossy(alloc, text)?;
     let mut outcome = Outcome {
         held: 0,
-        differing: String::new(alloc),
+        differing: Vec::new(alloc),
     };
     let mut row = Row::new(alloc);
     for line in text.split('\n') {

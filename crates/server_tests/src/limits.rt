@@ -1,5 +1,5 @@
 //! Lines, sources and edits at the limits.
-use crate::table::{chained, nested, padded, repeated, served, variables};
+use crate::table::{chained, multiplied, nested, padded, repeated, served, variables};
 use std::test::Fail;
 
 const PLAIN: &str = "daig serve --widening plain f";
@@ -95,6 +95,12 @@ fn more_limits(rt: HostRuntime) -> Result<(), Fail> {
             3,
         ),
         (
+            variables(alloc, "array", 17)?,
+            "{\"at\":0,\"name\":\"Ints\",\"proc\":\"main\",\"refused\":9}\n",
+            3,
+        ),
+        (variables(alloc, "list", 8)?, "", 0),
+        (
             variables(alloc, "list", 9)?,
             "{\"at\":0,\"name\":\"Lists\",\"proc\":\"main\",\"refused\":9}\n",
             3,
@@ -110,6 +116,34 @@ fn more_limits(rt: HostRuntime) -> Result<(), Fail> {
         let (status, bytes) = served(alloc, PLAIN, source.as_bytes(), b"", 100_000)?;
         assert_eq!(rt; bytes.as_slice(), wanted.as_bytes());
         assert_eq!(rt; status, code);
+    }
+    Ok(())
+}
+
+/// Procedures, and chains that multiply: of six levels of four calls the lowest alone has 4,096.
+#[test]
+fn procedures_and_chains(rt: HostRuntime) -> Result<(), Fail> {
+    let alloc = rt.alloc();
+    let table = [
+        (62, 0, ""),
+        (63, 0, "Procedures"),
+        (7, 1, ""),
+        (8, 1, "Depth"),
+        (5, 4, ""),
+        (6, 4, "Chains"),
+        (8, 4, "Depth"),
+        (62, 2, "Depth"),
+        (63, 2, "Procedures"),
+    ];
+    for (count, times, name) in table {
+        let source = multiplied(alloc, count, times)?;
+        let wanted = if name.is_empty() {
+            String::new(alloc)
+        } else {
+            format!(in alloc; "{{\"at\":0,\"name\":\"{name}\",\"proc\":\"main\",\"refused\":9}}\n")?
+        };
+        let (_, bytes) = served(alloc, PLAIN, source.as_bytes(), b"", 100_000)?;
+        assert_eq!(rt; bytes.as_slice(), wanted.as_bytes(), "{count} {times}");
     }
     Ok(())
 }
@@ -131,7 +165,8 @@ fn cut_sources(rt: HostRuntime) -> Result<(), Fail> {
 fn deep_edits(rt: HostRuntime) -> Result<(), Fail> {
     let alloc = rt.alloc();
     let source = nested(alloc, 32)?;
-    let script = "{\"do\":\"insert\",\"place\":\"then 32\",\"text\":\"if (0 == 0) { }\"}\n{\"do\":\"insert\",\"place\":\"then 32\",\"text\":\"skip;\"}\n";
+    let script =
+        "{\"do\":\"insert\",\"place\":\"then 32\",\"text\":\"if (0 == 0) { }\"}\n{\"do\":\"insert\",\"place\":\"then 32\",\"text\":\"skip;\"}\n";
     let wanted = "{\"at\":0,\"name\":\"Nesting\",\"proc\":\"main\",\"refused\":9}\n{\"next\":34}\n";
     let (status, bytes) = served(alloc, PLAIN, source.as_bytes(), script.as_bytes(), 100_000)?;
     assert_eq!(rt; bytes.as_slice(), wanted.as_bytes());

@@ -135,3 +135,18 @@ pub(crate) fn chained(alloc: Global, count: usize) -> Result<String, Fail> {
     text.push_str(line.as_str())?;
     Ok(text)
 }
+
+/// An empty procedure, so many that each call the one before so many times, and a main that calls the last.
+pub(crate) fn multiplied(alloc: Global, count: u32, times: usize) -> Result<String, Fail> {
+    let mut text = String::from_str(alloc, "proc f0() { } ")?;
+    for i in 0..count {
+        let next = i.saturating_add(1);
+        let front = format!(in alloc; "proc f{next}() {{ ")?;
+        let call = format!(in alloc; "call f{i}(); ")?;
+        let proc = repeated(alloc, front.as_str(), call.as_str(), times, "} ")?;
+        text.push_str(proc.as_str())?;
+    }
+    let main = format!(in alloc; "proc main() {{ call f{count}(); }}")?;
+    text.push_str(main.as_str())?;
+    Ok(text)
+}
