@@ -13,7 +13,7 @@ use std::fs;
 use std::io::Error;
 
 /// The examples, each a program with a script and what comes out, and the domain that answers.
-const SERVED: [(&str, &str); 11] = [
+const SERVED: [(&str, &str); 13] = [
     ("first", "interval"),
     ("three", "interval"),
     ("counting", "interval"),
@@ -25,6 +25,8 @@ const SERVED: [(&str, &str); 11] = [
     ("pushing", "interval+listseg"),
     ("editing", "interval"),
     ("asking", "interval"),
+    ("reversing", "listseg"),
+    ("gathering", "octagon+listseg"),
 ];
 
 /// The files of rows.
