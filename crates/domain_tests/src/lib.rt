@@ -1,4 +1,4 @@
-//! Tests of the domains and of what they stand on, on states drawn by hand.
+//! Tests of what domains stand on: ranges, matrices and shape graphs drawn by hand.
 //! They stand beside the crates that they test, since a crate with tests of its own is proved twice.
 #![tactic(auto)]
 
@@ -10,11 +10,5 @@ mod closings;
 mod graphs;
 #[cfg(test)]
 mod matrices;
-#[cfg(test)]
-mod octagons;
-#[cfg(test)]
-mod products;
-#[cfg(test)]
-mod segments;
 #[cfg(test)]
 mod steps;
