@@ -2,7 +2,6 @@
 ghost use Rattle.std.specs.Prelude.{◌≡◌, ◌<◌};
 
 use crate::failing::Failing;
-use crate::plays::PLAIN;
 use crate::scripts::{Line, Setup, play, started, told};
 use domain_laws::Steps;
 use std::alloc::Global;
@@ -10,7 +9,14 @@ use std::marker::Brand;
 use std::process::Abort;
 use std::sync::ledger::{Blank, Ledger};
 use std::test::Fail;
-use test_texts::Told;
+
+/// Counts to ten, widened at once and without thresholds.
+const PLAIN: Setup<'static> = Setup {
+    text: "proc main() { var i: int; var n: int; n = 10; i = 0; while (i < n) { i = i + 1; } }",
+    budget: 100,
+    thresholds: false,
+    memo: 1024,
+};
 
 /// A query whose operation of this number fails, with its cost; and the same query again, with its cost and the cells that
 /// the first one kept.
@@ -21,7 +27,7 @@ fn counted<L: Ledger>(alloc: Global, blank: Blank, number: u32) -> Result<String
 {
     let mut steps = Steps::<L>::new(blank);
     let mut session = started(alloc, Failing::at(number), PLAIN)?;
-    let query = Line::Query("after", 3);
+    let query = Line::After(3);
     let first = play(alloc, &mut session, query, &mut steps)?;
     let none = session.cost();
     let kept = session.kept_count() as u64;
@@ -50,11 +56,7 @@ fn query_fills_the_rest(rt: HostRuntime) -> Result<(), Fail> {
 
 #[test]
 fn ticket_stays_open(rt: HostRuntime) -> Result<(), Fail> {
-    let script = [
-        Line::Ask("after", 3),
-        Line::Step(1, 100),
-        Line::Step(1, 100),
-    ];
+    let script = [Line::Ask(3), Line::Step(1, 100), Line::Step(1, 100)];
     for number in 1..12 {
         let found = told(rt.alloc(), Failing::at(number), PLAIN, &script)?;
         assert_eq!(rt; found.as_str(), "ticket 1; Memory; i=[10,max] n=[10,10]; ");
@@ -67,11 +69,7 @@ const FORGETFUL: Setup<'static> = Setup { memo: 1, ..PLAIN };
 
 #[test]
 fn kept_answers_take_no_operation(rt: HostRuntime) -> Result<(), Fail> {
-    let script = [
-        Line::Query("after", 3),
-        Line::Query("before", 4),
-        Line::Query("after", 3),
-    ];
+    let script = [Line::After(3), Line::Before(4), Line::After(3)];
     let found = told(rt.alloc(), Failing::after(10), FORGETFUL, &script)?;
     assert_eq!(rt;
         found.as_str(),
@@ -83,10 +81,10 @@ fn kept_answers_take_no_operation(rt: HostRuntime) -> Result<(), Fail> {
 #[test]
 fn edit_leaves_few_operations(rt: HostRuntime) -> Result<(), Fail> {
     let script = [
-        Line::Query("after", 3),
-        Line::Query("before", 4),
-        Line::Edit(Told::Replace(4, "i = i + 2;")),
-        Line::Query("after", 3),
+        Line::After(3),
+        Line::Before(4),
+        Line::Replace(4, "i = i + 2;"),
+        Line::After(3),
     ];
     let found = told(rt.alloc(), Failing::after(16), FORGETFUL, &script)?;
     assert_eq!(rt;

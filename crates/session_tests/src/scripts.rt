@@ -2,39 +2,30 @@
 ghost use Rattle.std.specs.Prelude.{◌≡◌, ◌<◌, IfOk};
 ghost use Rattle.daig_session.specs.Holds.{IsReady};
 
-use crate::turns::{asked, cancelled, cost, edited, moved, queried, reported, stepped};
+use crate::texts::{next_of, table_of};
+use crate::turns::{asked, queried, replaced, stepped};
 use daig_session::Session;
 use domain_laws::{Domain, Steps};
+use imp_syntax::{Location, StmtId};
 use program_chains::Widening;
 use std::alloc::Global;
 use std::marker::Brand;
 use std::sync::ledger::{Blank, Ledger};
 use std::test::Fail;
-use test_texts::{Told, location, next_of, table_of};
 
 /// A line of a script.
 #[derive(Clone, Copy)]
 pub(crate) enum Line<'a> {
-    /// What is answered at a location.
-    Query(&'a str, u32),
-    /// What is answered at the end of a procedure under a call string.
-    Under(&'a str, &'a [u32]),
-    /// What is found of the statements that have a check.
-    Report,
-    /// A ticket for a location is opened.
-    Ask(&'a str, u32),
+    /// What is answered behind a statement.
+    After(u32),
+    /// What is answered in front of a statement.
+    Before(u32),
+    /// A ticket for the place behind a statement is opened.
+    Ask(u32),
     /// So many cells are filled for a ticket.
     Step(u64, u32),
-    /// A ticket is closed.
-    Cancel(u64),
-    /// An edit is made.
-    Edit(Told<'a>),
-    /// The last edit is undone.
-    Undo,
-    /// The edit that was undone last is done again.
-    Redo,
-    /// How many cells the last question filled, and how many are kept.
-    Cost,
+    /// The statement becomes the action of a text.
+    Replace(u32, &'a str),
 }
 
 /// A program, how its loops are interpreted, and how many results of operations are remembered.
@@ -85,20 +76,11 @@ pub(crate) fn play<D: Domain, L: Ledger>(
     ensures ready { IfOk result (λ _. IsReady (D.operations session.new.engine.domain) session.new.engine.store session.new.book) }
 {
     match line {
-        Line::Query(kind, number) => {
-            queried(alloc, session, &location(alloc, kind, number)?, &[], steps)
-        }
-        Line::Under(proc, string) => {
-            queried(alloc, session, &location(alloc, proc, 0)?, string, steps)
-        }
-        Line::Report => reported(alloc, session, steps),
-        Line::Ask(kind, number) => asked(alloc, session, location(alloc, kind, number)?),
+        Line::After(stmt) => queried(alloc, session, &Location::After(StmtId::new(stmt)), steps),
+        Line::Before(stmt) => queried(alloc, session, &Location::Before(StmtId::new(stmt)), steps),
+        Line::Ask(stmt) => asked(alloc, session, Location::After(StmtId::new(stmt))),
         Line::Step(ticket, most) => stepped(alloc, session, ticket, most, steps),
-        Line::Cancel(ticket) => cancelled(alloc, session, ticket),
-        Line::Edit(told) => edited(alloc, session, told),
-        Line::Undo => moved(alloc, session, true),
-        Line::Redo => moved(alloc, session, false),
-        Line::Cost => cost(alloc, session),
+        Line::Replace(stmt, text) => replaced(alloc, session, stmt, text),
     }
 }
 

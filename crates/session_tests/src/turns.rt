@@ -2,17 +2,18 @@
 ghost use Rattle.std.specs.Prelude.{◌≡◌, IfOk};
 ghost use Rattle.daig_session.specs.Holds.{IsReady};
 
+use crate::edits::replacement;
+use crate::values::shown;
 use call_contexts::place_of;
 use daig_graph::Value;
 use daig_session::{Session, Turn};
-use domain_laws::{Domain, Findings, Steps};
+use domain_laws::{Domain, Steps};
 use imp_check::Table;
 use imp_syntax::{Location, ProcId};
 use plain_values::Items;
 use std::alloc::Global;
 use std::sync::ledger::Ledger;
 use std::test::Fail;
-use test_texts::{Told, edit_of, location, shown};
 
 /// The procedure of a location.
 fn proc_at(table: &Table, at: &Location) -> Option<ProcId> {
@@ -39,43 +40,20 @@ fn answered<D: Domain>(
     }
 }
 
-/// What is answered at a location under a call string.
+/// What is answered at a location.
 pub(crate) fn queried<D: Domain, L: Ledger>(
     alloc: Global,
     session: &mut Session<D>,
     at: &Location,
-    string: &[u32],
     steps: &mut Steps<L>,
 ) -> Result<String, Fail>
     requires ready { IsReady (D.operations session.old.engine.domain) session.old.engine.store session.old.book }
     ensures ready { IfOk result (λ _. IsReady (D.operations session.new.engine.domain) session.new.engine.store session.new.book) }
 {
-    match session.query(alloc, at, string, steps) {
+    match session.query(alloc, at, &[], steps) {
         Ok(value) => answered(alloc, session, proc_at(session.program(), at), &value),
         Err(why) => Ok(format!(in alloc; "{why:?}")?),
     }
-}
-
-/// The numbers of statements, with what is found of them.
-fn found_in(alloc: Global, found: &Findings) -> Result<String, Fail> {
-    let mut all = String::from_str(alloc, "report")?;
-    for one in found.as_slice() {
-        all.push_str(&format!(in alloc; " {} {:?}", one.id.number(), one.verdict)?)?;
-    }
-    Ok(all)
-}
-
-/// What is found of the statements that have a check.
-pub(crate) fn reported<D: Domain, L: Ledger>(
-    alloc: Global,
-    session: &mut Session<D>,
-    steps: &mut Steps<L>,
-) -> Result<String, Fail>
-    requires ready { IsReady (D.operations session.old.engine.domain) session.old.engine.store session.old.book }
-    ensures ready { IfOk result (λ _. IsReady (D.operations session.new.engine.domain) session.new.engine.store session.new.book) }
-{
-    let found = session.report(alloc, steps)?;
-    found_in(alloc, &found)
 }
 
 /// Opens a ticket for a location.
@@ -118,31 +96,17 @@ pub(crate) fn stepped<D: Domain, L: Ledger>(
     }
 }
 
-/// Closes a ticket.
-pub(crate) fn cancelled<D: Domain>(
+/// Makes the action of a text of a statement.
+pub(crate) fn replaced<D: Domain>(
     alloc: Global,
     session: &mut Session<D>,
-    ticket: u64,
+    stmt: u32,
+    text: &str,
 ) -> Result<String, Fail>
     requires ready { IsReady (D.operations session.old.engine.domain) session.old.engine.store session.old.book }
     ensures ready { IfOk result (λ _. IsReady (D.operations session.new.engine.domain) session.new.engine.store session.new.book) }
 {
-    match session.cancel(ticket) {
-        Ok(()) => Ok(format!(in alloc; "cancelled {ticket}")?),
-        Err(why) => Ok(format!(in alloc; "{why:?}")?),
-    }
-}
-
-/// Makes an edit.
-pub(crate) fn edited<D: Domain>(
-    alloc: Global,
-    session: &mut Session<D>,
-    told: Told<'_>,
-) -> Result<String, Fail>
-    requires ready { IsReady (D.operations session.old.engine.domain) session.old.engine.store session.old.book }
-    ensures ready { IfOk result (λ _. IsReady (D.operations session.new.engine.domain) session.new.engine.store session.new.book) }
-{
-    let edit = edit_of(alloc, told, session.next())?;
+    let edit = replacement(alloc, stmt, text, session.next())?;
     match session.prepare(alloc, &edit) {
         Ok(prepared) => {
             let next = prepared.next();
@@ -151,33 +115,4 @@ pub(crate) fn edited<D: Domain>(
         }
         Err(why) => Ok(format!(in alloc; "{why}")?),
     }
-}
-
-/// Goes back to the program behind, or on to the one ahead.
-pub(crate) fn moved<D: Domain>(
-    alloc: Global,
-    session: &mut Session<D>,
-    back: bool,
-) -> Result<String, Fail>
-    requires ready { IsReady (D.operations session.old.engine.domain) session.old.engine.store session.old.book }
-    ensures ready { IfOk result (λ _. IsReady (D.operations session.new.engine.domain) session.new.engine.store session.new.book) }
-{
-    let there = if back {
-        session.undo(alloc)
-    } else {
-        session.redo(alloc)
-    };
-    match there {
-        Ok(next) => Ok(format!(in alloc; "next {next}")?),
-        Err(why) => Ok(format!(in alloc; "{why:?}")?),
-    }
-}
-
-/// How many cells the last question filled, and how many are kept.
-pub(crate) fn cost<D: Domain>(alloc: Global, session: &Session<D>) -> Result<String, Fail>
-    requires ready { IsReady (D.operations session.now.engine.domain) session.now.engine.store session.now.book }
-{
-    let cost = session.cost();
-    let kept = session.kept_count();
-    Ok(format!(in alloc; "cost {cost} kept {kept}")?)
 }

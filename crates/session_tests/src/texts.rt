@@ -1,4 +1,4 @@
-//! Programs and locations from texts.
+//! Programs from texts.
 ghost use Rattle.std.specs.Prelude.{◌≡◌, ℕ, ◌<◌, ◌≤◌, ◌^◌, length, IfOk};
 ghost use Rattle.std.specs.List.{All};
 ghost use Rattle.imp_syntax.specs.Plain.{program_numbers};
@@ -6,8 +6,7 @@ ghost use Rattle.imp_check.specs.Programs.{AreNumbered};
 
 use imp_check::{Table, check_table, is_numbered};
 use imp_parse::parse_program;
-use imp_syntax::{Location, Program, StmtId};
-use plain_values::Text;
+use imp_syntax::Program;
 use std::alloc::Global;
 use std::test::Fail;
 
@@ -24,7 +23,7 @@ pub(crate) fn bytes_of(text: &str) -> Result<&[u8], Fail>
 }
 
 /// The program of a text.
-pub fn read(alloc: Global, text: &str) -> Result<Program, Fail>
+fn read(alloc: Global, text: &str) -> Result<Program, Fail>
     ensures numbered { IfOk result (λ program. AreNumbered program) }
 {
     let program = parse_program(alloc, bytes_of(text)?)?;
@@ -36,13 +35,13 @@ pub fn read(alloc: Global, text: &str) -> Result<Program, Fail>
 }
 
 /// The table of a text that has no fault.
-pub fn table_of(alloc: Global, text: &str) -> Result<Table, Fail> {
+pub(crate) fn table_of(alloc: Global, text: &str) -> Result<Table, Fail> {
     let program = read(alloc, text)?;
     Ok(check_table(alloc, &program)?)
 }
 
 /// The number behind those of the statements.
-pub fn next_of(table: &Table) -> Result<u32, Fail>
+pub(crate) fn next_of(table: &Table) -> Result<u32, Fail>
     ensures positive { IfOk result (λ n. 0 < n) }
     ensures low { IfOk result (λ n. n ≤ 1000001) }
     ensures below { IfOk result (λ n. All (λ (m : ℕ). m < n) (program_numbers table.now.program)) }
@@ -52,16 +51,5 @@ pub fn next_of(table: &Table) -> Result<u32, Fail>
         Ok(room as u32)
     } else {
         Err("another next number".into())
-    }
-}
-
-/// `before 3`, `after 3`, `head 3`, or the end of a procedure by its name.
-pub fn location(alloc: Global, kind: &str, number: u32) -> Result<Location, Fail> {
-    let stmt = StmtId::new(number);
-    match kind {
-        "before" => Ok(Location::Before(stmt)),
-        "after" => Ok(Location::After(stmt)),
-        "head" => Ok(Location::Head(stmt)),
-        name => Ok(Location::End(Text::from_slice(alloc, name.as_bytes())?)),
     }
 }

@@ -7,7 +7,7 @@ use Rattle.imp_syntax.specs.declared.stmt.StmtNode.{StmtNode}
 use Rattle.imp_syntax.specs.declared.stmt.StmtNode.TheVariants.{Simple}
 use Rattle.imp_check.specs.Programs.{block_count}
 use Rattle.imp_edit.specs.Edited.{counting}
-use Rattle.test_texts.specs.Singles.{IsSingle}
+use Rattle.session_tests.specs.Singles.{IsSingle}
 
 pub simple_single : (s : Statement) (node : StmtNode) (a : Action) (number : ℕ) → statement_of (number_of s) node ≡ s → node ≡ Simple a → number_of s ≡ number → IsSingle number s
 simple_single s node a number is simple e =

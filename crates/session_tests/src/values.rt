@@ -14,7 +14,7 @@ fn shown_chain(alloc: Global, chain: &SharedChain) -> Result<String, Fail> {
 }
 
 /// The text of a state, or the loop and the chain of an Over.
-pub fn shown<D: Domain>(
+pub(crate) fn shown<D: Domain>(
     alloc: Global,
     domain: &D,
     layout: &Layout,
