@@ -6,7 +6,7 @@ use Rattle.std.proofs.lemmas.Bool.{cases_eq, cases_lt, eq-eqb, ne_eqb}
 use Rattle.std.proofs.lemmas.Int.{ints}
 use Rattle.dbm_close.proofs.StrongLemmas.{cut-coherent, strengthened-coherent, tightened-coherent}
 use Rattle.dbm_close.specs.Close.{closed_entry, IsContradictory, IsNotContradictory, IsNotTooLow, IsTooLow, strong}
-use Rattle.dbm_close.specs.Halves.{HasHalves, HasLowBound, HasNegativeHalves, HasNoLowBound, HasNoNegativeHalves, halved_bound}
+use Rattle.dbm_close.specs.Halves.{HasHalves, HasNegativeHalves, HasNoNegativeHalves, halved_bound}
 use Rattle.dbm_close.specs.Steps.{cut, even_down, half, tightened}
 use Rattle.dbm_core.proofs.HalfLemmas.{HasEntries-from_kept, entry-coherent, flip-kept}
 use Rattle.dbm_core.proofs.NodeLemmas.{flip-below, flip-flip}
@@ -159,20 +159,13 @@ fused-consistent s h z i hi =
     subst (λ v. AtMost (Some (pos 0)) (add_weight v (tightened s (flip i) i))) (sym (own-single s i))
     (subst (λ v. AtMost (Some (pos 0)) (add_weight (even_down (s i (flip i))) v)) (sym (own-behind s i)) (positive-even (s i (flip i)) (s (flip i) i) (z i hi)))
 
--- what is not too low at the kept pairs is not at any
-pub kept-in_range : (u : ℕ → ℕ → Option ℤ) (h : ℕ) → IsCoherent u (2 * h) → ((i j : ℕ) → i < 2 * h → j < row_width i → AtMost (Some (neg_ℤ (pos (2 ^ 64)))) (u i j)) → IsNotTooLow (2 * h) u
-kept-in_range u h c k i j hi hj = elim (cases_lt j (row_width i)) [
-  | inl p ↦ k i j hi p
-  | inr p ↦ subst (λ v. AtMost (Some (neg_ℤ (pos (2 ^ 64)))) v) (sym (c i j hi hj)) (k (flip j) (flip i) (flip-below j h hj) (flip-kept i j p))
-]
-
 pub halved_bound-strong : (d : ℕ → ℕ → Option ℤ) (h : ℕ) (v : List (Option ℤ)) → HasHalves (2 * h) d v → (i j : ℕ) → i < 2 * h → j < 2 * h → halved_bound v i j (d i j) ≡ strong d i j
 halved_bound-strong d h v p i j hi hj =
     ap (λ x. least (d i j) (add_weight x (get_or v (flip j) None))) (p i hi)
     ∙ ap (λ x. least (d i j) (add_weight (half (d i (flip i))) x)) (p (flip j) (flip-below j h hj) ∙ ap (λ k. half (d (flip j) k)) (flip-flip j))
     ∙ sym (strong-fused d i j)
 
-pair-halves : (d : ℕ → ℕ → Option ℤ) (h : ℕ) (v : List (Option ℤ)) → HasHalves (2 * h) d v → (i : ℕ) → i < 2 * h → add_weight (get_or v i None) (get_or v (flip i) None) ≡ add_weight (half (d i (flip i))) (half (d (flip i) i))
+pub pair-halves : (d : ℕ → ℕ → Option ℤ) (h : ℕ) (v : List (Option ℤ)) → HasHalves (2 * h) d v → (i : ℕ) → i < 2 * h → add_weight (get_or v i None) (get_or v (flip i) None) ≡ add_weight (half (d i (flip i))) (half (d (flip i) i))
 pair-halves d h v p i hi = ap (λ x. add_weight x (get_or v (flip i) None)) (p i hi)
     ∙ ap (λ x. add_weight (half (d i (flip i))) x) (p (flip i) (flip-below i h hi) ∙ ap (λ k. half (d (flip i) k)) (flip-flip i))
 
@@ -181,13 +174,6 @@ halves-contradictory d h v p (i, (hi, z)) = fused-contradictory d h i hi (subst 
 
 pub halves-consistent : (d : ℕ → ℕ → Option ℤ) (h : ℕ) (v : List (Option ℤ)) → HasHalves (2 * h) d v → HasNoNegativeHalves (2 * h) v → IsNotContradictory (2 * h) (tightened d)
 halves-consistent d h v p z = fused-consistent d h (λ i hi. subst (λ x. AtMost (Some (pos 0)) x) (pair-halves d h v p i hi) (z i hi))
-
-pub low-strong : (d : ℕ → ℕ → Option ℤ) (h : ℕ) (v : List (Option ℤ)) → HasHalves (2 * h) d v → HasLowBound (2 * h) d v → IsTooLow (2 * h) (strong d)
-low-strong d h v p z = (z.0, z.1, (z.2.0, z.2.1, subst (λ x. AtMost x (Some (negsuc (2 ^ 64)))) (halved_bound-strong d h v p z.0 z.1 z.2.0 z.2.1) z.2.2))
-
-pub in_range-strong : (d : ℕ → ℕ → Option ℤ) (h : ℕ) (v : List (Option ℤ)) → IsCoherent d (2 * h) → HasHalves (2 * h) d v → HasNoLowBound (2 * h) d v → IsNotTooLow (2 * h) (strong d)
-in_range-strong d h v c p z = kept-in_range (strong d) h (strengthened-coherent (tightened d) h (tightened-coherent d (2 * h) c))
-    (λ i j hi w. let hj : j < 2 * h = omega arith in subst (λ x. AtMost (Some (neg_ℤ (pos (2 ^ 64)))) x) (halved_bound-strong d h v p i j hi hj) (z i j hi w))
 
 pub fused-entries : (m r : HalfMatrix) (v : List (Option ℤ)) → IsMatrix m → IsMatrix r → r.kinds ≡ m.kinds → HasHalves (nodes m) (entry m) v →
     ((i j : ℕ) → i < nodes m → j < row_width i → entry r i j ≡ cut (halved_bound v i j (entry m i j))) → HasEntries m.kinds (closed_entry (entry m)) r

@@ -4,5 +4,6 @@ pub mod HalvesLemmas
 pub mod LawLemmas
 pub mod MiddleLemmas
 pub mod RoundLemmas
+pub mod SlotLemmas
 pub mod StrongLemmas
 pub mod WalkLemmas

@@ -1,5 +1,5 @@
 -- Steps 2 to 5 at one entry, from half of each node's own bound.
-use Rattle.std.specs.Prelude.{◌≡◌, ℕ, ◌<◌, ◌^◌, ℤ, pos, negsuc, neg_ℤ, Option, Some, None, List, slice_index_or}
+use Rattle.std.specs.Prelude.{◌≡◌, ℕ, ◌<◌, ◌+◌, ◌*◌, ◌^◌, ℤ, pos, negsuc, neg_ℤ, Option, Some, None, List, slice_index_or, ◌⊎◌}
 use Rattle.dbm_close.specs.Steps.{half}
 use Rattle.dbm_core.specs.Half.{row_width}
 use Rattle.dbm_core.specs.Nodes.{flip}
@@ -20,9 +20,9 @@ HasNegativeHalves n v = (i : ℕ) × ((i < n) × AtMost (add_weight (slice_index
 abbrev pub HasNoNegativeHalves : ℕ → List (Option ℤ) → Type 0
 HasNoNegativeHalves n v = (i : ℕ) → i < n → AtMost (Some (pos 0)) (add_weight (slice_index_or v i None) (slice_index_or v (flip i) None))
 
--- a kept bound becomes too low
-abbrev pub HasLowBound : ℕ → (ℕ → ℕ → Option ℤ) → List (Option ℤ) → Type 0
-HasLowBound n d v = (i j : ℕ) × ((i < n) × (j < n) × AtMost (halved_bound v i j (d i j)) (Some (negsuc (2 ^ 64))))
+-- a bound to one of the nodes of slot q is too low
+abbrev pub HasLowPair : ℕ → (ℕ → ℕ → Option ℤ) → ℕ → Type 0
+HasLowPair n d q = (i : ℕ) × ((i < n) × (AtMost (d i (2 * q)) (Some (negsuc (2 ^ 64))) ⊎ AtMost (d i (2 * q + 1)) (Some (negsuc (2 ^ 64)))))
 
-abbrev pub HasNoLowBound : ℕ → (ℕ → ℕ → Option ℤ) → List (Option ℤ) → Type 0
-HasNoLowBound n d v = (i j : ℕ) → i < n → j < row_width i → AtMost (Some (neg_ℤ (pos (2 ^ 64)))) (halved_bound v i j (d i j))
+abbrev pub HasNoLowPair : ℕ → (ℕ → ℕ → Option ℤ) → ℕ → Type 0
+HasNoLowPair n d q = (i : ℕ) → i < n → AtMost (Some (neg_ℤ (pos (2 ^ 64)))) (d i (2 * q)) × AtMost (Some (neg_ℤ (pos (2 ^ 64)))) (d i (2 * q + 1))

@@ -30,6 +30,7 @@ mod bounds;
 mod closed;
 mod middle;
 mod ranges;
+mod slot;
 mod steps;
 mod walks;
 
@@ -37,6 +38,7 @@ pub use bounds::{is_negative, plus};
 pub use closed::{Closed, close};
 pub use middle::column;
 pub use ranges::slot_range;
+pub use slot::finish_slot;
 pub use steps::finish;
 
 /// A law, with nothing to run: step 4 halves even numbers only, so its halves are exact.

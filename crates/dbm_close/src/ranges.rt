@@ -1,5 +1,5 @@
 //! The ranges of slots.
-ghost use Rattle.std.specs.Prelude.{◌≡◌, ◌<◌, ◌^◌, ℕ, ℤ, ◌≤ℤ◌, length};
+ghost use Rattle.std.specs.Prelude.{◌≡◌, ◌<◌, ◌^◌, ℕ, ℤ, ◌≤ℤ◌, ◌<ℤ◌, length};
 ghost use Rattle.std.specs.Bool.{MatchBool};
 ghost use Rattle.dbm_close.specs.Close.{HasEmptyRange, HasNoEmptyRange, slot_high, slot_low};
 ghost use Rattle.dbm_close.specs.Laws.{AreInSlots};
@@ -52,6 +52,18 @@ fn high_end(array: bool, bound: Option<i128>) -> i128
         }
         None => extreme,
     }
+}
+
+/// Step 6, of one slot: whether its range is empty.
+pub fn is_range_empty(r: &Matrix, slot: usize) -> bool
+    requires slot { slot < length r.now.kinds }
+    requires within { AreWithin (nodes r.now) (2 ^ 104) (entry r.now) }
+    ensures empty { MatchBool result (slot_high r.now.kinds (entry r.now) slot <ℤ slot_low r.now.kinds (entry r.now) slot) (slot_low r.now.kinds (entry r.now) slot ≤ℤ slot_high r.now.kinds (entry r.now) slot) }
+{
+    let array = r.kinds()[slot];
+    let low = low_end(array, r.get(2 * slot, 2 * slot + 1));
+    let high = high_end(array, r.get(2 * slot + 1, 2 * slot));
+    high < low
 }
 
 /// Step 6: whether a slot's range is empty.

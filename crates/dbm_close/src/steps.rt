@@ -1,8 +1,10 @@
-//! Steps 2 to 6, over the least weights, in two passes over the kept entries.
+//! Steps 2 to 6, over the least weights: one pass that changes the kept entries, and one that reads
+//! them.
 ghost use Rattle.std.specs.Prelude.{◌≡◌, ◌<◌, ◌≤◌, ◌+◌, ◌*◌, ◌^◌, ◌%◌, ℕ, None, slice_index_or, length};
 ghost use Rattle.std.specs.Bool.{MatchBool};
+ghost use Rattle.dbm_close.specs.Close.{IsNotTooLow, IsTooLow};
 ghost use Rattle.dbm_close.specs.Finish.{IsFinishOf};
-ghost use Rattle.dbm_close.specs.Halves.{HasHalves, HasLowBound, HasNegativeHalves, HasNoLowBound, HasNoNegativeHalves, halved_bound};
+ghost use Rattle.dbm_close.specs.Halves.{HasHalves, HasNegativeHalves, HasNoNegativeHalves, halved_bound};
 ghost use Rattle.dbm_close.specs.Steps.{cut, half};
 ghost use Rattle.dbm_core.specs.Half.{IsMatrix, entry, nodes, row_width};
 ghost use Rattle.dbm_core.specs.Limits.{AreWithin, IsWithin};
@@ -25,19 +27,19 @@ pub fn finish(weights: Matrix) -> Closed
     if has_negative_halves(&halves, count) {
         return Closed::Empty;
     }
-    if has_low_bound(&matrix, &halves) {
+    strengthen_and_cut(&mut matrix, &halves);
+    if has_low_entry(&matrix) {
         return Closed::Empty;
     }
-    strengthen_and_cut(&mut matrix, &halves);
     if has_empty_range(&matrix) {
         return Closed::Empty;
     }
     Closed::Matrix(matrix)
 }
 
-// Half of the bound from each node to that of the other sign, rounded down: step 2 makes the bound
-// twice that.
-fn halves_of(m: &Matrix) -> [Option<i128>; 32]
+/// Half of the bound from each node to that of the other sign, rounded down: step 2 makes the bound
+/// twice that.
+pub fn halves_of(m: &Matrix) -> [Option<i128>; 32]
     requires within { AreWithin (nodes m.now) (2 ^ 102) (entry m.now) }
     ensures halves { HasHalves (nodes m.now) (entry m.now) result }
     ensures small { (i : ℕ) → IsWithin (2 ^ 102) (slice_index_or result i None) }
@@ -68,8 +70,8 @@ fn has_negative_halves(halves: &[Option<i128>; 32], count: usize) -> bool
     false
 }
 
-// Steps 2 and 4 at one bound: it is at most the sum of its nodes' halves.
-fn halved(halves: &[Option<i128>; 32], i: usize, j: usize, bound: Option<i128>) -> Option<i128>
+/// Steps 2 and 4 at one bound: it is at most the sum of its nodes' halves.
+pub fn halved(halves: &[Option<i128>; 32], i: usize, j: usize, bound: Option<i128>) -> Option<i128>
     requires row { i < 32 }
     requires column { j < 32 }
     requires small { (i : ℕ) → IsWithin (2 ^ 102) (slice_index_or halves.now i None) }
@@ -78,17 +80,14 @@ fn halved(halves: &[Option<i128>; 32], i: usize, j: usize, bound: Option<i128>) 
     smaller(bound, plus(halves[i], halves[other_sign(j)]))
 }
 
-// Step 5: whether an entry will be below -2^64.
-fn has_low_bound(m: &Matrix, halves: &[Option<i128>; 32]) -> bool
-    requires small { (i : ℕ) → IsWithin (2 ^ 102) (slice_index_or halves.now i None) }
-    ensures low { MatchBool result (HasLowBound (nodes m.now) (entry m.now) halves.now) (HasNoLowBound (nodes m.now) (entry m.now) halves.now) }
+// Step 5, after the cut: whether an entry is below -2^64.
+fn has_low_entry(m: &Matrix) -> bool
+    ensures low { MatchBool result (IsTooLow (nodes m.now) (entry m.now)) (IsNotTooLow (nodes m.now) (entry m.now)) }
 {
-    let nodes = 2 * m.kinds().len();
-    for i in 0..nodes {
-        for j in 0..2 * (i / 2) + 2 {
-            if is_low_bound(halved(halves, i, j, m.get(i, j))) {
-                return true;
-            }
+    let kept = m.kept();
+    for bound in kept {
+        if is_low_bound(*bound) {
+            return true;
         }
     }
     false

@@ -6,6 +6,7 @@ pub mod NodeLemmas
 pub mod OperationLemmas
 pub mod RisesLemmas
 pub mod SameLemmas
+pub mod SlotLemmas
 pub mod TableLemmas
 pub mod UpdateLemmas
 pub mod ValuationLemmas

@@ -1,10 +1,12 @@
 -- The entries determine the matrix.
 use Rattle.std.specs.Prelude.{◌≡◌, ℕ, ◌<◌, ◌+◌, ◌-◌, ◌*◌, ℤ, Option, None, Bool, List, length}
-use Rattle.std.proofs.Common.{arith, ap, sym, ◌∙◌, zero, suc, inl, inr, get_or}
+use Rattle.std.proofs.Common.{arith, ap, sym, ◌∙◌, zero, suc, inl, inr, get_or, subst}
 use Rattle.std.proofs.lemmas.Bool.{cases_lt}
 use Rattle.std.proofs.lemmas.List.{same_lists, get_or_default}
-use Rattle.dbm_core.proofs.HalfLemmas.{entry-kept, row_start-double}
+use Rattle.dbm_core.proofs.HalfLemmas.{entry-coherent, entry-kept, flip-kept, place-within, row_start-double}
+use Rattle.dbm_core.proofs.NodeLemmas.{flip-below}
 use Rattle.dbm_core.specs.Half.{HalfMatrix, HasEntries, IsMatrix, entry, nodes, row_start, row_width}
+use Rattle.dbm_core.specs.Nodes.{flip}
 
 -- every place of the list is that of a kept pair
 pub pair_at : (r p : ℕ) → p < row_start r → (i j : ℕ) × ((i < r) × (j < row_width i) × (p ≡ row_start i + j))
@@ -14,6 +16,24 @@ pair_at (suc r) p l = elim (cases_lt p (row_start r)) [
       let b : s.0 < r = s.2.0 in (s.0, s.1, (omega arith, s.2.1, s.2.2))
   | inr q ↦ (r, p - row_start r, (omega arith, omega arith, omega arith))
 ]
+
+-- what holds of each bound of the list holds of each entry
+pub places-hold : (P : Option ℤ → Type 0) (m : HalfMatrix) → IsMatrix m → ((p : ℕ) → p < length m.kept → P (get_or m.kept p None)) → (i j : ℕ) → i < nodes m → j < nodes m → P (entry m i j)
+places-hold P m t h i j hi hj = elim (cases_lt j (row_width i)) [
+  | inl w ↦ at i j hi w
+  | inr w ↦ subst P (sym (entry-coherent m t i j hi hj)) (at (flip j) (flip i) (flip-below j (length m.kinds) hj) (flip-kept i j w))
+]
+  where
+    at : (i j : ℕ) → i < nodes m → j < row_width i → P (entry m i j)
+    at i j hi w = subst P (sym (entry-kept m i j w)) (h (row_start i + j) (omega (arith, t.fits, place-within (length m.kinds) i j hi w)))
+
+-- each bound of the list is an entry
+pub place-entry : (m : HalfMatrix) → IsMatrix m → (p : ℕ) → p < length m.kept → (i j : ℕ) × ((i < nodes m) × (j < nodes m) × (get_or m.kept p None ≡ entry m i j))
+place-entry m t p l =
+    let q : (i j : ℕ) × ((i < nodes m) × (j < row_width i) × (p ≡ row_start i + j)) = pair_at (nodes m) p (omega (arith, t.fits, row_start-double (length m.kinds), l)) in
+    let i : q.0 < nodes m = q.2.0 in
+    let w : q.1 < row_width q.0 = q.2.1 in
+    (q.0, q.1, (i, omega (arith, i, w), ap (λ k. get_or m.kept k None) q.2.2 ∙ sym (entry-kept m q.0 q.1 w)))
 
 pub entries-determine : (a b : HalfMatrix) → IsMatrix a → IsMatrix b → a.kinds ≡ b.kinds → ((i j : ℕ) → i < nodes a → j < nodes a → entry a i j ≡ entry b i j) → a ≡ b
 entries-determine a b p q k h = ap (λ k. make k a.kept) k ∙ ap (λ n. make b.kinds n) kept

@@ -1,5 +1,5 @@
 -- Nodes: slot k has the node 2k, which stands for its value, and the node 2k + 1, for its negative.
-use Rattle.std.specs.Prelude.{◌≡◌, ℕ, ℤ, Option, Bool, cond, eqb, ◌<◌, ◌+◌, ◌-◌, ◌%◌}
+use Rattle.std.specs.Prelude.{◌≡◌, ℕ, ℤ, Option, Bool, cond, eqb, ◌<◌, ◌+◌, ◌-◌, ◌/◌, ◌%◌, ◌⊎◌}
 
 -- the node of the other sign
 abbrev pub flip : ℕ → ℕ
@@ -12,3 +12,7 @@ is_single i j = eqb j (flip i)
 -- each pair of the n nodes has the bound of its mirror image
 abbrev pub IsCoherent : (ℕ → ℕ → Option ℤ) → ℕ → Type 0
 IsCoherent w n = (i j : ℕ) → i < n → j < n → w i j ≡ w (flip j) (flip i)
+
+-- one of the pair's nodes is of slot q
+abbrev pub IsOfSlot : ℕ → ℕ → ℕ → Type 0
+IsOfSlot q i j = (i / 2 ≡ q) ⊎ (j / 2 ≡ q)

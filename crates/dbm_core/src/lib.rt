@@ -14,9 +14,10 @@
 //!
 //! A matrix has up to 16 slots, so that all sums of closing fit 128 bits.
 //!
-//! `get` and `set_least` take constant time and no memory. Every other operation is one pass over
-//! the kept entries (`widen` goes over the marks at each entry that rises): `update` rewrites them
-//! in place, and the others make a new matrix by two allocations.
+//! `get` and `set_least` take constant time and no memory, and `update_slot` time for the pairs of one
+//! slot alone. Every other operation is one pass over the kept entries (`widen` goes over the marks at
+//! each entry that rises): `update` rewrites them in place, and the others make a new matrix by two
+//! allocations.
 #![tactic(auto)]
 
 ghost use Rattle.dbm_core.specs.Operations.{NextMarkIsLeast};

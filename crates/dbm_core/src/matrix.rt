@@ -4,11 +4,12 @@ ghost use Rattle.std.specs.Hash as fed;
 ghost use Rattle.std.specs.Cmp.{partial_equiv_from_equiv};
 ghost use Rattle.dbm_core.specs.Half.{HasEntries, IsMatrix, entry, nodes, row_width};
 ghost use Rattle.dbm_core.specs.Limits.{AreWithin, IsWithin, IsLimited, IsZeroAtMost};
-ghost use Rattle.dbm_core.specs.Operations.{lowered, unbounded};
+ghost use Rattle.dbm_core.specs.Nodes.{IsOfSlot};
+ghost use Rattle.dbm_core.specs.Operations.{joined, lowered, unbounded};
 ghost use Rattle.dbm_core.specs.Same.{same_matrix, same_matrix-equiv, same_matrix-hash};
 ghost use Rattle.dbm_core.specs.Valuations.{IsSatisfiedBy, AddsBound};
 
-use crate::kept::{lower_kept, update_kept};
+use crate::kept::{greater_each, lower_kept, update_kept, update_slot_kept};
 use crate::nodes::{other_sign, place, width};
 use plain_values::Memory;
 use std::alloc::Global;
@@ -163,6 +164,47 @@ impl Matrix {
         let slots = self.kinds.len();
         let entries = self.entries.as_mut_slice();
         update_kept(entries, slots, value);
+    }
+
+    /// Gives each kept pair with a node of this slot the bound that the closure makes of the pair and
+    /// its old bound, in place; the other entries stay. It takes no memory, and time for the slot's
+    /// pairs alone.
+    pub fn update_slot<F: Fn(usize, usize, Option<i128>) -> Option<i128>>(
+        &mut self,
+        slot: usize,
+        value: F,
+    )
+        requires slot { slot < length self.old.kinds }
+        requires callable { (i j : ℕ) → i < nodes self.old → j < row_width i → IsOfSlot slot i j → F.pre value i j (entry self.old i j) }
+        requires diagonal { (a b : Option ℤ) → F.post value (2 * slot) (2 * slot) (entry self.old (2 * slot) (2 * slot)) a → F.post value (2 * slot + 1) (2 * slot + 1) (entry self.old (2 * slot + 1) (2 * slot + 1)) b → a ≡ b }
+        ensures matrix { IsMatrix self.new }
+        ensures same_kinds { self.new.kinds ≡ self.old.kinds }
+        ensures changed { (i j : ℕ) → i < nodes self.old → j < row_width i → IsOfSlot slot i j → F.post value i j (entry self.old i j) (entry self.new i j) }
+        ensures rest { (i j : ℕ) → i < nodes self.old → j < row_width i → (IsOfSlot slot i j → ⊥) → entry self.new i j ≡ entry self.old i j }
+    {
+        let slots = self.kinds.len();
+        let entries = self.entries.as_mut_slice();
+        update_slot_kept(entries, slots, slot, value);
+    }
+
+    /// The kept entries, row by row: those of row i are its columns up to the last node of i's slot.
+    pub fn kept(&self) -> &[Option<i128>]
+        ensures value { result.now ≡ self.now.kept }
+        ensures matrix { IsMatrix self.now }
+    {
+        self.entries.as_slice()
+    }
+
+    /// The matrix with the greater of the two bounds at each pair.
+    pub(crate) fn joined_with(&self, alloc: Global, other: &Matrix) -> Result<Matrix, Memory>
+        requires same_kinds { other.now.kinds ≡ self.now.kinds }
+        ensures matrix { IfOk result IsMatrix }
+        ensures same_kinds { IfOk result (λ m. m.kinds ≡ self.now.kinds) }
+        ensures entries { IfOk result (λ m. (i j : ℕ) → entry m i j ≡ joined self.now other.now i j) }
+    {
+        let kinds = Vec::from_slice(alloc, self.kinds.as_slice())?;
+        let entries = greater_each(alloc, self.entries.as_slice(), other.entries.as_slice())?;
+        Ok(Matrix { kinds, entries })
     }
 
     /// The same matrix.

@@ -1,5 +1,5 @@
 //! Joins, widenings, and slots that are forgotten.
-ghost use Rattle.std.specs.Prelude.{◌≡◌, ◌^◌, ◌<◌, ◌≤◌, ◌+◌, ◌*◌, ◌⊎◌, ℕ, IfOk, length};
+ghost use Rattle.std.specs.Prelude.{◌≡◌, ◌^◌, ◌<◌, ◌≤◌, ◌+◌, ◌*◌, ◌⊎◌, ℕ, None, IfOk, cond, eqb, length};
 ghost use Rattle.dbm_core.specs.Half.{HasEntries, entry, nodes};
 ghost use Rattle.dbm_core.specs.Limits.{IsWithin, IsLimited};
 ghost use Rattle.dbm_core.specs.Operations.{forgotten, joined, widened};
@@ -7,7 +7,6 @@ ghost use Rattle.dbm_core.specs.Rises.{rises};
 ghost use Rattle.dbm_core.specs.Valuations.{Covers, Frees};
 
 use crate::Matrix;
-use crate::bounds::greater;
 use crate::marks::widen_one;
 use crate::nodes::other_sign;
 use plain_values::Memory;
@@ -22,18 +21,9 @@ impl Matrix {
         ensures covers_right { IfOk result (Covers other.now) }
         ensures limited { (b : ℕ) → IsLimited b self.now → IsLimited b other.now → IfOk result (IsLimited b) }
     {
-        let kinds = self.kinds();
+        let _kinds = self.kinds();
         let _slots = other.kinds();
-        Matrix::from_fn(
-            alloc,
-            kinds,
-            |i: usize, j: usize| -> Option<i128>
-                requires row { i < nodes self.now }
-                requires column { j < nodes self.now }
-                requires same { other.now.kinds ≡ self.now.kinds }
-                ensures value { result ≡ joined self.entry.now other.entry.now i j }
-            { greater(self.get(i, j), other.get(i, j)) },
-        )
+        self.joined_with(alloc, other)
     }
 
     /// The bounds on a slot dropped: the slot may then have any value. The diagonal stays.
@@ -42,22 +32,25 @@ impl Matrix {
         ensures frees { IfOk result (Frees self.now slot) }
         ensures limited { (b : ℕ) → IsLimited b self.now → IfOk result (IsLimited b) }
     {
-        let kinds = self.kinds();
-        Matrix::from_fn(
-            alloc,
-            kinds,
-            |i: usize, j: usize| -> Option<i128>
-                requires row { i < nodes self.now }
-                requires column { j < nodes self.now }
-                ensures value { result ≡ forgotten (entry self.entry.now) slot i j }
-            {
-                if i != j && (i / 2 == slot || j / 2 == slot) {
-                    None
-                } else {
-                    self.get(i, j)
-                }
-            },
-        )
+        let _kinds = self.kinds();
+        let mut matrix = self.copy(alloc)?;
+        matrix.drop_bounds(slot);
+        Ok(matrix)
+    }
+
+    // Drops the bounds on a slot, in place.
+    fn drop_bounds(&mut self, slot: usize)
+        ensures entries { HasEntries self.old.kinds (forgotten (entry self.old) slot) self.new }
+    {
+        if slot >= self.kinds().len() {
+            return;
+        }
+        self.update_slot(
+            slot,
+            |i: usize, j: usize, bound: Option<i128>| -> Option<i128>
+                ensures value { result ≡ cond (eqb i j) bound None }
+            { if i == j { bound } else { None } },
+        );
     }
 
     /// The widening of this matrix by another: neither is closed here.

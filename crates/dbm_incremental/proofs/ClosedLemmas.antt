@@ -25,7 +25,7 @@ use Rattle.dbm_incremental.proofs.TriangleLemmas.{triangle-walk, triangles-from_
 use Rattle.dbm_incremental.specs.ClosedMatrices.{IsClosed, IsStrong}
 use Rattle.dbm_incremental.specs.Triangles.{AreSoundWeights}
 
-cut-above : (a : Option ℤ) → AtMost a (cut a)
+pub cut-above : (a : Option ℤ) → AtMost a (cut a)
 cut-above None = tt
 cut-above (Some x) = elim (int_lt x (pos (2 ^ 64))) as (λ v. AtMost (Some x) (cond v (Some x) None)) [ true ↦ AtMost-refl (Some x) | false ↦ tt ]
 

@@ -1,24 +1,19 @@
 -- Closed matrices and the function of closing.
-use Rattle.std.specs.Prelude.{◌≡◌, ℕ, ◌<◌, ◌*◌, ◌^◌, ℤ, Option, length}
-use Rattle.std.proofs.Common.{sym, subst, inl, inr}
-use Rattle.std.proofs.lemmas.Bool.{cases_lt}
+use Rattle.std.specs.Prelude.{◌≡◌, ◌^◌}
+use Rattle.std.proofs.Common.{sym, subst}
 use Rattle.dbm_close.proofs.CloseOfLemmas.{close_of-is, close_of-keeps, close_of-only}
 use Rattle.dbm_close.specs.Close.{IsCloseOf}
 use Rattle.dbm_close.specs.CloseOf.{close_of}
 use Rattle.dbm_close.specs.Laws.{IsLimitedAnswer}
 use Rattle.dbm_close.specs.declared.closed.Closed.{Closed}
 use Rattle.dbm_close.specs.declared.closed.Closed.TheVariants.{Empty, Matrix}
-use Rattle.dbm_core.proofs.HalfLemmas.{entry-coherent, flip-kept}
 use Rattle.dbm_core.proofs.LimitLemmas.{zero-at_most}
-use Rattle.dbm_core.proofs.NodeLemmas.{flip-below}
-use Rattle.dbm_core.specs.Half.{HalfMatrix, IsMatrix, entry, nodes, row_width}
+use Rattle.dbm_core.specs.Half.{HalfMatrix, IsMatrix, entry, nodes}
 use Rattle.dbm_core.specs.Limits.{IsLimited, IsZeroAtMost}
-use Rattle.dbm_core.specs.Nodes.{flip}
 use Rattle.dbm_incremental.proofs.ClosedLemmas.{close-closed, closed-close}
 use Rattle.dbm_incremental.proofs.KeepLemmas.{closed-diagonal}
 use Rattle.dbm_incremental.specs.Answers.{IsClosedAnswer}
 use Rattle.dbm_incremental.specs.ClosedMatrices.{IsClosed}
-use Rattle.dbm_incremental.specs.Far.{HasNoFarEntry, IsBelowHalf}
 use Rattle.dbm_incremental.specs.Laws.{CloseIsClosed, ClosedIsItsClose}
 
 answer-closed : (m : HalfMatrix) (c : Closed) → IsMatrix m → IsCloseOf m c → IsClosedAnswer c
@@ -37,10 +32,3 @@ closed-same m c = sym (close_of-only m (Matrix m) c.1.matrix (closed-zero m c) (
 -- a closed matrix has a diagonal of 0 and bounds from -2^64 to 2^64
 pub closed-limited : (m : HalfMatrix) → IsClosed m → IsLimited (2 ^ 64) m
 closed-limited m c = subst IsLimitedAnswer (closed-same m c) (close_of-keeps m c.1.matrix (closed-zero m c)).limited
-
--- where no kept entry is far, none is
-pub kept-near : (m : HalfMatrix) → IsMatrix m → ((i j : ℕ) → i < nodes m → j < row_width i → IsBelowHalf (entry m i j)) → HasNoFarEntry (nodes m) (entry m)
-kept-near m t k i j hi hj = elim (cases_lt j (row_width i)) [
-  | inl p ↦ k i j hi p
-  | inr p ↦ subst IsBelowHalf (sym (entry-coherent m t i j hi hj)) (k (flip j) (flip i) (flip-below j (length m.kinds) hj) (flip-kept i j p))
-]

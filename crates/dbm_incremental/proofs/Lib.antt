@@ -10,6 +10,7 @@ pub mod InsertLemmas
 pub mod KeepLemmas
 pub mod LawLemmas
 pub mod MoveLemmas
+pub mod SlotLemmas
 pub mod StandLemmas
 pub mod TightLemmas
 pub mod TriangleLemmas

@@ -4,7 +4,7 @@ use Rattle.dbm_close.specs.Close.{HasNoEmptyRange, IsNotTooLow}
 use Rattle.dbm_close.specs.Steps.{cut, even_down, half}
 use Rattle.dbm_core.specs.Half.{HalfMatrix, IsMatrix, entry, nodes}
 use Rattle.dbm_core.specs.Limits.{HasZeroDiagonal}
-use Rattle.dbm_core.specs.Nodes.{IsCoherent, flip}
+use Rattle.dbm_core.specs.Nodes.{IsCoherent, IsOfSlot, flip}
 use Rattle.dbm_core.specs.Weights.{AtMost, add_weight}
 use Rattle.dbm_incremental.specs.Triangles.{IsTriangular}
 
@@ -31,3 +31,7 @@ IsClosed m = (u : ℕ → ℕ → Option ℤ) × IsClosedFrom m u
 -- the entries obey the triangle law: none was cut that a walk still needs
 abbrev pub IsWhole : HalfMatrix → Type 0
 IsWhole m = IsTriangular (nodes m) (entry m)
+
+-- t has the bounds of m but for those on slot q
+abbrev pub AgreesBut : ℕ → HalfMatrix → HalfMatrix → Type 0
+AgreesBut q m t = (i j : ℕ) → i < nodes m → j < nodes m → (IsOfSlot q i j → ⊥) → entry t i j ≡ entry m i j

@@ -6,7 +6,7 @@ ghost use Rattle.dbm_incremental.specs.Answers.{IsClosedAnswer};
 ghost use Rattle.dbm_incremental.specs.ClosedMatrices.{IsClosed, IsStrong, IsWhole};
 ghost use Rattle.dbm_incremental.specs.Equations.{ClosesEquated, stand_node, stand_shift, stood_entry};
 
-use dbm_close::{Closed, finish, plus};
+use dbm_close::{Closed, finish_slot, plus};
 use dbm_core::{Matrix, other_sign};
 use plain_values::Memory;
 use std::alloc::Global;
@@ -32,7 +32,7 @@ pub fn close_equation(
 {
     let _slots = closed.kinds();
     let weights = equated_entries(alloc, closed, q, y, c)?;
-    Ok(finish(weights))
+    Ok(finish_slot(weights, q))
 }
 
 // The node that node i stands for, where slot q stands for y.
@@ -81,7 +81,7 @@ fn equated_entry(m: &Matrix, q: usize, y: usize, c: i128, i: usize, j: usize) ->
     plus(m.get(stands_for(q, y, i), stands_for(q, y, j)), Some(shift))
 }
 
-// The matrix of those bounds.
+// The matrix of those bounds: those on other slots stay.
 fn equated_entries(alloc: Global, m: &Matrix, q: usize, y: usize, c: i128) -> Result<Matrix, Memory>
     requires slot { q < length m.now.kinds }
     requires node { y < nodes m.now }
@@ -91,11 +91,11 @@ fn equated_entries(alloc: Global, m: &Matrix, q: usize, y: usize, c: i128) -> Re
     ensures entries { IfOk result (HasEntries m.now.kinds (stood_entry (entry m.now) q y c)) }
     ensures within { IfOk result (λ u. AreWithin (nodes u) (2 ^ 72) (entry u)) }
 {
-    let kinds = m.kinds();
-    Matrix::from_fn(
-        alloc,
-        kinds,
-        |i: usize, j: usize| -> Option<i128>
+    let _kinds = m.kinds();
+    let mut weights = m.copy(alloc)?;
+    weights.update_slot(
+        q,
+        |i: usize, j: usize, _bound: Option<i128>| -> Option<i128>
             requires slot { q < length m.now.kinds }
             requires node { y < nodes m.now }
             requires row { i < nodes m.now }
@@ -105,5 +105,6 @@ fn equated_entries(alloc: Global, m: &Matrix, q: usize, y: usize, c: i128) -> Re
             requires small { IsWithin (2 ^ 70) (Some c) }
             ensures value { result ≡ stood_entry (entry m.entry.now) q y c i j }
         { equated_entry(m, q, y, c, i, j) },
-    )
+    );
+    Ok(weights)
 }

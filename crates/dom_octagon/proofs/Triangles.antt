@@ -1,20 +1,21 @@
--- What an assignment makes of a closed matrix obeys the triangle law where the matrix does.
+-- What an assignment makes of a closed matrix obeys the triangle law where the matrix does, and has its bounds on other slots.
 use Rattle.std.specs.Prelude.{◌≡◌, ℕ, ◌<◌, ◌≤◌, ◌+◌, ◌*◌, ◌/◌, ◌%◌, ◌||◌, ℤ, pos, neg_ℤ, ◌+ℤ◌, ◌-ℤ◌, ◌≤ℤ◌, Option, Some, None, Bool, true, false, cond, if◌then◌else◌, List, length, ◌⊎◌, refl}
 use Rattle.std.proofs.Common.{arith, ap, sym, ◌∙◌, subst, inl, inr}
-use Rattle.std.proofs.lemmas.Bool.{cases_eq, cases_lt, eq-eqb}
+use Rattle.std.proofs.lemmas.Bool.{cases_eq, cases_lt, eq-eqb, ne_eqb}
 use Rattle.std.proofs.lemmas.Int.{ints}
-use Rattle.dbm_core.proofs.HalfLemmas.{entry-coherent}
+use Rattle.dbm_core.proofs.HalfLemmas.{HasEntries-from_kept, entry-coherent}
 use Rattle.dbm_core.proofs.LowerLemmas.{either_first, either_none}
 use Rattle.dbm_core.proofs.NodeLemmas.{flip-even, flip-flip}
-use Rattle.dbm_core.proofs.TableLemmas.{tables-have_entries}
+use Rattle.dbm_core.proofs.SlotLemmas.{of_slot}
+use Rattle.dbm_core.proofs.TableLemmas.{tables-determine, tables-have_entries}
 use Rattle.dbm_core.proofs.WeightLemmas.{AtMost-trans, add_weight-mono, least-greatest}
-use Rattle.dbm_core.specs.Half.{HalfMatrix, HasEntries, IsMatrix, entry, nodes}
+use Rattle.dbm_core.specs.Half.{HalfMatrix, HasEntries, IsMatrix, entry, nodes, row_width}
 use Rattle.dbm_core.specs.Limits.{HasZeroDiagonal}
-use Rattle.dbm_core.specs.Nodes.{flip}
+use Rattle.dbm_core.specs.Nodes.{IsCoherent, IsOfSlot, flip}
 use Rattle.dbm_core.specs.Operations.{forgotten, is_pair, lowered}
 use Rattle.dbm_core.specs.Weights.{AtMost, add_weight}
 use Rattle.dbm_incremental.proofs.BlockLemmas.{ranged-weights}
-use Rattle.dbm_incremental.proofs.KeepLemmas.{closed-diagonal, forget-closed, forget-whole, forgotten-free, in_slot}
+use Rattle.dbm_incremental.proofs.KeepLemmas.{closed-diagonal, forget-closed, forget-whole, forgotten-free, forgotten-kept, in_slot}
 use Rattle.dbm_incremental.proofs.MoveLemmas.{moved-strong, renamed-strong, whole-strong}
 use Rattle.dbm_incremental.proofs.TriangleLemmas.{triangles-from_weights, weights-diagonal}
 use Rattle.dbm_incremental.specs.ClosedMatrices.{IsClosed, IsStrong, IsWhole}
@@ -26,7 +27,7 @@ use Rattle.octagon_meaning.specs.declared.form.Form.TheVariants.{Constant}
 use Rattle.octagon_meaning.specs.Forms.{slot_form}
 use Rattle.octagon_meaning.specs.Matrices.{carried, is_beyond, meets_end, meets_range, shift, shifted, turned, with_bound, with_equation, with_greatest, without}
 use Rattle.dom_octagon.proofs.Bounds.{bound-entries, without-entries}
-use Rattle.dom_octagon.specs.Limits.{ObeysTriangles}
+use Rattle.dom_octagon.specs.Limits.{ChangesOnly, ObeysTriangles}
 
 pub entries-obey : (kinds : List Bool) (f : ℕ → ℕ → Option ℤ) (r : HalfMatrix) → HasEntries kinds f r → HasZeroDiagonal (2 * length kinds) f → IsTriangular (2 * length kinds) f → ObeysTriangles r
 entries-obey kinds f r h z t = let n : length r.kinds ≡ length kinds = ap length h.same_kinds in record {
@@ -45,6 +46,44 @@ carried_obeys m x i c h w = entries-obey m.kinds (shifted (entry m) x i c) (carr
     strong : IsStrong (nodes m) (shifted (entry m) x i c)
     strong = moved-strong (λ a b. entry m (turned x i a) (turned x i b)) (length m.kinds) (shift x c) (shift-flip x c)
         (renamed-strong (entry m) (nodes m) (nodes m) (turned x i) (λ a l. turned-below x i a (length m.kinds) l) (λ a l. turned-flip x i a) (whole-strong m h w))
+
+-- the bounds on other slots stay
+shifted-rest : (d : ℕ → ℕ → Option ℤ) (x i : ℕ) (c : ℤ) (a b : ℕ) → (IsOfSlot x a b → ⊥) → shifted d x i c a b ≡ d a b
+shifted-rest d x i c a b n = rw (ne_eqb (a / 2) x (λ e. n (inl e)), ne_eqb (b / 2) x (λ e. n (inr e))) (nothing (d a b))
+  where
+    zero-more : (v : ℤ) → v +ℤ (pos 0 -ℤ pos 0) ≡ v
+    zero-more v = omega (arith, ints)
+
+    nothing : (v : Option ℤ) → add_weight v (Some (pos 0 -ℤ pos 0)) ≡ v
+    nothing None = refl
+    nothing (Some v) = ap Some (zero-more v)
+
+pub carried_updated : (m u : HalfMatrix) (x i : ℕ) (c : ℤ) → IsMatrix m → IsMatrix u → u.kinds ≡ m.kinds →
+    ((a b : ℕ) → a < nodes m → b < row_width a → IsOfSlot x a b → entry u a b ≡ shifted (entry m) x i c a b) →
+    ((a b : ℕ) → a < nodes m → b < row_width a → (IsOfSlot x a b → ⊥) → entry u a b ≡ entry m a b) → u ≡ carried m x i c
+unfolding carried
+carried_updated m u x i c h t k changed rest = tables-determine m.kinds (shifted (entry m) x i c) u h.few coherent
+    (HasEntries-from_kept m.kinds (shifted (entry m) x i c) u t k coherent (λ a b ha w. elim (of_slot x a b) [
+      | inl o ↦ changed a b ha w o
+      | inr n ↦ rest a b ha w n ∙ sym (shifted-rest (entry m) x i c a b n)
+    ]))
+  where
+    coherent : IsCoherent (shifted (entry m) x i c) (nodes m)
+    coherent = shifted-coherent (entry m) x i c (length m.kinds) (entry-coherent m h)
+
+-- a slot that is none has nothing to carry over
+pub carried_outside : (m : HalfMatrix) (x i : ℕ) (c : ℤ) → IsMatrix m → length m.kinds ≤ x → m ≡ carried m x i c
+carried_outside m x i c h l = carried_updated m m x i c h h refl (λ a b ha w o. none a b ha w o) (λ a b ha w n. refl)
+  where
+    none : (a b : ℕ) → a < nodes m → b < row_width a → IsOfSlot x a b → entry m a b ≡ shifted (entry m) x i c a b
+    none a b ha w (inl e) = absurd (omega arith)
+    none a b ha w (inr e) = absurd (omega arith)
+
+pub carried_changes : (m : HalfMatrix) (x i : ℕ) (c : ℤ) → IsMatrix m → ChangesOnly x m (carried m x i c)
+unfolding carried
+carried_changes m x i c h =
+    let e : HasEntries m.kinds (shifted (entry m) x i c) (carried m x i c) = tables-have_entries m.kinds (shifted (entry m) x i c) h.few (shifted-coherent (entry m) x i c (length m.kinds) (entry-coherent m h)) in
+    (e.same_kinds, λ a b ha hb n. e.entries a b ha hb ∙ shifted-rest (entry m) x i c a b n)
 
 -- ---- a slot with bounds of its own
 
@@ -194,3 +233,18 @@ constant_obeys m k c h t = elim (cases_lt k (length m.kinds)) [
         let second : without m k ≡ with_greatest (without m k) (flip (2 * k)) ((pos 0 +ℤ pos 0) -ℤ c) =
         bound-outside (without m k) (flip (flip (2 * k))) (flip (2 * k)) (((pos 0 +ℤ pos 0) -ℤ c) +ℤ ((pos 0 +ℤ pos 0) -ℤ c)) e.matrix (inr (omega arith)) in
         subst ObeysTriangles (second ∙ ap (λ w. with_greatest w (flip (2 * k)) ((pos 0 +ℤ pos 0) -ℤ c)) first) (without-obeys m k h t)
+
+-- ---- the bounds on other slots
+
+own-changes : (m : HalfMatrix) (k : ℕ) (lo hi : ℤ) (w : HalfMatrix) → HasOwn m k lo hi w → ChangesOnly k m w
+own-changes m k lo hi w o = (o.same_kinds, λ i j a b n. o.rest i j a b (λ p. n (inl p.1.0)) ∙ forgotten-kept (entry m) k i j (rw (ne_eqb (i / 2) k (λ e. n (inl e)), ne_eqb (j / 2) k (λ e. n (inr e))) refl))
+
+pub range_changes : (m : HalfMatrix) (k : ℕ) (r : Bounds) → IsMatrix m → k < length m.kinds → ChangesOnly k m (meets_range (without m k) k r)
+range_changes m k r h l = own-changes m k r.lo r.hi (meets_range (without m k) k r)
+    (own-end_low m k r.lo r.hi (meets_end (without m k) (2 * k) r.hi) l (own-end_high m k r.lo r.hi (without m k) l (own-free m k r.lo r.hi h l)))
+
+pub constant_changes : (m : HalfMatrix) (k : ℕ) (c : ℤ) → IsMatrix m → k < length m.kinds → ChangesOnly k m (with_equation (without m k) (slot_form k) (Constant c))
+constant_changes m k c h l = own-changes m k c c (with_equation (without m k) (slot_form k) (Constant c))
+    (subst (λ z. HasOwn m k c c (with_greatest (with_greatest (without m k) (2 * k) ((pos 0 +ℤ c) -ℤ pos 0)) z ((pos 0 +ℤ pos 0) -ℤ c))) (sym (even-node k))
+    (own-low m k c c (with_greatest (without m k) (2 * k) ((pos 0 +ℤ c) -ℤ pos 0)) ((pos 0 +ℤ pos 0) -ℤ c) l (omega (arith, ints))
+    (own-high m k c c (without m k) ((pos 0 +ℤ c) -ℤ pos 0) l (omega (arith, ints)) (own-free m k c c h l))))

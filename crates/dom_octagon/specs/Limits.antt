@@ -1,9 +1,9 @@
 -- What code knows of the numbers of a matrix: so closing is asked of small bounds alone, and no sum leaves 128 bits.
-use Rattle.std.specs.Prelude.{ℕ, ◌<◌, ◌^◌, Option, Some, None}
+use Rattle.std.specs.Prelude.{◌≡◌, ℕ, ◌<◌, ◌^◌, Option, Some, None}
 use Rattle.dbm_core.specs.Half.{HalfMatrix, entry, nodes}
 use Rattle.dbm_core.specs.Limits.{AreWithin, HasZeroDiagonal, IsLimited, IsWithin, IsZeroAtMost}
 use Rattle.dbm_close.specs.Close.{HasNoEmptyRange}
-use Rattle.dbm_incremental.specs.ClosedMatrices.{IsClosed, IsWhole}
+use Rattle.dbm_incremental.specs.ClosedMatrices.{AgreesBut, IsClosed, IsWhole}
 use Rattle.octagon_meaning.specs.Claims.{IsSmallForm}
 use Rattle.octagon_meaning.specs.declared.form.Form.{Form}
 use Rattle.octagon_meaning.specs.declared.form.Form.TheVariants.{Constant, Node}
@@ -18,6 +18,10 @@ pub record IsTight (m : HalfMatrix) : Type 0 where
 pub record ObeysTriangles (m : HalfMatrix) : Type 0 where
   pub diagonal : HasZeroDiagonal (nodes m) (entry m)
   pub whole : IsWhole m
+
+-- a matrix of m's slots, with m's bounds but for those on slot q
+abbrev pub ChangesOnly : ℕ → HalfMatrix → HalfMatrix → Type 0
+ChangesOnly q m s = (s.kinds ≡ m.kinds) × AgreesBut q m s
 
 -- a matrix that can be closed
 pub record IsReady (m : HalfMatrix) : Type 0 where

@@ -12,7 +12,7 @@ ghost use Rattle.octagon_meaning.specs.Matrices as matrices;
 ghost use Rattle.dom_octagon.specs.Limits.{IsGoodForm, IsReady, IsTight};
 
 use crate::OctagonState;
-use crate::close::{answered, close_kept, closed_matrix};
+use crate::close::{answered, close_changed, closed_matrix};
 use crate::evaluate::slot_form;
 use crate::matrices::{equation, meet_range};
 use dbm_core::{Matrix, other_sign};
@@ -102,18 +102,33 @@ pub fn carried(alloc: Global, m: &Matrix, x: usize, i: usize, c: i128) -> Result
     ensures value { IfOk result (λ r. r ≡ matrices.carried m.now x i c) }
     ensures ready { IfOk result IsReady }
 {
-    let kinds = m.kinds();
-    Matrix::from_fn(
-        alloc,
-        kinds,
-        |a: usize, b: usize| -> Option<i128>
+    let _kinds = m.kinds();
+    let mut set = m.copy(alloc)?;
+    carry(&mut set, m, x, i, c);
+    Ok(set)
+}
+
+/// Carries every bound on slot x over, in a copy of the matrix.
+fn carry(set: &mut Matrix, m: &Matrix, x: usize, i: usize, c: i128)
+    requires copy { set.old ≡ m.now }
+    requires small { IsWithin (2 ^ 64) (Some c) }
+    requires limited { IsLimited (2 ^ 64) m.now }
+    ensures value { set.new ≡ matrices.carried m.now x i c }
+{
+    let _kinds = m.kinds();
+    if x >= set.kinds().len() {
+        return;
+    }
+    set.update_slot(
+        x,
+        |a: usize, b: usize, _bound: Option<i128>| -> Option<i128>
             requires row { a < nodes m.now }
             requires column { b < nodes m.now }
             requires small { IsWithin (2 ^ 64) (Some c) }
             requires limited { IsLimited (2 ^ 64) m.now }
             ensures value { result ≡ matrices.shifted (entry m.entry.now) x i c a b }
         { shifted(m, x, i, c, a, b) },
-    )
+    );
 }
 
 /// The slot is equal to a form.
@@ -154,7 +169,7 @@ pub fn close_ranged(
 {
     let _low = range.lo();
     let set = ranged(alloc, m, x, range)?;
-    close_kept(alloc, m, set)
+    close_changed(alloc, m, set, x)
 }
 
 /// A closed matrix whose slot x gets a constant, closed.
@@ -165,7 +180,7 @@ fn close_constant(alloc: Global, m: &Matrix, x: usize, c: i128) -> Result<Octago
     ensures exact { IfOk result (λ s. s ≡ close_of (matrices.with_equation (matrices.without m.now x) (slot_form_of x) (Constant c))) }
 {
     let set = equated(alloc, m, x, Form::Constant(c))?;
-    close_kept(alloc, m, set)
+    close_changed(alloc, m, set, x)
 }
 
 /// A closed matrix whose slot x gets its own node i and a constant, closed.
@@ -182,7 +197,7 @@ fn close_carried(
 {
     let _kinds = m.kinds();
     let set = carried(alloc, m, x, i, c)?;
-    close_kept(alloc, m, set)
+    close_changed(alloc, m, set, x)
 }
 
 /// A closed matrix whose slot x gets another slot's node i and a constant, closed.

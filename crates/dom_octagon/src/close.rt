@@ -1,5 +1,5 @@
 //! Closed states.
-ghost use Rattle.std.specs.Prelude.{◌≡◌, ◌^◌, IfOk, IfSome};
+ghost use Rattle.std.specs.Prelude.{◌≡◌, ◌<◌, ◌^◌, IfOk, IfSome, length};
 ghost use Rattle.std.specs.Option.{option_copied};
 ghost use Rattle.dbm_core.specs.Limits.{IsLimited};
 ghost use Rattle.dbm_close.specs.CloseOf.{close_of};
@@ -8,13 +8,13 @@ ghost use Rattle.dbm_incremental.specs.Answers.{IsClosedAnswer};
 ghost use Rattle.dbm_incremental.specs.ClosedMatrices.{IsClosed, IsWhole};
 ghost use Rattle.octagon_meaning.specs.States as states;
 ghost use Rattle.dom_octagon.specs.Kept.{bounded_if};
-ghost use Rattle.dom_octagon.specs.Limits.{IsReady, IsTight, ObeysTriangles};
+ghost use Rattle.dom_octagon.specs.Limits.{ChangesOnly, IsReady, IsTight, ObeysTriangles};
 
 use crate::OctagonState;
 use crate::kept::Kept;
 use dbm_close::{Closed, close};
 use dbm_core::Matrix;
-use dbm_incremental::{close_whole, is_whole};
+use dbm_incremental::{close_slot, close_whole, is_whole};
 use plain_values::Memory;
 use std::alloc::Global;
 
@@ -83,6 +83,28 @@ pub fn close_kept(alloc: Global, m: &Matrix, set: Matrix) -> Result<OctagonState
         return Ok(answered(close_whole(set)));
     }
     closed_matrix(alloc, &set)
+}
+
+/// Closes what an operation has made of a closed matrix, where it changes the bounds on one slot alone
+/// and keeps the triangle law: in a matrix that obeys it only that slot's bounds are gone over.
+pub fn close_changed(
+    alloc: Global,
+    m: &Matrix,
+    set: Matrix,
+    slot: usize,
+) -> Result<OctagonState, Memory>
+    requires tight { IsTight m.now }
+    requires ready { IsReady set }
+    requires changes { slot < length m.now.kinds → ChangesOnly slot m.now set }
+    requires keeps { IsWhole m.now → ObeysTriangles set }
+    ensures exact { IfOk result (λ s. s ≡ close_of set) }
+{
+    let _kinds = set.kinds();
+    let slots = m.kinds().len();
+    if is_whole(m) && slot < slots {
+        return Ok(answered(close_slot(m, set, slot)));
+    }
+    close_kept(alloc, m, set)
 }
 
 /// The matrix of the closed state, if it is not empty.

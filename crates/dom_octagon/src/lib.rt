@@ -6,8 +6,9 @@
 //!
 //! By the definitions each operation closes the states that it is given, and its result, which takes
 //! time cubic in the slots. Here a state is closed once, and what an operation makes of a closed matrix
-//! is closed in quadratic time: after bounds, an assignment, a call. Only what widening gives is closed
-//! whole, and what an operation makes of a matrix with bounds of 2^63 or more. Widening keeps its left
+//! is closed in quadratic time: after bounds, a call. After an assignment only the bounds on its slot are
+//! gone over. Only what widening gives is closed whole, and what an operation makes of a matrix with
+//! bounds of 2^63 or more. Widening keeps its left
 //! matrix as it is: else loops need not come to an end.
 #![tactic(auto)]
 

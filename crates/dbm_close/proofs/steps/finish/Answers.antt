@@ -1,11 +1,10 @@
 use Rattle.std.specs.Prelude.{◌≡◌, ◌*◌, length}
 use Rattle.std.proofs.Common.{ap, subst, inl, inr}
-use Rattle.dbm_close.proofs.FinishLemmas.{empty_range-here}
+use Rattle.dbm_close.proofs.FinishLemmas.{empty_range-here, low-here, none_low-here}
 use Rattle.dbm_close.proofs.StrongLemmas.{no_empty_range-agree, stage_cut-within}
 use Rattle.dbm_close.specs.Close.{HasNoEmptyRange, closed_entry}
-use Rattle.dbm_core.proofs.HalfLemmas.{entry-coherent}
 use Rattle.dbm_core.specs.Half.{HasEntries, entry, nodes}
-use Rattle.dbm_close.proofs.HalvesLemmas.{fused-entries, halves-consistent, halves-contradictory, in_range-strong, low-strong}
+use Rattle.dbm_close.proofs.HalvesLemmas.{fused-entries, halves-consistent, halves-contradictory}
 use Rattle.dbm_close.specs.Halves.{HasNegativeHalves, HasNoNegativeHalves}
 use Rattle.dbm_close.proofs.steps.finish.Goals as goal
 
@@ -17,9 +16,11 @@ returns-then-has_negative_halves c =
           (subst (λ n. HasNegativeHalves n c.halves_of-halves.result) k c.if-has_negative_halves.ensures.negative));
     }
 
-pub returns-then-has_low_bound : goal.returns-then-has_low_bound
-returns-then-has_low_bound c = record {
-  finish = inr (inl (low-strong (entry c.args.weights) (length c.args.weights.kinds) c.halves_of-halves.result c.halves_of-halves.ensures.halves c.if-has_low_bound.ensures.low));
+pub returns-then-has_low_entry : goal.returns-then-has_low_entry
+returns-then-has_low_entry c = record {
+  finish = inr (inl (low-here c.args.weights.kinds (entry c.args.weights) c.strengthen_and_cut.new.m
+      (fused-entries c.args.weights c.strengthen_and_cut.new.m c.halves_of-halves.result c.kinds.ensures.matrix c.strengthen_and_cut.ensures.matrix c.strengthen_and_cut.ensures.same_kinds c.halves_of-halves.ensures.halves c.strengthen_and_cut.ensures.kept)
+      c.if-has_low_entry.ensures.low));
 }
 
 pub has_empty_range-requires : goal.has_empty_range-requires
@@ -44,7 +45,7 @@ returns c =
       finish = record {
         consistent = halves-consistent (entry c.args.weights) (length c.args.weights.kinds) c.halves_of-halves.result c.halves_of-halves.ensures.halves
             (subst (λ n. HasNoNegativeHalves n c.halves_of-halves.result) k c.if-has_negative_halves.ensures.negative);
-        in_range = in_range-strong (entry c.args.weights) (length c.args.weights.kinds) c.halves_of-halves.result (entry-coherent c.args.weights c.kinds.ensures.matrix) c.halves_of-halves.ensures.halves c.if-has_low_bound.ensures.low;
+        in_range = none_low-here c.args.weights.kinds (entry c.args.weights) c.strengthen_and_cut.new.m h c.if-has_low_entry.ensures.low;
         ranges = no_empty_range-agree c.args.weights.kinds (entry c.strengthen_and_cut.new.m) (closed_entry (entry c.args.weights)) h.entries
             (subst (λ x. HasNoEmptyRange x (entry c.strengthen_and_cut.new.m)) h.same_kinds c.if-has_empty_range.ensures.empty);
         entries = h;
