@@ -1,3 +1,4 @@
 pub mod Words
 pub mod Ordered
 pub mod Texts
+pub mod Slots
