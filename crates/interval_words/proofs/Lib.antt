@@ -2,3 +2,4 @@ pub mod Words
 pub mod Ordered
 pub mod Texts
 pub mod Slots
+pub mod Portable

@@ -3,10 +3,8 @@ use Rattle.std.proofs.Common.{◌≡◌, subst, arith, pos, ◌≤ℤ◌, ◌&&�
 use Rattle.std.specs.Option.{option_map}
 use Rattle.imp_slots.specs.Plain.{Numeric}
 use Rattle.num_bounds.specs.Bounds.{Bounds, least, greatest}
-use Rattle.plain_values.proofs.Cases.{by_bool}
-use Rattle.interval_meaning.specs.Covers.{fits_slot}
-use Rattle.interval_words.specs.Words.{slot_before}
-use Rattle.interval_words.specs.Slots.{slot_if, slot_with, within_extremes}
+use Rattle.interval_words.specs.Words.{before, slot_if, slot_with}
+use Rattle.interval_words.specs.Slots.{within_extremes}
 use Rattle.interval_meaning.specs.State.{bool_same}
 use Rattle.interval_meaning.specs.Ranges.{extremes}
 use Rattle.std.proofs.lemmas.Bool.{and_parts}
@@ -15,22 +13,13 @@ use Rattle.interval_meaning.proofs.SlotLaws.{le-true}
 use Rattle.interval_meaning.specs.declared.slot_range.SlotRange.{SlotRange}
 
 -- the slots so far with one more, in front of the others
-pub more_behind : (done : List SlotRange) (s : SlotRange) (o : Option (List SlotRange)) → option_map (λ more. (done ++ s ∷ []) ++ more) o ≡ option_map (λ more. done ++ more) (option_map (λ ss. s ∷ ss) o)
-more_behind done s None = refl
-more_behind done s (Some more) = ap Some (append_assoc done (s ∷ []) more)
-
--- what stands in front where the slot fits, and where it does not
-pub slot_fits : (k : Numeric) (s r : SlotRange) (o : Option (List SlotRange)) → slot_if k s ≡ Some r → slot_before k s o ≡ option_map (λ ss. r ∷ ss) o
-slot_fits k s r o e =
-    by_bool (fits_slot k s)
-    (λ b. let i : Some s ≡ Some r = sym (ap (λ c. if c then Some s else None) b) ∙ e in let same : s ≡ r = cc in ap (λ c. if c then option_map (λ ss. s ∷ ss) o else None) b ∙ ap (λ (s : SlotRange). option_map (λ ss. s ∷ ss) o) same)
-    (λ b. let i : None ≡ Some r = sym (ap (λ c. if c then Some s else None) b) ∙ e in absurd cc)
-
-pub slot_misfits : (k : Numeric) (s : SlotRange) (o : Option (List SlotRange)) → slot_if k s ≡ None → slot_before k s o ≡ None
-slot_misfits k s o e =
-    by_bool (fits_slot k s)
-    (λ b. let i : Some s ≡ None = sym (ap (λ c. if c then Some s else None) b) ∙ e in absurd cc)
-    (λ b. ap (λ c. if c then option_map (λ ss. s ∷ ss) o else None) b)
+pub more_behind : (done : List SlotRange) (s : SlotRange) (o : Option (List SlotRange)) (first : Option SlotRange) → first ≡ Some s →
+    option_map (λ more. (done ++ s ∷ []) ++ more) o ≡ option_map (λ more. done ++ more) (before first o)
+more_behind done s o first e = by o ∙ ap (λ (first : Option SlotRange). option_map (λ more. done ++ more) (before first o)) (sym e)
+  where
+    by : (o : Option (List SlotRange)) → option_map (λ more. (done ++ s ∷ []) ++ more) o ≡ option_map (λ more. done ++ more) (option_map (λ ss. s ∷ ss) o)
+    by None = refl
+    by (Some more) = ap Some (append_assoc done (s ∷ []) more)
 
 same_kind : (b : Bool) → bool_same b b ≡ true
 same_kind true = refl
@@ -55,11 +44,6 @@ ordered_within b lo hi e =
 pub slot_made : (k : Numeric) (a : Bool) (lo hi : ℤ) (r : Bounds) → a ≡ k.is_array → r ≡ record { lo = lo; hi = hi } → within_extremes (extremes a) lo hi ≡ true → Some (record { is_array = a; range = r }) ≡ slot_if k (slot_with k lo hi)
 slot_made k a lo hi r kind ends e =
     (λ i. Some (record { is_array = kind i; range = ends i })) ∙ sym (slot_within k lo hi (subst (λ b. within_extremes (extremes b) lo hi ≡ true) kind e))
-
--- what stands behind these, where a slot is read in front
-pub slot_behind : (k : Numeric) (lo hi : ℤ) (s : SlotRange) (done : List SlotRange) (rest found : Option (List SlotRange)) → Some s ≡ slot_if k (slot_with k lo hi) → found ≡ option_map (λ more. (done ++ s ∷ []) ++ more) rest → found ≡ option_map (λ more. done ++ more) (slot_before k (slot_with k lo hi) rest)
-slot_behind k lo hi s done rest found e is =
-    is ∙ more_behind done s rest ∙ ap (option_map (λ more. done ++ more)) (sym (slot_fits k (slot_with k lo hi) s rest (sym e)))
 
 -- both ends are integers of 64 bits
 pub ends_are_words : (b : Bool) (lo hi : ℤ) → within_extremes (extremes b) lo hi ≡ true → (least ≤ℤ lo) × (lo ≤ℤ greatest) × (least ≤ℤ hi) × (hi ≤ℤ greatest)

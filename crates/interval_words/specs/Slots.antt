@@ -1,10 +1,8 @@
 -- States given by their slots, none for Empty.
-use Rattle.std.specs.Prelude.{ℕ, ℤ, int_le, ◌&&◌, Bool, ◌∷◌, ◌++◌, List, Option, Some, None, if◌then◌else◌}
-use Rattle.imp_slots.specs.Plain.{Numeric}
+use Rattle.std.specs.Prelude.{ℕ, ℤ, int_le, ◌&&◌, Bool, ◌∷◌, ◌++◌, List, Option, Some, None}
 use Rattle.num_bounds.specs.Bounds.{Bounds}
 use Rattle.cert_words.specs.Words.{word_text}
 use Rattle.interval_meaning.specs.State.{Intervals, Empty, Within}
-use Rattle.interval_meaning.specs.Covers.{fits_slot}
 use Rattle.interval_meaning.specs.declared.slot_range.SlotRange.{SlotRange}
 
 abbrev pub slots_in : Option (List SlotRange) → Intervals
@@ -14,14 +12,6 @@ slots_in (Some rs) = Within rs
 -- both ends, each with a space in front
 abbrev pub slot_text : SlotRange → List ℕ
 slot_text r = (32 ∷ word_text (Some r.range.lo)) ++ (32 ∷ word_text (Some r.range.hi))
-
--- the slot of this kind with these ends
-abbrev pub slot_with : Numeric → ℤ → ℤ → SlotRange
-slot_with k lo hi = record { is_array = k.is_array; range = record { lo = lo; hi = hi } }
-
--- a slot, where it fits
-abbrev pub slot_if : Numeric → SlotRange → Option SlotRange
-slot_if k s = if fits_slot k s then Some s else None
 
 -- whether the numbers from lo to hi are some, all within these ends
 abbrev pub within_extremes : Bounds → ℤ → ℤ → Bool

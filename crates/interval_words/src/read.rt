@@ -1,11 +1,12 @@
 //! The state of a text.
-ghost use Rattle.std.specs.Prelude.{◌≡◌, ◌≤ℤ◌, pos, ◌++◌, unsigned_abs, IfOk};
+ghost use Rattle.std.specs.Prelude.{◌≡◌, ◌≤◌, ◌++◌, length, IfOk, IfSome};
 ghost use Rattle.std.specs.Option.{option_map};
 ghost use Rattle.interval_meaning.specs.Ranges.{extremes};
 ghost use Rattle.interval_words.specs.Words as meant;
-ghost use Rattle.interval_words.specs.Slots.{slots_in, slot_with, slot_if, within_extremes};
+ghost use Rattle.interval_words.specs.Slots.{slots_in, within_extremes};
+ghost use Rattle.interval_words.specs.Words.{slot_if, slot_with};
 
-use cert_words::words_of;
+use cert_words::{is_number, words_of};
 use imp_slots::{Layout, NumericSlot};
 use interval_meaning::SlotRange;
 use num_bounds::Range;
@@ -37,8 +38,22 @@ fn slot_of(number: &NumericSlot, lo: i128, hi: i128) -> Option<SlotRange>
     })
 }
 
+/// The slot of this kind that the first two words tell, where there is such.
+fn first_slot(number: &NumericSlot, words: &[Option<i128>]) -> Option<SlotRange>
+    ensures exact { result ≡ meant.first_slot number.now words.now }
+    ensures long { IfSome result (λ _slot. 2 ≤ length words.now) }
+{
+    match words {
+        [Some(lo), Some(hi), ..] => slot_of(number, *lo, *hi),
+        [] => None,
+        [None, ..] => None,
+        [Some(_)] => None,
+        [Some(_), None, ..] => None,
+    }
+}
+
 /// The slots behind these.
-#[tactic(auto, using(crate::proofs::Slots::more_behind, crate::proofs::Slots::slot_fits, crate::proofs::Slots::slot_misfits))]
+#[tactic(auto, using(crate::proofs::Slots::more_behind))]
 fn slots_of(
     numbers: &[NumericSlot],
     words: &[Option<i128>],
@@ -46,28 +61,15 @@ fn slots_of(
 ) -> Result<Option<Vec<SlotRange>>, AllocError>
     ensures exact { IfOk result (λ found. option_map (λ v. v.items) found ≡ option_map (λ more. slots.items ++ more) (meant.slots_of numbers.now words.now)) }
 {
-    match numbers {
-        [] => match words {
-            [] => Ok(Some(slots)),
-            [_first, _rest @ ..] => Ok(None),
-        },
-        [number, numbers @ ..] => match words {
-            [] => Ok(None),
-            [None, _rest @ ..] => Ok(None),
-            [Some(lo), more @ ..] => match more {
-                [] => Ok(None),
-                [None, _rest @ ..] => Ok(None),
-                [Some(hi), rest @ ..] => {
-                    let Some(slot) = slot_of(number, *lo, *hi) else {
-                        return Ok(None);
-                    };
-                    let mut slots = slots;
-                    slots.push(slot)?;
-                    slots_of(numbers, rest, slots)
-                }
-            },
-        },
-    }
+    let [number, numbers @ ..] = numbers else {
+        return Ok(if words.is_empty() { Some(slots) } else { None });
+    };
+    let Some(slot) = first_slot(number, words) else {
+        return Ok(None);
+    };
+    let mut slots = slots;
+    slots.push(slot)?;
+    slots_of(numbers, &words[2..], slots)
 }
 
 fn within_of(
@@ -82,16 +84,6 @@ fn within_of(
     };
     let slots = slots_of(layout.numbers(), words, Vec::new(alloc))?;
     Ok(slots.map(Some))
-}
-
-fn is_number(number: i128, word: Option<i128>) -> bool
-    requires positive { pos 0 ≤ℤ number }
-    ensures exact { result ≡ meant.is_number (unsigned_abs number) word }
-{
-    match word {
-        None => false,
-        Some(other) => number == other,
-    }
 }
 
 fn state_of(
