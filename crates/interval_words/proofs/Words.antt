@@ -120,4 +120,4 @@ told_exact ls (w ∷ ws) s e =
     (λ i. let j : None ≡ Some s = sym (ap (λ c. if c then within_of ls ws else None) i) ∙ g in absurd cc))
 
 pub interval_words_are : AreWords intervals told state_of
-interval_words_are = record { some = told_some; small = λ ls s f h. told_small ls s f; back = told_back; exact = told_exact }
+interval_words_are = record { some = told_some; small = λ ls s f h. told_small ls s f; back = λ ls s f h. told_back ls s f; exact = told_exact }
