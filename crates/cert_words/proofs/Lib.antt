@@ -1,2 +1,4 @@
 pub mod Back
 pub mod States
+pub mod Numbers
+pub mod Texts

@@ -16,7 +16,7 @@ module _ {S : Type 0} (dom : Operations S) (covers : S → Heap → List Variabl
   read_back (w ∷ ws) some small = words_back w ws small.0 small.1
 
   taken_back : (ls : List Layout) (s : S) → dom.fits s ls ≡ true → length (words_text (told s)) < 2 ^ 64 → state_if (state_of ls) (words_of (words_text (told s))) ≡ Some s
-  taken_back ls s f h = ap (state_if (state_of ls)) (read_back (told s) (words.some s) (words.small ls s f h)) ∙ words.back ls s f
+  taken_back ls s f h = ap (state_if (state_of ls)) (read_back (told s) (words.some s) (words.small ls s f h)) ∙ words.back ls s f (words.small ls s f h)
 
   exactly : (ls : List Layout) (t : List ℕ) (s : S) (o : Option (List (Option ℤ))) → words_of t ≡ o → state_if (state_of ls) o ≡ Some s → (dom.fits s ls ≡ true) × (words_text (told s) ≡ t)
   exactly ls t s None e k = absurd cc

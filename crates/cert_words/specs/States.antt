@@ -15,9 +15,10 @@ state_if f (Some ws) = f ws
 abbrev pub by_words : {S : Type 0} → (told : S → List (Option ℤ)) → (state_of : List Layout → List (Option ℤ) → Option S) → (leq : S → S → Bool) → Portable S
 by_words told state_of leq = record { put = λ s. words_text (told s); take = λ ls t. state_if (state_of ls) (words_of t); leq = leq }
 
--- The words of a state that fits, which are small where its text is one that memory holds, give it back, and words that give a state are those of it, which fits.
+-- The words of a state that fits are small where its text is one that memory holds, and give it back where they are; and words
+-- that give a state are those of it, which fits.
 pub record AreWords {S : Type 0} (dom : Operations S) (told : S → List (Option ℤ)) (state_of : List Layout → List (Option ℤ) → Option S) : Type 0 where
   pub some : (s : S) → told s ≡ [] → ⊥
   pub small : (ls : List Layout) (s : S) → dom.fits s ls ≡ true → length (words_text (told s)) < 2 ^ 64 → AreSmall (told s)
-  pub back : (ls : List Layout) (s : S) → dom.fits s ls ≡ true → state_of ls (told s) ≡ Some s
+  pub back : (ls : List Layout) (s : S) → dom.fits s ls ≡ true → AreSmall (told s) → state_of ls (told s) ≡ Some s
   pub exact : (ls : List Layout) (ws : List (Option ℤ)) (s : S) → state_of ls ws ≡ Some s → (dom.fits s ls ≡ true) × (told s ≡ ws)

@@ -1,5 +1,5 @@
 -- Lists of words as texts: a word is a number in decimal, or `n` for none, and between two words stands one space.
-use Rattle.std.specs.Prelude.{ℕ, ◌+◌, ◌-◌, ◌*◌, ◌==◌, nat_lt, ℤ, pos, neg_ℤ, List, [], ◌∷◌, ◌++◌, Option, Some, None, Bool, true, false, codes, if◌then◌else◌}
+use Rattle.std.specs.Prelude.{ℕ, ◌+◌, ◌-◌, ◌*◌, ◌==◌, nat_lt, ℤ, pos, negsuc, neg_ℤ, List, [], ◌∷◌, ◌++◌, Option, Some, None, Bool, true, false, codes, if◌then◌else◌}
 use Rattle.std.specs.Fmt.{signed_decimal}
 use Rattle.std.specs.Str.{bytes_eq}
 
@@ -49,3 +49,9 @@ if_same text ws = if bytes_eq (words_text ws) text then Some ws else None
 -- the words that have this text, if there are such
 unfoldable pub words_of : List ℕ → Option (List (Option ℤ))
 words_of text = if_same text (read false false 0 text)
+
+-- whether a word is this number
+abbrev pub is_number : ℕ → Option ℤ → Bool
+is_number n None = false
+is_number n (Some (pos m)) = n == m
+is_number n (Some (negsuc m)) = false

@@ -11,5 +11,5 @@ mod read;
 mod write;
 
 pub use laws::words_come_back;
-pub use read::words_of;
+pub use read::{is_number, words_of};
 pub use write::{put_more, put_word, words_text};

@@ -1,5 +1,5 @@
 //! Words of texts.
-ghost use Rattle.std.specs.Prelude.{◌≡◌, ◌≤◌, false, IfOk};
+ghost use Rattle.std.specs.Prelude.{◌≡◌, ◌≤◌, ◌≤ℤ◌, pos, false, unsigned_abs, IfOk};
 ghost use Rattle.std.specs.Option.{option_map};
 ghost use Rattle.cert_words.specs.Words as meant;
 
@@ -70,4 +70,15 @@ pub fn words_of(alloc: Global, text: &[u8]) -> Result<Option<Vec<Option<i128>>>,
         return Ok(Some(found));
     }
     Ok(None)
+}
+
+/// Whether a word is this number, which is not negative.
+pub fn is_number(number: i128, word: Option<i128>) -> bool
+    requires positive { pos 0 ≤ℤ number }
+    ensures exact { result ≡ meant.is_number (unsigned_abs number) word }
+{
+    match word {
+        None => false,
+        Some(other) => number == other,
+    }
 }

@@ -14,6 +14,7 @@ mod compare;
 mod domain;
 mod evaluate;
 mod guards;
+mod portable;
 mod state;
 mod statements;
 mod text;

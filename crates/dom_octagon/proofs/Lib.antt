@@ -8,3 +8,4 @@ pub mod Tight
 pub mod Triangles
 pub mod Words
 pub mod Written
+pub mod Carried

@@ -32,7 +32,7 @@ fn first_kinds(alloc: Global, numbers: &[NumericSlot]) -> Result<Vec<bool>, Allo
 
 /// The kinds of the first 16 slots.
 #[tactic(auto, using(crate::proofs::FirstKinds::kinds_taken, octagon_meaning::proofs::Fitting::kinds_few))]
-fn kinds(alloc: Global, numbers: &[NumericSlot]) -> Result<Vec<bool>, Memory>
+pub fn kinds(alloc: Global, numbers: &[NumericSlot]) -> Result<Vec<bool>, Memory>
     ensures exact { IfOk result (λ v. v.items ≡ operations.kinds_of numbers.now) }
     ensures few { IfOk result (λ v. length v.items ≤ 16) }
 {

@@ -24,6 +24,7 @@ mod indices;
 mod joins;
 mod kept;
 mod matrices;
+mod portable;
 mod returns;
 mod state;
 mod statements;

@@ -1,3 +1,5 @@
 pub mod Words
 pub mod Ordered
 pub mod Texts
+pub mod Slots
+pub mod Portable

@@ -1,5 +1,5 @@
 -- The text of slots, slot by slot.
-use Rattle.std.proofs.Common.{◌≡◌, ℕ, ◌+◌, ◌<◌, List, [], ◌∷◌, ◌++◌, length, get_or, drop, Some, ap, sym, ◌∙◌, append_assoc}
+use Rattle.std.proofs.Common.{◌≡◌, ℕ, ◌+◌, ◌<◌, List, ◌∷◌, ◌++◌, length, get_or, drop, Some, ap, sym, ◌∙◌, append_assoc}
 use Rattle.plain_values.proofs.Lists.{drop_item}
 use Rattle.cert_words.specs.Words.{word_text, more_text}
 use Rattle.interval_meaning.specs.declared.slot_range.SlotRange.{SlotRange}

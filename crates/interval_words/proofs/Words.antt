@@ -1,19 +1,21 @@
 -- The words of intervals.
-use Rattle.std.specs.Prelude.{◌≡◌, ◌≤ℤ◌, ℕ, ℤ, pos, negsuc, List, [], ◌∷◌, Option, Some, None, true, option_map, if◌then◌else◌}
+use Rattle.std.specs.Prelude.{◌≡◌, ◌≤ℤ◌, ℤ, pos, negsuc, List, [], ◌∷◌, Option, Some, None, true, option_map, if◌then◌else◌}
 use Rattle.std.proofs.Common.{refl, sym, ap, ◌∙◌, arith, subst}
 use Rattle.std.proofs.lemmas.Int.{ints}
 use Rattle.std.proofs.lemmas.Bool.{and_parts, and_from}
 use Rattle.imp_slots.specs.Plain.{Numeric, Layout}
 use Rattle.num_bounds.specs.Bounds.{least, greatest}
-use Rattle.plain_values.proofs.Cases.{by_bool, by_test, some_inj}
+use Rattle.plain_values.proofs.Cases.{by_bool, some_inj}
+use Rattle.cert_words.proofs.Numbers.{word_is}
 use Rattle.cert_words.specs.Claims.{IsSmall, AreSmall}
 use Rattle.cert_words.specs.States.{AreWords}
+use Rattle.cert_words.specs.Words.{is_number}
 use Rattle.interval_meaning.specs.State.{Intervals, Empty, Within}
 use Rattle.interval_meaning.specs.Covers.{fits_slot, fits_slots, fits}
 use Rattle.interval_meaning.specs.Domain.{intervals}
 use Rattle.interval_meaning.specs.declared.slot_range.SlotRange.{SlotRange}
 use Rattle.interval_meaning.proofs.SlotLaws.{fits_slots-true, fits-range}
-use Rattle.interval_words.specs.Words.{slots_told, told, is_number, slot_before, slots_of, empty_of, within_of, state_of}
+use Rattle.interval_words.specs.Words.{slots_told, told, slot_with, slot_if, before, slots_of, empty_of, within_of, state_of}
 
 told_some : (s : Intervals) → told s ≡ [] → ⊥
 told_some Empty e = cc
@@ -48,8 +50,8 @@ slots_back (k ∷ ks) [] h = cc
 slots_back (k ∷ ks) (r ∷ rs) h =
     let p = and_parts (fits_slot k r) (fits_slots ks rs) h in
     let e : k.is_array ≡ r.is_array = (fits_slots-true (k ∷ ks) (r ∷ rs) h).0.0 in
-    ap (λ b. slot_before k (record { is_array = b; range = r.range }) (slots_of ks (slots_told rs))) e ∙
-    ap (slot_before k r) (slots_back ks rs p.1) ∙ ap (λ c. if c then Some (r ∷ rs) else None) p.0
+    ap (λ b. before (slot_if k (record { is_array = b; range = r.range })) (slots_of ks (slots_told rs))) e ∙
+    ap (before (slot_if k r)) (slots_back ks rs p.1) ∙ ap (λ c. before (if c then Some r else None) (Some rs)) p.0
 
 told_back : (ls : List Layout) (s : Intervals) → fits s ls ≡ true → state_of ls (told s) ≡ Some s
 unfolding fits
@@ -70,15 +72,15 @@ changed f (Some a) b e = record { from = a; was = refl; is = some_inj (f a) b e 
 abbrev SlotsAre : List Numeric → List (Option ℤ) → List SlotRange → Type 0
 SlotsAre ks ws rs = (fits_slots ks rs ≡ true) × (slots_told rs ≡ ws)
 
-before_exact : (k : Numeric) (ks : List Numeric) (s : SlotRange) (o : Option (List SlotRange)) (ws : List (Option ℤ)) (rs : List SlotRange) → ((qs : List SlotRange) → o ≡ Some qs → SlotsAre ks ws qs) → slot_before k s o ≡ Some rs → SlotsAre (k ∷ ks) (Some s.range.lo ∷ (Some s.range.hi ∷ ws)) rs
+before_exact : (k : Numeric) (ks : List Numeric) (s : SlotRange) (o : Option (List SlotRange)) (ws : List (Option ℤ)) (rs : List SlotRange) → ((qs : List SlotRange) → o ≡ Some qs → SlotsAre ks ws qs) → before (slot_if k s) o ≡ Some rs → SlotsAre (k ∷ ks) (Some s.range.lo ∷ (Some s.range.hi ∷ ws)) rs
 before_exact k ks s o ws rs rest e =
     by_bool (fits_slot k s)
     (λ f.
-    let c = changed (λ ss. s ∷ ss) o rs (sym (ap (λ c. if c then option_map (λ ss. s ∷ ss) o else None) f) ∙ e) in
+    let c = changed (λ ss. s ∷ ss) o rs (sym (ap (λ c. before (if c then Some s else None) o) f) ∙ e) in
     let r = rest c.from c.was in
     subst (SlotsAre (k ∷ ks) (Some s.range.lo ∷ (Some s.range.hi ∷ ws))) c.is
     (and_from (fits_slot k s) (fits_slots ks c.from) f r.0, ap (λ ws. Some s.range.lo ∷ (Some s.range.hi ∷ ws)) r.1))
-    (λ f. let i : None ≡ Some rs = sym (ap (λ c. if c then option_map (λ ss. s ∷ ss) o else None) f) ∙ e in absurd cc)
+    (λ f. let i : None ≡ Some rs = sym (ap (λ c. before (if c then Some s else None) o) f) ∙ e in absurd cc)
 
 slots_exact : (ks : List Numeric) (ws : List (Option ℤ)) (rs : List SlotRange) → slots_of ks ws ≡ Some rs → SlotsAre ks ws rs
 slots_exact [] [] rs e = subst (SlotsAre [] []) (some_inj [] rs e) (refl, refl)
@@ -88,12 +90,7 @@ slots_exact (k ∷ ks) (None ∷ ws) rs e = absurd cc
 slots_exact (k ∷ ks) (Some lo ∷ []) rs e = absurd cc
 slots_exact (k ∷ ks) (Some lo ∷ (None ∷ ws)) rs e = absurd cc
 slots_exact (k ∷ ks) (Some lo ∷ (Some hi ∷ ws)) rs e =
-    before_exact k ks (record { is_array = k.is_array; range = record { lo = lo; hi = hi } }) (slots_of ks ws) ws rs (λ qs i. slots_exact ks ws qs i) e
-
-word_is : (n : ℕ) (w : Option ℤ) → is_number n w ≡ true → w ≡ Some (pos n)
-word_is n None e = absurd cc
-word_is n (Some (negsuc m)) e = absurd cc
-word_is n (Some (pos m)) e = by_test n m (λ c. c ≡ true → Some (pos m) ≡ Some (pos n)) (λ k e. ap (λ n. Some (pos n)) (sym k)) (λ k e. absurd cc) e
+    before_exact k ks (slot_with k lo hi) (slots_of ks ws) ws rs (λ qs i. slots_exact ks ws qs i) e
 
 abbrev IsTold : List Layout → List (Option ℤ) → Intervals → Type 0
 IsTold ls ws s = (fits s ls ≡ true) × (told s ≡ ws)
@@ -123,4 +120,4 @@ told_exact ls (w ∷ ws) s e =
     (λ i. let j : None ≡ Some s = sym (ap (λ c. if c then within_of ls ws else None) i) ∙ g in absurd cc))
 
 pub interval_words_are : AreWords intervals told state_of
-interval_words_are = record { some = told_some; small = λ ls s f h. told_small ls s f; back = told_back; exact = told_exact }
+interval_words_are = record { some = told_some; small = λ ls s f h. told_small ls s f; back = λ ls s f h. told_back ls s f; exact = told_exact }

@@ -1,8 +1,9 @@
 -- Intervals as words, and their order.
-use Rattle.std.specs.Prelude.{ℕ, ◌==◌, ◌&&◌, ℤ, pos, negsuc, int_le, List, [], ◌∷◌, Option, Some, None, Bool, true, false, option_map, if◌then◌else◌}
+use Rattle.std.specs.Prelude.{◌&&◌, ℤ, pos, int_le, List, [], ◌∷◌, drop, Option, Some, None, Bool, true, false, option_map, if◌then◌else◌}
 use Rattle.imp_slots.specs.Plain.{Numeric, Layout}
 use Rattle.cert_meaning.specs.Portable.{Portable}
 use Rattle.cert_words.specs.States.{by_words}
+use Rattle.cert_words.specs.Words.{is_number}
 use Rattle.interval_meaning.specs.State.{Intervals, Empty, Within}
 use Rattle.interval_meaning.specs.Covers.{fits_slot}
 use Rattle.interval_meaning.specs.declared.slot_range.SlotRange.{SlotRange}
@@ -17,24 +18,32 @@ abbrev pub told : Intervals → List (Option ℤ)
 told Empty = Some (pos 0) ∷ []
 told (Within rs) = Some (pos 1) ∷ slots_told rs
 
-abbrev pub is_number : ℕ → Option ℤ → Bool
-is_number n None = false
-is_number n (Some (pos m)) = n == m
-is_number n (Some (negsuc m)) = false
+-- the slot of this kind with these ends
+abbrev pub slot_with : Numeric → ℤ → ℤ → SlotRange
+slot_with k lo hi = record { is_array = k.is_array; range = record { lo = lo; hi = hi } }
 
--- a slot that fits, in front of others
-abbrev pub slot_before : Numeric → SlotRange → Option (List SlotRange) → Option (List SlotRange)
-slot_before k s rest = if fits_slot k s then option_map (λ ss. s ∷ ss) rest else None
+-- a slot, where it fits
+abbrev pub slot_if : Numeric → SlotRange → Option SlotRange
+slot_if k s = if fits_slot k s then Some s else None
+
+-- the slot of this kind that the first two words tell, where there is such
+abbrev pub first_slot : Numeric → List (Option ℤ) → Option SlotRange
+first_slot k [] = None
+first_slot k (None ∷ ws) = None
+first_slot k (Some lo ∷ []) = None
+first_slot k (Some lo ∷ (None ∷ ws)) = None
+first_slot k (Some lo ∷ (Some hi ∷ ws)) = slot_if k (slot_with k lo hi)
+
+-- a slot in front of others, where both are there
+abbrev pub before : Option SlotRange → Option (List SlotRange) → Option (List SlotRange)
+before None rest = None
+before (Some s) rest = option_map (λ ss. s ∷ ss) rest
 
 -- the slots of these kinds with these ends, where there are such
 abbrev pub slots_of : List Numeric → List (Option ℤ) → Option (List SlotRange)
 slots_of [] [] = Some []
 slots_of [] (w ∷ ws) = None
-slots_of (k ∷ ks) [] = None
-slots_of (k ∷ ks) (None ∷ ws) = None
-slots_of (k ∷ ks) (Some lo ∷ []) = None
-slots_of (k ∷ ks) (Some lo ∷ (None ∷ ws)) = None
-slots_of (k ∷ ks) (Some lo ∷ (Some hi ∷ ws)) = slot_before k (record { is_array = k.is_array; range = record { lo = lo; hi = hi } }) (slots_of ks ws)
+slots_of (k ∷ ks) ws = before (first_slot k ws) (slots_of ks (drop 2 ws))
 
 abbrev pub empty_of : List (Option ℤ) → Option Intervals
 empty_of [] = Some Empty

@@ -1,0 +1,87 @@
+//! Octagons as texts, and their order.
+ghost use Rattle.std.specs.Prelude.{◌≡◌, ◌^◌, IfOk, IfSome};
+ghost use Rattle.std.specs.Option.{option_copied};
+ghost use Rattle.dbm_core.specs.Limits.{IsLimited};
+ghost use Rattle.octagon_meaning.specs.States as states;
+ghost use Rattle.octagon_words.specs.Words as meant;
+ghost use Rattle.octagon_words.specs.Words.{octagon_port, state_in};
+ghost use Rattle.octagon_words.proofs.Portable.{octagon_portable};
+
+use crate::OctagonState;
+use crate::calls::kinds;
+use crate::close::{closure, empty, widened_to};
+use crate::domain::Octagon;
+use crate::state::matrix_of_state;
+use dbm_core::Matrix;
+use imp_slots::Layout;
+use plain_values::{Memory, Text};
+use portable_states::Portable;
+use std::alloc::Global;
+
+/// The matrix of a state, none where it is Empty.
+#[tactic(auto, using(crate::proofs::Carried::state_in_is))]
+fn matrix(s: &OctagonState) -> Option<&Matrix>
+    ensures exact { state_in (option_copied result) ≡ s.now }
+{
+    matrix_of_state(s)
+}
+
+/// The matrix of what closing a state answers.
+#[tactic(auto, using(crate::proofs::Carried::state_in_is))]
+fn closed_matrix(s: &OctagonState) -> Option<&Matrix>
+    ensures exact { state_in (option_copied result) ≡ states.closed s.now }
+{
+    closure(s)
+}
+
+/// The matrix of the state that has this text.
+fn taken(alloc: Global, layouts: &[Layout], text: &[u8]) -> Result<Option<Option<Matrix>>, Memory>
+    ensures exact { IfOk result (λ found. found ≡ meant.taken (meant.last_kinds layouts.now) text.now) }
+    ensures limited { IfOk result (λ found. IfSome found (λ o. IfSome o (IsLimited (2 ^ 64)))) }
+{
+    match layouts {
+        [] => octagon_words::take(alloc, None, text),
+        [layout, ..] => {
+            let kinds = kinds(alloc, layout.numbers())?;
+            octagon_words::take(alloc, Some(kinds.as_slice()), text)
+        }
+    }
+}
+
+/// The state of this matrix, Empty where there is none.
+fn state(alloc: Global, matrix: Option<Matrix>) -> Result<OctagonState, Memory>
+    requires limited { IfSome matrix (IsLimited (2 ^ 64)) }
+    ensures exact { IfOk result (λ s. s ≡ state_in matrix) }
+{
+    match matrix {
+        None => Ok(empty()),
+        Some(m) => widened_to(alloc, m),
+    }
+}
+
+impl Portable for Octagon {
+    ghost port = { λ d. octagon_port };
+
+    fn put(&self, alloc: Global, s: &OctagonState) -> Result<Text, Memory> {
+        octagon_words::put(alloc, matrix(s))
+    }
+
+    #[tactic(auto, using(octagon_words::proofs::Portable::taken_state))]
+    fn take(
+        &self,
+        alloc: Global,
+        layouts: &[Layout],
+        text: &[u8],
+    ) -> Result<Option<OctagonState>, Memory> {
+        match taken(alloc, layouts, text)? {
+            None => Ok(None),
+            Some(matrix) => Ok(Some(state(alloc, matrix)?)),
+        }
+    }
+
+    fn leq(&self, alloc: Global, l: &OctagonState, r: &OctagonState) -> Result<bool, Memory> {
+        Ok(octagon_words::leq(closed_matrix(l), matrix(r)))
+    }
+
+    ghost port_laws = { λ d. octagon_portable };
+}

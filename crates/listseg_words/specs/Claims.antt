@@ -1,0 +1,9 @@
+-- What is claimed of list segments as words.
+use Rattle.cert_meaning.specs.Portable.{PortableLaws}
+use Rattle.listseg_meaning.specs.Covers.{covers}
+use Rattle.listseg_meaning.specs.Domain.{segments}
+use Rattle.listseg_words.specs.Words.{segment_port}
+
+-- list segments are put and taken back, and their order is sound
+abbrev pub SegmentsArePortable : Type 0
+SegmentsArePortable = PortableLaws segments covers segment_port

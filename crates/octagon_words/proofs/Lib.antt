@@ -1,0 +1,9 @@
+pub mod Below
+pub mod Tables
+pub mod Texts
+pub mod Entries
+pub mod Words
+pub mod Ordered
+pub mod Made
+pub mod Portable
+pub mod Limits
