@@ -3,7 +3,8 @@
 //! [`answer`] gives what a domain knows at a location under a call string, [`batch_report`] a verdict
 //! on each statement that has a check. Both are exactly the definitions of `batch_meaning`, and both
 //! describe every run: a state that is answered covers each configuration that stands there, and a
-//! finding of safe or dead holds of all runs.
+//! finding of safe or dead holds of all runs. [`loop_heads`] gives what is known at the heads of loops
+//! under one chain, with all frames.
 //!
 //! An answer follows each selected chain from `main`: the statements in front of a call are
 //! interpreted, the callee is entered, and so on to the statement that is asked for. Nothing is kept
@@ -17,6 +18,7 @@ mod claim;
 mod error;
 mod findings;
 mod frames;
+mod heads;
 mod reporting;
 mod spots;
 mod sums;
@@ -27,5 +29,6 @@ mod walks;
 
 pub use answering::answer;
 pub use error::QueryError;
+pub use heads::{Head, loop_heads};
 pub use reporting::batch_report;
 pub use value::Answer;
