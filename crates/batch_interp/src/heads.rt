@@ -1,6 +1,5 @@
 //! What is known at the heads of loops.
-ghost use Rattle.std.specs.Prelude.{◌≡◌, ◌++◌, ◌∷◌, ◌<◌, Contains, length, map, reverse, IfOk, OnOk};
-ghost use Rattle.imp_slots.specs.Plain.{Guard, Code};
+ghost use Rattle.std.specs.Prelude.{◌≡◌, ◌++◌, Contains, map, reverse, IfOk, OnOk};
 ghost use Rattle.imp_slots.specs.declared.blocks.SlotNode.TheVariants as node;
 ghost use Rattle.imp_check.specs.Slots.{routines_of};
 ghost use Rattle.program_chains.specs.Chains.{chains};
@@ -77,7 +76,9 @@ fn add_heads_in<D: Domain, L: Ledger>(
             add_heads(alloc, dom, plan, frame, els, fails, found, steps)
         }
         SlotNode::While(n, cond, body) => {
-            add_loop(alloc, dom, plan, frame, *n, cond, body, before, found, steps)
+            add_loop(
+                alloc, dom, plan, frame, *n, cond, body, before, found, steps,
+            )
         }
         SlotNode::Simple(_, _) => Ok(()),
         SlotNode::Call(_, _, _) => Ok(()),
@@ -149,7 +150,7 @@ pub fn loop_heads<D: Domain, L: Ledger>(
     let routines = few_routines(prog);
     let plan = Plan::new(routines, setting);
     let place = proc.place() as usize;
-    match routines.get(place) {
+    match plan.routine(place) {
         None => Ok(Items::new(alloc)),
         Some(routine) => {
             let entered = enter_procedure(alloc, dom, &plan, place, chain, steps)?;
