@@ -172,7 +172,7 @@ module _ {S : Type 0} (dom : Operations S) (plan : Plan) where
     through_at : (p : ℕ) (z : List ℕ) → suc p < length plan.program → Member z (chains plan.program p) → Through (chains plan.program) 0 plan.program p z
     through_at p z h m = came_through (chains plan.program) 0 plan.program p z (subst (Member z) (law plan.program checked p h) m)
 
-    leads : (z : List ℕ) (p : ℕ) → p < length plan.program → Member z (chains plan.program p) → LeadsTo dom plan p z
+    pub leads : (z : List ℕ) (p : ℕ) → p < length plan.program → Member z (chains plan.program p) → LeadsTo dom plan p z
     leads [] p h m = by_test (suc p) (length plan.program) (λ c. LeadsTo dom plan p []) (λ e. main_leads p e) (λ e. absurd (none (through_at p [] (omega arith) m)))
       where
         none : Through (chains plan.program) 0 plan.program p [] → ⊥

@@ -11,3 +11,4 @@ pub mod Once
 pub mod Leading
 pub mod Fronts
 pub mod Marking
+pub mod HeadLemmas

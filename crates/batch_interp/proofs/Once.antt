@@ -3,7 +3,7 @@ use Rattle.std.proofs.Common.{ℕ, zero, suc, ◌≡◌, ◌<◌, ◌≤◌, Lis
 use Rattle.std.specs.Prelude.{if◌then◌else◌}
 use Rattle.imp_slots.proofs.Distinct.{left_once, right_once}
 use Rattle.imp_slots.specs.Plain.{Layout, Invoke, Code, Stop, Simple, If, While, Call, Break, Routine, code_numbers}
-use Rattle.imp_slots.specs.Fits.{FitsCall, FitsCode, FitInTurn, Absent, Distinct, routine_numbers, IsChecked}
+use Rattle.imp_slots.specs.Fits.{FitsCall, FitsCode, FitInTurn, Distinct, routine_numbers, IsChecked}
 use Rattle.program_chains.specs.Chains.{calls_to}
 use Rattle.plain_values.proofs.Cases.{by_test}
 use Rattle.std.proofs.lemmas.Option.{slice_get_within}

@@ -8,3 +8,4 @@ pub mod Summing
 pub mod Reporting
 pub mod Checking
 pub mod Totalling
+pub mod Heads

@@ -28,8 +28,8 @@ pub(crate) enum Fixed<S> {
     Over { head: StmtId, chain: Chain },
 }
 
-/// Behind a simple statement.
-fn behind_action<D: Domain, L: Ledger>(
+/// Behind a simple statement. It fails for want of memory alone.
+pub fn behind_action<D: Domain, L: Ledger>(
     alloc: Global,
     dom: &D,
     action: &SlotAction,
@@ -42,8 +42,8 @@ fn behind_action<D: Domain, L: Ledger>(
     dom.post(alloc, &stmt, state, steps)
 }
 
-/// Behind a break, in front of which the state leaves.
-fn behind_break<D: Domain, L: Ledger>(
+/// Behind a break, in front of which the state leaves. It fails for want of memory alone.
+pub fn behind_break<D: Domain, L: Ledger>(
     alloc: Global,
     dom: &D,
     state: &D::State,
@@ -77,8 +77,8 @@ fn next_iterate<D: Domain, L: Ledger>(
     }
 }
 
-/// The state joined with others, from left to right.
-pub(crate) fn joined_states<D: Domain, L: Ledger>(
+/// The state joined with others, from left to right. It fails for want of memory alone.
+pub fn joined_states<D: Domain, L: Ledger>(
     alloc: Global,
     dom: &D,
     first: D::State,

@@ -35,11 +35,12 @@ impl<'a> Model for Plan<'a> {
 }
 
 /// The procedure of a block, and the call statements from main to it, the last one first.
-#[derive(Drop)]
-pub(crate) struct Frame {
+#[derive(Debug, Drop)]
+pub struct Frame {
     /// How many procedures stand in front of it.
-    pub(crate) place: usize,
-    pub(crate) sites: Items<StmtId>,
+    pub place: usize,
+    /// The call statements.
+    pub sites: Items<StmtId>,
 }
 
 impl<'a> Plan<'a> {
@@ -72,6 +73,13 @@ impl<'a> Plan<'a> {
         self.routines
     }
 
+    /// The procedure at a place.
+    pub(crate) fn routine(&self, place: usize) -> Option<&'a Routine>
+        ensures is { option_copied result ≡ slice_get self.now.program place }
+    {
+        self.routines.get(place)
+    }
+
     /// The marks of a procedure.
     #[tactic(auto, using(crate::proofs::Marking::marks_there))]
     pub(crate) fn marks(&self, place: usize) -> &[i64]
@@ -96,7 +104,7 @@ impl<'a> Plan<'a> {
 
 impl Frame {
     /// The frame of main, which stands last.
-    pub(crate) fn main(alloc: Global, routines: &[Routine]) -> Frame
+    pub fn main(alloc: Global, routines: &[Routine]) -> Frame
         ensures is { result ≡ record { place = length routines.now - 1; sites = [] } }
     {
         Frame {
@@ -105,8 +113,8 @@ impl Frame {
         }
     }
 
-    /// The frame of a procedure that this one calls.
-    pub(crate) fn callee(&self, alloc: Global, site: u32, place: usize) -> Result<Frame, Memory>
+    /// The frame of a procedure that this one calls. It fails for want of memory alone.
+    pub fn callee(&self, alloc: Global, site: u32, place: usize) -> Result<Frame, Memory>
         ensures is { IfOk result (λ f. f ≡ record { place = place; sites = site ∷ self.now.sites }) }
     {
         let mut sites = Items::with_capacity(alloc, 8)?;
@@ -117,8 +125,8 @@ impl Frame {
         Ok(Frame { place, sites })
     }
 
-    /// The calls from main, outermost first.
-    pub(crate) fn chain(&self, alloc: Global) -> Result<Chain, Memory>
+    /// The calls from main, outermost first. It fails for want of memory alone.
+    pub fn chain(&self, alloc: Global) -> Result<Chain, Memory>
         ensures is { IfOk result (λ chain. reverse chain ≡ self.now.sites) }
     {
         let sites: Vec<StmtId> = self.sites.as_slice().iter().rev().copied().collect(alloc)?;

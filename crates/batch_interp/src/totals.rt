@@ -21,7 +21,7 @@ use std::alloc::Global;
 use std::sync::ledger::Ledger;
 
 /// The procedure at a place, entered along a chain that leads to it.
-fn enter_procedure<D: Domain, L: Ledger>(
+pub(crate) fn enter_procedure<D: Domain, L: Ledger>(
     alloc: Global,
     dom: &D,
     plan: &Plan,

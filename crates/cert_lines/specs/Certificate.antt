@@ -4,22 +4,14 @@ use Rattle.imp_syntax.specs.declared.edit.Location.TheVariants.{Head}
 use Rattle.serde_json.specs.Data.{Data, string}
 use Rattle.serde_json.specs.Written.{compact_text}
 use Rattle.request_json.specs.Replies.{object_of, count, list_of}
-use Rattle.imp_slots.specs.Plain.{Code, Stop, Simple, If, While, Call, Break, Routine}
+use Rattle.imp_slots.specs.Plain.{Routine}
 use Rattle.program_chains.specs.Chains.{chains}
 use Rattle.domain_laws.specs.Operations.{Operations}
 use Rattle.batch_meaning.specs.Values.{Value, State, Over}
 use Rattle.batch_meaning.specs.Batch.{Engine}
 use Rattle.batch_meaning.specs.Places.{value_at}
 use Rattle.cert_meaning.specs.Portable.{Portable}
-
--- the loops of a block, in preorder
-abbrev pub loops : Code → List ℕ
-loops Stop = []
-loops (Simple n e r) = loops r
-loops (If n g t e r) = loops t ++ (loops e ++ loops r)
-loops (While n g b r) = n ∷ (loops b ++ loops r)
-loops (Call n i q r) = loops r
-loops (Break n r) = loops r
+use Rattle.cert_meaning.specs.Written.{loops}
 
 -- each of these loops under a chain, then those under the other chains
 abbrev pub under : (loops : List ℕ) → List (List ℕ) → List (List ℕ × ℕ)

@@ -7,8 +7,8 @@ ghost use Rattle.json.specs.Print.{escape_byte, escape, quoted};
 use itoa::Buffer;
 use plain_values::Memory;
 
-/// Adds a number.
-pub(crate) fn put_number(line: &mut Vec<u8>, number: u64) -> Result<(), Memory>
+/// Adds a number in decimal. It fails for want of memory alone.
+pub fn put_number(line: &mut Vec<u8>, number: u64) -> Result<(), Memory>
     ensures number { OnOk result (line.new.items ≡ line.old.items ++ decimal number) }
 {
     let mut buffer = Buffer::new();
@@ -60,8 +60,8 @@ fn put_escapes(line: &mut Vec<u8>, text: &[u8]) -> Result<(), Memory>
     Ok(())
 }
 
-/// Adds a text, in quotes.
-pub(crate) fn put_quoted(line: &mut Vec<u8>, text: &[u8]) -> Result<(), Memory>
+/// Adds a text in quotes, as JSON has it. It takes time linear in the text, and fails for want of memory alone.
+pub fn put_quoted(line: &mut Vec<u8>, text: &[u8]) -> Result<(), Memory>
     ensures quoted { OnOk result (line.new.items ≡ line.old.items ++ quoted text.now) }
 {
     line.push(b'"')?;

@@ -4,7 +4,7 @@ ghost use Rattle.std.specs.Prelude.{◌≡◌, ◌≤◌, ◌<◌, ◌^◌, code
 ghost use Rattle.std.specs.Option.{option_copied};
 ghost use Rattle.serde_json.specs.View.{view, items_view};
 ghost use Rattle.serde_json.specs.Find.{get};
-ghost use Rattle.request_json.specs.Members.{text_at, number_in, number_at, string_at, inputs_at, integer_in, items_read, greatest_id, greatest_ticket, greatest_count};
+ghost use Rattle.request_json.specs.Members.{text_at, number_in, number_at, string_at, inputs_at, integer_in, items_read, list_in, greatest_id, greatest_ticket, greatest_count};
 ghost use Rattle.request_json.specs.Requests.{location_at, location_if_there, place_at, kind_at, name_at, id_at, query_at};
 
 use crate::places::{kind_of, location_of, place_of};
@@ -16,7 +16,7 @@ use serde_json::Value;
 use std::alloc::Global;
 
 /// A member that is a text.
-pub(crate) fn text_at<'a>(request: &'a Value, key: &str) -> Option<&'a str>
+pub fn text_at<'a>(request: &'a Value, key: &str) -> Option<&'a str>
     ensures text { option_copied result ≡ text_at key.now (view request.now) }
 {
     match request.get(key) {
@@ -47,7 +47,7 @@ fn number_in(value: &Value, most: u64) -> Option<u64>
 }
 
 /// A member that is a whole number from 0 up to the greatest.
-fn number_at(request: &Value, key: &str, most: u64) -> Option<u64>
+pub fn number_at(request: &Value, key: &str, most: u64) -> Option<u64>
     ensures number { result ≡ number_at most key.now (view request.now) }
     ensures small { IfSome result (λ n. n ≤ most) }
 {
@@ -166,6 +166,20 @@ fn string_at(alloc: Global, request: &Value) -> Result<Option<Items<StmtId>>, Me
 {
     let Some(member) = request.get("string") else {
         return Ok(Some(Items::new(alloc)));
+    };
+    match member.as_array() {
+        Some(members) => ids_in(alloc, members.as_slice()),
+        None => Ok(None),
+    }
+}
+
+/// A member that is a list of numbers of statements. It takes time linear in the list, and fails for want of
+/// memory alone.
+pub fn ids_at(alloc: Global, request: &Value, key: &str) -> Result<Option<Items<StmtId>>, Memory>
+    ensures ids { IfOk result (λ ids. ids ≡ option_and_then (list_in (number_in greatest_id)) (get key.now (view request.now))) }
+{
+    let Some(member) = request.get(key) else {
+        return Ok(None);
     };
     match member.as_array() {
         Some(members) => ids_in(alloc, members.as_slice()),

@@ -11,6 +11,9 @@
 //! reply's keys and values. Refusals are replies too; they are numbered from 1. What is found of checks,
 //! how runs end, and why a query has no answer come in the words of `analysis_words`.
 //!
+//! What is read of members and written of values serves other lines too: [`json_of`], [`text_at`], [`number_at`],
+//! [`ids_at`]; [`put_number`], [`put_quoted`], [`put_ids`].
+//!
 //! Reading and writing take time linear in the line.
 #![tactic(auto)]
 
@@ -26,7 +29,9 @@ mod request;
 mod writing;
 
 pub use error::ReadError;
-pub use reading::read_request;
+pub use escapes::{put_number, put_quoted};
+pub use fields::{ids_at, number_at, text_at};
+pub use reading::{json_of, read_request};
 pub use reply::{ProgramFault, Refusal, Reply};
 pub use request::{Query, Request};
-pub use writing::reply_line;
+pub use writing::{put_ids, reply_line};

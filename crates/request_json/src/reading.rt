@@ -1,8 +1,8 @@
 //! From a line to its request, or the first of its faults: the clauses of [`read_request`].
-ghost use Rattle.std.specs.Prelude.{◌≡◌, IfOk, IfErr, codes};
+ghost use Rattle.std.specs.Prelude.{◌≡◌, IfOk, IfErr, codes, option_map};
 ghost use Rattle.serde_json.specs.View.{view};
 ghost use Rattle.request_json.specs.Requests.{verb_request, request_of, called_request, allowed, or_bad, run_at, replace_at, insert_at, delete_at, guard_at, declare_at, add_at, drop_at, step_at, cancel_at};
-ghost use Rattle.request_json.specs.Members.{text_at};
+ghost use Rattle.request_json.specs.Members.{json_of, text_at};
 
 use crate::error::ReadError;
 use crate::fields::{
@@ -209,22 +209,34 @@ fn request_in(alloc: Global, request: &Value) -> Result<Request, ReadError>
     }
 }
 
+/// The value of a line, or None where the line is not UTF-8, or no JSON. It takes time linear in the line, and
+/// fails for want of memory alone.
+pub fn json_of(alloc: Global, line: &[u8]) -> Result<Option<Value>, Memory>
+    ensures value { IfOk result (λ value. option_map view value ≡ json_of line.now) }
+{
+    let Ok(text) = str::from_utf8(line) else {
+        return Ok(None);
+    };
+    match Value::from_str(alloc, text) {
+        Ok(value) => Ok(Some(value)),
+        Err(error) => {
+            if error.is_memory() {
+                Err(Memory)
+            } else {
+                Ok(None)
+            }
+        }
+    }
+}
+
 /// The request of a line, or the first of its faults, or want of memory.
+#[tactic(auto, unfolding(crate::specs::Requests::request_of))]
 pub fn read_request(alloc: Global, line: &[u8]) -> Result<Request, ReadError>
     ensures request { IfOk result (λ request. request_of line.now ≡ Ok request) }
     ensures refused { IfErr result (λ error. (error ≡ ReadError.Memory → ⊥) → request_of line.now ≡ Err error) }
 {
-    let Ok(text) = str::from_utf8(line) else {
-        return Err(ReadError::NoJson);
-    };
-    match Value::from_str(alloc, text) {
-        Ok(request) => request_in(alloc, &request),
-        Err(error) => {
-            if error.is_memory() {
-                Err(ReadError::Memory)
-            } else {
-                Err(ReadError::NoJson)
-            }
-        }
+    match json_of(alloc, line)? {
+        Some(request) => request_in(alloc, &request),
+        None => Err(ReadError::NoJson),
     }
 }

@@ -123,9 +123,10 @@ fn put_more_ids(line: &mut Vec<u8>, ids: &[StmtId]) -> Result<(), Memory>
     Ok(())
 }
 
-/// Adds a list of numbers.
+/// Adds a list of numbers of statements, as JSON has it. It takes time linear in the list, and fails for want of
+/// memory alone.
 #[tactic(auto, using(crate::proofs::WritingLemmas::list_text))]
-fn put_ids(line: &mut Vec<u8>, ids: &[StmtId]) -> Result<(), Memory>
+pub fn put_ids(line: &mut Vec<u8>, ids: &[StmtId]) -> Result<(), Memory>
     ensures list { OnOk result (line.new.items ≡ line.old.items ++ compact_text (list_of count ids.now)) }
 {
     match ids {

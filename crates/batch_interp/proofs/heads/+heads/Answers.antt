@@ -1,0 +1,11 @@
+use Rattle.std.proofs.Common.{sym, ap}
+use Rattle.batch_interp.specs.Answered.{value_of}
+use Rattle.batch_interp.specs.Heads.{values_inside}
+use Rattle.batch_interp.proofs.Lists.{on_ok_along}
+use Rattle.batch_interp.proofs.heads.+heads.Goals as goal
+
+pub add_heads_in-returns-in-While : goal.add_heads_in-returns-in-While
+add_heads_in-returns-in-While g t c =
+    record {
+      added = on_ok_along _ _ _ _ _ c.add_loop.ensures.added (ap (λ s. values_inside (g.D.Domain.operations c.args.dom.now) c.args.plan.now c.args.frame.now.place c.args.frame.now.sites s (value_of c.args.before.now)) (sym c.in-While.is));
+    }

@@ -1,0 +1,54 @@
+-- What is known at the heads of loops.
+use Rattle.std.specs.Prelude.{ℕ, List, [], ◌∷◌, ◌++◌, map, slice_get, Option, Some, None, true, false}
+use Rattle.imp_syntax.specs.declared.edit.Location.TheVariants.{Head as AtHead}
+use Rattle.imp_slots.specs.Plain.{Guard, Code, Stop, Simple, If, While, Call, Break, Routine}
+use Rattle.imp_slots.specs.declared.blocks.SlotNode.{SlotNode}
+use Rattle.imp_slots.specs.declared.blocks.SlotNode.TheVariants as node
+use Rattle.domain_laws.specs.Operations.{Operations}
+use Rattle.batch_meaning.specs.Values.{Value, lift}
+use Rattle.batch_meaning.specs.Batch.{Engine, head_of}
+use Rattle.batch_meaning.specs.Places.{value_at}
+use Rattle.cert_meaning.specs.Written.{loops}
+use Rattle.batch_interp.specs.Answered.{value_of}
+use Rattle.batch_interp.specs.Frames.{Plan, marks_at, passed}
+use Rattle.batch_interp.specs.declared.heads.Head.{Head}
+
+-- a loop, and the value at its head
+abbrev pub loop_value : {S : Type 0} → Head S → ℕ × Value S
+loop_value h = (h.stmt, value_of h.value)
+
+-- a loop, and the value at that location
+abbrev pub head_told : {S : Type 0} → Head S → ℕ × Option (Value S)
+head_told h = (h.stmt, Some (value_of h.value))
+
+abbrev pub loops_in : Option Routine → List ℕ
+loops_in None = []
+loops_in (Some r) = loops r.code
+
+-- the loops of the procedure at a place, in preorder, each with the value at its head under the call sites z
+abbrev pub heads_under : {S : Type 0} → Operations S → Engine → List Routine → (place : ℕ) → (z : List ℕ) → List (ℕ × Option (Value S))
+heads_under dom engine program place z = map (λ n. (n, value_at dom engine program (AtHead n) z)) (loops_in (slice_get program place))
+
+module _ {S : Type 0} (dom : Operations S) (plan : Plan) (place : ℕ) (z : List ℕ) where
+  -- at the head of a loop, from the value in front of it
+  abbrev pub value_at_head : ℕ → Guard → Code → Value S → Value S
+  value_at_head n g b v = (head_of dom plan.engine (marks_at plan place) z n g (passed dom plan place z b) v).value
+
+  -- the loops of a block in preorder, each with the value at its head
+  abbrev pub loop_values : Code → Value S → List (ℕ × Value S)
+  loop_values Stop v = []
+  loop_values (Simple n e r) v = loop_values r (passed dom plan place z (Simple n e Stop) v).value
+  loop_values (If n g t e r) v =
+      (loop_values t (lift (dom.assume g true) v) ++ loop_values e (lift (dom.assume g false) v)) ++ loop_values r (passed dom plan place z (If n g t e Stop) v).value
+  loop_values (While n g b r) v =
+      ((n, value_at_head n g b v) ∷ loop_values b (lift (dom.assume g true) (value_at_head n g b v))) ++ loop_values r (passed dom plan place z (While n g b Stop) v).value
+  loop_values (Call n i q r) v = loop_values r (passed dom plan place z (Call n i q Stop) v).value
+  loop_values (Break n r) v = loop_values r (passed dom plan place z (Break n Stop) v).value
+
+  -- those of one statement and the statements inside it
+  abbrev pub values_inside : SlotNode → Value S → List (ℕ × Value S)
+  values_inside (node.Simple n a) v = []
+  values_inside (node.If n g t e) v = loop_values t (lift (dom.assume g true) v) ++ loop_values e (lift (dom.assume g false) v)
+  values_inside (node.While n g b) v = (n, value_at_head n g b v) ∷ loop_values b (lift (dom.assume g true) (value_at_head n g b v))
+  values_inside (node.Call n i q) v = []
+  values_inside (node.Break n) v = []
