@@ -1,0 +1,4 @@
+mod Turned
+pub mod Shifted
+pub mod ShiftedRows
+pub mod ShiftedTable
