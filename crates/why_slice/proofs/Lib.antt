@@ -2,5 +2,6 @@ mod Turned
 pub mod Shifted
 pub mod ShiftedRows
 pub mod ShiftedTable
+mod ShiftedTargets
 mod Fitting
 mod Idle

@@ -64,7 +64,7 @@ module _ (s t : ℕ) (f : Effect) where
   SameMarks w [] = Unit {0}
   SameMarks w (r ∷ rs) = (marks w (swap_routine r) ≡ marks w r) × SameMarks w rs
 
-  simple_from : (ps : List Routine) (q : ℕ) → IsSimple s ps → IsSimple s (from ps q)
+  pub simple_from : (ps : List Routine) (q : ℕ) → IsSimple s ps → IsSimple s (from ps q)
   simple_from [] q h = tt
   simple_from (r ∷ ps) q h = by_test q (length ps) (λ c. IsSimple s (if c then r ∷ ps else from ps q)) (λ e. h) (λ e. simple_from ps q h.1)
 
