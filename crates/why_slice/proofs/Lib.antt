@@ -5,3 +5,4 @@ pub mod ShiftedTable
 mod ShiftedTargets
 mod Fitting
 mod Idle
+mod Staying

@@ -19,14 +19,14 @@ gather_turned same re turn v w a b ext (suc n) vs h =
     rw (e, gather-some w b n vs (turn y) m, here)
     (ap (λ xs. v y ∷ xs) rest))
 
-module _ {T V : Type 0} (t u : Rows T V) (tl : AreRows t) (ul : AreRows u) (turn : T → T) (P : T → Type 0) where
+module _ {T V : Type 0} (t u : Rows T V) (turn : T → T) where
   -- The row of a turned name: it asks for the turned names, and gives the same on the values of these.
   pub record TurnedRow (x : T) : Type 0 where
     pub asks : (vs : List V) → u.asks (turn x) vs ≡ option_map turn (t.asks x vs)
     pub most : u.most (turn x) ≡ t.most x
     pub operation : u.operation (turn x) (map (value_of t) (inputs_of t x)) ≡ t.operation x (map (value_of t) (inputs_of t x))
 
-  module _ (rows : (x : T) → P x → TurnedRow x) (down : (x y : T) → P x → member t.same (inputs_of t x) y ≡ true → P y) where
+  module _ (tl : AreRows t) (ul : AreRows u) (P : T → Type 0) (rows : (x : T) → P x → TurnedRow x) (down : (x y : T) → P x → member t.same (inputs_of t x) y ≡ true → P y) where
     inputs_turned : (x : T) → P x → ((y : T) → member t.same (inputs_of t x) y ≡ true → value_of u (turn y) ≡ value_of t y) → map (value_of u) (inputs_of u (turn x)) ≡ map (value_of t) (inputs_of t x)
     unfolding inputs_of
     inputs_turned x p h =
