@@ -6,3 +6,5 @@ mod ShiftedTargets
 mod Fitting
 mod Idle
 mod Staying
+mod Edited
+mod Whole

@@ -27,11 +27,11 @@ use Rattle.why_slice.proofs.Shifted.{shift_number, shift_point, shift_other, shi
 use Rattle.why_slice.proofs.ShiftedRows.{swap_routine, swap_all, length_swapped, from_swapped, known_texts, simple_from}
 
 -- Numbers that a list of procedures lacks.
-absent_left : (n : ℕ) (xs ys : List ℕ) → Absent n (xs ++ ys) → Absent n xs
+pub absent_left : (n : ℕ) (xs ys : List ℕ) → Absent n (xs ++ ys) → Absent n xs
 absent_left n [] ys a = tt
 absent_left n (x ∷ xs) ys a = (a.0, absent_left n xs ys a.1)
 
-absent_right : (n : ℕ) (xs ys : List ℕ) → Absent n (xs ++ ys) → Absent n ys
+pub absent_right : (n : ℕ) (xs ys : List ℕ) → Absent n (xs ++ ys) → Absent n ys
 absent_right n [] ys a = a
 absent_right n (x ∷ xs) ys a = absent_right n xs ys a.1
 
