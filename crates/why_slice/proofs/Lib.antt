@@ -8,3 +8,5 @@ mod Idle
 mod Staying
 mod Edited
 mod Whole
+pub mod Rising
+pub mod Told

@@ -1,5 +1,7 @@
 -- The statements that an answer depends on.
-use Rattle.std.specs.Prelude.{◌≡◌, ℕ, List, [], ◌∷◌, Option, Some, None, Bool, true, false, not, reverse, Contains}
+use Rattle.std.specs.Prelude.{◌≡◌, ℕ, List, [], ◌∷◌, ◌++◌, fold, Option, Some, None, Bool, true, false, not, if◌then◌else◌, reverse, Contains}
+use Rattle.std.specs.BTreeSet.{insert_key}
+use Rattle.std.specs.Ordering.{nat_cmp}
 use Rattle.imp_syntax.specs.declared.edit.Location.{Location}
 use Rattle.imp_syntax.specs.declared.edit.Location.TheVariants.{Before, After, Head, End}
 use Rattle.imp_slots.specs.Plain.{Act, DoBreak, Does, Routine}
@@ -7,7 +9,7 @@ use Rattle.program_chains.specs.Chains.{selected}
 use Rattle.domain_laws.specs.Operations.{Operations}
 use Rattle.batch_meaning.specs.Values.{Value, State, Over}
 use Rattle.batch_meaning.specs.Batch.{Engine}
-use Rattle.demand_order.specs.OrderLaws.{Needed}
+use Rattle.demand_order.specs.OrderLaws.{Needed, order}
 use Rattle.cell_names.specs.declared.frame.Frame.{Frame}
 use Rattle.cell_names.specs.declared.frame.Frame.TheVariants.{InCall, InLoop}
 use Rattle.cell_names.specs.declared.frame.Point.{Point}
@@ -42,6 +44,18 @@ pointed w (Iterate n k) = Some n
 pointed w (Fix n) = Some n
 pointed w (Exit n) = Some n
 pointed w (Leap n b) = Some b
+
+-- Numbers, rising, each once.
+abbrev pub rising : List ℕ → List ℕ
+rising ns = fold (insert_key nat_cmp) [] ns
+
+abbrev pub listed : Option ℕ → List ℕ
+listed None = []
+listed (Some n) = n ∷ []
+
+abbrev pub all_of : List (List ℕ) → List ℕ
+all_of [] = []
+all_of (ns ∷ nss) = ns ++ all_of nss
 
 module _ {S : Type 0} (dom : Operations S) where
   -- a state that is not a dead one
@@ -86,3 +100,19 @@ module _ {S : Type 0} (dom : Operations S) where
       at_location : located l ≡ Some n → IsUpstream l string p ts n
       in_chain : (z : List ℕ) → Contains (selected program p string) z → Contains z n → IsUpstream l string p ts n
       by_name : (x : CellName) → NeededBy ts x → HangsOn x n → IsUpstream l string p ts n
+
+    -- The same as a list: that of the names in the order in which they are filled.
+    abbrev pub hung_on : CellName → Option Row → List ℕ
+    hung_on x None = []
+    hung_on x (Some r) = if matters (found_by dom engine program same) r then listed (pointed x.path x.point) else []
+
+    abbrev pub all_hung : List CellName → List ℕ
+    all_hung [] = []
+    all_hung (x ∷ xs) = hung_on x (flat_row engine (reverse program) x.path x.point) ++ all_hung xs
+
+    abbrev pub needed_by : List Target → List CellName
+    needed_by ts = order (names_of dom engine program same) (demanded (found_by dom engine program same) ts)
+
+    -- The list of the statements that an answer depends on, rising, each once.
+    abbrev pub upstream : Location → (string : List ℕ) → (p : ℕ) → List Target → List ℕ
+    upstream l string p ts = rising (listed (located l) ++ (all_of (selected program p string) ++ all_hung (needed_by ts)))

@@ -1,5 +1,5 @@
-//! The theorem, as the contract of a function that does nothing.
-ghost use Rattle.why_slice.specs.Claims.{AnswersStay};
+//! The theorems, each the contract of a function that does nothing.
+ghost use Rattle.why_slice.specs.Claims.{AnswersStay, UpstreamIsTold, UpstreamRises};
 
 use cell_rows::rows_give_values;
 use domain_laws::Domain;
@@ -13,3 +13,9 @@ pub fn answers_stay<D: Domain>()
     marks_rise();
     rows_give_values::<D>();
 }
+
+/// The list of the statements that an answer depends on has exactly these, rising, each once.
+pub fn upstream_is_told<D: Domain>()
+    ensures told { (d : D) → UpstreamIsTold (D.operations d) }
+    ensures rises { (d : D) → UpstreamRises (D.operations d) }
+{}

@@ -3,4 +3,4 @@
 
 mod laws;
 
-pub use laws::answers_stay;
+pub use laws::{answers_stay, upstream_is_told};
