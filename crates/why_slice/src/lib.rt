@@ -2,5 +2,7 @@
 #![tactic(auto)]
 
 mod laws;
+mod listing;
 
 pub use laws::{answers_stay, upstream_is_told};
+pub use listing::upstream;
