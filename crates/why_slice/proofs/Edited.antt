@@ -1,11 +1,10 @@
 -- What an edit that replaces a simple statement makes of a program over slots.
-use Rattle.std.specs.Option.{option_map}
 use Rattle.std.specs.Str.{bytes_eq}
-use Rattle.std.proofs.Common.{◌≡◌, ◌≢◌, ◌⊎◌, inl, inr, ℕ, zero, suc, List, [], ◌∷◌, ◌++◌, reverse, map, Option, Some, None, Bool, true, false, cond, if◌then◌else◌, ◌==◌, slice_get, refl, sym, ap, ◌∙◌, subst}
+use Rattle.std.proofs.Common.{◌≡◌, ◌≢◌, ◌⊎◌, inl, inr, ℕ, zero, suc, List, [], ◌∷◌, ◌++◌, reverse, map, Option, true, false, cond, if◌then◌else◌, ◌==◌, slice_get, refl, sym, ap, ◌∙◌, subst}
 use Rattle.std.proofs.lemmas.List.{reverse-append}
 use Rattle.imp_syntax.specs.Plain.{Action, Operand, Statement, Statements, Procedure, number_of}
 use Rattle.imp_syntax.specs.Plain as tree
-use Rattle.imp_slots.specs.Plain.{Layout, Effect, Skip, Invoke, Code, Stop, Simple, If, While, Call, Break, Routine, code_numbers}
+use Rattle.imp_slots.specs.Plain.{Layout, Effect, Skip, Code, Stop, Simple, If, While, Call, Break, Routine, code_numbers}
 use Rattle.imp_slots.specs.Fits.{Absent, Distinct, routine_numbers}
 use Rattle.imp_slots.proofs.Distinct.{left_once, right_once}
 use Rattle.imp_check.specs.Names.{place_named}
@@ -16,7 +15,7 @@ use Rattle.program_chains.specs.declared.widening.Widening.{Widening}
 use Rattle.program_chains.specs.Marks.{marks}
 use Rattle.plain_values.proofs.Cases.{by_bool, by_test}
 use Rattle.why_slice.specs.Exchanged.{OnlySimple, IsSimple}
-use Rattle.why_slice.proofs.Shifted.{shift_number, shift_other, shift_it, pick, pick_other, pick_it, swap}
+use Rattle.why_slice.proofs.Shifted.{shift_other, shift_it, pick, pick_other, pick_it, swap}
 use Rattle.why_slice.proofs.ShiftedRows.{swap_routine, swap_all, SameMarks}
 use Rattle.why_slice.proofs.ShiftedTargets.{absent_left, absent_right}
 
@@ -152,7 +151,7 @@ module _ (s t : ℕ) (a : Action) where
           go (statement_edited x (code_in F ss) (code_in F' (in_block s made ss))) (block_edited ss (rest_only x (code_in F ss) h) (rest_once x (code_in F ss) d))
         where
           go : (number_of x ≢ s → OnlySimple s (statement_in F x (code_in F ss)) → Distinct (code_numbers (statement_in F x (code_in F ss))) → code_in F' (in_block s made ss) ≡ swap s t e (code_in F ss) →
-                statement_in F' (in_statement s made x) (code_in F' (in_block s made ss)) ≡ swap s t e (statement_in F x (code_in F ss))) →
+              statement_in F' (in_statement s made x) (code_in F' (in_block s made ss)) ≡ swap s t e (statement_in F x (code_in F ss))) →
               code_in F' (in_block s made ss) ≡ swap s t e (code_in F ss) →
               code_in F' (cond (number_of x == s) (append (made x) ss) (tree.Starts (in_statement s made x) (in_block s made ss))) ≡ swap s t e (statement_in F x (code_in F ss))
           go one rest =

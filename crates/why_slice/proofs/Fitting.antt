@@ -1,29 +1,28 @@
 -- What the cells of a program hold fits, and so does the exchanged statement.
-use Rattle.std.proofs.Common.{◌≡◌, ◌≢◌, ℕ, zero, suc, ℤ, List, [], ◌∷◌, ◌++◌, length, reverse, Option, Some, None, Bool, true, false, if◌then◌else◌, ◌==◌, nat_lt, slice_get, refl, sym, ap, ◌∙◌, subst}
-use Rattle.imp_slots.specs.Plain.{Layout, Guard, Effect, Does, DoBreak, Invoke, Code, Stop, Simple, If, While, Call, Break, Routine}
-use Rattle.imp_slots.specs.Fits.{fits_effect, fits_guard, FitsCall, FitsCode}
+use Rattle.std.proofs.Common.{◌≡◌, ℕ, zero, suc, ℤ, List, [], ◌∷◌, length, reverse, Some, None, Bool, true, false, if◌then◌else◌, nat_lt, refl, sym, ap, ◌∙◌, subst}
+use Rattle.imp_slots.specs.Plain.{Layout, Guard, Effect, Code, Stop, Simple, If, While, Call, Break, Routine}
+use Rattle.imp_slots.specs.Fits.{fits_effect, fits_guard, FitsCode}
 use Rattle.concrete_sem.specs.Values.{Variables, Heap}
-use Rattle.program_chains.specs.Marks.{marks, IsRising}
+use Rattle.program_chains.specs.Marks.{IsRising}
 use Rattle.program_chains.specs.Claims.{MarksRise}
 use Rattle.domain_laws.specs.Operations.{Operations}
 use Rattle.domain_laws.specs.Laws.{Laws}
 use Rattle.batch_meaning.specs.Values.{Value, State, Over, lift, lift2}
 use Rattle.batch_meaning.specs.Batch.{Engine, next_of}
 use Rattle.batch_meaning.specs.Places.{from, main_layout}
-use Rattle.batch_meaning.proofs.Procedures.{look, look_get, look_from, FitBack, fit_back_from}
+use Rattle.batch_meaning.proofs.Procedures.{look_get, look_from, FitBack, fit_back_from}
 use Rattle.batch_sound.proofs.Values.{Fit, fit_assume, fit_enter}
 use Rattle.batch_sound.proofs.Fitting.{FitPassed, block_fit, procedure_fit, callee}
 use Rattle.cell_names.specs.declared.frame.Frame.{Frame}
 use Rattle.cell_names.specs.declared.frame.Frame.TheVariants.{InCall, InLoop}
-use Rattle.cell_names.specs.declared.frame.Point.TheVariants.{Entry}
 use Rattle.plain_values.proofs.Cases.{by_test, some_inj}
 use Rattle.plain_values.proofs.Members.{Each, each_more, each_both, none_there}
-use Rattle.cell_rows.specs.Blocks.{iterate_at, round}
-use Rattle.cell_rows.specs.Names.{Scope, Mark, mark, At, Algebra, Place, entry, inside, behind_it, level, level_of, start_of, in_call, in_loop, round_place, follow}
-use Rattle.cell_rows.specs.Cells.{Cell, plain, values, calls, block, after_value, iterate_value, one_round}
+use Rattle.cell_rows.specs.Blocks.{iterate_at}
+use Rattle.cell_rows.specs.Names.{Scope, Mark, At, Algebra, Place, entry, inside, behind_it, level, start_of, in_call, in_loop, round_place, follow}
+use Rattle.cell_rows.specs.Cells.{Cell, values, calls, block, after_value, iterate_value, one_round}
 use Rattle.cell_rows.proofs.Lookup.{Stands, unstated}
-use Rattle.why_slice.proofs.Shifted.{swap, pick, pick_it}
-use Rattle.why_slice.proofs.ShiftedRows.{swap_routine, swap_all}
+use Rattle.why_slice.proofs.Shifted.{swap, pick_it}
+use Rattle.why_slice.proofs.ShiftedRows.{swap_all}
 
 -- the other statement fits where the exchanged one stands
 abbrev pub Suits : (s : ℕ) → Effect → Layout → Code → Type 0

@@ -18,7 +18,7 @@ use Rattle.cell_names.specs.declared.frame.Point.TheVariants.{Entry, Body, Post}
 use Rattle.cell_names.specs.Paths.{CellName}
 use Rattle.plain_values.proofs.Cases.{some_inj}
 use Rattle.cell_rows.specs.Names.{IsSame, name, Mark, Place, Algebra, number, breaks, in_call, statement, follow, post_mark}
-use Rattle.cell_rows.specs.Rows.{Unary, Posts, Assumes, Enters, Exits, Leaves, Row, Init, One, Two, Fixed, Joins, joined_point, last_point, leave_points, loop_row, post_row}
+use Rattle.cell_rows.specs.Rows.{Posts, Assumes, Enters, Exits, Leaves, Row, Init, One, Two, Fixed, Joins, joined_point, last_point, leave_points, loop_row, post_row}
 use Rattle.cell_rows.specs.Cells.{Cell, values, plain, unary, row_of_name, value_of_mark}
 use Rattle.cell_rows.specs.Flat.{flat_row}
 use Rattle.cell_rows.specs.Claims.{HasName}
@@ -26,12 +26,12 @@ use Rattle.cell_rows.proofs.Answered.{valued, total_batch}
 use Rattle.cell_rows.proofs.Bare.{row_bare}
 use Rattle.cell_rows.proofs.FlatOnce.{flat_once, all_fine}
 use Rattle.cell_rows.proofs.FlatRows.{flat_row_is}
-use Rattle.cell_rows.proofs.Lookup.{Stands, unstated, fine}
+use Rattle.cell_rows.proofs.Lookup.{unstated, fine}
 use Rattle.cell_rows.proofs.TableProofs.{tie, by_tie, mark_at_name}
 use Rattle.cell_rows.proofs.Tied.{Led, led_to, front_found}
 use Rattle.demand_laws.specs.Claims.{found_by}
 use Rattle.why_slice.specs.Upstream.{is_live}
-use Rattle.why_slice.proofs.Fitting.{AllSuit, PlaceFits, follow_fits, at_fits}
+use Rattle.why_slice.proofs.Fitting.{AllSuit, follow_fits, at_fits}
 
 module _ {S : Type 0} (dom : Operations S) (engine : Engine) (covers : S → Heap → List Variables → Type 0) (laws : Laws dom covers) (rises : MarksRise) (dead : KeepsDead dom) where
   -- on a value that fits

@@ -1,10 +1,10 @@
 -- Numbers that are put into an ordered set one after another.
-use Rattle.std.proofs.Common.{◌≡◌, ◌↔◌, ◌⊎◌, ℕ, zero, suc, ◌<◌, ◌+◌, List, [], ◌∷◌, ◌++◌, fold, take, length, Bool, true, false, cond, ◌==◌, nat_lt, refl, sym, ap, ◌∙◌, subst, inl, inr, arith}
+use Rattle.std.proofs.Common.{◌≡◌, ◌⊎◌, ℕ, ◌<◌, List, [], ◌∷◌, fold, refl, sym, ap, ◌∙◌, subst, inl, inr, arith}
 use Rattle.std.specs.BTreeSet.{insert_key}
 use Rattle.std.proofs.Common.{Ordering, Less, Equal, Greater}
 use Rattle.std.specs.Ordering.{nat_cmp, MatchOrdering, match_ordering}
 use Rattle.std.specs.Cmp.{ranked}
-use Rattle.plain_values.proofs.Members.{Member, here, there, in_left, in_right, either}
+use Rattle.plain_values.proofs.Members.{Member, here, there}
 use Rattle.why_slice.specs.Upstream.{rising}
 
 abbrev put : List ℕ → ℕ → List ℕ

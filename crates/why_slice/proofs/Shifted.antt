@@ -1,25 +1,19 @@
 -- Programs in which a simple statement s is exchanged for another one of number t: what is read off the text shifts.
-use Rattle.std.specs.Option.{option_map}
 use Rattle.std.proofs.lemmas.List.{map-append}
-use Rattle.std.proofs.lemmas.Option.{slice_get-map}
-use Rattle.std.proofs.Common.{◌≡◌, ◌≢◌, ℕ, zero, suc, List, [], ◌∷◌, ◌++◌, length, map, Option, Some, None, Bool, true, false, if◌then◌else◌, ◌==◌, refl, sym, ap, ◌∙◌, subst, arith, nat_lt, slice_get}
-use Rattle.imp_slots.specs.Plain.{Layout, Guard, Effect, Does, Code, Stop, Simple, If, While, Call, Break, Routine, code_numbers}
+use Rattle.std.proofs.Common.{◌≡◌, ◌≢◌, ℕ, suc, List, [], ◌∷◌, ◌++◌, map, Some, if◌then◌else◌, ◌==◌, refl, sym, ap, ◌∙◌}
+use Rattle.imp_slots.specs.Plain.{Effect, Code, Stop, Simple, If, While, Call, Break}
 use Rattle.imp_slots.specs.Fits.{Absent}
-use Rattle.program_chains.specs.Marks.{marks}
-use Rattle.batch_meaning.specs.Batch.{Engine}
-use Rattle.batch_meaning.specs.Places.{find, if_some, from}
+use Rattle.batch_meaning.specs.Places.{find}
 use Rattle.batch_meaning.proofs.Places.{found_member}
-use Rattle.cell_names.specs.declared.frame.Frame.{Frame}
 use Rattle.cell_names.specs.declared.frame.Point.{Point}
 use Rattle.cell_names.specs.declared.frame.Point.TheVariants.{Entry, Then, Else, Body, Post, Iterate, Fix, Exit, Leap}
 use Rattle.cell_names.specs.Paths.{CellName}
 use Rattle.plain_values.proofs.Cases.{by_test, some_inj}
-use Rattle.plain_values.proofs.Members.{Member, here, there, Each, each_more, each_both, none_there, each_as, keys, key_member}
-use Rattle.cell_rows.specs.Names.{name, number, breaks, break_numbers}
+use Rattle.plain_values.proofs.Members.{Member, here, there, keys}
+use Rattle.cell_rows.specs.Names.{name, breaks, break_numbers}
 use Rattle.cell_rows.specs.Rows.{Row, Init, One, Two, Fixed, Joins, last_point, leave_points}
 use Rattle.cell_rows.specs.Targets.{Text, text, deeper, texts}
-use Rattle.cell_rows.specs.Flat.{Flat, flat_of, flat}
-use Rattle.why_slice.specs.Exchanged.{OnlySimple, IsSimple}
+use Rattle.why_slice.specs.Exchanged.{OnlySimple}
 
 module _ (s t : ℕ) where
   abbrev pub shift_number : ℕ → ℕ

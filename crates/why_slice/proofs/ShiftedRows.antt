@@ -2,29 +2,26 @@
 use Rattle.std.specs.Option.{option_map}
 use Rattle.std.proofs.lemmas.List.{map-append}
 use Rattle.std.proofs.lemmas.Option.{slice_get-map}
-use Rattle.std.proofs.Common.{◌≡◌, ◌≢◌, ℕ, zero, suc, List, [], ◌∷◌, ◌++◌, length, map, Option, Some, None, Bool, true, false, if◌then◌else◌, ◌==◌, refl, sym, ap, ◌∙◌, subst, arith, nat_lt, slice_get}
-use Rattle.imp_slots.specs.Plain.{Guard, Effect, DoBreak, Does, Code, Stop, Simple, If, While, Call, Break, Routine}
-use Rattle.imp_slots.specs.Fits.{Absent}
+use Rattle.std.proofs.Common.{◌≡◌, ◌≢◌, ℕ, zero, suc, List, [], ◌∷◌, ◌++◌, length, map, Option, Some, None, Bool, true, false, if◌then◌else◌, ◌==◌, refl, sym, ap, ◌∙◌, nat_lt, slice_get}
+use Rattle.imp_slots.specs.Plain.{Guard, Effect, Does, Code, Stop, Simple, If, While, Call, Break, Routine}
 use Rattle.program_chains.specs.declared.widening.Widening.{Widening}
 use Rattle.program_chains.specs.Marks.{marks}
 use Rattle.batch_meaning.specs.Batch.{Engine}
-use Rattle.batch_meaning.specs.Places.{find, if_some, from}
-use Rattle.batch_meaning.proofs.Places.{found_member}
+use Rattle.batch_meaning.specs.Places.{if_some, from}
 use Rattle.cell_names.specs.declared.frame.Frame.{Frame}
 use Rattle.cell_names.specs.declared.frame.Frame.TheVariants.{InCall, InLoop}
 use Rattle.cell_names.specs.declared.frame.Point.{Point}
-use Rattle.cell_names.specs.declared.frame.Point.TheVariants.{Entry, Then, Else, Body, Post, Iterate, Fix, Exit, Leap}
-use Rattle.plain_values.proofs.Cases.{by_test, some_inj}
-use Rattle.plain_values.proofs.Members.{Member, Each, each_more, each_both, none_there, each_as, keys}
-use Rattle.cell_rows.specs.Names.{Scope, scope_of, name, Mark, mark, Place, bare, number, breaks, break_numbers, place_of, item, start_of, in_call, iterate_point, when}
+use Rattle.cell_names.specs.declared.frame.Point.TheVariants.{Entry, Then, Else, Body, Post, Fix, Leap}
+use Rattle.plain_values.proofs.Cases.{by_test}
+use Rattle.plain_values.proofs.Members.{Each, each_more, each_both, none_there}
+use Rattle.cell_rows.specs.Names.{scope_of, name, Mark, mark, Place, bare, number, breaks, break_numbers, place_of, item, start_of, iterate_point, when}
 use Rattle.cell_rows.specs.Rows as R
 use Rattle.cell_rows.specs.Rows.{Row, Init, One, Two, Fixed, Joins, Posts, Enters, Leaves, sites_of, last_point, leave_points, joined_point, next_operation, branch_row, post_row, next_row, fix_row, exit_row, leap_row, enter_row, turn_row, loop_row, joins_row}
-use Rattle.cell_rows.specs.Targets.{Text, text, deeper, texts}
-use Rattle.cell_rows.specs.Flat.{Flat, flat_of, flat, stand_in, by_text, flat_row}
+use Rattle.cell_rows.specs.Targets.{Text, deeper, texts}
+use Rattle.cell_rows.specs.Flat.{Flat, flat_of, flat}
 use Rattle.cell_rows.proofs.Listed.{each_map, one}
-use Rattle.cell_rows.proofs.Lookup.{then_some}
 use Rattle.why_slice.specs.Exchanged.{OnlySimple, IsSimple}
-use Rattle.why_slice.proofs.Shifted.{shift_number, shift_point, shift, shift_row, shift_other, shift_it, shift_entry, find_shifted, pick, pick_other, pick_it, swap, swap_text, breaks_swapped, break_numbers_swapped, last_shifted, leave_shifted, texts_shifted}
+use Rattle.why_slice.proofs.Shifted.{shift_point, shift_row, shift_entry, pick_other, swap, swap_text, breaks_swapped, break_numbers_swapped, last_shifted, leave_shifted, texts_shifted}
 
 module _ (s t : ℕ) (f : Effect) where
   abbrev pub swap_routine : Routine → Routine

@@ -1,7 +1,7 @@
 -- The row of a name by number, in a program and in the one in which a simple statement is exchanged.
 use Rattle.std.specs.Option.{option_map}
-use Rattle.std.proofs.Common.{◌≡◌, ◌≢◌, ℕ, zero, suc, List, [], ◌∷◌, Option, Some, None, Bool, true, false, refl, sym, ap, ◌∙◌, subst, nat_lt}
-use Rattle.imp_slots.specs.Plain.{Effect, DoBreak, Does, Code, Stop, Simple, If, While, Call, Break, Routine}
+use Rattle.std.proofs.Common.{◌≡◌, ◌≢◌, ℕ, zero, suc, List, [], ◌∷◌, Option, Some, Bool, true, false, refl, sym, ap, ◌∙◌, subst}
+use Rattle.imp_slots.specs.Plain.{Effect, Does, Code, Stop, Simple, If, While, Call, Break, Routine}
 use Rattle.imp_slots.specs.Fits.{Absent}
 use Rattle.batch_meaning.specs.Batch.{Engine}
 use Rattle.batch_meaning.specs.Places.{find, if_some, main_layout}
@@ -10,15 +10,15 @@ use Rattle.cell_names.specs.declared.frame.Frame.{Frame}
 use Rattle.cell_names.specs.declared.frame.Frame.TheVariants.{InCall, InLoop}
 use Rattle.cell_names.specs.declared.frame.Point.{Point}
 use Rattle.cell_names.specs.declared.frame.Point.TheVariants.{Entry, Then, Else, Body, Post, Iterate, Fix, Exit, Leap}
-use Rattle.plain_values.proofs.Cases.{by_test, some_inj}
+use Rattle.plain_values.proofs.Cases.{some_inj}
 use Rattle.plain_values.proofs.Members.{keys}
 use Rattle.cell_rows.specs.Names.{name, Mark, mark, Place, bare, number}
 use Rattle.cell_rows.specs.Rows.{Row, Init, One, Posts, sites_of, branch_row, post_row, next_row, fix_row, exit_row, leap_row, enter_row, turn_row}
 use Rattle.cell_rows.specs.Flat.{Flat, flat, stand_in, by_text, flat_row}
 use Rattle.cell_rows.proofs.Lookup.{then_some}
 use Rattle.why_slice.specs.Exchanged.{OnlySimple, IsSimple}
-use Rattle.why_slice.proofs.Shifted.{shift_number, shift_point, shift, shift_row, shift_other, shift_it, shift_entry, find_shifted, pick_it, swap}
-use Rattle.why_slice.proofs.ShiftedRows.{swap_routine, swap_all, swap_flat, flat_shifted, SameMarks, Known, known, branch_shifts, turn_shifts, next_shifts, fix_shifts, exit_shifts, leap_shifts, enter_shifts, post_shifts}
+use Rattle.why_slice.proofs.Shifted.{shift_number, shift_point, shift, shift_row, shift_other, shift_it, find_shifted, pick_it, swap}
+use Rattle.why_slice.proofs.ShiftedRows.{swap_all, swap_flat, flat_shifted, SameMarks, Known, known, branch_shifts, turn_shifts, next_shifts, fix_shifts, exit_shifts, leap_shifts, enter_shifts, post_shifts}
 
 abbrev Compound : Code → Type 0
 Compound Stop = ⊥

@@ -1,29 +1,26 @@
 -- The targets of a location where a simple statement that the location does not name is exchanged.
 use Rattle.std.specs.Str.{bytes_eq}
 use Rattle.std.proofs.lemmas.List.{reverse-append}
-use Rattle.std.proofs.Common.{◌≡◌, ◌≢◌, ℕ, zero, suc, List, [], ◌∷◌, ◌++◌, length, map, reverse, Option, Some, None, Bool, true, false, if◌then◌else◌, ◌==◌, refl, sym, ap, ◌∙◌, subst, append_assoc, append-nil}
+use Rattle.std.proofs.Common.{◌≡◌, ◌≢◌, ℕ, zero, suc, List, [], ◌∷◌, ◌++◌, length, map, reverse, Option, Some, None, Bool, true, false, if◌then◌else◌, ◌==◌, refl, sym, ap, ◌∙◌, subst, append_assoc}
 use Rattle.imp_syntax.specs.declared.edit.Location.{Location}
 use Rattle.imp_syntax.specs.declared.edit.Location.TheVariants.{Before, After, Head, End}
 use Rattle.imp_slots.specs.Plain.{Effect, Invoke, Code, Stop, Simple, If, While, Call, Break, Routine, code_numbers}
 use Rattle.imp_slots.specs.Fits.{Absent, routine_numbers}
-use Rattle.program_chains.specs.declared.widening.Widening.{Widening}
-use Rattle.program_chains.specs.Chains.{calls_to, extended, through, chains_within, chains, ending_in, selected, has, holder_from, holder, named_from, named, has_while, is_while}
+use Rattle.program_chains.specs.Chains.{calls_to, extended, through, chains_within, ending_in, selected, has, holder_from, holder, named_from, has_while, is_while}
 use Rattle.batch_meaning.specs.Places.{find, if_some, from}
 use Rattle.batch_meaning.specs.Answers.{Found, In, Misses, found_or, found_loop, procedure_of}
 use Rattle.batch_meaning.proofs.Places.{found_member}
-use Rattle.analysis_words.specs.declared.refusal.Refusal.{Refusal}
-use Rattle.analysis_words.specs.declared.refusal.Refusal.TheVariants.{NoStatement, NoProcedure, WrongStatement}
+use Rattle.analysis_words.specs.declared.refusal.Refusal.TheVariants.{NoStatement, NoProcedure}
 use Rattle.cell_names.specs.declared.frame.Point.TheVariants.{Entry, Post, Fix}
 use Rattle.plain_values.proofs.Cases.{by_test, some_inj}
-use Rattle.plain_values.proofs.Members.{Member, keys}
 use Rattle.cell_rows.specs.Names.{number}
 use Rattle.cell_rows.specs.Rows.{last_point}
-use Rattle.cell_rows.specs.Targets.{Text, text, texts, Step, Go, takes, Target, to_point, callee_of, Way, way_of, way_in, way, is_loop, target_in, target, all_targets, targets}
+use Rattle.cell_rows.specs.Targets.{Text, texts, Step, Go, takes, Target, to_point, callee_of, Way, way_of, way_in, way, is_loop, target_in, target, all_targets, targets}
 use Rattle.cell_rows.proofs.Arriving.{keys_texts}
 use Rattle.cell_rows.proofs.Lookup.{then_some}
 use Rattle.why_slice.specs.Upstream.{located}
 use Rattle.why_slice.specs.Exchanged.{OnlySimple, IsSimple}
-use Rattle.why_slice.proofs.Shifted.{shift_number, shift_point, shift_other, shift_entry, find_shifted, swap, swap_text, last_shifted, texts_shifted}
+use Rattle.why_slice.proofs.Shifted.{shift_number, shift_point, shift_other, find_shifted, swap, swap_text, last_shifted, texts_shifted}
 use Rattle.why_slice.proofs.ShiftedRows.{swap_routine, swap_all, length_swapped, from_swapped, known_texts, simple_from}
 
 -- Numbers that a list of procedures lacks.

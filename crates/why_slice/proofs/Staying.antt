@@ -1,7 +1,7 @@
 -- Where a statement that an answer does not depend on is exchanged, the answer stays.
 use Rattle.std.specs.Option.{option_map}
 use Rattle.std.proofs.lemmas.Bool.{or_left, or_right}
-use Rattle.std.proofs.Common.{◌≡◌, ◌≢◌, ℕ, zero, suc, List, [], ◌∷◌, ◌++◌, length, map, reverse, Option, Some, None, Bool, true, false, ◌==◌, nat_lt, if◌then◌else◌, refl, sym, ap, ◌∙◌, subst}
+use Rattle.std.proofs.Common.{◌≡◌, ℕ, zero, suc, List, [], ◌∷◌, ◌++◌, length, map, reverse, Some, None, Bool, true, false, nat_lt, if◌then◌else◌, refl, sym, ap, ◌∙◌, subst}
 use Rattle.imp_syntax.specs.declared.edit.Location.{Location}
 use Rattle.imp_slots.specs.Plain.{Effect, Does, Routine}
 use Rattle.imp_slots.specs.Fits.{Absent, IsChecked, routine_numbers}
@@ -15,8 +15,8 @@ use Rattle.batch_meaning.specs.Answers.{In, procedure_of, answer_in, answer, sum
 use Rattle.analysis_words.specs.declared.refusal.Refusal.TheVariants.{LongString}
 use Rattle.batch_meaning.proofs.Procedures.{FitBack, fit_back}
 use Rattle.demand_order.specs.Order.{member}
-use Rattle.demand_order.specs.OrderLaws.{Needed, input, under}
-use Rattle.demand_order.specs.Asking.{Rows, AreRows, gather, inputs_of, value_of}
+use Rattle.demand_order.specs.OrderLaws.{input, under}
+use Rattle.demand_order.specs.Asking.{Rows, gather, inputs_of, value_of}
 use Rattle.demand_order.proofs.AskingProofs.{gather-none, gather-some}
 use Rattle.cell_names.specs.declared.frame.Frame.{Frame}
 use Rattle.cell_names.specs.declared.frame.Frame.TheVariants.{InCall, InLoop}
@@ -27,23 +27,22 @@ use Rattle.plain_values.proofs.Cases.{by_bool, by_test}
 use Rattle.plain_values.proofs.Members.{keys}
 use Rattle.cell_rows.specs.Names.{IsSame, name, bare, iterate_point}
 use Rattle.cell_rows.specs.Rows.{Row, Init, One, Two, Fixed as FixedRow, Joins, Posts}
-use Rattle.cell_rows.specs.Cells.{Cell, asks_row, operation_row, most_row, by_row, nothing, unary, wants_first, right_of}
+use Rattle.cell_rows.specs.Cells.{Cell, asks_row, operation_row, most_row, by_row, nothing, wants_first, right_of}
 use Rattle.cell_rows.specs.Flat.{flat, flat_row}
-use Rattle.cell_rows.specs.Targets.{Step, Take, Go, Target, to_point, unless_over, demanded_in, demanded, value_in_path, value_of_target, targets}
+use Rattle.cell_rows.specs.Targets.{Step, Take, Go, Target, unless_over, demanded_in, demanded, value_in_path, value_of_target, targets}
 use Rattle.cell_rows.specs.Claims.{HasName, rows_of, InputsAreNames}
 use Rattle.cell_rows.proofs.FlatOnce.{keys_flat}
 use Rattle.cell_rows.proofs.Rowed.{has_row}
 use Rattle.cell_rows.proofs.Unique.{All}
-use Rattle.demand_laws.specs.Claims.{found_by}
 use Rattle.demand_laws.proofs.Demanded.{needed_named, answer_at}
 use Rattle.demand_laws.proofs.Machine.{law}
-use Rattle.why_slice.specs.Upstream.{is_live, matters, HangsOn, NeededBy, IsUpstream, at_location, in_chain, by_name}
+use Rattle.why_slice.specs.Upstream.{is_live, NeededBy, IsUpstream, at_location, by_name}
 use Rattle.why_slice.specs.Exchanged.{IsSimple}
 use Rattle.why_slice.proofs.Turned.{TurnedRow, turned}
 use Rattle.why_slice.proofs.Shifted.{shift_point, shift, shift_row, shift_it}
 use Rattle.why_slice.proofs.ShiftedRows.{swap_all, SameMarks}
-use Rattle.why_slice.proofs.ShiftedTable.{row_shifts, Exchanges, exchanged}
-use Rattle.why_slice.proofs.ShiftedTargets.{simple_reversed, absent_reversed, swapped_reversed, selected_same, Elsewhere, procedure_same, shift_target, targets_shifted}
+use Rattle.why_slice.proofs.ShiftedTable.{row_shifts, exchanged}
+use Rattle.why_slice.proofs.ShiftedTargets.{simple_reversed, absent_reversed, swapped_reversed, Elsewhere, procedure_same, shift_target, targets_shifted}
 use Rattle.why_slice.proofs.Fitting.{AllSuit, all_suit}
 use Rattle.why_slice.proofs.Idle.{idle}
 

@@ -1,11 +1,10 @@
 -- The list of the statements that an answer depends on has exactly those.
-use Rattle.std.specs.BTreeSet.{insert_key}
 use Rattle.std.specs.Ordering.{nat_cmp}
 use Rattle.std.specs.Cmp.{nat_cmp_is}
 use Rattle.std.specs.List.{AllByRecursion, slice_index_or}
 use Rattle.std.specs.List.Sorted.{IsStrictlySortedBy}
 use Rattle.std.proofs.lemmas.Bool.{or_left, or_right}
-use Rattle.std.proofs.Common.{◌≡◌, ◌↔◌, ◌⊎◌, ◌||◌, ℕ, zero, suc, ◌<◌, List, [], ◌∷◌, ◌++◌, length, reverse, Option, Some, None, Bool, true, false, if◌then◌else◌, Contains, Less, refl, sym, ap, ◌∙◌, subst, inl, inr, arith}
+use Rattle.std.proofs.Common.{◌≡◌, ◌↔◌, ℕ, zero, suc, ◌<◌, List, [], ◌∷◌, ◌++◌, length, reverse, Option, Some, None, Bool, true, false, if◌then◌else◌, Contains, Less, refl, sym, subst, inl, inr, arith}
 use Rattle.imp_syntax.specs.declared.edit.Location.{Location}
 use Rattle.imp_slots.specs.Plain.{Routine}
 use Rattle.imp_slots.specs.Fits.{IsChecked}
@@ -13,12 +12,10 @@ use Rattle.program_chains.specs.Chains.{selected}
 use Rattle.domain_laws.specs.Operations.{Operations}
 use Rattle.batch_meaning.specs.Batch.{Engine}
 use Rattle.demand_order.specs.Order.{member}
-use Rattle.demand_order.specs.OrderLaws.{order}
 use Rattle.demand_order.proofs.AskingProofs.{system-acyclic}
 use Rattle.demand_order.proofs.OrderLemmas.{or_cases}
 use Rattle.demand_order.proofs.TheoremProofs.{needed}
 use Rattle.cell_names.specs.Paths.{CellName}
-use Rattle.plain_values.proofs.Cases.{some_inj}
 use Rattle.plain_values.proofs.Members.{Member, here, there, in_left, in_right, either}
 use Rattle.cell_rows.specs.Names.{IsSame}
 use Rattle.cell_rows.specs.Rows.{Row}
@@ -26,7 +23,7 @@ use Rattle.cell_rows.specs.Flat.{flat_row}
 use Rattle.cell_rows.specs.Targets.{Target, demanded}
 use Rattle.demand_laws.specs.Claims.{found_by, names_of}
 use Rattle.demand_laws.proofs.Machine.{rows, law}
-use Rattle.why_slice.specs.Upstream.{rising, located, listed, all_of, pointed, matters, HangsOn, NeededBy, IsUpstream, at_location, in_chain, by_name, hung_on, all_hung, needed_by, upstream}
+use Rattle.why_slice.specs.Upstream.{located, listed, all_of, pointed, matters, HangsOn, NeededBy, IsUpstream, at_location, in_chain, by_name, hung_on, all_hung, needed_by, upstream}
 use Rattle.why_slice.proofs.Rising.{Strict, rising_strict, in_rising, of_rising}
 
 pub contains_of : {A : Type 0} (xs : List A) (x : A) → Member x xs → Contains xs x
@@ -120,13 +117,13 @@ module _ {S : Type 0} (dom : Operations S) (engine : Engine) (program : List Rou
     unfolding chains
     told n = (
       λ c.
-      elim (either n (listed (located l)) (all_of chains ++ all_hung dom engine program same (needed_by dom engine program same ts)) (of_rising _ n (member_of _ n c))) [
-        | inl a ↦ at_location (listed_only (located l) n a)
-        | inr b ↦ elim (either n (all_of chains) (all_hung dom engine program same (needed_by dom engine program same ts)) b) [
-          | inl d ↦ (let z = all_only chains n d in in_chain z.0 (contains_of chains z.0 z.1) (contains_of z.0 n z.2))
-          | inr h ↦ (let x = all_hung_only (needed_by dom engine program same ts) n h in by_name x.0 ((needs x.0).0 (as_member same is.same_refl (needed_by dom engine program same ts) x.0 x.1)) x.2)
-        ]
-      ],
+          elim (either n (listed (located l)) (all_of chains ++ all_hung dom engine program same (needed_by dom engine program same ts)) (of_rising _ n (member_of _ n c))) [
+            | inl a ↦ at_location (listed_only (located l) n a)
+            | inr b ↦ elim (either n (all_of chains) (all_hung dom engine program same (needed_by dom engine program same ts)) b) [
+              | inl d ↦ (let z = all_only chains n d in in_chain z.0 (contains_of chains z.0 z.1) (contains_of z.0 n z.2))
+              | inr h ↦ (let x = all_hung_only (needed_by dom engine program same ts) n h in by_name x.0 ((needs x.0).0 (as_member same is.same_refl (needed_by dom engine program same ts) x.0 x.1)) x.2)
+            ]
+          ],
       λ u. contains_of _ n (in_rising _ n (there_if u)),
     )
       where

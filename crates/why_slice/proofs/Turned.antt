@@ -1,5 +1,5 @@
 -- Two tables with the same rows but for the names, and for operations that give the same on the values that are there.
-use Rattle.std.proofs.Common.{◌≡◌, ℕ, zero, suc, ◌<◌, Bool, true, List, [], ◌∷◌, ◌++◌, map, Option, Some, None, option_map, refl, sym, ap, ◌∙◌, subst, arith}
+use Rattle.std.proofs.Common.{◌≡◌, ℕ, zero, suc, ◌<◌, Bool, true, List, [], ◌∷◌, ◌++◌, map, Option, Some, option_map, refl, sym, ap, ◌∙◌, arith}
 use Rattle.demand_order.specs.Order.{member}
 use Rattle.demand_order.specs.Asking.{Rows, AreRows, gather, value_of, inputs_of}
 use Rattle.std.proofs.lemmas.Bool.{or_left, or_right}

@@ -1,7 +1,5 @@
 -- The law over edits of programs.
-use Rattle.std.proofs.Common.{◌≡◌, ℕ, Bool, List, reverse, map, Some, sym, ap, ◌∙◌, subst}
-use Rattle.imp_syntax.specs.Plain.{Procedure}
-use Rattle.imp_syntax.specs.declared.edit.Location.{Location}
+use Rattle.std.proofs.Common.{◌≡◌, List, map, sym, ap, ◌∙◌, subst}
 use Rattle.imp_slots.specs.Fits.{IsChecked}
 use Rattle.imp_check.specs.Slots.{routines_of}
 use Rattle.concrete_sem.specs.Values.{Variables, Heap}
