@@ -65,7 +65,7 @@ joined_next dom o [] s = refl
 joined_next dom o (t ∷ ss) s = joined_next dom (Some (joined dom o t)) ss s
 
 module _ {S : Type 0} (dom : Operations S) (plan : Plan) (store : Store S) (right : IsRight dom plan store) where
-  value_of : (n : ℕ) (x : CellName) (f : Filled Held) → slice_get store.names.names n ≡ Some x → get store.graph.cells n ≡ Some f → value_in store n ≡ Some (found dom plan x).value
+  pub value_of : (n : ℕ) (x : CellName) (f : Filled Held) → slice_get store.names.names n ≡ Some x → get store.graph.cells n ≡ Some f → value_in store n ≡ Some (found dom plan x).value
   value_of n x f e h =
       ap (λ o. option_and_then (plain_value store.states) (option_map (λ (g : Filled Held). g.value) o)) h
       ∙ by f.value (stored dom plan store right n x f e h).value

@@ -1,7 +1,8 @@
 -- Walks over targets: where they stand, and how they go on.
-use Rattle.std.proofs.Common.{◌≡◌, ℕ, zero, suc, ◌<◌, ◌||◌, List, [], ◌∷◌, ◌++◌, map, drop, length, Option, Some, None, Bool, true, false, IsSome, slice_get, refl, sym, ap, subst, ◌∙◌, inl, inr, append_assoc}
+use Rattle.std.proofs.Common.{◌≡◌, ℕ, zero, suc, ◌<◌, ◌||◌, List, [], ◌∷◌, ◌++◌, map, drop, length, Option, Some, None, Bool, true, false, IsSome, slice_get, refl, sym, ap, subst, ◌∙◌, inl, inr, append_assoc, append-nil}
 use Rattle.std.specs.Prelude.{is_some}
 use Rattle.std.specs.FinMap.{get}
+use Rattle.std.proofs.lemmas.Bool.{or_left, or_right}
 use Rattle.std.proofs.lemmas.List.{map-append}
 use Rattle.plain_values.proofs.Cases.{or_either, some_inj}
 use Rattle.domain_laws.specs.Operations.{Operations}
@@ -9,11 +10,14 @@ use Rattle.batch_meaning.specs.Values as batch
 use Rattle.demand_order.specs.Order.{member}
 use Rattle.demand_order.proofs.OrderLemmas.{member-append}
 use Rattle.cell_names.specs.declared.frame.Frame.{Frame}
-use Rattle.cell_names.specs.declared.frame.Frame.TheVariants.{InCall}
+use Rattle.cell_names.specs.declared.frame.Frame.TheVariants.{InCall, InLoop}
 use Rattle.cell_names.specs.declared.frame.Point.{Point}
+use Rattle.cell_names.specs.declared.frame.Point.TheVariants.{Fix}
 use Rattle.cell_names.specs.Paths.{CellName}
 use Rattle.cell_rows.specs.Claims.{HasName}
-use Rattle.cell_rows.specs.Targets.{Step, Go, Target, to_point, demanded}
+use Rattle.cell_rows.specs.Names.{name}
+use Rattle.cell_rows.specs.Cells.{Cell}
+use Rattle.cell_rows.specs.Targets.{Step, Take, Go, Target, to_point, unless_over, demanded}
 use Rattle.demand_laws.specs.Walks.{asks, goes, names_left, values_left}
 use Rattle.demand_laws.specs.Walks as law
 use Rattle.demand_laws.proofs.Walking.{start_names, start_values, walk_goes}
@@ -27,7 +31,7 @@ use Rattle.named_cells.specs.Same.{same_name}
 use Rattle.named_cells.specs.Named.{filled_at}
 use Rattle.daig_query.specs.Kept.{kept, Grows}
 use Rattle.daig_query.specs.Right.{found, IsRight}
-use Rattle.daig_query.specs.Walked.{AreTargets, behind_steps, place_of, Stands, IsPlaced, AreStacked, IsGood, IsDone}
+use Rattle.daig_query.specs.Walked.{AreTargets, behind_steps, place_of, Stands, IsPlaced, AreStacked, IsGood, IsDone, fixes, with_fixes, AreAmong}
 use Rattle.named_cells.proofs.Same.{same_is}
 use Rattle.daig_query.proofs.Growing.{path_stays, keeps_within, cells_grow, open_grows, next_grows, name_stays}
 use Rattle.named_cells.proofs.Numbers.{filled_number, filled_named, numbers_grow, numbers_push}
@@ -45,6 +49,76 @@ kept_grows dom plan old new right grows x h = go (filled_at old.graph.cells old.
 one_member : (x y : CellName) → member same_name (y ∷ []) x ≡ true → x ≡ y
 one_member x y h = elim (or_either (same_name x y) false h) [ inl a ↦ same_is.same_true x y a | inr b ↦ absurd cc ]
 
+-- names among others
+among_left : (xs ys : List CellName) → AreAmong xs (xs ++ ys)
+among_left xs ys x m = member-append same_name xs ys x ∙ or_left (member same_name xs x) (member same_name ys x) m
+
+among_last : (xs ys : List CellName) → AreAmong ys (xs ++ ys)
+among_last xs ys x m = member-append same_name xs ys x ∙ or_right (member same_name xs x) (member same_name ys x) m
+
+among_both : (xs ys zs : List CellName) → AreAmong xs zs → AreAmong ys zs → AreAmong (xs ++ ys) zs
+among_both xs ys zs f g x m = elim (or_either (member same_name xs x) (member same_name ys x) (sym (member-append same_name xs ys x) ∙ m)) [ inl a ↦ f x a | inr b ↦ g x b ]
+
+among_right : (xs us vs : List CellName) → AreAmong xs vs → AreAmong xs (us ++ vs)
+among_right xs us vs f x m = among_last us vs x (f x m)
+
+among_on : (xs us vs ws : List CellName) → AreAmong xs (us ++ vs) → AreAmong vs ws → AreAmong xs (us ++ ws)
+among_on xs us vs ws f g x m =
+    elim (or_either (member same_name us x) (member same_name vs x) (sym (member-append same_name us vs x) ∙ f x m)) [ inl a ↦ among_left us ws x a | inr b ↦ among_last us ws x (g x b) ]
+
+one_first : (x y : CellName) (ys : List CellName) → member same_name (y ∷ []) x ≡ true → member same_name (y ∷ ys) x ≡ true
+one_first x y ys m = or_left (same_name x y) (member same_name ys x) (subst (λ z. same_name x z ≡ true) (one_member x y m) (same_is.same_refl x))
+
+first_or : {P : Type 0} (x y : CellName) (ys : List CellName) → member same_name (y ∷ ys) x ≡ true → (member same_name (y ∷ []) x ≡ true → P) → (member same_name ys x ≡ true → P) → P
+first_or x y ys m f g = elim (or_either (same_name x y) (member same_name ys x) m) [ inl a ↦ f (or_left (same_name x y) false a) | inr b ↦ g b ]
+
+-- Into a loop's last round there is one fixed point more on the way.
+module _ {S : Type 0} (y : CellName) (c : Cell S) where
+  round_fixes : (ts : List Target) (w : List Frame) → asks (law.walk w ts) ≡ Some y → law.found c (law.walk w ts) ≡ [] → fixes (goes c (law.walk w ts)).path ≡ y ∷ fixes w
+  round_fixes [] w e none = absurd cc
+  round_fixes (t ∷ ts) w e none = go t.steps w e none
+    where
+      by : (n : ℕ) (ss : List Step) (w : List Frame) (v : batch.Value S) → y ≡ name w (Fix n) → unless_over v (v ∷ []) [] ≡ [] → fixes (unless_over v (law.start ts) (law.walk (InLoop n c.index ∷ w) (to_point ss t.last ∷ ts))).path ≡ y ∷ fixes w
+      by n ss w (batch.Over m z) i none = absurd cc
+      by n ss w (batch.State s) i none = ap (λ x. x ∷ fixes w) (sym i)
+
+      go : (ss : List Step) (w : List Frame) → Some (law.asks_in ss t.last w) ≡ Some y → law.found_in c ss ≡ [] → fixes (law.goes_in c ss t.last w ts).path ≡ y ∷ fixes w
+      go [] w e none = absurd cc
+      go (Go n ∷ ss) w e none = go ss (InCall n ∷ w) e none
+      go (Take n ∷ ss) w e none = by n ss w c.value (sym (some_inj _ _ e)) none
+
+  goes_on : (ts : List Target) (w : List Frame) → asks (law.walk w ts) ≡ Some y → law.found c (law.walk w ts) ≡ [] → (goes c (law.walk w ts)).left ≡ [] → (goes c (law.walk w ts)).path ≡ []
+  goes_on [] w e none i = absurd cc
+  goes_on (t ∷ ts) w e none i = go t.steps w none i
+    where
+      by : (n : ℕ) (ss : List Step) (w : List Frame) (v : batch.Value S) → unless_over v (v ∷ []) [] ≡ [] → (unless_over v (law.start ts) (law.walk (InLoop n c.index ∷ w) (to_point ss t.last ∷ ts))).left ≡ [] →
+          (unless_over v (law.start ts) (law.walk (InLoop n c.index ∷ w) (to_point ss t.last ∷ ts))).path ≡ []
+      by n ss w (batch.Over m z) none i = absurd cc
+      by n ss w (batch.State s) none i = absurd cc
+
+      go : (ss : List Step) (w : List Frame) → law.found_in c ss ≡ [] → (law.goes_in c ss t.last w ts).left ≡ [] → (law.goes_in c ss t.last w ts).path ≡ []
+      go [] w none i = absurd cc
+      go (Go n ∷ ss) w none i = go ss (InCall n ∷ w) none i
+      go (Take n ∷ ss) w none i = by n ss w c.value none i
+
+  -- Behind a target's last name the next target begins; that name's path has the fixed points on the way.
+  ends_here : (ts : List Target) (w : List Frame) → asks (law.walk w ts) ≡ Some y → law.found c (law.walk w ts) ≡ c.value ∷ [] → ((goes c (law.walk w ts)).path ≡ []) × (fixes y.path ≡ fixes w)
+  ends_here [] w e one = absurd cc
+  ends_here (t ∷ ts) w e one = go t.steps w e one
+    where
+      by : (n : ℕ) (ss : List Step) (w : List Frame) (v : batch.Value S) → y ≡ name w (Fix n) → unless_over v (v ∷ []) [] ≡ v ∷ [] → ((unless_over v (law.start ts) (law.walk (InLoop n c.index ∷ w) (to_point ss t.last ∷ ts))).path ≡ []) × (fixes y.path ≡ fixes w)
+      by n ss w (batch.Over m z) i one = (refl, ap (λ (x : CellName). fixes x.path) i)
+      by n ss w (batch.State s) i one = absurd cc
+
+      go : (ss : List Step) (w : List Frame) → Some (law.asks_in ss t.last w) ≡ Some y → law.found_in c ss ≡ c.value ∷ [] → ((law.goes_in c ss t.last w ts).path ≡ []) × (fixes y.path ≡ fixes w)
+      go [] w e one = (refl, ap (λ (x : CellName). fixes x.path) (sym (some_inj _ _ e)))
+      go (Go n ∷ ss) w e one = go ss (InCall n ∷ w) e one
+      go (Take n ∷ ss) w e one = by n ss w c.value (sym (some_inj _ _ e)) one
+
+with_both : (xs ys : List CellName) → with_fixes (xs ++ ys) ≡ with_fixes xs ++ with_fixes ys
+with_both [] ys = refl
+with_both (x ∷ xs) ys = ap (λ zs. x ∷ (fixes x.path ++ zs)) (with_both xs ys) ∙ ap (λ zs. x ∷ zs) (sym (append_assoc (fixes x.path) (with_fixes xs) (with_fixes ys)))
+
 module _ {S : Type 0} (dom : Operations S) (plan : Plan) (ts : List Target) where
   -- a walk begins
   pub stands_first : (store : Store S) → Stands dom plan ts store (law.start ts) []
@@ -56,12 +130,26 @@ module _ {S : Type 0} (dom : Operations S) (plan : Plan) (ts : List Target) wher
     values = sym (start_values (found dom plan) ts);
     numbers = refl;
     there = λ i x e. absurd cc;
+    covered = λ x h. absurd cc;
+    comes = λ x h. absurd cc;
+    ended = λ e. refl;
   }
 
   -- through a call
   pub stands_go : (store : Store S) (w : List Frame) (n : ℕ) (ss : List Step) (p : Point) (rest : List Target) (cells : List ℕ) →
       Stands dom plan ts store (law.walk w (to_point (Go n ∷ ss) p ∷ rest)) cells → Stands dom plan ts store (law.walk (InCall n ∷ w) (to_point ss p ∷ rest)) cells
-  stands_go store w n ss p rest cells h = record { asked = h.asked; names = h.names; asked_kept = h.asked_kept; lasts = h.lasts; values = h.values; numbers = h.numbers; there = h.there }
+  stands_go store w n ss p rest cells h = record {
+    asked = h.asked;
+    names = h.names;
+    asked_kept = h.asked_kept;
+    lasts = h.lasts;
+    values = h.values;
+    numbers = h.numbers;
+    there = h.there;
+    covered = h.covered;
+    comes = h.comes;
+    ended = λ e. absurd cc;
+  }
 
   asked_more : (store : Store S) (k : law.Walk) (cells : List ℕ) (y : CellName) → (h : Stands dom plan ts store k cells) → kept store y ≡ true → (x : CellName) → member same_name (h.asked ++ y ∷ []) x ≡ true → kept store x ≡ true
   asked_more store k cells y h keeps x m = elim (or_either (member same_name h.asked x) (member same_name (y ∷ []) x) (sym (member-append same_name h.asked (y ∷ []) x) ∙ m)) [
@@ -83,6 +171,18 @@ module _ {S : Type 0} (dom : Operations S) (plan : Plan) (ts : List Target) wher
     values = h.values ∙ ap (λ vs. map (λ x. (found dom plan x).value) h.lasts ++ vs) ((walk_goes (found dom plan) k y e).1 ∙ ap (λ us. us ++ values_left (found dom plan) (goes (found dom plan y) k)) none);
     numbers = h.numbers;
     there = h.there;
+    covered =
+        among_both h.asked (y ∷ []) (with_fixes h.lasts ++ fixes (goes (found dom plan y) k).path)
+        (among_on h.asked (with_fixes h.lasts) (fixes k.path) (fixes (goes (found dom plan y) k).path) h.covered (λ x m. subst (λ xs. member same_name xs x ≡ true) (sym (round_fixes y (found dom plan y) k.left k.path e none)) (or_right (same_name x y) (member same_name (fixes k.path) x) m)))
+        (among_right (y ∷ []) (with_fixes h.lasts) (fixes (goes (found dom plan y) k).path) (λ x m. subst (λ xs. member same_name xs x ≡ true) (sym (round_fixes y (found dom plan y) k.left k.path e none)) (one_first x y (fixes k.path) m)));
+    comes =
+        among_both (with_fixes h.lasts) (fixes (goes (found dom plan y) k).path) (h.asked ++ y ∷ [])
+        (λ x m. among_left h.asked (y ∷ []) x (h.comes x (among_left (with_fixes h.lasts) (fixes k.path) x m)))
+        (λ x m.
+        first_or x y (fixes k.path) (subst (λ xs. member same_name xs x ≡ true) (round_fixes y (found dom plan y) k.left k.path e none) m)
+        (λ i. among_last h.asked (y ∷ []) x i)
+        (λ i. among_left h.asked (y ∷ []) x (h.comes x (among_last (with_fixes h.lasts) (fixes k.path) x i))));
+    ended = goes_on y (found dom plan y) k.left k.path e none;
   }
 
   pub pushed_there : (store : Store S) (cells : List ℕ) (n : ℕ) → AreCells store.graph.cells cells → IsSome (get store.graph.cells n) → AreCells store.graph.cells (cells ++ n ∷ [])
@@ -90,6 +190,15 @@ module _ {S : Type 0} (dom : Operations S) (plan : Plan) (ts : List Target) wher
   pushed_there store [] n h s (suc i) x e = absurd cc
   pushed_there store (c ∷ cells) n h s zero x e = h zero x e
   pushed_there store (c ∷ cells) n h s (suc i) x e = pushed_there store cells n (λ j y q. h (suc j) y q) s i x e
+
+  next_fixes : (k : law.Walk) (y : CellName) (lasts : List CellName) → asks k ≡ Some y → law.found (found dom plan y) k ≡ (found dom plan y).value ∷ [] →
+      with_fixes (lasts ++ y ∷ []) ++ fixes (goes (found dom plan y) k).path ≡ with_fixes lasts ++ y ∷ fixes k.path
+  next_fixes k y lasts e one =
+      let h = ends_here y (found dom plan y) k.left k.path e one in
+      ap (λ w. with_fixes (lasts ++ y ∷ []) ++ fixes w) h.0
+      ∙ append-nil (with_fixes (lasts ++ y ∷ []))
+      ∙ with_both lasts (y ∷ [])
+      ∙ ap (λ zs. with_fixes lasts ++ y ∷ zs) (append-nil (fixes y.path) ∙ h.1)
 
   -- past one that is the last of a target
   pub stands_next : (store : Store S) (k : law.Walk) (cells : List ℕ) (y : CellName) (n : ℕ) → Stands dom plan ts store k cells → asks k ≡ Some y → kept store y ≡ true → law.found (found dom plan y) k ≡ (found dom plan y).value ∷ [] →
@@ -108,6 +217,20 @@ module _ {S : Type 0} (dom : Operations S) (plan : Plan) (ts : List Target) wher
         ∙ ap (λ us. us ++ rest) (sym (map-append g h.lasts (y ∷ [])));
     numbers = numbers_push store.names.names cells h.lasts n y h.numbers number;
     there = pushed_there store cells n h.there s;
+    covered =
+        subst (AreAmong (h.asked ++ y ∷ [])) (sym (next_fixes k y h.lasts e one))
+        (among_both h.asked (y ∷ []) (with_fixes h.lasts ++ y ∷ fixes k.path)
+        (among_on h.asked (with_fixes h.lasts) (fixes k.path) (y ∷ fixes k.path) h.covered (λ x m. or_right (same_name x y) (member same_name (fixes k.path) x) m))
+        (among_right (y ∷ []) (with_fixes h.lasts) (y ∷ fixes k.path) (λ x m. one_first x y (fixes k.path) m)));
+    comes =
+        subst (λ xs. AreAmong xs (h.asked ++ y ∷ [])) (sym (next_fixes k y h.lasts e one))
+        (among_both (with_fixes h.lasts) (y ∷ fixes k.path) (h.asked ++ y ∷ [])
+        (λ x m. among_left h.asked (y ∷ []) x (h.comes x (among_left (with_fixes h.lasts) (fixes k.path) x m)))
+        (λ x m.
+        first_or x y (fixes k.path) m
+        (λ i. among_last h.asked (y ∷ []) x i)
+        (λ i. among_left h.asked (y ∷ []) x (h.comes x (among_last (with_fixes h.lasts) (fixes k.path) x i)))));
+    ended = λ i. (ends_here y (found dom plan y) k.left k.path e one).0;
   }
 
   -- with more cells
@@ -120,6 +243,9 @@ module _ {S : Type 0} (dom : Operations S) (plan : Plan) (ts : List Target) wher
     values = h.values;
     numbers = numbers_grow old.names.names new.names.names grows.names cells h.lasts h.numbers;
     there = cells_grow dom plan old new grows cells h.there;
+    covered = h.covered;
+    comes = h.comes;
+    ended = h.ended;
   }
 
   pub place_stays : (old new : Store S) → Grows old new → (w : Walk) → w.path < length old.names.paths → place_of ts new w ≡ place_of ts old w

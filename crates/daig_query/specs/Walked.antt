@@ -5,8 +5,11 @@ use Rattle.domain_laws.specs.Operations.{Operations}
 use Rattle.demand_order.specs.Order.{member}
 use Rattle.std.specs.FinMap.{get}
 use Rattle.cell_names.specs.declared.frame.Frame.{Frame}
+use Rattle.cell_names.specs.declared.frame.Frame.TheVariants.{InCall, InLoop}
+use Rattle.cell_names.specs.declared.frame.Point.TheVariants.{Fix}
 use Rattle.cell_names.specs.Known.{Known, KeepsNumbers}
 use Rattle.cell_names.specs.Paths.{CellName, path_at}
+use Rattle.cell_rows.specs.Names.{name}
 use Rattle.cell_rows.specs.Targets.{Target, to_point, demanded, targets, value_of_target}
 use Rattle.demand_laws.specs.Walks.{asks, names_left, values_left}
 use Rattle.demand_laws.specs.Walks as law
@@ -20,6 +23,21 @@ use Rattle.named_cells.specs.Named.{AreNumbers}
 use Rattle.daig_query.specs.Kept.{Cells, kept}
 use Rattle.daig_query.specs.Right.{found}
 use Rattle.daig_query.specs.Opened.{name_of, IsOpen, next_of}
+
+-- the fixed points of the loops that a path goes into
+abbrev pub fixes : List Frame → List CellName
+fixes [] = []
+fixes (InCall n ∷ w) = fixes w
+fixes (InLoop n k ∷ w) = name w (Fix n) ∷ fixes w
+
+-- names, each with those of its path
+abbrev pub with_fixes : List CellName → List CellName
+with_fixes [] = []
+with_fixes (x ∷ xs) = x ∷ (fixes x.path ++ with_fixes xs)
+
+-- all of these names are among those
+abbrev pub AreAmong : (xs ys : List CellName) → Type 0
+AreAmong xs ys = (x : CellName) → member same_name xs x ≡ true → member same_name ys x ≡ true
 
 -- the targets of a location under a call string
 pub record AreTargets (plan : Plan) (ts : List Target) : Type 0 where
@@ -98,7 +116,7 @@ module _ {S : Type 0} (dom : Operations S) (plan : Plan) where
 
 module _ {S : Type 0} (dom : Operations S) (plan : Plan) (ts : List Target) where
   -- A walk stands here: the names that were asked for have cells, and of each target that was left behind the cell of the
-  -- last name is found.
+  -- last name is found. What was asked for are these last names and the fixed points on the ways to them, and to here.
   pub record Stands (store : Store S) (k : law.Walk) (cells : List ℕ) : Type 0 where
     pub asked : List CellName
     pub names : demanded (found dom plan) ts ≡ asked ++ names_left (found dom plan) k
@@ -107,6 +125,9 @@ module _ {S : Type 0} (dom : Operations S) (plan : Plan) (ts : List Target) wher
     pub values : map (value_of_target (found dom plan)) ts ≡ map (λ x. (found dom plan x).value) lasts ++ values_left (found dom plan) k
     pub numbers : AreNumbers store.names.names cells lasts
     pub there : AreCells store.graph.cells cells
+    pub covered : AreAmong asked (with_fixes lasts ++ fixes k.path)
+    pub comes : AreAmong (with_fixes lasts ++ fixes k.path) asked
+    pub ended : k.left ≡ [] → k.path ≡ []
 
   pub record IsPlaced (store : Store S) (w : Walk) : Type 0 where
     pub path : w.path < length store.names.paths

@@ -1,5 +1,5 @@
 //! Answers read from cells.
-ghost use Rattle.std.specs.Prelude.{◌≡◌, ℕ, ◌+◌, ◌*◌, ◌≤◌, List, length, map, nat_lt, Some, false, IfOk};
+ghost use Rattle.std.specs.Prelude.{◌≡◌, ℕ, ◌+◌, ◌*◌, ◌≤◌, List, length, map, nat_lt, Some, false, IfOk, option_copied};
 ghost use Rattle.imp_syntax.specs.declared.edit.Location.{Location};
 ghost use Rattle.batch_meaning.specs.Values.{Value as PlainValue};
 ghost use Rattle.batch_meaning.specs.Batch.{Engine as BatchEngine};
@@ -7,7 +7,8 @@ ghost use Rattle.batch_meaning.specs.Answers.{In, answer_in, procedure_of, summe
 ghost use Rattle.cell_rows.specs.Targets.{Target as PlainTarget, targets, value_of_target};
 ghost use Rattle.imp_flow.specs.Plans.{Plan};
 ghost use Rattle.daig_query.specs.Right.{found};
-ghost use Rattle.daig_query.specs.Answered.{AreFilled, Covers, HoldValues, Says};
+ghost use Rattle.demand_laws.specs.Stops.{state_of};
+ghost use Rattle.daig_query.specs.Answered.{value_in, AreFilled, Covers, HoldValues, Says};
 
 use crate::engine::Engine;
 use crate::store::Store;
@@ -54,6 +55,17 @@ fn read_cells<D: Domain, L: Ledger>(
 }
 
 impl<D: Domain> Engine<D> {
+    /// The state that a cell holds; `None` where it holds an Over.
+    pub fn state(&self, cell: usize) -> Option<&D::State>
+        requires there { (v : PlainValue D.State) × (value_in self.now.store cell ≡ Some v) }
+        ensures is { (v : PlainValue D.State) → value_in self.now.store cell ≡ Some v → option_copied result ≡ state_of v }
+    {
+        match self.store.graph.value(cell) {
+            Some(Value::State(held)) => Some(self.store.states.get(held.state)),
+            _ => None,
+        }
+    }
+
     /// The answer of targets for which nothing is missing: the first Over in their order, else the join of their states
     /// from left to right, each shed. There is `None` where there are no targets. For the targets of a location under a
     /// call string it is the answer of batch interpretation, and a state covers every run there.

@@ -44,6 +44,13 @@ impl Walk {
         }
     }
 
+    /// The cells of the last names of the targets that are left behind, in order.
+    pub fn found(&self) -> &[usize]
+        ensures same { result.now ≡ self.now.found.items }
+    {
+        self.found.as_slice()
+    }
+
     /// Takes the names off the stack that were filled in the meantime.
     pub(crate) fn drop_filled(&mut self, graph: &Graph<Held>)
         ensures is { Drops graph.now.cells self.old self.new }

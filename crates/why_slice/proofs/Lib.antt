@@ -1,0 +1,13 @@
+mod Turned
+pub mod Shifted
+pub mod ShiftedRows
+pub mod ShiftedTable
+mod ShiftedTargets
+mod Fitting
+mod Idle
+mod Staying
+mod Edited
+mod Whole
+pub mod Rising
+pub mod Told
+mod Putting

@@ -1,0 +1,7 @@
+use Rattle.std.proofs.Common.{◌≡◌, fold, take}
+use Rattle.std.specs.BTreeSet.{insert_key}
+use Rattle.std.specs.Ordering.{nat_cmp}
+use Rattle.why_slice.proofs.listing.put_sites.Given as goal
+
+abbrev pub invariant-loop-site : goal.invariant-loop-site
+invariant-loop-site l = l.numbers.keys ≡ fold (insert_key nat_cmp) l.initial.numbers.keys (take l.site-index l.site-items)

@@ -1,0 +1,3 @@
+pub mod Upstream
+pub mod Exchanged
+pub mod Claims

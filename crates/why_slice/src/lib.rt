@@ -1,0 +1,8 @@
+//! The statements that an answer depends on.
+#![tactic(auto)]
+
+mod laws;
+mod listing;
+
+pub use laws::{answers_stay, upstream_is_told};
+pub use listing::upstream;
