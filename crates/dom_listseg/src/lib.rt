@@ -15,6 +15,7 @@
 mod assumptions;
 mod calls;
 mod domain;
+mod portable;
 mod sets;
 mod state;
 mod statements;
