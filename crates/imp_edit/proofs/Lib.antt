@@ -7,3 +7,6 @@ pub mod NextLemmas
 pub mod RefusalLemmas
 mod Worked
 pub mod ApplyLemmas
+pub mod Exchanged
+pub mod AloneLemmas
+pub mod GuardLemmas

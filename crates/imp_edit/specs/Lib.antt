@@ -1,4 +1,6 @@
+pub mod Alone
 pub mod Changes
 pub mod Edited
 pub mod Made
 pub mod Refusals
+pub mod Short

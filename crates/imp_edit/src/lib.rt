@@ -14,11 +14,13 @@
 //! program stand once.
 #![tactic(auto)]
 
+mod alone;
 mod applying;
 mod error;
 mod numbers;
 mod procedures;
 mod refusals;
+mod short;
 mod trees;
 
 pub use applying::{Edited, apply};

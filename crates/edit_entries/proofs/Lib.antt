@@ -1,0 +1,17 @@
+pub mod Heads
+pub mod Counts
+pub mod Faults
+pub mod Programs
+pub mod Others
+pub mod Filled
+pub mod Located
+pub mod Numbers
+pub mod Stay
+pub mod Touched
+pub mod Table
+pub mod Holders
+pub mod Guards
+pub mod Fitting
+pub mod Sites
+pub mod Standing
+pub mod Exchange
