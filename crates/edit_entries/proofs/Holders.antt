@@ -4,7 +4,6 @@ use Rattle.std.proofs.Common.{◌≡◌, ℕ, List, [], ◌∷◌, ◌++◌, len
 use Rattle.std.specs.Option.{option_map}
 use Rattle.imp_syntax.specs.Plain.{Statements, While, Procedure, numbers, program_numbers}
 use Rattle.imp_slots.specs.Fits.{Distinct}
-use Rattle.imp_check.specs.Faults.{first}
 use Rattle.imp_check.specs.Slots.{Frame}
 use Rattle.imp_check.specs.declared.entry.Context.{Context}
 use Rattle.imp_check.specs.declared.entry.Entry.{Entry}
@@ -37,7 +36,7 @@ held (Then b n c e r) s x = record x { inner = s }
 held (Else b n c t r) s x = record x { other = s }
 held (Body b n c r) s x = record x { inner = s }
 
-holder_last : (hs : List Hole) (h : Hole) → last_holder (hs ++ h ∷ []) ≡ Some (holder h)
+pub holder_last : (hs : List Hole) (h : Hole) → last_holder (hs ++ h ∷ []) ≡ Some (holder h)
 holder_last [] h = refl
 holder_last (g ∷ []) h = refl
 holder_last (g ∷ k ∷ hs) h = holder_last (k ∷ hs) h
@@ -47,7 +46,7 @@ holding_held f k a p (Then b n c e r) x y q = refl
 holding_held f k a p (Else b n c t r) x y q = refl
 holding_held f k a p (Body b n c r) x y q = ap (λ ls. record (entry_at f k a p (While n c y)) { breaks = ls }) (sym q)
 
-some_is : (n m : ℕ) → is (Some n) m ≡ true → n ≡ m
+pub some_is : (n m : ℕ) → is (Some n) m ≡ true → n ≡ m
 some_is n m h = grind (arith, nat_tests)
 
 module _ (ps qs : List Procedure) (p : Procedure) (gs : List Hole) (h : Hole) (before olds news behind : Statements) where
@@ -63,14 +62,14 @@ module _ (ps qs : List Procedure) (p : Procedure) (gs : List Hole) (h : Hole) (b
   whole : (x : Statements) → ps ++ with_body p (plug hs x) ∷ qs ≡ ps ++ with_body p (plug gs (fill h x)) ∷ qs
   whole x = ap (λ b. ps ++ with_body p b ∷ qs) (plug_last gs h x)
 
-  shown : (x : Statements) → Distinct (program_numbers (ps ++ with_body p (plug hs x) ∷ qs)) →
+  pub shown : (x : Statements) → Distinct (program_numbers (ps ++ with_body p (plug hs x) ∷ qs)) →
       entry_of (entries_of (ps ++ with_body p (plug hs x) ∷ qs)) (holder h) ≡ Some (entry_at (frame_at ps p) (context_of (context_at (length ps)) gs) (last_or (around_before h) None) (first_or (around_behind h) None) (holding h x))
   shown x once =
       ap (λ os. entry_of (entries_of os) (holder h)) (whole x)
       ∙ ap (entry_of (entries_of (ps ++ with_body p (plug gs (fill h x)) ∷ qs))) (sym (holding_number h x))
       ∙ holder_found ps qs p gs h x (subst (λ (os : List Procedure). Distinct (program_numbers os)) (whole x) once)
 
-  holds : Distinct (program_numbers O) → Distinct (program_numbers N) → leaving olds ≡ leaving news → (m : ℕ) → is (last_holder hs) m ≡ true →
+  pub holds : Distinct (program_numbers O) → Distinct (program_numbers N) → leaving olds ≡ leaving news → (m : ℕ) → is (last_holder hs) m ≡ true →
       entry_of (entries_of N) m ≡ option_map (held h (ends_of (between before behind news))) (entry_of (entries_of O) m)
   holds old new q m e =
       let same : holder h ≡ m = some_is (holder h) m (ap (λ o. is o m) (sym (holder_last gs h)) ∙ e) in

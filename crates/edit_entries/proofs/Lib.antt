@@ -15,3 +15,5 @@ pub mod Fitting
 pub mod Sites
 pub mod Standing
 pub mod Exchange
+pub mod Simple
+pub mod Parts

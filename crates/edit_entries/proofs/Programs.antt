@@ -183,7 +183,7 @@ module _ (p : Procedure) (hs : List Hole) (before olds news behind : Statements)
     same_length : length N ≡ length O
     same_length = sym (as_many N) ∙ ap length (sym (bares_at ps qs)) ∙ as_many O
 
-    news_count : program_count N ≡ (program_count O - block_count olds) + block_count news
+    pub news_count : program_count N ≡ (program_count O - block_count olds) + block_count news
     news_count =
         omega (
           arith,

@@ -110,13 +110,13 @@ has_known n (x ∷ xs) e h = go (x.number == n) refl h (has_known n xs e)
     go true q h f = inl (grind (arith, nat_tests))
     go false q h f = inr (f h)
 
-context_proc : (k : Context) (hs : List Hole) → (context_of k hs).proc ≡ k.proc
+pub context_proc : (k : Context) (hs : List Hole) → (context_of k hs).proc ≡ k.proc
 context_proc k [] = refl
 context_proc k (Then b n c e r ∷ hs) = context_proc (context_in k (Then b n c e r)) hs
 context_proc k (Else b n c t r ∷ hs) = context_proc (context_in k (Else b n c t r)) hs
 context_proc k (Body b n c r ∷ hs) = context_proc (context_in k (Body b n c r)) hs
 
-own_head : (ps : List Procedure) (p : Procedure) (qs : List Procedure) → slice_get (heads_of (ps ++ p ∷ qs)) (length ps) ≡ Some (head_of p)
+pub own_head : (ps : List Procedure) (p : Procedure) (qs : List Procedure) → slice_get (heads_of (ps ++ p ∷ qs)) (length ps) ≡ Some (head_of p)
 own_head [] p qs = refl
 own_head (x ∷ ps) p qs = own_head ps p qs
 

@@ -75,7 +75,7 @@ pub record Last (b : Statements) (m : ℕ) : Type 0 where
 some_inj : (n m : ℕ) → Some n ≡ Some m → n ≡ m
 some_inj n m e = cc
 
-last_is : (b : Statements) (m : ℕ) → last_or b None ≡ Some m → Last b m
+pub last_is : (b : Statements) (m : ℕ) → last_or b None ≡ Some m → Last b m
 last_is Ends m e = absurd cc
 last_is (Starts s Ends) m e = record { before = Ends; stmt = s; is = refl; number = some_inj (number_of s) m e }
 last_is (Starts s (Starts t ss)) m e = let l = last_is (Starts t ss) m e in record { before = Starts s l.before; stmt = l.stmt; is = ap (Starts s) l.is; number = l.number }
@@ -87,7 +87,7 @@ pub record First (b : Statements) (m : ℕ) : Type 0 where
   pub is : b ≡ Starts stmt behind
   pub number : number_of stmt ≡ m
 
-first_is : (b : Statements) (m : ℕ) → first_or b None ≡ Some m → First b m
+pub first_is : (b : Statements) (m : ℕ) → first_or b None ≡ Some m → First b m
 first_is Ends m e = absurd cc
 first_is (Starts s ss) m e = record { stmt = s; behind = ss; is = refl; number = some_inj (number_of s) m e }
 
