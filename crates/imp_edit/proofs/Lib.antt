@@ -10,3 +10,7 @@ pub mod ApplyLemmas
 pub mod Exchanged
 pub mod AloneLemmas
 pub mod GuardLemmas
+pub mod PutLemmas
+pub mod GapLemmas
+pub mod SpliceLemmas
+pub mod SpliceMade

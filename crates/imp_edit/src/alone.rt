@@ -8,11 +8,12 @@ ghost use Rattle.imp_check.specs.Entries.{entries_of, entry_of, form_in, frame_a
 ghost use Rattle.imp_check.specs.declared.entry.Entry.{Entry};
 ghost use Rattle.imp_edit.specs.declared.error.EditError.TheVariants.{Fault as refused_by};
 ghost use Rattle.imp_edit.specs.Alone.{IsAlone, alone, alone_fault, FitsAlone};
+ghost use Rattle.imp_edit.specs.Gaps.{with_number};
 ghost use Rattle.imp_edit.specs.Refusals.{IsRefusal};
 
 use crate::error::EditError;
 use imp_check::{CheckError, Fault, Found, SlotForm, Table, check_table};
-use imp_syntax::{Block, Declaration, Proc, Program, Stmt, StmtId};
+use imp_syntax::{Action, Block, Declaration, Proc, Program, Stmt, StmtId, StmtNode};
 use plain_values::{Items, Memory, Text};
 use std::alloc::Global;
 
@@ -123,4 +124,38 @@ pub(crate) fn form_again(form: &SlotForm) -> Result<SlotForm, Memory>
         SlotForm::Cond(cond) => Ok(SlotForm::Cond(cond.clone()?)),
         SlotForm::Call(call, callee) => Ok(SlotForm::Call(call.clone()?, *callee)),
     }
+}
+
+/// A simple statement with the number 1; any other statement as it is.
+pub(crate) fn with_first_number(alloc: Global, stmt: &Stmt) -> Result<Stmt, Memory>
+    ensures is { IfOk result (λ s. s ≡ with_number 1 stmt.now) }
+{
+    match stmt.node() {
+        StmtNode::Simple(action) => {
+            let node = StmtNode::Simple(action_again(action)?);
+            Stmt::new(alloc, StmtId::new(1), node)
+        }
+        _ => Ok(stmt.clone()?),
+    }
+}
+
+/// A copy of what a simple statement does.
+fn action_again(action: &Action) -> Result<Action, Memory>
+    ensures is { IfOk result (λ copy. copy ≡ action.now) }
+{
+    Ok(match action {
+        Action::Skip => Action::Skip,
+        Action::Assert(cond) => Action::Assert(cond.clone()?),
+        Action::Assign(x, e) => Action::Assign(x.clone()?, e.clone()?),
+        Action::Input(x) => Action::Input(x.clone()?),
+        Action::MakeArray(x, e) => Action::MakeArray(x.clone()?, e.clone()?),
+        Action::SetNull(x) => Action::SetNull(x.clone()?),
+        Action::MakeCell(x) => Action::MakeCell(x.clone()?),
+        Action::ReadElement(x, a, e) => Action::ReadElement(x.clone()?, a.clone()?, e.clone()?),
+        Action::ReadNext(x, q) => Action::ReadNext(x.clone()?, q.clone()?),
+        Action::ReadItem(x, q) => Action::ReadItem(x.clone()?, q.clone()?),
+        Action::WriteElement(a, e, f) => Action::WriteElement(a.clone()?, e.clone()?, f.clone()?),
+        Action::WriteNext(p, q) => Action::WriteNext(p.clone()?, q.clone()?),
+        Action::WriteItem(p, e) => Action::WriteItem(p.clone()?, e.clone()?),
+    })
 }

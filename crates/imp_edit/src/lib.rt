@@ -17,10 +17,13 @@
 mod alone;
 mod applying;
 mod error;
+mod gap;
 mod numbers;
 mod procedures;
+mod puts;
 mod refusals;
 mod short;
+mod splicing;
 mod trees;
 
 pub use applying::{Edited, apply};

@@ -2,27 +2,32 @@
 ghost use Rattle.std.specs.Prelude.{ℕ, ◌≡◌, ◌<◌, ◌∷◌, [], IfOk, IfErr, MatchOption, None, Some, true, ⊤};
 ghost use Rattle.std.specs.List.{All};
 ghost use Rattle.std.specs.Option.{option_map};
-ghost use Rattle.imp_syntax.specs.Plain.{Ends, If, program_numbers};
+ghost use Rattle.imp_syntax.specs.Plain.{Ends, If, Starts, program_numbers};
 ghost use Rattle.imp_syntax.specs.Changes.{with_condition};
 ghost use Rattle.imp_check.specs.Programs.{AreNumbered, check_fault};
 ghost use Rattle.imp_check.specs.Entries.{entries_of, entry_of};
 ghost use Rattle.imp_edit.specs.declared.error.EditError.TheVariants.{Fault};
 ghost use Rattle.imp_edit.specs.declared.refusals.Needed.TheVariants.{Conditional};
 ghost use Rattle.imp_edit.specs.Changes.{guarded, in_program};
-ghost use Rattle.imp_edit.specs.Edited.{edited, next_after};
+ghost use Rattle.imp_edit.specs.Edited.{Continues, brought, edited, next_after};
+ghost use Rattle.imp_edit.specs.Gaps.{gap_of};
 ghost use Rattle.imp_edit.specs.Refusals.{IsRefusal, fits, site_refusal};
 ghost use Rattle.imp_edit.specs.Short.{IsMade};
 
 use crate::alone::form_alone;
 use crate::error::EditError;
+use crate::gap::{Gap, are_simple, gap_of};
+use crate::splicing::{entry_again, splice};
 use imp_check::{Change, Entry, Place, Put, SlotForm, Table};
 use imp_syntax::{Block, Cond, Edit, Stmt, StmtId, StmtNode};
-use plain_values::Memory;
+use plain_values::{Items, Memory};
 use std::alloc::Global;
 
-/// The change of an edit that gives a statement another condition; `None` for other edits, whose change is found
-/// from the whole program. It takes time in proportion to the condition, the breaks of the statement and the square of
-/// the procedure's variables.
+/// The change of an edit that gives a statement another condition, puts simple statements at a place that are neither
+/// calls nor breaks, or takes such a one away; `None` for other edits, whose change is found from the whole program.
+/// Another condition takes time in proportion to the condition, the breaks of the statement and the square of the
+/// procedure's variables. Statements take time in proportion to the statements, to the square of the procedure's
+/// variables for each, and, at the start or the end of a procedure, to the number of procedures.
 ///
 /// # Errors
 ///
@@ -35,6 +40,7 @@ pub(crate) fn short_change(
 ) -> Result<Option<Change>, EditError>
     requires site { site_refusal edit.now table.now.program ≡ None }
     requires below { All (λ (n : ℕ). n < next) (program_numbers table.now.program) }
+    requires continues { Continues edit.now next }
     requires numbered { AreNumbered (edited edit.now table.now.program) }
     ensures made { IfOk result (λ change. MatchOption change ⊤ (IsMade table.now.program (edited edit.now table.now.program) (next_after edit.now next))) }
     ensures refused { IfErr result (IsRefusal (option_map Fault (check_fault (edited edit.now table.now.program)))) }
@@ -44,8 +50,64 @@ pub(crate) fn short_change(
             Some(entry) => guard_change(alloc, table, entry, *stmt, cond, next),
             None => Ok(None),
         },
-        _ => Ok(None),
+        _ => match gap_of(table, edit) {
+            Some(gap) => gap_change(alloc, table, edit, &gap, next),
+            None => Ok(None),
+        },
     }
+}
+
+/// The change of an edit that puts simple statements at this place, or takes one away; `None` where other statements come.
+fn gap_change(
+    alloc: Global,
+    table: &Table,
+    edit: &Edit,
+    gap: &Gap,
+    next: u32,
+) -> Result<Option<Change>, EditError>
+    requires site { site_refusal edit.now table.now.program ≡ None }
+    requires here { gap_of edit.now table.now.program ≡ Some gap.now }
+    requires below { All (λ (n : ℕ). n < next) (program_numbers table.now.program) }
+    requires continues { Continues edit.now next }
+    requires numbered { AreNumbered (edited edit.now table.now.program) }
+    ensures made { IfOk result (λ change. MatchOption change ⊤ (IsMade table.now.program (edited edit.now table.now.program) (next_after edit.now next))) }
+    ensures refused { IfErr result (IsRefusal (option_map Fault (check_fault (edited edit.now table.now.program)))) }
+{
+    table.procs();
+    let news = brought(alloc, edit)?;
+    if !are_simple(&news) {
+        return Ok(None);
+    }
+    let Some(head) = table.view().head(gap.context.proc) else {
+        return Ok(None);
+    };
+    match splice(alloc, table, head, gap, &news) {
+        Ok(change) => Ok(Some(change)),
+        Err(error) => Err(error),
+    }
+}
+
+/// The statements that an edit brings.
+fn brought(alloc: Global, edit: &Edit) -> Result<Block, Memory>
+    ensures is { IfOk result (λ block. block ≡ brought edit.now) }
+{
+    match edit {
+        Edit::Replace(_, stmt) => block_of_one(alloc, stmt),
+        Edit::Insert(_, more) => Ok(more.clone()?),
+        Edit::AddProc { before: _, proc } => Ok(proc.body().clone()?),
+        Edit::Delete(_) | Edit::Guard(_, _) | Edit::Declare(_, _) | Edit::DropProc(_) => {
+            Ok(Block::empty())
+        }
+    }
+}
+
+/// A block of one statement.
+fn block_of_one(alloc: Global, stmt: &Stmt) -> Result<Block, Memory>
+    ensures is { IfOk result (λ block. block ≡ Starts stmt.now Ends) }
+{
+    let mut stmts = Items::new(alloc);
+    stmts.push(stmt.clone()?)?;
+    Block::new(alloc, stmts)
 }
 
 /// The change that gives an if or while another condition.
@@ -108,15 +170,8 @@ fn with_condition(
 ) -> Result<Entry, Memory>
     ensures is { IfOk result (λ e. e ≡ record entry.now { part = with_condition entry.now.part cond.now; form = form }) }
 {
-    Ok(Entry {
-        number: entry.number,
-        part: entry.part.with_condition(alloc, cond.clone()?)?,
-        form,
-        context: entry.context,
-        front: entry.front,
-        next: entry.next,
-        inner: entry.inner,
-        other: entry.other,
-        breaks: entry.breaks.clone()?,
-    })
+    let mut changed = entry_again(entry)?;
+    changed.part = entry.part.with_condition(alloc, cond.clone()?)?;
+    changed.form = form;
+    Ok(changed)
 }
