@@ -8,8 +8,8 @@
 //!   one entry (`proofs/Guards.antt`);
 //! - its first fault is that of the part alone, where the parts have the same calls: the count of statements and the
 //!   depth of the place decide whether it is too large (`proofs/Programs.antt`, `Exchange.antt`);
-//! - where the statements that come and go are simple, all this is told by what is known at the place: its block, and the
-//!   statements in front and behind (`specs/Gaps.antt`, `proofs/Parts.antt`);
+//! - where the statements that come and go are simple, all this is told by what is known at the place: its block, and
+//!   the statements in front and behind (`specs/Gaps.antt`, `proofs/Parts.antt`);
 //! - its call statements stay, and so do its procedures but for the ends of a body (`proofs/Sites.antt`); it fits over slots
 //!   (`proofs/Fitting.antt`).
 //!

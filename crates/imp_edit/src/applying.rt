@@ -38,8 +38,8 @@ pub struct Edited {
 /// takes time in proportion to the condition, to the breaks of its statement and to the square of the variables of its
 /// procedure. Where the statements that come, and the one that goes, are simple and neither calls nor breaks, it takes
 /// time in proportion to those that come and, for each of them, to the square of the variables of its procedure; at the
-/// start or the end of a procedure's body, time linear in the procedures too. All else takes time linear in the program and
-/// in `next`.
+/// start or the end of a procedure's body, time linear in the procedures too. All else takes time linear in the program
+/// and in `next`.
 ///
 /// # Errors
 ///

@@ -7,8 +7,8 @@ use imp_check::{Place, Put};
 use imp_syntax::StmtId;
 use plain_values::Memory;
 
-/// Puts something at a number, in place of what the change has there. It takes time in proportion to the entries of less
-/// numbers. For want of memory the change is of no use.
+/// Puts something at a number, in place of what the change has there. It takes time in proportion to the entries of
+/// less numbers. For want of memory the change is of no use.
 #[tactic(auto, using(crate::proofs::PutLemmas::exchanged_overlay, crate::proofs::PutLemmas::exchanged_falling, crate::proofs::PutLemmas::exchanged_within, crate::proofs::PutLemmas::added_overlay, crate::proofs::PutLemmas::added_falling, crate::proofs::PutLemmas::added_within))]
 pub(crate) fn put_at(puts: &mut Vec<Put>, number: StmtId, entry: Place) -> Result<(), Memory>
     requires falling { AreFalling puts.old.items }

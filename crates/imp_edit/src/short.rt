@@ -57,7 +57,8 @@ pub(crate) fn short_change(
     }
 }
 
-/// The change of an edit that puts simple statements at this place, or takes one away; `None` where other statements come.
+/// The change of an edit that puts simple statements at this place, or takes one away; `None` where other statements
+/// come.
 fn gap_change(
     alloc: Global,
     table: &Table,

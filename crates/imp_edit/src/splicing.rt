@@ -461,7 +461,8 @@ fn set_body(heads: &mut Vec<Head>, proc: usize, gap: &Gap, news: &Block)
 ///
 /// # Errors
 ///
-/// [`EditError::Fault`] where the program then has too many statements, or else with the first fault of those that come.
+/// [`EditError::Fault`] where the program then has too many statements, or else with the first fault of those that
+/// come.
 pub(crate) fn splice(
     alloc: Global,
     table: &Table,

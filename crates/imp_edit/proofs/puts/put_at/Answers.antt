@@ -1,4 +1,4 @@
-use Rattle.std.proofs.Common.{◌<◌, ◌==◌, cond, sym, ap, ◌∙◌, subst}
+use Rattle.std.proofs.Common.{List, ◌<◌, ◌==◌, cond, sym, ap, ◌∙◌, subst}
 use Rattle.imp_check.specs.Changes.{overlay, AreFalling, AreWithin}
 use Rattle.imp_check.specs.declared.change.Put.{Put}
 use Rattle.imp_check.proofs.FallingLemmas.{AreGreater}
@@ -27,9 +27,9 @@ returns-clause-is c at m =
 pub returns-clause-falling : goal.returns-clause-falling
 returns-clause-falling c =
     let p : Put = record { number = c.number-number.result; entry = c.args.entry } in
-    subst AreFalling (sym c.in_ok-insert.ensures.items) (added_falling c.args.puts.now.items c.loop-at.at p c.requires.falling (greater c) c.loop-at.invariant.less)
+    subst AreFalling (sym {A = List Put} c.in_ok-insert.ensures.items) (added_falling c.args.puts.now.items c.loop-at.at p c.requires.falling (greater c) c.loop-at.invariant.less)
 
 pub returns-clause-within : goal.returns-clause-within
 returns-clause-within c b h w =
     let p : Put = record { number = c.number-number.result; entry = c.args.entry } in
-    subst (AreWithin b) (sym c.in_ok-insert.ensures.items) (added_within b c.args.puts.now.items c.loop-at.at p (greater c) c.loop-at.invariant.less (subst (λ k. k < b) (sym c.number-number.ensures.is) h) w)
+    subst (AreWithin b) (sym {A = List Put} c.in_ok-insert.ensures.items) (added_within b c.args.puts.now.items c.loop-at.at p (greater c) c.loop-at.invariant.less (subst (λ k. k < b) (sym c.number-number.ensures.is) h) w)
