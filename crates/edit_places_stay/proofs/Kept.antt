@@ -19,7 +19,8 @@ use Rattle.imp_check.specs.Faults.{unless, first, at, in_procedure}
 use Rattle.imp_check.specs.declared.fault.Fault.TheVariants.{NoMain, MainHasParameters}
 use Rattle.imp_check.specs.Programs.{check_fault, last_of, name_of, size_fault, procedures_fault, ending_fault, takes_nothing, chains_fault}
 use Rattle.imp_check.specs.Slots.{routine_of, routines_from, routines_of}
-use Rattle.imp_edit.specs.Changes.{append, in_statement, in_block, in_program, deleted, exchanged, followed, then_started, else_started, body_started, guarded, at_named, started, declared_in, preceded, dropped}
+use Rattle.edit_entries.specs.Holes.{append}
+use Rattle.imp_edit.specs.Changes.{in_statement, in_block, in_program, deleted, exchanged, followed, then_started, else_started, body_started, guarded, at_named, started, declared_in, preceded, dropped}
 use Rattle.imp_edit.specs.Edited.{placed, edited, brought, uses, counting, Continues}
 use Rattle.imp_check.proofs.FewLemmas.{first_none, unless_none, at_none, in_none}
 use Rattle.plain_values.proofs.Cases.{some_inj}

@@ -7,3 +7,10 @@ pub mod NextLemmas
 pub mod RefusalLemmas
 mod Worked
 pub mod ApplyLemmas
+pub mod Exchanged
+pub mod AloneLemmas
+pub mod GuardLemmas
+pub mod PutLemmas
+pub mod GapLemmas
+pub mod SpliceLemmas
+pub mod SpliceMade

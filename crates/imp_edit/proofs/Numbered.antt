@@ -9,7 +9,8 @@ use Rattle.imp_syntax.specs.declared.edit.Edit.TheVariants as edit
 use Rattle.imp_syntax.specs.declared.edit.Place.{Place}
 use Rattle.imp_syntax.specs.declared.edit.Place.TheVariants as place
 use Rattle.imp_check.specs.Programs.{AreNumbered}
-use Rattle.imp_edit.specs.Changes.{append, in_program, deleted, exchanged, followed, then_started, else_started, body_started, guarded, started, declared_in, preceded, dropped}
+use Rattle.edit_entries.specs.Holes.{append}
+use Rattle.imp_edit.specs.Changes.{in_program, deleted, exchanged, followed, then_started, else_started, body_started, guarded, started, declared_in, preceded, dropped}
 use Rattle.imp_edit.specs.Edited.{placed, edited, brought, uses, next_after, counting, Continues}
 use Rattle.imp_edit.proofs.Tallies.{often, often_both, numbers_append, program_often, named_often}
 use Rattle.imp_edit.proofs.Once.{distinct_once, once_distinct, absent_never, never_absent, below_never, never_below, counting_low, counting_high, counting_once, some_times}

@@ -3,7 +3,8 @@ use Rattle.std.proofs.lemmas.Bool.Decides.{nat_tests}
 use Rattle.std.proofs.Common.{ℕ, zero, suc, ◌≡◌, ◌+◌, ◌*◌, ◌≤◌, ◌==◌, cond, Bool, true, false, List, [], ◌∷◌, ◌++◌, refl, ap, arith}
 use Rattle.std.specs.Str.{bytes_eq}
 use Rattle.imp_syntax.specs.Plain.{Statement, Simple, Break, Call, If, While, Statements, Ends, Starts, Procedure, number_of, numbers_in, numbers, program_numbers}
-use Rattle.imp_edit.specs.Changes.{append, in_statement, in_block, in_program, at_named}
+use Rattle.edit_entries.specs.Holes.{append}
+use Rattle.imp_edit.specs.Changes.{in_statement, in_block, in_program, at_named}
 
 abbrev pub one : Bool → ℕ
 one true = 1

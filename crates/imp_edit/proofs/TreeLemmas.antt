@@ -5,7 +5,8 @@ use Rattle.std.proofs.lemmas.Bool.Decides.{nat_tests}
 use Rattle.imp_syntax.specs.Plain.{Condition, Statement, Simple, Break, Call, If, While, Statements, Ends, Starts, block_of, statements_of, number_of}
 use Rattle.imp_syntax.specs.Changes.{inserted, with_condition}
 use Rattle.imp_syntax.specs.Blocks.{statements_back, block_again, block_rest}
-use Rattle.imp_edit.specs.Changes.{append, guarded, in_block, in_statement}
+use Rattle.edit_entries.specs.Holes.{append}
+use Rattle.imp_edit.specs.Changes.{guarded, in_block, in_statement}
 
 -- the statements of one block in front of another, and back
 pub both : (xs ys : Statements) → statements_of (append xs ys) ≡ statements_of xs ++ statements_of ys

@@ -3,11 +3,7 @@ use Rattle.std.specs.Prelude.{ℕ, List, [], ◌∷◌, ◌++◌, ◌==◌, cond
 use Rattle.std.specs.Str.{bytes_eq}
 use Rattle.imp_syntax.specs.Plain.{Condition, Statement, Simple, Break, Call, If, While, Statements, Ends, Starts, Procedure, number_of}
 use Rattle.imp_syntax.specs.declared.words.Declaration.{Declaration}
-
--- one block behind another
-abbrev pub append : Statements → Statements → Statements
-append Ends ys = ys
-append (Starts s xs) ys = Starts s (append xs ys)
+use Rattle.edit_entries.specs.Holes.{append, with_body}
 
 -- The statement n becomes what `made` makes of it.
 abbrev mutual
@@ -21,9 +17,6 @@ abbrev mutual
   pub in_block : ℕ → (made : Statement → Statements) → Statements → Statements
   in_block n made Ends = Ends
   in_block n made (Starts s ss) = cond (number_of s == n) (append (made s) ss) (Starts (in_statement n made s) (in_block n made ss))
-
-abbrev pub with_body : Procedure → Statements → Procedure
-with_body p b = record { name = p.name; parameters = p.parameters; outcome = p.outcome; locals = p.locals; body = b }
 
 abbrev pub in_program : ℕ → (made : Statement → Statements) → List Procedure → List Procedure
 in_program n made [] = []

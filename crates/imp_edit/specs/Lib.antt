@@ -1,4 +1,7 @@
+pub mod Alone
 pub mod Changes
 pub mod Edited
+pub mod Gaps
 pub mod Made
 pub mod Refusals
+pub mod Short

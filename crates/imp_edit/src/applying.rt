@@ -14,6 +14,7 @@ use crate::error::EditError;
 use crate::numbers::next_after;
 use crate::procedures::at_named;
 use crate::refusals::site_refusal;
+use crate::short::short_change;
 use crate::trees::in_program;
 use imp_check::{Change, CheckError, Table, check_table};
 use imp_syntax::{Edit, Place, Proc, Program};
@@ -33,8 +34,12 @@ pub struct Edited {
 /// edit carry the numbers from `next` on, in the order of the text. The table stays as it is: `Table::exchange` puts the
 /// change in, once there is room below the next number.
 ///
-/// A refusal that speaks of the program as it is takes time linear in the procedures and in the edit. All else takes
-/// time linear in the program and in `next`.
+/// A refusal that speaks of the program as it is takes time linear in the procedures and in the edit. Another condition
+/// takes time in proportion to the condition, to the breaks of its statement and to the square of the variables of its
+/// procedure. Where the statements that come, and the one that goes, are simple and neither calls nor breaks, it takes
+/// time in proportion to those that come and, for each of them, to the square of the variables of its procedure; at the
+/// start or the end of a procedure's body, time linear in the procedures too. All else takes time linear in the program
+/// and in `next`.
 ///
 /// # Errors
 ///
@@ -60,6 +65,10 @@ pub fn apply(alloc: Global, table: &Table, edit: &Edit, next: u32) -> Result<Edi
         return Err(EditError::Numbers);
     };
     table.procs();
+    if let Some(change) = short_change(alloc, table, edit, next)? {
+        let next = after;
+        return Ok(Edited { change, next });
+    }
     let program = table.tree(alloc)?;
     let program = program_after(alloc, edit, program.procs())?;
     let made = checked(alloc, &program)?;

@@ -14,11 +14,16 @@
 //! program stand once.
 #![tactic(auto)]
 
+mod alone;
 mod applying;
 mod error;
+mod gap;
 mod numbers;
 mod procedures;
+mod puts;
 mod refusals;
+mod short;
+mod splicing;
 mod trees;
 
 pub use applying::{Edited, apply};

@@ -1,7 +1,8 @@
 //! Trees with a change at one statement.
 ghost use Rattle.std.specs.Prelude.{◌≡◌, ◌++◌, IfOk, OnOk};
 ghost use Rattle.imp_syntax.specs.Plain.{statements_of};
-ghost use Rattle.imp_edit.specs.Changes.{append, body_started, else_started, followed, guarded, in_block, in_program, in_statement, then_started, with_body};
+ghost use Rattle.edit_entries.specs.Holes.{append, with_body};
+ghost use Rattle.imp_edit.specs.Changes.{body_started, else_started, followed, guarded, in_block, in_program, in_statement, then_started};
 ghost use Rattle.imp_edit.specs.Made.{made, made_at};
 
 use imp_syntax::{Block, Cond, Edit, Place, Proc, Program, Stmt, StmtId, StmtNode};

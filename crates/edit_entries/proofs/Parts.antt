@@ -1,0 +1,217 @@
+-- What is known of a program in which simple statements come at a place of a block, or go from it.
+use Rattle.std.proofs.Common.{◌≡◌, ℕ, ◌-◌, ◌+◌, nat_lt, ◌⊎◌, inl, inr, List, [], ◌∷◌, ◌++◌, length, Option, Some, None, true, false, refl, sym, ap, ◌∙◌, subst, arith}
+use Rattle.std.specs.Option.{option_map}
+use Rattle.imp_syntax.specs.Plain.{Statements, Ends, Starts, Procedure, number_of, numbers, program_numbers}
+use Rattle.imp_slots.specs.Fits.{Distinct, FitsCode, IsChecked}
+use Rattle.imp_check.specs.Chains.{calls}
+use Rattle.imp_check.specs.Faults.{first, unless, at, in_procedure}
+use Rattle.imp_check.specs.Names.{variables}
+use Rattle.imp_check.specs.Programs.{AreNumbered, block_count, program_count, name_of, last_of, check_fault}
+use Rattle.imp_check.specs.Slots.{layout_in, code_in, routines_of}
+use Rattle.imp_check.specs.Statements.{block_fault}
+use Rattle.imp_check.specs.Parts.{ends_of, first_or, last_or, leaving}
+use Rattle.imp_check.specs.Entries.{block_entries, entry_at, entries_of, entry_of, frame_at, context_at, head_of, heads_of, sites_of}
+use Rattle.imp_check.specs.declared.entry.Around.{Around}
+use Rattle.imp_check.specs.declared.entry.BlockEnds.{BlockEnds}
+use Rattle.imp_check.specs.declared.entry.Context.{Context}
+use Rattle.imp_check.specs.declared.entry.Entry.{Entry}
+use Rattle.imp_check.specs.declared.entry.Head.{Head}
+use Rattle.imp_check.specs.declared.entry.Which.{Which}
+use Rattle.imp_check.specs.declared.entry.Which.TheVariants as of
+use Rattle.imp_check.specs.declared.fault.Fault.TheVariants.{Statements as TooManyStatements}
+use Rattle.edit_entries.specs.Gaps.{are_simple, lone, or_new, ends_with, ends_in, holder_of, held_in, head_with, heads_in, gap_splice}
+use Rattle.edit_entries.specs.Holes.{Hole, Then, Else, Body, plug, holder, in_loop, between, with_body}
+use Rattle.edit_entries.specs.Spliced.{is, spliced}
+use Rattle.edit_entries.proofs.Exchange.{spliced_fault}
+use Rattle.edit_entries.proofs.Filled.{before as around_before, behind as around_behind, holding, ends_filled}
+use Rattle.edit_entries.proofs.Fitting.{program_fits}
+use Rattle.edit_entries.proofs.Holders.{ends_between, held, holder_last, holds, shown, some_is, edit_body_table}
+use Rattle.edit_entries.proofs.Located.{Has}
+use Rattle.edit_entries.proofs.Numbers.{Apart, around_edit}
+use Rattle.edit_entries.proofs.Programs.{old_program, new_program, scope_at}
+use Rattle.edit_entries.proofs.Simple.{simple_calls, simple_leaving, simple_nesting, simple_sites, simple_fault, simple_inside, simple_fits}
+use Rattle.edit_entries.proofs.Sites.{sites_stay, heads_stay}
+use Rattle.edit_entries.proofs.Standing.{has_left, has_right, known_has}
+use Rattle.edit_entries.proofs.Stay.{last_holder}
+use Rattle.edit_entries.proofs.Table.{table_is, first_is, last_is}
+use Rattle.edit_entries.proofs.Touched.{context_of, front_found, next_found}
+
+-- The ends of a block, with statements put between two of it.
+some_last : (b : Statements) (n : ℕ) (x y : Option ℕ) → or_new (last_or b (Some n)) x y ≡ y
+some_last Ends n x y = refl
+some_last (Starts s ss) n x y = some_last ss (number_of s) x y
+
+first_with : (before behind olds news : Statements) → first_or before (first_or news (first_or behind None)) ≡ or_new (last_or before None) (first_or news (first_or behind None)) (first_or before (first_or olds (first_or behind None)))
+first_with Ends behind olds news = refl
+first_with (Starts s ss) behind olds news = sym (some_last ss (number_of s) (first_or news (first_or behind None)) (Some (number_of s)))
+
+last_with : (before behind olds news : Statements) → last_or behind (last_or news (last_or before None)) ≡ or_new (first_or behind None) (last_or news (last_or before None)) (last_or behind (last_or olds (last_or before None)))
+last_with before Ends olds news = refl
+last_with before (Starts s r) olds news = refl
+
+pub ends_changed : (before behind olds news : Statements) → ends_of (between before behind news) ≡ ends_with (last_or before None) (first_or behind None) news (ends_of (between before behind olds))
+ends_changed before behind olds news =
+    ends_between before behind news
+    ∙ ap (λ o. record { first = o; last = last_or behind (last_or news (last_or before None)) }) (first_with before behind olds news)
+    ∙ ap (λ o. record { first = or_new (last_or before None) (first_or news (first_or behind None)) (first_or before (first_or olds (first_or behind None))); last = o }) (last_with before behind olds news)
+    ∙ ap (ends_with (last_or before None) (first_or behind None) news) (sym (ends_between before behind olds))
+
+-- The block that a hole is.
+abbrev which_of : Hole → Which
+which_of (Then b n c e r) = of.Then
+which_of (Else b n c t r) = of.Else
+which_of (Body b n c r) = of.Body
+
+abbrev around_of : Hole → Option Around
+around_of h = Some (record { stmt = holder h; which = which_of h })
+
+around_last : (k : Context) (gs : List Hole) (h : Hole) → (context_of k (gs ++ h ∷ [])).around ≡ around_of h
+around_last k [] (Then b n c e r) = refl
+around_last k [] (Else b n c t r) = refl
+around_last k [] (Body b n c r) = refl
+around_last k (g ∷ gs) h = around_last _ gs h
+
+-- Holes are none, or there is a last one.
+record Inmost (hs : List Hole) : Type 0 where
+  outer : List Hole
+  inner : Hole
+  is : hs ≡ outer ++ inner ∷ []
+
+inmost : (hs : List Hole) → (hs ≡ []) ⊎ Inmost hs
+inmost [] = inl refl
+inmost (h ∷ hs) = go (inmost hs)
+  where
+    go : (hs ≡ []) ⊎ Inmost hs → (h ∷ hs ≡ []) ⊎ Inmost (h ∷ hs)
+    go (inl e) = inr (record { outer = []; inner = h; is = ap (λ gs. h ∷ gs) e })
+    go (inr i) = inr (record { outer = h ∷ i.outer; inner = i.inner; is = ap (λ gs. h ∷ gs) i.is })
+
+by_inmost : (P : List Hole → Type 0) → P [] → ((gs : List Hole) (h : Hole) → P (gs ++ h ∷ [])) → (hs : List Hole) → P hs
+by_inmost P none some hs = go (inmost hs)
+  where
+    go : (hs ≡ []) ⊎ Inmost hs → P hs
+    go (inl e) = subst P (sym e) none
+    go (inr i) = subst P (sym i.is) (some i.outer i.inner)
+
+module _ (ps qs : List Procedure) (p : Procedure) (before olds news behind : Statements) where
+  abbrev O : List Hole → List Procedure
+  O hs = old_program p hs before olds news behind ps qs
+
+  abbrev N : List Hole → List Procedure
+  N hs = new_program p hs before olds news behind ps qs
+
+  abbrev k : List Hole → Context
+  k hs = context_of (context_at (length ps)) hs
+
+  abbrev a : Option ℕ
+  a = last_or before None
+
+  abbrev b : Option ℕ
+  b = first_or behind None
+
+  abbrev E : BlockEnds → BlockEnds
+  E = ends_with a b news
+
+  -- of the statement that has the block
+  held_is : (h : Hole) (x : Entry) → ends_in (which_of h) x ≡ ends_of (between before behind olds) → held h (ends_of (between before behind news)) x ≡ held_in (around_of h) E x
+  held_is (Then v n c e r) x q = ap (λ s. record x { inner = s }) (ends_changed before behind olds news ∙ ap E (sym q))
+  held_is (Else v n c t r) x q = ap (λ s. record x { other = s }) (ends_changed before behind olds news ∙ ap E (sym q))
+  held_is (Body v n c r) x q = ap (λ s. record x { inner = s }) (ends_changed before behind olds news ∙ ap E (sym q))
+
+  had_ends : (h : Hole) (f : _) (c : Context) (o u : Option ℕ) (x : Statements) → ends_in (which_of h) (entry_at f c o u (holding h x)) ≡ ends_of x
+  had_ends (Then v n d e r) f c o u x = refl
+  had_ends (Else v n d t r) f c o u x = refl
+  had_ends (Body v n d r) f c o u x = refl
+
+  module _ (apart : Apart (numbers olds) (numbers news)) (same : leaving olds ≡ leaving news) where
+    abbrev Tabled : List Hole → Type 0
+    Tabled hs = Distinct (program_numbers (O hs)) → Distinct (program_numbers (N hs)) → (m : ℕ) →
+        entry_of (entries_of (N hs)) m ≡ spliced (gap_splice (frame_at ps p) (k hs) a b (numbers olds) news) (held_in (k hs).around E) (entry_of (entries_of (O hs))) m
+
+    tabled_in : (gs : List Hole) (h : Hole) → Tabled (gs ++ h ∷ [])
+    tabled_in gs h old new m =
+        let hs : List Hole = gs ++ h ∷ [] in
+        let at = entry_of (entries_of (O hs)) in
+        let c = block_entries (frame_at ps p) (k hs) a b news in
+        table_is ps qs p hs before olds news behind old new apart same (held_in (around_of h) E) holding_is m
+        ∙ ap (λ o. spliced (record { gone = numbers olds; come = c; come_numbers = numbers news; front = a; next = b; holder = o; first = first_or news b; last = last_or news a }) (held_in (around_of h) E) at m) (holder_last gs h)
+        ∙ ap (λ o. spliced (record { gone = numbers olds; come = c; come_numbers = numbers news; front = a; next = b; holder = holder_of o; first = first_or news b; last = last_or news a }) (held_in o E) at m) (sym (around_last (context_at (length ps)) gs h))
+      where
+        holding_is : (n : ℕ) → is (last_holder (gs ++ h ∷ [])) n ≡ true → entry_of (entries_of (N (gs ++ h ∷ []))) n ≡ option_map (held_in (around_of h) E) (entry_of (entries_of (O (gs ++ h ∷ []))) n)
+        holding_is n e =
+            let x = entry_at (frame_at ps p) (context_of (context_at (length ps)) gs) (last_or (around_before h) None) (first_or (around_behind h) None) (holding h (between before behind olds)) in
+            let s : holder h ≡ n = some_is (holder h) n (ap (λ o. is o n) (sym (holder_last gs h)) ∙ e) in
+            let w : entry_of (entries_of (O (gs ++ h ∷ []))) n ≡ Some x = ap (entry_of (entries_of (O (gs ++ h ∷ [])))) (sym s) ∙ shown ps qs p gs h before olds news behind (between before behind olds) old in
+            holds ps qs p gs h before olds news behind old new same n e
+            ∙ ap (option_map (held h (ends_of (between before behind news)))) w
+            ∙ ap Some (held_is h x (had_ends h (frame_at ps p) (context_of (context_at (length ps)) gs) (last_or (around_before h) None) (first_or (around_behind h) None) (between before behind olds)))
+            ∙ ap (option_map (held_in (around_of h) E)) (sym w)
+
+    -- Entries.
+    pub gap_table : (hs : List Hole) → Tabled hs
+    gap_table hs = by_inmost Tabled (λ old new m. edit_body_table ps qs p before olds news behind old new apart same m) tabled_in hs
+
+  -- Procedures.
+  abbrev Headed : List Hole → Type 0
+  Headed hs = heads_of (N hs) ≡ heads_in (k hs).around (heads_of (O hs)) (length ps) E
+
+  body_headed : (x y : Statements) (os : List Procedure) → ends_of y ≡ E (ends_of x) → heads_of (os ++ with_body p y ∷ qs) ≡ head_with (heads_of (os ++ with_body p x ∷ qs)) (length os) E
+  body_headed x y [] e = ap (λ o. record (head_of (with_body p x)) { body = o } ∷ heads_of qs) e
+  body_headed x y (q ∷ os) e = ap (λ (hs : List Head). head_of q ∷ hs) (body_headed x y os e)
+
+  plug_filled : (gs : List Hole) (h : Hole) (x y : Statements) → ends_of (plug (gs ++ h ∷ []) x) ≡ ends_of (plug (gs ++ h ∷ []) y)
+  plug_filled [] h x y = ends_filled h x y
+  plug_filled (g ∷ gs) h x y = ends_filled g (plug (gs ++ h ∷ []) x) (plug (gs ++ h ∷ []) y)
+
+  headed_in : (gs : List Hole) (h : Hole) → Headed (gs ++ h ∷ [])
+  headed_in gs h =
+      let hs : List Hole = gs ++ h ∷ [] in
+      heads_stay p (plug hs (between before behind olds)) (plug hs (between before behind news)) ps qs (plug_filled gs h (between before behind olds) (between before behind news))
+      ∙ ap (λ o. heads_in o (heads_of (O hs)) (length ps) E) (sym (around_last (context_at (length ps)) gs h))
+
+  pub gap_heads : (hs : List Hole) → Headed hs
+  gap_heads hs = by_inmost Headed (body_headed (between before behind olds) (between before behind news) ps (ends_changed before behind olds news)) headed_in hs
+
+  module _ (hs : List Hole) (plain : are_simple olds ≡ true) (simple : are_simple news ≡ true) where
+    pub same_calls : (g : List ℕ) → calls g olds ≡ calls g news
+    same_calls g = simple_calls g olds plain ∙ sym (simple_calls g news simple)
+
+    pub same_leaving : leaving olds ≡ leaving news
+    same_leaving = simple_leaving olds plain ∙ sym (simple_leaving news simple)
+
+    -- The first fault: too many statements, or that of those that come.
+    pub gap_fault : check_fault (O hs) ≡ None →
+        check_fault (N hs) ≡ first (in_procedure (name_of (last_of (O hs))) (at 0 (unless (nat_lt ((program_count (O hs) - block_count olds) + block_count news) 10001) TooManyStatements))) (in_procedure p.name (block_fault (lone (variables p)) false news))
+    gap_fault z =
+        spliced_fault p hs before olds news behind ps qs z (omega (arith, simple_nesting news simple)) same_calls
+        ∙ ap (λ o. first (in_procedure (name_of (last_of (O hs))) (at 0 (unless (nat_lt ((program_count (O hs) - block_count olds) + block_count news) 10001) TooManyStatements))) (in_procedure p.name o))
+        (simple_fault (scope_at p hs before olds news behind ps qs) (in_loop false hs) news simple ∙ simple_inside (lone (variables p)) (in_loop false hs) false news simple)
+
+    pub gap_sites : sites_of (N hs) ≡ sites_of (O hs)
+    gap_sites = sites_stay p hs before olds news behind (λ es n. simple_sites (frame_at es p) n (context_at 0) None None olds plain ∙ sym (simple_sites (frame_at es p) n (context_at 0) None None news simple)) ps qs
+
+    pub gap_fits : FitsCode [] (layout_in p) (code_in (frame_at [] p) news) → IsChecked (routines_of (O hs)) → AreNumbered (N hs) → IsChecked (routines_of (N hs))
+    gap_fits w c d = program_fits p hs before olds news behind ps qs (λ rs es v. simple_fits (layout_in p) [] es [] rs news simple w) same_leaving c d
+
+  -- The statements around the place are statements of the program.
+  module _ (hs : List Hole) (once : Distinct (program_numbers (O hs))) where
+    pub front_has : (n : ℕ) → a ≡ Some n → Has n (program_numbers (O hs))
+    front_has n e =
+        let l = last_is before n e in
+        subst (λ m. Has m (program_numbers (O hs))) l.number (known_has (number_of l.stmt) (O hs) _ (front_found ps qs p hs before olds behind once l.before l.stmt l.is))
+
+    pub next_has : (n : ℕ) → b ≡ Some n → Has n (program_numbers (O hs))
+    next_has n e =
+        let l = first_is behind n e in
+        subst (λ m. Has m (program_numbers (O hs))) l.number (known_has (number_of l.stmt) (O hs) _ (next_found ps qs p hs before olds behind once l.behind l.stmt l.is))
+
+    pub old_has : (n : ℕ) → Has n (numbers olds) → Has n (program_numbers (O hs))
+    old_has n i = let r = around_edit ps qs p hs before behind in subst (Has n) (sym (r.is olds)) (has_right n r.left (numbers olds ++ r.right) (has_left n (numbers olds) r.right i))
+
+  pub holder_has : (hs : List Hole) → Distinct (program_numbers (O hs)) → (n : ℕ) → holder_of (k hs).around ≡ Some n → Has n (program_numbers (O hs))
+  holder_has hs = by_inmost (λ gs. Distinct (program_numbers (O gs)) → (n : ℕ) → holder_of (k gs).around ≡ Some n → Has n (program_numbers (O gs))) (λ once n e. cc) has_in hs
+    where
+      has_in : (gs : List Hole) (h : Hole) → Distinct (program_numbers (O (gs ++ h ∷ []))) → (n : ℕ) → holder_of (k (gs ++ h ∷ [])).around ≡ Some n → Has n (program_numbers (O (gs ++ h ∷ [])))
+      has_in gs h once n e =
+          let q : Some (holder h) ≡ Some n = sym (ap holder_of (around_last (context_at (length ps)) gs h)) ∙ e in
+          let s : holder h ≡ n = cc in
+          subst (λ m. Has m (program_numbers (O (gs ++ h ∷ [])))) s (known_has (holder h) (O (gs ++ h ∷ [])) _ (shown ps qs p gs h before olds news behind (between before behind olds) once))

@@ -1,0 +1,175 @@
+-- The table of a program after an edit of a block is that of before, changed at the statements that go and come, at their two
+-- neighbours and at the statement that has the block.
+use Rattle.std.proofs.lemmas.Bool.Decides.{nat_tests}
+use Rattle.std.proofs.Common.{◌≡◌, ℕ, ◌==◌, inl, inr, ◌||◌, cond, List, [], ◌∷◌, ◌++◌, length, Option, Some, None, Bool, true, false, refl, sym, ap, ◌∙◌, subst, arith}
+use Rattle.std.specs.Option.{option_map}
+use Rattle.imp_syntax.specs.Plain.{Statement, Statements, Ends, Starts, Procedure, number_of, numbers, program_numbers}
+use Rattle.imp_slots.specs.Fits.{Absent, Distinct}
+use Rattle.imp_check.specs.Faults.{first}
+use Rattle.imp_check.specs.Programs.{has}
+use Rattle.imp_check.specs.declared.entry.Entry.{Entry}
+use Rattle.imp_check.specs.Parts.{first_or, last_or, leaving}
+use Rattle.imp_check.specs.Entries.{block_entries, procedure_entries, entries_from, entries_of, entry_of, frame_at, context_at}
+use Rattle.edit_entries.specs.Spliced.{is, Splice, spliced, with_next, with_front}
+use Rattle.edit_entries.specs.Holes.{append, Hole}
+use Rattle.edit_entries.proofs.Others.{entry_append}
+use Rattle.edit_entries.proofs.Stay.{last_holder, others_stay, left_absent, right_absent, block_gone}
+use Rattle.edit_entries.proofs.Programs.{old_program, new_program}
+use Rattle.imp_check.proofs.RebuildLemmas.{In, entry_numbers, block_numbers}
+use Rattle.edit_entries.proofs.Touched.{context_of, part_found, front_found, next_found}
+use Rattle.edit_entries.proofs.Located.{Has}
+use Rattle.edit_entries.proofs.Numbers.{around_edit, middle_alone, both_absent, Apart}
+
+-- Tests of lists of numbers.
+has_true : (m : ℕ) (xs : List ℕ) → has xs m ≡ true → Has m xs
+has_true m [] h = cc
+has_true m (x ∷ xs) h = go (m == x) refl h (has_true m xs)
+  where
+    go : (b : Bool) → (m == x) ≡ b → (b || has xs m) ≡ true → (has xs m ≡ true → Has m xs) → Has m (x ∷ xs)
+    go true e h f = inl (grind (arith, nat_tests))
+    go false e h f = inr (f h)
+
+has_false : (m : ℕ) (xs : List ℕ) → has xs m ≡ false → Absent m xs
+has_false m [] h = tt
+has_false m (x ∷ xs) h = go (m == x) refl h (has_false m xs)
+  where
+    go : (b : Bool) → (m == x) ≡ b → (b || has xs m) ≡ false → (has xs m ≡ false → Absent m xs) → Absent m (x ∷ xs)
+    go true e h f = cc
+    go false e h f = (λ q. absurd (grind (arith, nat_tests)), f h)
+
+is_some : (o : Option ℕ) (m : ℕ) → is o m ≡ true → o ≡ Some m
+is_some None m h = cc
+is_some (Some n) m h = ap Some (grind (arith, nat_tests))
+
+-- No spot of a number that the program has not.
+program_gone : (m : ℕ) (es ps : List Procedure) → Absent m (program_numbers ps) → entry_of (entries_from es ps) m ≡ None
+program_gone m es [] h = refl
+program_gone m es (p ∷ ps) h =
+    entry_append (procedure_entries es p) (entries_from (es ++ p ∷ []) ps) m
+    ∙ ap (λ o. first o (entry_of (entries_from (es ++ p ∷ []) ps) m)) (block_gone (frame_at es p) m (context_at _) None None p.body (left_absent m (numbers p.body) (program_numbers ps) h))
+    ∙ program_gone m (es ++ p ∷ []) ps (right_absent m (numbers p.body) (program_numbers ps) h)
+
+-- One of the spots has a number of theirs.
+pub record Shown (m : ℕ) (xs : List Entry) : Type 0 where
+  pub spot : Entry
+  pub there : In spot xs
+  pub found : entry_of xs m ≡ Some spot
+  pub number : spot.number ≡ m
+
+shown : (m : ℕ) (xs : List Entry) → Has m (entry_numbers xs) → Shown m xs
+shown m [] h = absurd h
+shown m (x ∷ xs) h = go (x.number == m) refl h (shown m xs)
+  where
+    go : (b : Bool) → (x.number == m) ≡ b → Has m (entry_numbers (x ∷ xs)) → (Has m (entry_numbers xs) → Shown m xs) → Shown m (x ∷ xs)
+    go true e h f = record { spot = x; there = inl refl; found = ap (λ b. cond b (Some x) (entry_of xs m)) e; number = grind (arith, nat_tests) }
+    go false e (inl q) f = absurd (grind (arith, nat_tests))
+    go false e (inr h) f = let s = f h in record { spot = s.spot; there = inr s.there; found = ap (λ b. cond b (Some x) (entry_of xs m)) e ∙ s.found; number = s.number }
+
+-- The last statement of a block.
+pub record Last (b : Statements) (m : ℕ) : Type 0 where
+  pub before : Statements
+  pub stmt : Statement
+  pub is : b ≡ append before (Starts stmt Ends)
+  pub number : number_of stmt ≡ m
+
+some_inj : (n m : ℕ) → Some n ≡ Some m → n ≡ m
+some_inj n m e = cc
+
+pub last_is : (b : Statements) (m : ℕ) → last_or b None ≡ Some m → Last b m
+last_is Ends m e = absurd cc
+last_is (Starts s Ends) m e = record { before = Ends; stmt = s; is = refl; number = some_inj (number_of s) m e }
+last_is (Starts s (Starts t ss)) m e = let l = last_is (Starts t ss) m e in record { before = Starts s l.before; stmt = l.stmt; is = ap (Starts s) l.is; number = l.number }
+
+-- The first one.
+pub record First (b : Statements) (m : ℕ) : Type 0 where
+  pub stmt : Statement
+  pub behind : Statements
+  pub is : b ≡ Starts stmt behind
+  pub number : number_of stmt ≡ m
+
+pub first_is : (b : Statements) (m : ℕ) → first_or b None ≡ Some m → First b m
+first_is Ends m e = absurd cc
+first_is (Starts s ss) m e = record { stmt = s; behind = ss; is = refl; number = some_inj (number_of s) m e }
+
+module _ (ps qs : List Procedure) (p : Procedure) (hs : List Hole) (before olds news behind : Statements) where
+  abbrev O : List Procedure
+  O = old_program p hs before olds news behind ps qs
+
+  abbrev N : List Procedure
+  N = new_program p hs before olds news behind ps qs
+
+  abbrev pub the_splice : Splice
+  the_splice = record {
+    gone = numbers olds;
+    come = block_entries (frame_at ps p) (context_of (context_at (length ps)) hs) (last_or before None) (first_or behind None) news;
+    come_numbers = numbers news;
+    front = last_or before None;
+    next = first_or behind None;
+    holder = last_holder hs;
+    first = first_or news (first_or behind None);
+    last = last_or news (last_or before None);
+  }
+
+  module _ (old_once : Distinct (program_numbers O)) (new_once : Distinct (program_numbers N)) (apart : Apart (numbers olds) (numbers news)) (same_breaks : leaving olds ≡ leaving news) (held : Entry → Entry)
+      (holds : (m : ℕ) → is (last_holder hs) m ≡ true → entry_of (entries_of N) m ≡ option_map held (entry_of (entries_of O) m)) where
+    gone : (m : ℕ) → has (numbers olds) m ≡ true → entry_of (entries_of N) m ≡ None
+    gone m h =
+        let a = around_edit ps qs p hs before behind in
+        let i = has_true m (numbers olds) h in
+        let alone : Absent m (a.left ++ a.right) = middle_alone a.left (numbers olds) a.right m (subst Distinct (a.is olds) old_once) i in
+        program_gone m [] N
+        (subst (Absent m) (sym (a.is news))
+        (both_absent m a.left (numbers news ++ a.right) (left_absent m a.left a.right alone)
+        (both_absent m (numbers news) a.right (apart m i) (right_absent m a.left a.right alone))))
+
+    come : (m : ℕ) → has (numbers news) m ≡ true → entry_of (entries_of N) m ≡ entry_of the_splice.come m
+    come m h =
+        let xs = the_splice.come in
+        let s = shown m xs (subst (Has m) (sym (block_numbers (frame_at ps p) (context_of (context_at (length ps)) hs) (last_or before None) (first_or behind None) news)) (has_true m (numbers news) h)) in
+        ap (entry_of (entries_of N)) (sym s.number) ∙ part_found ps qs p hs before news behind new_once s.spot s.there ∙ sym s.found
+
+    in_front : (m : ℕ) → is (last_or before None) m ≡ true → entry_of (entries_of N) m ≡ option_map (with_next the_splice.first) (entry_of (entries_of O) m)
+    in_front m h =
+        let l = last_is before m (is_some (last_or before None) m h) in
+        ap (entry_of (entries_of N)) (sym l.number)
+        ∙ front_found ps qs p hs before news behind new_once l.before l.stmt l.is
+        ∙ ap (option_map (with_next the_splice.first)) (sym (front_found ps qs p hs before olds behind old_once l.before l.stmt l.is) ∙ ap (entry_of (entries_of O)) l.number)
+
+    in_back : (m : ℕ) → is (first_or behind None) m ≡ true → entry_of (entries_of N) m ≡ option_map (with_front the_splice.last) (entry_of (entries_of O) m)
+    in_back m h =
+        let l = first_is behind m (is_some (first_or behind None) m h) in
+        ap (entry_of (entries_of N)) (sym l.number)
+        ∙ next_found ps qs p hs before news behind new_once l.behind l.stmt l.is
+        ∙ ap (option_map (with_front the_splice.last)) (sym (next_found ps qs p hs before olds behind old_once l.behind l.stmt l.is) ∙ ap (entry_of (entries_of O)) l.number)
+
+    -- The new table is the old one, spliced.
+    pub table_is : (m : ℕ) → entry_of (entries_of N) m ≡ spliced the_splice held (entry_of (entries_of O)) m
+    table_is m = by_gone (has (numbers olds) m) refl
+      where
+        t : Option Entry
+        t = entry_of (entries_of N) m
+
+        by_holder : (b : Bool) → is (last_holder hs) m ≡ b → has (numbers olds) m ≡ false → has (numbers news) m ≡ false → is (last_or before None) m ≡ false → is (first_or behind None) m ≡ false →
+            entry_of (entries_of N) m ≡ cond b (option_map held (entry_of (entries_of O) m)) (entry_of (entries_of O) m)
+        by_holder true e g c f n = holds m e
+        by_holder false e g c f n = sym (others_stay p hs before olds news behind m (record { not_gone = has_false m (numbers olds) g; not_new = has_false m (numbers news) c; not_front = f; not_next = n; not_holder = e }) ps qs same_breaks)
+
+        by_next : (b : Bool) → is (first_or behind None) m ≡ b → has (numbers olds) m ≡ false → has (numbers news) m ≡ false → is (last_or before None) m ≡ false →
+            entry_of (entries_of N) m ≡ cond b (option_map (with_front the_splice.last) (entry_of (entries_of O) m)) (cond (is (last_holder hs) m) (option_map held (entry_of (entries_of O) m)) (entry_of (entries_of O) m))
+        by_next true e g c f = in_back m e
+        by_next false e g c f = by_holder (is (last_holder hs) m) refl g c f e
+
+        by_front : (b : Bool) → is (last_or before None) m ≡ b → has (numbers olds) m ≡ false → has (numbers news) m ≡ false →
+            entry_of (entries_of N) m ≡ cond b (option_map (with_next the_splice.first) (entry_of (entries_of O) m)) (cond (is (first_or behind None) m) (option_map (with_front the_splice.last) (entry_of (entries_of O) m)) (cond (is (last_holder hs) m) (option_map held (entry_of (entries_of O) m)) (entry_of (entries_of O) m)))
+        by_front true e g c = in_front m e
+        by_front false e g c = by_next (is (first_or behind None) m) refl g c e
+
+        by_come : (b : Bool) → has (numbers news) m ≡ b → has (numbers olds) m ≡ false →
+            entry_of (entries_of N) m ≡ cond b (entry_of the_splice.come m) (cond (is (last_or before None) m) (option_map (with_next the_splice.first) (entry_of (entries_of O) m)) (cond (is (first_or behind None) m) (option_map (with_front the_splice.last) (entry_of (entries_of O) m)) (cond (is (last_holder hs) m) (option_map held (entry_of (entries_of O) m)) (entry_of (entries_of O) m))))
+        by_come true e g = come m e
+        by_come false e g = by_front (is (last_or before None) m) refl g e
+
+        by_gone : (b : Bool) → has (numbers olds) m ≡ b →
+            entry_of (entries_of N) m ≡ cond b None (cond (has (numbers news) m) (entry_of the_splice.come m) (cond (is (last_or before None) m) (option_map (with_next the_splice.first) (entry_of (entries_of O) m)) (cond (is (first_or behind None) m) (option_map (with_front the_splice.last) (entry_of (entries_of O) m)) (cond (is (last_holder hs) m) (option_map held (entry_of (entries_of O) m)) (entry_of (entries_of O) m)))))
+        by_gone true e = gone m e
+        by_gone false e = by_come (has (numbers news) m) refl e

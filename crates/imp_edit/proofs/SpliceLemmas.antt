@@ -1,0 +1,229 @@
+-- The change that puts simple statements at a place.
+use Rattle.std.proofs.lemmas.Bool.Decides.{nat_tests}
+use Rattle.std.proofs.Common.{◌≡◌, ℕ, zero, suc, ◌+◌, ◌-◌, ◌^◌, ◌<◌, ◌≤◌, ◌==◌, ◌||◌, nat_lt, min, cond, Bool, true, false, List, [], ◌∷◌, ◌++◌, length, slice_get, slice_set, slice_index_or, Option, Some, None, refl, sym, ap, ◌∙◌, subst, arith, append_assoc}
+use Rattle.std.proofs.lemmas.Bool.{lt-ltb}
+use Rattle.std.specs.List.{All}
+use Rattle.std.specs.Option.{option_map}
+use Rattle.imp_syntax.specs.Plain.{Statement, Simple, Break, Call, If, While, Statements, Ends, Starts, Procedure, number_of, statements_of}
+use Rattle.imp_syntax.specs.declared.words.Declaration.{Declaration}
+use Rattle.imp_slots.specs.Fits.{FitsCode}
+use Rattle.imp_check.specs.Changes.{AreFalling, AreWithin}
+use Rattle.imp_check.specs.Entries.{block_entries, entry_at, entry_of, frame_at, head_of, heads_of}
+use Rattle.imp_check.specs.Faults.{first, unless, at, in_procedure}
+use Rattle.imp_check.specs.Parts.{first_or, last_or}
+use Rattle.imp_check.specs.Programs.{has, last_of, name_of}
+use Rattle.imp_check.specs.Slots.{Frame, code_in, layout_in}
+use Rattle.imp_check.specs.Statements.{block_fault}
+use Rattle.imp_check.specs.declared.entry.Around.{Around}
+use Rattle.imp_check.specs.declared.entry.BlockEnds.{BlockEnds}
+use Rattle.imp_check.specs.declared.entry.Context.{Context}
+use Rattle.imp_check.specs.declared.entry.Entry.{Entry}
+use Rattle.imp_check.specs.declared.entry.Head.{Head}
+use Rattle.imp_check.specs.declared.fault.Fault.TheVariants.{Statements as TooManyStatements}
+use Rattle.imp_check.specs.declared.fault.Found.{Found}
+use Rattle.imp_check.proofs.RebuildLemmas.{entry_numbers}
+use Rattle.edit_entries.specs.Gaps.{are_simple, is_simple, head_with, heads_in, lone}
+use Rattle.edit_entries.proofs.Others.{entry_append}
+use Rattle.imp_edit.specs.Alone.{FitsAlone, alone_fault}
+use Rattle.imp_edit.specs.Refusals.{IsRefusal}
+use Rattle.imp_edit.specs.declared.error.EditError.{EditError}
+use Rattle.imp_edit.specs.declared.error.EditError.TheVariants.{NoProcedure, NoStatement, WrongStatement, IsMain, StillCalled, Numbers, Fault, Memory}
+
+pub none_fall : AreFalling []
+none_fall i j d h l = absurd (omega arith)
+
+pub none_within : (b : ℕ) → AreWithin b []
+none_within b = record { falling = none_fall; below = λ i d l. absurd (omega arith) }
+
+-- The last statement of a block, by its place.
+pub last_there : (b : Statements) (o : Option ℕ) (i : ℕ) (s : Statement) → i ≡ length (statements_of b) - 1 → Some s ≡ slice_get (statements_of b) i → Some (number_of s) ≡ last_or b o
+last_there Ends o i s h e = absurd cc
+last_there (Starts x Ends) o zero s h e = let q : s ≡ x = cc in ap (λ z. Some (number_of z)) q
+last_there (Starts x Ends) o (suc i) s h e = absurd (omega arith)
+last_there (Starts x (Starts y ys)) o zero s h e = absurd (omega arith)
+last_there (Starts x (Starts y ys)) o (suc i) s h e = last_there (Starts y ys) (Some (number_of x)) i s (omega arith) e
+
+pub last_gone : (b : Statements) (o : Option ℕ) (i : ℕ) → i ≡ length (statements_of b) - 1 → None ≡ slice_get (statements_of b) i → o ≡ last_or b o
+last_gone Ends o i h e = refl
+last_gone (Starts x Ends) o zero h e = absurd cc
+last_gone (Starts x Ends) o (suc i) h e = absurd (omega arith)
+last_gone (Starts x (Starts y ys)) o zero h e = absurd (omega arith)
+last_gone (Starts x (Starts y ys)) o (suc i) h e = absurd (some_there y ys i (omega arith) e)
+  where
+    some_there : (y : Statement) (ys : Statements) (i : ℕ) → i ≡ length (statements_of (Starts y ys)) - 1 → None ≡ slice_get (statements_of (Starts y ys)) i → ⊥
+    some_there y Ends zero h e = cc
+    some_there y Ends (suc i) h e = absurd (omega arith)
+    some_there y (Starts z zs) zero h e = absurd (omega arith)
+    some_there y (Starts z zs) (suc i) h e = some_there z zs i (omega arith) e
+
+-- The last procedure, by its place.
+head_at : (ps : List Procedure) (i : ℕ) → slice_get (heads_of ps) i ≡ option_map head_of (slice_get ps i)
+head_at [] i = refl
+head_at (p ∷ ps) zero = refl
+head_at (p ∷ ps) (suc i) = head_at ps i
+
+as_many : (ps : List Procedure) → length (heads_of ps) ≡ length ps
+as_many [] = refl
+as_many (p ∷ ps) = ap suc (as_many ps)
+
+name_at : (o : Option Procedure) (h : Head) → Some h ≡ option_map head_of o → h.bare.name ≡ name_of o
+name_at None h e = cc
+name_at (Some p) h e = let q : h ≡ head_of p = cc in ap (λ (z : Head). z.bare.name) q
+
+no_name : (o : Option Procedure) → None ≡ option_map head_of o → [] ≡ name_of o
+no_name None e = refl
+no_name (Some p) e = absurd cc
+
+pub last_name : (ps : List Procedure) (hs : List Head) (i : ℕ) (h : Head) → hs ≡ heads_of ps → i ≡ length hs - 1 → Some h ≡ slice_get hs i → h.bare.name ≡ name_of (last_of ps)
+last_name ps hs i h q k e =
+    let n : i ≡ length ps - 1 = k ∙ ap (λ (zs : List Head). length zs - 1) q ∙ ap (λ n. n - 1) (as_many ps) in
+    name_at (last_of ps) h (e ∙ ap (λ (zs : List Head). slice_get zs i) q ∙ ap (slice_get (heads_of ps)) n ∙ head_at ps (length ps - 1))
+
+pub no_last : (ps : List Procedure) (hs : List Head) (i : ℕ) → hs ≡ heads_of ps → i ≡ length hs - 1 → None ≡ slice_get hs i → [] ≡ name_of (last_of ps)
+no_last ps hs i q k e =
+    let n : i ≡ length ps - 1 = k ∙ ap (λ (zs : List Head). length zs - 1) q ∙ ap (λ n. n - 1) (as_many ps) in
+    no_name (last_of ps) (e ∙ ap (λ (zs : List Head). slice_get zs i) q ∙ ap (slice_get (heads_of ps)) n ∙ head_at ps (length ps - 1))
+
+-- Entries put one after the other, the last one first.
+first_again : (a b c : Option Entry) → first (first a b) c ≡ first a (first b c)
+first_again None b c = refl
+first_again (Some x) b c = refl
+
+first_cond : (t : Bool) (e : Entry) (x : Option Entry) → first (cond t (Some e) None) x ≡ cond t (Some e) x
+first_cond true e x = refl
+first_cond false e x = refl
+
+pub popped : (xs ys : List Entry) (e : Entry) (m : ℕ) (x : Option Entry) → xs ≡ ys ++ e ∷ [] → first (entry_of ys m) (cond (e.number == m) (Some e) x) ≡ first (entry_of xs m) x
+popped xs ys e m x q =
+    ap (first (entry_of ys m)) (sym (first_cond (e.number == m) e x))
+    ∙ sym (first_again (entry_of ys m) (cond (e.number == m) (Some e) None) x)
+    ∙ ap (λ o. first o x) (sym (entry_append ys (e ∷ []) m) ∙ ap (λ zs. entry_of zs m) (sym q))
+
+pub all_front : (P : Entry → Type 0) (ys : List Entry) (e : Entry) → All P (ys ++ e ∷ []) → All P ys
+all_front P [] e a i d l = absurd (omega arith)
+all_front P (y ∷ ys) e a zero d l = a 0 d (omega arith)
+all_front P (y ∷ ys) e a (suc i) d l = all_front P ys e (λ j x k. a (suc j) x (omega arith)) i d (omega arith)
+
+pub all_last : (P : Entry → Type 0) (ys : List Entry) (e : Entry) → All P (ys ++ e ∷ []) → P e
+all_last P [] e a = a 0 e (omega arith)
+all_last P (y ∷ ys) e a = all_last P ys e (λ j x k. a (suc j) x (omega arith))
+
+-- What is known of the entries that come, by their numbers.
+has_entry : (xs : List Entry) (m : ℕ) (x : Option Entry) → first (entry_of xs m) x ≡ cond (has (entry_numbers xs) m) (entry_of xs m) x
+has_entry [] m x = refl
+has_entry (e ∷ xs) m x = go (e.number == m) (m == e.number) refl refl (has_entry xs m x)
+  where
+    go : (a b : Bool) → (e.number == m) ≡ a → (m == e.number) ≡ b → first (entry_of xs m) x ≡ cond (has (entry_numbers xs) m) (entry_of xs m) x → first (cond a (Some e) (entry_of xs m)) x ≡ cond (b || has (entry_numbers xs) m) (cond a (Some e) (entry_of xs m)) x
+    go true true p q f = refl
+    go false false p q f = f
+    go true false p q f = absurd (grind (arith, nat_tests))
+    go false true p q f = absurd (grind (arith, nat_tests))
+
+pub come_is : (xs : List Entry) (ns : List ℕ) (m : ℕ) (x : Option Entry) → entry_numbers xs ≡ ns → first (entry_of xs m) x ≡ cond (has ns m) (entry_of xs m) x
+come_is xs ns m x e = has_entry xs m x ∙ ap (λ zs. cond (has zs m) (entry_of xs m) x) e
+
+pub all_numbers_below : (b : ℕ) (xs : List Entry) → All (λ (n : ℕ). n < b) (entry_numbers xs) → All (λ (e : Entry). e.number < b) xs
+all_numbers_below b [] a i d l = absurd (omega arith)
+all_numbers_below b (x ∷ xs) a zero d l = a 0 0 (omega arith)
+all_numbers_below b (x ∷ xs) a (suc i) d l = all_numbers_below b xs (λ j y k. a (suc j) y (omega arith)) i d (omega arith)
+
+-- One more simple statement.
+pub simple_head : (s : Statement) (r : Statements) → are_simple (Starts s r) ≡ true → is_simple s ≡ true
+simple_head (Simple n a) r h = refl
+simple_head (Break n) r h = h
+simple_head (Call n x g es) r h = h
+simple_head (If n c t e) r h = h
+simple_head (While n c b) r h = h
+
+pub simple_rest : (s : Statement) (r : Statements) → are_simple (Starts s r) ≡ true → are_simple r ≡ true
+simple_rest (Simple n a) r h = h
+simple_rest (Break n) r h = cc
+simple_rest (Call n x g es) r h = cc
+simple_rest (If n c t e) r h = cc
+simple_rest (While n c b) r h = cc
+
+pub entries_step : (f : Frame) (c : Context) (front next : Option ℕ) (es : List Entry) (s : Statement) (r : Statements) → is_simple s ≡ true →
+    (es ++ entry_at f c front (first_or r next) s ∷ []) ++ block_entries f c (Some (number_of s)) next r ≡ es ++ block_entries f c front next (Starts s r)
+entries_step f c front next es (Simple n a) r h = append_assoc es (entry_at f c front (first_or r next) (Simple n a) ∷ []) (block_entries f c (Some n) next r)
+entries_step f c front next es (Break n) r h = cc
+entries_step f c front next es (Call n x g as') r h = cc
+entries_step f c front next es (If n d t e) r h = cc
+entries_step f c front next es (While n d b) r h = cc
+
+pub fit_step : (p : Procedure) (s : Statement) (r : Statements) → is_simple s ≡ true → FitsAlone p s → FitsCode [] (layout_in p) (code_in (frame_at [] p) r) → FitsCode [] (layout_in p) (code_in (frame_at [] p) (Starts s r))
+fit_step p (Simple n a) r h w v = (w, v)
+fit_step p (Break n) r h w v = cc
+fit_step p (Call n x g as') r h w v = absurd cc
+fit_step p (If n d t e) r h w v = absurd cc
+fit_step p (While n d b) r h w v = absurd cc
+
+pub fault_step : (vs : List Declaration) (s : Statement) (r : Statements) → is_simple s ≡ true → block_fault (lone vs) false (Starts s r) ≡ first (at (number_of s) (alone_fault vs s)) (block_fault (lone vs) false r)
+fault_step vs (Simple n a) r h = refl
+fault_step vs (Break n) r h = cc
+fault_step vs (Call n x g as') r h = cc
+fault_step vs (If n d t e) r h = cc
+fault_step vs (While n d b) r h = cc
+
+pub none_step : (vs : List Declaration) (s : Statement) (r : Statements) → is_simple s ≡ true → alone_fault vs s ≡ None → block_fault (lone vs) false (Starts s r) ≡ block_fault (lone vs) false r
+none_step vs s r h e = fault_step vs s r h ∙ ap (λ o. first (at (number_of s) o) (block_fault (lone vs) false r)) e
+
+-- A refusal by the first of two faults, or by the second where the first is none.
+only_memory : (o : Option Found) (r : EditError) → IsRefusal None r → IsRefusal (option_map Fault o) r
+only_memory o NoProcedure h = absurd cc
+only_memory o NoStatement h = absurd cc
+only_memory o WrongStatement h = absurd cc
+only_memory o IsMain h = absurd cc
+only_memory o StillCalled h = absurd cc
+only_memory o Numbers h = absurd cc
+only_memory o (Fault f) h = absurd cc
+only_memory o Memory h = tt
+
+pub refused_first : (o p : Option Found) (r : EditError) → IsRefusal (option_map Fault o) r → IsRefusal (option_map Fault (first o p)) r
+refused_first None p r h = only_memory p r h
+refused_first (Some f) p r h = h
+
+pub refused_second : (o p : Option Found) (r : EditError) → o ≡ None → IsRefusal (option_map Fault p) r → IsRefusal (option_map Fault (first o p)) r
+refused_second o p r e h = subst (λ z. IsRefusal (option_map Fault (first z p)) r) (sym e) h
+
+in_first : (x : List ℕ) (o : _) (p : _) → in_procedure x (first o p) ≡ first (in_procedure x o) (in_procedure x p)
+in_first x None p = refl
+in_first x (Some s) p = refl
+
+pub refused_step : (x : List ℕ) (o : _) (p : _) (q : _) (r : EditError) → q ≡ first o p → IsRefusal (option_map Fault (in_procedure x o)) r → IsRefusal (option_map Fault (in_procedure x q)) r
+refused_step x o p q r e h = subst (λ z. IsRefusal (option_map Fault z) r) (sym (ap (in_procedure x) e ∙ in_first x o p)) (refused_first (in_procedure x o) (in_procedure x p) r h)
+
+-- How many statements there then are, counted up to a limit.
+pub few_then : (pc g bc left count : ℕ) → left ≡ pc - g → count ≡ min (left + min bc (2 ^ 32 - 1)) (2 ^ 32 - 1) → count ≤ 10000 → count ≡ (pc - g) + bc
+few_then pc g bc left count e f h = let k : count ≡ left + bc = grind arith in k ∙ ap (λ z. z + bc) e
+
+pub few_fault : (x : List ℕ) (n count : ℕ) → count ≡ n → count ≤ 10000 → in_procedure x (at 0 (unless (nat_lt n 10001) TooManyStatements)) ≡ None
+few_fault x n count e h = ap (λ t. in_procedure x (at 0 (unless t TooManyStatements))) (lt-ltb n 10001 (omega (arith, e, h)))
+
+pub many_fault : (x : List ℕ) (pc g bc left count : ℕ) → left ≡ pc - g → count ≡ min (left + min bc (2 ^ 32 - 1)) (2 ^ 32 - 1) → 10000 < count → in_procedure x (at 0 (unless (nat_lt ((pc - g) + bc) 10001) TooManyStatements)) ≡ Some (record { fault = TooManyStatements; proc = x; at = 0 })
+many_fault x pc g bc left count e f h =
+    let k : 10001 ≤ left + bc = grind arith in
+    ap (λ z. in_procedure x (at 0 (unless (nat_lt (z + bc) 10001) TooManyStatements))) (sym e)
+    ∙ ap (λ t. in_procedure x (at 0 (unless t TooManyStatements))) (not_less (left + bc) k)
+  where
+    not_less : (n : ℕ) → 10001 ≤ n → nat_lt n 10001 ≡ false
+    not_less n h = grind (arith, nat_tests)
+
+-- The procedures, with other ends of one body.
+pub head_set : (hs : List Head) (n : ℕ) (h : Head) (ends : BlockEnds → BlockEnds) → n < length hs → h ≡ slice_index_or hs n h → slice_set hs n (record h { body = ends h.body }) ≡ head_with hs n ends
+head_set [] n h ends l e = absurd (omega arith)
+head_set (x ∷ hs) zero h ends l e = ap (λ (z : Head). record z { body = ends z.body } ∷ hs) e
+head_set (x ∷ hs) (suc n) h ends l e = ap (λ (zs : List Head). x ∷ zs) (head_set hs n h ends (omega arith) e)
+
+pub head_past : (hs : List Head) (n : ℕ) (ends : BlockEnds → BlockEnds) → length hs ≤ n → hs ≡ head_with hs n ends
+head_past [] n ends l = refl
+head_past (x ∷ hs) zero ends l = absurd (omega arith)
+head_past (x ∷ hs) (suc n) ends l = ap (λ (zs : List Head). x ∷ zs) (head_past hs n ends (omega arith))
+
+pub head_same : (hs : List Head) (n : ℕ) (ends : BlockEnds → BlockEnds) → ((e : BlockEnds) → ends e ≡ e) → hs ≡ head_with hs n ends
+head_same [] n ends h = refl
+head_same (x ∷ hs) zero ends h = ap (λ o. record x { body = o } ∷ hs) (sym (h x.body))
+head_same (x ∷ hs) (suc n) ends h = ap (λ (zs : List Head). x ∷ zs) (head_same hs n ends h)
+
+pub heads_same : (o : Option Around) (hs : List Head) (n : ℕ) (ends : BlockEnds → BlockEnds) → ((e : BlockEnds) → ends e ≡ e) → hs ≡ heads_in o hs n ends
+heads_same None hs n ends h = head_same hs n ends h
+heads_same (Some w) hs n ends h = refl

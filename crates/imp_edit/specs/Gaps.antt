@@ -1,0 +1,118 @@
+-- Where an edit of simple statements changes a block, and what it changes there.
+use Rattle.std.specs.Prelude.{◌≡◌, ℕ, ◌+◌, ◌-◌, ◌<◌, List, [], ◌∷◌, length, Option, Some, None, false, cond, nat_lt, slice_get, unwrap_or}
+use Rattle.std.specs.List.{All}
+use Rattle.std.specs.Option.{option_map}
+use Rattle.imp_syntax.specs.Plain.{Statement, Simple, Break, Call, If, While, Statements, Procedure, numbers}
+use Rattle.imp_syntax.specs.declared.edit.Edit.{Edit}
+use Rattle.imp_syntax.specs.declared.edit.Edit.TheVariants as edit
+use Rattle.imp_syntax.specs.declared.edit.Place.{Place}
+use Rattle.imp_syntax.specs.declared.edit.Place.TheVariants as place
+use Rattle.imp_check.specs.Changes.{AreWithin, overlay}
+use Rattle.imp_check.specs.Entries.{inside, inside_loop, context_at, entries_of, entry_of, frame_at, heads_of}
+use Rattle.imp_check.specs.Faults.{first, unless, at, in_procedure}
+use Rattle.imp_check.specs.Names.{named_in, variables}
+use Rattle.imp_check.specs.Programs.{block_count, program_count, name_of, last_of}
+use Rattle.imp_check.specs.Statements.{block_fault}
+use Rattle.imp_check.specs.declared.change.Change.{Change}
+use Rattle.imp_check.specs.declared.entry.Entry.{Entry}
+use Rattle.imp_check.specs.declared.entry.Head.{Head}
+use Rattle.imp_check.specs.declared.entry.Which.TheVariants as which
+use Rattle.imp_check.specs.declared.fault.Fault.TheVariants.{Statements as TooManyStatements}
+use Rattle.imp_check.specs.declared.fault.Found.{Found}
+use Rattle.edit_entries.specs.Gaps.{is_simple, ends_with, holder_of, held_in, heads_in, gap_splice, lone}
+use Rattle.edit_entries.specs.Spliced.{spliced}
+use Rattle.imp_edit.specs.declared.gap.Gap.{Gap}
+
+-- in the place of a simple statement, behind a statement, and in front of one of its blocks
+abbrev pub gone_gap : Entry → Option Gap
+gone_gap e = cond (is_simple e.part) (Some (record { context = e.context; front = e.front; next = e.next; gone = Some e.number })) None
+
+abbrev pub behind_gap : Entry → Option Gap
+behind_gap e = Some (record { context = e.context; front = Some e.number; next = e.next; gone = None })
+
+abbrev pub then_gap : Entry → Option Gap
+then_gap e = Some (record { context = inside e.context e.number which.Then; front = None; next = e.inner.first; gone = None })
+
+abbrev pub else_gap : Entry → Option Gap
+else_gap e = Some (record { context = inside e.context e.number which.Else; front = None; next = e.other.first; gone = None })
+
+abbrev pub body_gap : Entry → Option Gap
+body_gap e = Some (record { context = inside_loop e.context e.number; front = None; next = e.inner.first; gone = None })
+
+-- in front of the body of the procedure at a place
+abbrev pub start_gap : (place : ℕ) → Head → Gap
+start_gap place h = record { context = context_at place; front = None; next = h.body.first; gone = None }
+
+abbrev pub of_entry : (Entry → Option Gap) → Option Entry → Option Gap
+of_entry gap None = None
+of_entry gap (Some e) = gap e
+
+abbrev pub of_place : List Head → Option ℕ → Option Gap
+of_place heads None = None
+of_place heads (Some p) = option_map (start_gap p) (slice_get heads p)
+
+abbrev pub place_gap : Place → List Procedure → Option Gap
+place_gap (place.After n) ps = of_entry behind_gap (entry_of (entries_of ps) n)
+place_gap (place.ThenStart n) ps = of_entry then_gap (entry_of (entries_of ps) n)
+place_gap (place.ElseStart n) ps = of_entry else_gap (entry_of (entries_of ps) n)
+place_gap (place.BodyStart n) ps = of_entry body_gap (entry_of (entries_of ps) n)
+place_gap (place.ProcStart x) ps = of_place (heads_of ps) (named_in ps x)
+
+-- Where an edit puts statements, or takes a simple one away.
+abbrev pub gap_of : Edit → List Procedure → Option Gap
+gap_of (edit.Replace n t) ps = of_entry gone_gap (entry_of (entries_of ps) n)
+gap_of (edit.Insert at more) ps = place_gap at ps
+gap_of (edit.Delete n) ps = of_entry gone_gap (entry_of (entries_of ps) n)
+gap_of (edit.Guard n c) ps = None
+gap_of (edit.Declare x d) ps = None
+gap_of (edit.AddProc x p) ps = None
+gap_of (edit.DropProc x) ps = None
+
+-- the number of the statement that goes, if one goes
+abbrev pub gone_in : Option ℕ → List ℕ
+gone_in None = []
+gone_in (Some n) = n ∷ []
+
+-- how many statements the program then has, and the fault of too many
+abbrev pub count_with : List Procedure → Gap → Statements → ℕ
+count_with ps g news = (program_count ps - length (gone_in g.gone)) + block_count news
+
+abbrev pub count_fault : List Procedure → Gap → Statements → Option Found
+count_fault ps g news = in_procedure (name_of (last_of ps)) (at 0 (unless (nat_lt (count_with ps g news) 10001) TooManyStatements))
+
+-- The first fault: too many statements, or that of those that come.
+abbrev pub splice_fault : List Procedure → Head → Gap → Statements → Option Found
+splice_fault ps h g news = first (count_fault ps g news) (in_procedure h.bare.name (block_fault (lone (variables h.bare)) false news))
+
+-- a simple statement with another number
+abbrev pub with_number : ℕ → Statement → Statement
+with_number m (Simple n a) = Simple m a
+with_number m (Break n) = Break n
+with_number m (Call n x g es) = Call n x g es
+with_number m (If n c t e) = If n c t e
+with_number m (While n c b) = While n c b
+
+-- what is then known of the statements
+abbrev pub entries_with : List Procedure → Head → Gap → Statements → ℕ → Option Entry
+entries_with ps h g news = spliced (gap_splice (frame_at [] h.bare) g.context g.front g.next (gone_in g.gone) news) (held_in g.context.around (ends_with g.front g.next news)) (entry_of (entries_of ps))
+
+-- a number, if there is one, is below a bound
+abbrev pub IsBelow : ℕ → Option ℕ → Type 0
+IsBelow b None = Unit {0}
+IsBelow b (Some n) = n < b
+
+-- So are those of the statements around a place, and of those that come and go.
+pub record AreBelow (b : ℕ) (g : Gap) (news : Statements) : Type 0 where
+  pub gone : IsBelow b g.gone
+  pub front : IsBelow b g.front
+  pub next : IsBelow b g.next
+  pub holder : IsBelow b (holder_of g.context.around)
+  pub come : All (λ (n : ℕ). n < b) (numbers news)
+
+-- The change puts simple statements at a place.
+pub record IsSplice (ps : List Procedure) (h : Head) (g : Gap) (news : Statements) (change : Change) : Type 0 where
+  pub entries : (m : ℕ) → overlay change.entries.items (entry_of (entries_of ps)) m ≡ entries_with ps h g news m
+  pub heads : unwrap_or change.heads (heads_of ps) ≡ heads_in g.context.around (heads_of ps) g.context.proc (ends_with g.front g.next news)
+  pub counted : change.count ≡ count_with ps g news
+  pub sites : change.sites ≡ None
+  pub within : (b : ℕ) → AreBelow b g news → AreWithin b change.entries.items

@@ -1,0 +1,161 @@
+//! Statements checked by themselves.
+ghost use Rattle.std.specs.Prelude.{◌≡◌, ◌++◌, [], IfOk, IfErr, OnOk, None};
+ghost use Rattle.std.specs.Option.{option_map};
+ghost use Rattle.imp_check.specs.Names.{variables};
+ghost use Rattle.imp_check.specs.Programs.{variables_fault};
+ghost use Rattle.imp_check.specs.Faults.{at, in_procedure};
+ghost use Rattle.imp_check.specs.Entries.{entries_of, entry_of, form_in, frame_at};
+ghost use Rattle.imp_check.specs.declared.entry.Entry.{Entry};
+ghost use Rattle.imp_edit.specs.declared.error.EditError.TheVariants.{Fault as refused_by};
+ghost use Rattle.imp_edit.specs.Alone.{IsAlone, alone, alone_fault, FitsAlone};
+ghost use Rattle.imp_edit.specs.Gaps.{with_number};
+ghost use Rattle.imp_edit.specs.Refusals.{IsRefusal};
+
+use crate::error::EditError;
+use imp_check::{CheckError, Fault, Found, SlotForm, Table, check_table};
+use imp_syntax::{Action, Block, Declaration, Proc, Program, Stmt, StmtId, StmtNode};
+use plain_values::{Items, Memory, Text};
+use std::alloc::Global;
+
+/// What a statement without blocks does over slots in a procedure. It takes time in proportion to the statement and
+/// to the square of the procedure's variables.
+///
+/// # Errors
+///
+/// [`EditError::Fault`] with its fault in that procedure, at this number.
+#[tactic(auto, using(crate::proofs::AloneLemmas::alone_numbered, crate::proofs::AloneLemmas::alone_faultless, crate::proofs::AloneLemmas::alone_refused, crate::proofs::AloneLemmas::alone_fits, crate::proofs::AloneLemmas::alone_known, crate::proofs::AloneLemmas::alone_missing))]
+pub(crate) fn form_alone(
+    alloc: Global,
+    proc: &Proc,
+    number: StmtId,
+    stmt: Stmt,
+) -> Result<SlotForm, EditError>
+    requires fine { variables_fault [] (variables proc.now) ≡ None }
+    requires alone { IsAlone stmt }
+    ensures form { IfOk result (λ form. form ≡ form_in (frame_at [] proc.now) stmt) }
+    ensures fits { IfOk result (λ _. FitsAlone proc.now stmt) }
+    ensures faultless { IfOk result (λ _. alone_fault (variables proc.now) stmt ≡ None) }
+    ensures refused { IfErr result (IsRefusal (option_map refused_by (in_procedure proc.now.name (at number (alone_fault (variables proc.now) stmt))))) }
+{
+    let program = alone(alloc, proc, stmt)?;
+    match check_table(alloc, &program) {
+        Ok(table) => match form_of(&table)? {
+            Some(form) => Ok(form),
+            None => unreachable!(),
+        },
+        Err(CheckError::Fault(found)) => Err(EditError::Fault(found_at(
+            found.fault,
+            proc,
+            number,
+        )?)),
+        Err(CheckError::Memory) => Err(EditError::Memory),
+    }
+}
+
+/// A fault of the statement of a number in a procedure.
+fn found_at(fault: Fault, proc: &Proc, number: StmtId) -> Result<Found, Memory>
+    ensures is { IfOk result (λ found. found ≡ record { fault = fault; proc = proc.now.name; at = number }) }
+{
+    let proc = proc.name().clone()?;
+    Ok(Found {
+        fault,
+        proc,
+        at: number.number(),
+    })
+}
+
+/// The program of `main` with the variables of a procedure and this statement.
+fn alone(alloc: Global, proc: &Proc, stmt: Stmt) -> Result<Program, Memory>
+    ensures is { IfOk result (λ p. p ≡ alone proc.now stmt) }
+{
+    let mut stmts = Items::new(alloc);
+    stmts.push(stmt)?;
+    let main = Proc::new(
+        alloc,
+        Text::from_slice(alloc, b"main")?,
+        Items::new(alloc),
+        None,
+        variables_of(alloc, proc)?,
+        Block::new(alloc, stmts)?,
+    )?;
+    let mut procs = Items::new(alloc);
+    procs.push(main)?;
+    Program::new(alloc, procs)
+}
+
+/// The variables of a procedure, in order.
+fn variables_of(alloc: Global, proc: &Proc) -> Result<Items<Declaration>, Memory>
+    ensures is { IfOk result (λ vs. vs ≡ variables proc.now) }
+{
+    let mut variables = Items::new(alloc);
+    append(&mut variables, proc.parameters())?;
+    if let Some(outcome) = proc.outcome() {
+        variables.push(outcome.clone()?)?;
+    }
+    append(&mut variables, proc.locals())?;
+    Ok(variables)
+}
+
+fn append(all: &mut Items<Declaration>, more: &[Declaration]) -> Result<(), Memory>
+    ensures added { OnOk result (all.new ≡ all.old ++ more.now) }
+{
+    for declaration in more {
+        all.push(declaration.clone()?)?;
+    }
+    Ok(())
+}
+
+/// What the statement of number 1 does over slots, or `None` where there is none.
+fn form_of(table: &Table) -> Result<Option<SlotForm>, Memory>
+    ensures is { IfOk result (λ form. form ≡ option_map (λ (e : Entry). e.form) (entry_of (entries_of table.now.program) 1)) }
+{
+    match table.entry(StmtId::new(1)) {
+        Some(entry) => Ok(Some(form_again(&entry.form)?)),
+        None => Ok(None),
+    }
+}
+
+/// A copy of a form.
+pub(crate) fn form_again(form: &SlotForm) -> Result<SlotForm, Memory>
+    ensures is { IfOk result (λ copy. copy ≡ form.now) }
+{
+    match form {
+        SlotForm::Stmt(stmt) => Ok(SlotForm::Stmt(stmt.clone()?)),
+        SlotForm::Cond(cond) => Ok(SlotForm::Cond(cond.clone()?)),
+        SlotForm::Call(call, callee) => Ok(SlotForm::Call(call.clone()?, *callee)),
+    }
+}
+
+/// A simple statement with the number 1; any other statement as it is.
+pub(crate) fn with_first_number(alloc: Global, stmt: &Stmt) -> Result<Stmt, Memory>
+    ensures is { IfOk result (λ s. s ≡ with_number 1 stmt.now) }
+{
+    match stmt.node() {
+        StmtNode::Simple(action) => {
+            let node = StmtNode::Simple(action_again(action)?);
+            Stmt::new(alloc, StmtId::new(1), node)
+        }
+        _ => Ok(stmt.clone()?),
+    }
+}
+
+/// A copy of what a simple statement does.
+fn action_again(action: &Action) -> Result<Action, Memory>
+    ensures is { IfOk result (λ copy. copy ≡ action.now) }
+{
+    Ok(match action {
+        Action::Skip => Action::Skip,
+        Action::Assert(cond) => Action::Assert(cond.clone()?),
+        Action::Assign(x, e) => Action::Assign(x.clone()?, e.clone()?),
+        Action::Input(x) => Action::Input(x.clone()?),
+        Action::MakeArray(x, e) => Action::MakeArray(x.clone()?, e.clone()?),
+        Action::SetNull(x) => Action::SetNull(x.clone()?),
+        Action::MakeCell(x) => Action::MakeCell(x.clone()?),
+        Action::ReadElement(x, a, e) => Action::ReadElement(x.clone()?, a.clone()?, e.clone()?),
+        Action::ReadNext(x, q) => Action::ReadNext(x.clone()?, q.clone()?),
+        Action::ReadItem(x, q) => Action::ReadItem(x.clone()?, q.clone()?),
+        Action::WriteElement(a, e, f) => Action::WriteElement(a.clone()?, e.clone()?, f.clone()?),
+        Action::WriteNext(p, q) => Action::WriteNext(p.clone()?, q.clone()?),
+        Action::WriteItem(p, e) => Action::WriteItem(p.clone()?, e.clone()?),
+    })
+}

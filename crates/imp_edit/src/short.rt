@@ -1,0 +1,178 @@
+//! Edits whose change is found from their own parts and from what is known beside them.
+ghost use Rattle.std.specs.Prelude.{ℕ, ◌≡◌, ◌<◌, ◌∷◌, [], IfOk, IfErr, MatchOption, None, Some, true, ⊤};
+ghost use Rattle.std.specs.List.{All};
+ghost use Rattle.std.specs.Option.{option_map};
+ghost use Rattle.imp_syntax.specs.Plain.{Ends, If, Starts, program_numbers};
+ghost use Rattle.imp_syntax.specs.Changes.{with_condition};
+ghost use Rattle.imp_check.specs.Programs.{AreNumbered, check_fault};
+ghost use Rattle.imp_check.specs.Entries.{entries_of, entry_of};
+ghost use Rattle.imp_edit.specs.declared.error.EditError.TheVariants.{Fault};
+ghost use Rattle.imp_edit.specs.declared.refusals.Needed.TheVariants.{Conditional};
+ghost use Rattle.imp_edit.specs.Changes.{guarded, in_program};
+ghost use Rattle.imp_edit.specs.Edited.{Continues, brought, edited, next_after};
+ghost use Rattle.imp_edit.specs.Gaps.{gap_of};
+ghost use Rattle.imp_edit.specs.Refusals.{IsRefusal, fits, site_refusal};
+ghost use Rattle.imp_edit.specs.Short.{IsMade};
+
+use crate::alone::form_alone;
+use crate::error::EditError;
+use crate::gap::{Gap, are_simple, gap_of};
+use crate::splicing::{entry_again, splice};
+use imp_check::{Change, Entry, Place, Put, SlotForm, Table};
+use imp_syntax::{Block, Cond, Edit, Stmt, StmtId, StmtNode};
+use plain_values::{Items, Memory};
+use std::alloc::Global;
+
+/// The change of an edit that gives a statement another condition, puts simple statements at a place that are neither
+/// calls nor breaks, or takes such a one away; `None` for other edits, whose change is found from the whole program.
+/// Another condition takes time in proportion to the condition, the breaks of the statement and the square of the
+/// procedure's variables. Statements take time in proportion to the statements, to the square of the procedure's
+/// variables for each, and, at the start or the end of a procedure, to the number of procedures.
+///
+/// # Errors
+///
+/// [`EditError::Fault`] with the first fault of the new program.
+pub(crate) fn short_change(
+    alloc: Global,
+    table: &Table,
+    edit: &Edit,
+    next: u32,
+) -> Result<Option<Change>, EditError>
+    requires site { site_refusal edit.now table.now.program ≡ None }
+    requires below { All (λ (n : ℕ). n < next) (program_numbers table.now.program) }
+    requires continues { Continues edit.now next }
+    requires numbered { AreNumbered (edited edit.now table.now.program) }
+    ensures made { IfOk result (λ change. MatchOption change ⊤ (IsMade table.now.program (edited edit.now table.now.program) (next_after edit.now next))) }
+    ensures refused { IfErr result (IsRefusal (option_map Fault (check_fault (edited edit.now table.now.program)))) }
+{
+    match edit {
+        Edit::Guard(stmt, cond) => match table.entry(*stmt) {
+            Some(entry) => guard_change(alloc, table, entry, *stmt, cond, next),
+            None => Ok(None),
+        },
+        _ => match gap_of(table, edit) {
+            Some(gap) => gap_change(alloc, table, edit, &gap, next),
+            None => Ok(None),
+        },
+    }
+}
+
+/// The change of an edit that puts simple statements at this place, or takes one away; `None` where other statements
+/// come.
+fn gap_change(
+    alloc: Global,
+    table: &Table,
+    edit: &Edit,
+    gap: &Gap,
+    next: u32,
+) -> Result<Option<Change>, EditError>
+    requires site { site_refusal edit.now table.now.program ≡ None }
+    requires here { gap_of edit.now table.now.program ≡ Some gap.now }
+    requires below { All (λ (n : ℕ). n < next) (program_numbers table.now.program) }
+    requires continues { Continues edit.now next }
+    requires numbered { AreNumbered (edited edit.now table.now.program) }
+    ensures made { IfOk result (λ change. MatchOption change ⊤ (IsMade table.now.program (edited edit.now table.now.program) (next_after edit.now next))) }
+    ensures refused { IfErr result (IsRefusal (option_map Fault (check_fault (edited edit.now table.now.program)))) }
+{
+    table.procs();
+    let news = brought(alloc, edit)?;
+    if !are_simple(&news) {
+        return Ok(None);
+    }
+    let Some(head) = table.view().head(gap.context.proc) else {
+        return Ok(None);
+    };
+    match splice(alloc, table, head, gap, &news) {
+        Ok(change) => Ok(Some(change)),
+        Err(error) => Err(error),
+    }
+}
+
+/// The statements that an edit brings.
+fn brought(alloc: Global, edit: &Edit) -> Result<Block, Memory>
+    ensures is { IfOk result (λ block. block ≡ brought edit.now) }
+{
+    match edit {
+        Edit::Replace(_, stmt) => block_of_one(alloc, stmt),
+        Edit::Insert(_, more) => Ok(more.clone()?),
+        Edit::AddProc { before: _, proc } => Ok(proc.body().clone()?),
+        Edit::Delete(_) | Edit::Guard(_, _) | Edit::Declare(_, _) | Edit::DropProc(_) => {
+            Ok(Block::empty())
+        }
+    }
+}
+
+/// A block of one statement.
+fn block_of_one(alloc: Global, stmt: &Stmt) -> Result<Block, Memory>
+    ensures is { IfOk result (λ block. block ≡ Starts stmt.now Ends) }
+{
+    let mut stmts = Items::new(alloc);
+    stmts.push(stmt.clone()?)?;
+    Block::new(alloc, stmts)
+}
+
+/// The change that gives an if or while another condition.
+#[tactic(auto, using(crate::proofs::GuardLemmas::guard_refused))]
+fn guard_change(
+    alloc: Global,
+    table: &Table,
+    entry: &Entry,
+    stmt: StmtId,
+    cond: &Cond,
+    next: u32,
+) -> Result<Option<Change>, EditError>
+    requires known { entry_of (entries_of table.now.program) stmt ≡ Some entry.now }
+    requires fits { fits Conditional entry.now.part ≡ true }
+    requires below { All (λ (n : ℕ). n < next) (program_numbers table.now.program) }
+    requires numbered { AreNumbered (in_program stmt (guarded cond.now) table.now.program) }
+    ensures made { IfOk result (λ change. MatchOption change ⊤ (IsMade table.now.program (in_program stmt (guarded cond.now) table.now.program) next)) }
+    ensures refused { IfErr result (IsRefusal (option_map Fault (check_fault (in_program stmt (guarded cond.now) table.now.program)))) }
+{
+    table.procs();
+    let Some(head) = table.view().head(entry.context.proc) else {
+        return Ok(None);
+    };
+    let form = form_alone(alloc, &head.bare, stmt, condition_alone(alloc, cond)?)?;
+    let changed = with_condition(alloc, entry, cond, form)?;
+    let entries = one_put(alloc, stmt, changed)?;
+    Ok(Some(Change {
+        entries,
+        heads: None,
+        count: table.view().count(),
+        sites: None,
+    }))
+}
+
+/// One entry at a number.
+fn one_put(alloc: Global, number: StmtId, entry: Entry) -> Result<Vec<Put>, Memory>
+    ensures is { IfOk result (λ puts. puts.items ≡ record { number = number; entry = Some entry } ∷ []) }
+{
+    let number = number.number();
+    let entry = Place::of(alloc, entry)?;
+    let mut puts = Vec::new(alloc);
+    puts.push(Put { number, entry })?;
+    Ok(puts)
+}
+
+/// An if with this condition and of nothing, by itself.
+fn condition_alone(alloc: Global, cond: &Cond) -> Result<Stmt, Memory>
+    ensures is { IfOk result (λ stmt. stmt ≡ If 1 cond.now Ends Ends) }
+{
+    let node = StmtNode::If(cond.clone()?, Block::empty(), Block::empty());
+    Stmt::new(alloc, StmtId::new(1), node)
+}
+
+/// What is known of a statement, with this condition and what it does over slots.
+fn with_condition(
+    alloc: Global,
+    entry: &Entry,
+    cond: &Cond,
+    form: SlotForm,
+) -> Result<Entry, Memory>
+    ensures is { IfOk result (λ e. e ≡ record entry.now { part = with_condition entry.now.part cond.now; form = form }) }
+{
+    let mut changed = entry_again(entry)?;
+    changed.part = entry.part.with_condition(alloc, cond.clone()?)?;
+    changed.form = form;
+    Ok(changed)
+}
