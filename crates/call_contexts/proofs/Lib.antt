@@ -1,6 +1,8 @@
 pub mod Lists
 pub mod Numbered
 pub mod Few
+pub mod Sorted
+pub mod MarkSets
 pub mod Marked
 pub mod Placed
 pub mod Tabled
