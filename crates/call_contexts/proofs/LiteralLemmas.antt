@@ -23,7 +23,7 @@ use Rattle.program_chains.specs.Marks.{effect_literals, guard_literals, literals
 use Rattle.call_contexts.specs.Literals.{form_literals, literals_in, literals_by}
 use Rattle.call_contexts.specs.Settings.{all_marks}
 
-effect_again : (e : Effect) → effect_of (action_of e) ≡ e
+pub effect_again : (e : Effect) → effect_of (action_of e) ≡ e
 effect_again plain.Skip = refl
 effect_again (plain.Assert g) = refl
 effect_again (plain.SetInt x e) = refl
