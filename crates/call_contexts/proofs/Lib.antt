@@ -1,9 +1,15 @@
 pub mod Lists
 pub mod Numbered
 pub mod Few
+pub mod Sorted
+pub mod MarkSets
 pub mod Marked
+pub mod SameEntries
+pub mod TallyLemmas
+pub mod Counted
 pub mod Placed
 pub mod Tabled
 pub mod Filtering
 pub mod LiteralLemmas
-pub mod Kept
+pub mod Balance
+pub mod Parted

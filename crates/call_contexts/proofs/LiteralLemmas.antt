@@ -1,6 +1,6 @@
 -- The numbers of a procedure are told by its statements.
 use Rattle.std.proofs.lemmas.Option.{slice_get-map}
-use Rattle.std.proofs.Common.{◌≡◌, ℕ, ℤ, zero, suc, ◌<◌, ◌⊎◌, inl, inr, List, [], ◌∷◌, ◌++◌, length, map, take, slice_get, Option, Some, None, Bool, true, false, refl, sym, ap, ◌∙◌, subst, arith, append_assoc, append-nil}
+use Rattle.std.proofs.Common.{◌≡◌, ℕ, ℤ, zero, suc, ◌<◌, inl, inr, List, [], ◌∷◌, ◌++◌, length, take, slice_get, Option, Some, None, Bool, true, false, refl, sym, ap, ◌∙◌, arith, append_assoc, append-nil}
 use Rattle.std.specs.Prelude.{if◌then◌else◌}
 use Rattle.std.specs.Option.{option_map}
 use Rattle.imp_syntax.specs.Plain.{Statements, Ends, Starts, Procedure, numbers}
@@ -16,14 +16,14 @@ use Rattle.imp_check.specs.Walks.{body_numbers, numbers_at}
 use Rattle.imp_check.specs.declared.entry.Context.{Context}
 use Rattle.imp_check.specs.declared.entry.Entry.{Entry}
 use Rattle.imp_check.specs.declared.entry.Which.TheVariants as which
-use Rattle.imp_check.proofs.RebuildLemmas.{In, in_left, in_right, Known, known_left, known_right}
+use Rattle.imp_check.proofs.RebuildLemmas.{in_left, in_right, Known, known_left, known_right}
 use Rattle.imp_check.proofs.WalkLemmas.{own, all_known}
 use Rattle.program_chains.specs.declared.widening.Widening.{Widening}
-use Rattle.program_chains.specs.Marks.{effect_literals, guard_literals, argument_literals, literals, marks, marks_of}
+use Rattle.program_chains.specs.Marks.{effect_literals, guard_literals, literals, marks, marks_of}
 use Rattle.call_contexts.specs.Literals.{form_literals, literals_in, literals_by}
 use Rattle.call_contexts.specs.Settings.{all_marks}
 
-effect_again : (e : Effect) → effect_of (action_of e) ≡ e
+pub effect_again : (e : Effect) → effect_of (action_of e) ≡ e
 effect_again plain.Skip = refl
 effect_again (plain.Assert g) = refl
 effect_again (plain.SetInt x e) = refl

@@ -1,5 +1,5 @@
 -- The chains to a procedure from those of the later ones.
-use Rattle.std.proofs.Common.{ℕ, zero, suc, ◌≡◌, ◌⊎◌, inl, inr, ◌==◌, ◌+◌, ◌-◌, ◌<◌, ◌≤◌, cond, Bool, true, false, List, [], ◌∷◌, ◌++◌, length, drop, get_or, map, slice_get, Option, Some, None, refl, sym, ap, ◌∙◌, subst, arith, append_assoc, length-append}
+use Rattle.std.proofs.Common.{ℕ, zero, suc, ◌≡◌, ◌⊎◌, inl, inr, ◌==◌, ◌+◌, ◌-◌, ◌<◌, ◌≤◌, cond, Bool, true, false, List, [], ◌∷◌, ◌++◌, length, drop, get_or, map, slice_get, Option, Some, None, refl, sym, ap, ◌∙◌, subst, arith, append_assoc}
 use Rattle.std.specs.Prelude.{if◌then◌else◌}
 use Rattle.std.proofs.lemmas.Bool.{cases_lt}
 use Rattle.imp_syntax.specs.Plain.{Statements, Ends, Starts, Procedure}
@@ -8,7 +8,6 @@ use Rattle.imp_slots.specs.Plain.{Layout, Invoke, Code, Stop, Simple, If, While,
 use Rattle.imp_slots.specs.Fits.{FitsCall, FitsCode, FitInTurn, IsChecked}
 use Rattle.program_chains.specs.Chains.{calls_to, extended, through, chains_within, chains}
 use Rattle.program_chains.specs.Claims.{ChainsAreThroughCallers}
-use Rattle.imp_check.specs.Parts.{first_or}
 use Rattle.imp_check.specs.Programs.{AreNumbered}
 use Rattle.imp_check.specs.Slots.{Frame, callee_in, code_in, routines_from, routines_of}
 use Rattle.imp_check.specs.Entries.{inside, inside_loop, calls_here, sites_in, block_entries, procedure_entries, entries_from, entries_of, entry_of, frame_at, context_at}

@@ -4,3 +4,5 @@ pub mod Tables
 pub mod Settings
 pub mod Literals
 pub mod Touches
+pub mod Tallies
+pub mod Differences

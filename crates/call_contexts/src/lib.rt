@@ -4,14 +4,17 @@
 //! chains to a procedure that a call string selects, [`targets`] those of a location, in the order in
 //! which their states are joined. [`joined`] sheds one chain's state and joins it behind those before.
 //! [`marks`] gives the numbers at which widening stops in a procedure, and a [`Setting`] has those of
-//! all procedures, with how often and how the iterates of a loop are made. After a change of the program
-//! [`Setting::after`] makes the marks of those procedures anew to which the change brings statements.
+//! all procedures, with how often and how the iterates of a loop are made. It counts in how many statements
+//! each number stands, so after a change of the program [`Setting::after`] looks at the change alone, and
+//! makes the marks of those procedures anew that have other numbers then.
 //!
 //! A program has at most 4,096 chains, each of at most 8 calls. Nothing walks the program: a place is
 //! read off what is known of the statement, and the chains to a procedure are found along call
 //! sites, in time linear in the calls of the procedures from its own on and in the chains to them.
 #![tactic(auto)]
 
+mod counts;
+mod differences;
 mod filtered;
 mod joining;
 mod literals;
@@ -20,6 +23,7 @@ mod numbers;
 mod places;
 mod setting;
 mod table;
+mod tallying;
 mod touched;
 
 pub use filtered::{chains, targets};

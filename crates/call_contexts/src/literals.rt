@@ -1,5 +1,5 @@
 //! The numbers that stand in a procedure.
-ghost use Rattle.std.specs.Prelude.{◌≡◌, ◌++◌, [], ◌∷◌, OnOk, map};
+ghost use Rattle.std.specs.Prelude.{◌≡◌, ◌++◌, [], ◌∷◌, IfOk, OnOk, map};
 ghost use Rattle.imp_slots.specs.ActionViews.{effect_of};
 ghost use Rattle.imp_slots.specs.CallViews.{argument_of};
 ghost use Rattle.program_chains.specs.Marks.{term_literals, guard_literals, effect_literals, argument_literals};
@@ -10,6 +10,7 @@ use imp_check::{SlotForm, View};
 use imp_slots::{Argument, SlotAction, SlotCond, SlotCondNode, SlotExpr, SlotExprNode, SlotStmt};
 use imp_syntax::StmtId;
 use plain_values::{Items, Memory, Number};
+use std::alloc::Global;
 
 fn add_term(expr: &SlotExpr, found: &mut Items<Number>) -> Result<(), Memory>
     ensures added { OnOk result (found.new ≡ found.old ++ term_literals expr.now) }
@@ -108,6 +109,15 @@ fn add_form(form: &SlotForm, found: &mut Items<Number>) -> Result<(), Memory>
         SlotForm::Cond(cond) => add_guard(cond, found),
         SlotForm::Call(call, _) => add_arguments(call.entering().arguments(), found),
     }
+}
+
+/// The numbers of a statement, without those inside it.
+pub(crate) fn numbers_of(alloc: Global, form: &SlotForm) -> Result<Items<Number>, Memory>
+    ensures are { IfOk result (λ numbers. numbers ≡ form_literals form.now) }
+{
+    let mut numbers = Items::new(alloc);
+    add_form(form, &mut numbers)?;
+    Ok(numbers)
 }
 
 /// Adds the numbers of the statement of a number, if it is there.

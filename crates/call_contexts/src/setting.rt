@@ -1,15 +1,22 @@
 //! How the loops of a program are interpreted.
-ghost use Rattle.std.specs.Prelude.{◌≡◌, ◌<◌, ℕ, List, length, slice_get, IfOk, Some};
+ghost use Rattle.std.specs.Prelude.{◌≡◌, ◌<◌, ◌++◌, ◌∷◌, [], ◌&&◌, ℕ, true, List, length, slice_get, IfOk, OnOk, Some};
+ghost use Rattle.std.specs.Bool.{OnTrue};
+ghost use Rattle.std.specs.BTreeSet.{contains};
+ghost use Rattle.std.specs.Ordering.{nat_cmp};
 ghost use Rattle.imp_syntax.specs.Plain.{Procedure};
 ghost use Rattle.imp_check.specs.Slots.{routines_of};
+ghost use Rattle.imp_check.specs.Entries.{entries_of, entry_of};
 ghost use Rattle.imp_check.specs.Fine.{IsFine};
 ghost use Rattle.imp_check.specs.Changes.{AreFalling, Makes};
-ghost use Rattle.call_contexts.specs.Settings.{engine_of, all_marks, setting_of, marks_at};
-ghost use Rattle.call_contexts.specs.Touches.{Brings, KeepMarks};
+ghost use Rattle.call_contexts.specs.Settings.{engine_of, all_marks, setting_of, marks_at, IsPart};
+ghost use Rattle.call_contexts.specs.Touches.{Brings, touches};
 
+use crate::counts::Counts;
+use crate::differences::{gained, lost};
 use crate::marking::marks;
 use crate::table::procedure_count;
-use crate::touched::{stays, touched_places};
+use crate::tallying::{changed, tally};
+use crate::touched::touched_places;
 use imp_check::{Change, Put, Table, View};
 use imp_syntax::ProcId;
 use plain_values::{Items, Memory};
@@ -60,13 +67,85 @@ impl Marks {
     }
 }
 
+/// In how many statements of a procedure each of its numbers stands. Copies share it.
+#[derive(Drop)]
+struct Tally {
+    counts: Rc<Counts>,
+}
+
+impl Model for Tally {
+    ghost use Rattle.std.specs.Prelude.{ℕ, List};
+    ghost use Rattle.call_contexts.specs.Tallies.{tally_code};
+
+    ghost Value = { List (ℕ × ℕ) };
+
+    ghost coded = { tally_code };
+
+    ghost view = { λ a. a.counts.value };
+}
+
+impl Clone for Tally {
+    ghost is_clone = { λ t copy. copy ≡ t };
+
+    fn clone(&self) -> Result<Tally, AllocError> {
+        let counts = self.counts.clone()?;
+        Ok(Tally { counts })
+    }
+}
+
+impl Tally {
+    fn new(alloc: Global, counts: Counts) -> Result<Tally, Memory>
+        ensures is { IfOk result (λ t. t ≡ counts) }
+    {
+        let counts = Rc::new(alloc, counts)?;
+        Ok(Tally { counts })
+    }
+
+    fn counts(&self) -> &Counts
+        ensures is { result.now ≡ self.now }
+    {
+        &self.counts
+    }
+}
+
+/// The marks of a procedure, and in how many of its statements each of its numbers stands.
+#[derive(Drop)]
+struct Part {
+    marks: Marks,
+    tally: Tally,
+}
+
+impl Part {
+    /// The part of a procedure, made of its statements.
+    fn new(alloc: Global, widening: Widening, prog: &View<'_>, proc: ProcId) -> Result<Part, Memory>
+        requires there { proc < length prog.now }
+        ensures is { IfOk result (λ part. IsPart widening (routines_of prog.now) proc part.marks part.tally) }
+    {
+        let marks = Marks::new(alloc, marks(alloc, widening, prog, proc)?)?;
+        let tally = Tally::new(alloc, tally(alloc, widening, prog, proc)?)?;
+        Ok(Part { marks, tally })
+    }
+
+    /// The part of these marks and this tally, which it shares.
+    fn shared(marks: &Marks, tally: &Tally) -> Result<Part, Memory>
+        ensures marks { IfOk result (λ part. part.marks ≡ marks.now) }
+        ensures tally { IfOk result (λ part. part.tally ≡ tally.now) }
+    {
+        let marks = marks.clone()?;
+        let tally = tally.clone()?;
+        Ok(Part { marks, tally })
+    }
+}
+
 /// How the loops of a program are interpreted: how often their iterates are made and how, with the
-/// marks of each procedure.
+/// marks of each procedure. It counts in how many statements of each procedure a number stands, so that it knows after a
+/// change whether the procedure still has the same numbers.
 #[derive(Drop)]
 pub struct Setting {
     budget: u32,
     widening: Widening,
     marks: Items<Marks>,
+    tallies: Items<Tally>,
 }
 
 impl Model for Setting {
@@ -77,20 +156,19 @@ impl Model for Setting {
 
     ghost coded = { setting_code };
 
-    ghost view = { λ a. record { engine = record { budget = a.budget; widening = a.widening }; marks = a.marks } };
+    ghost view = { λ a. record { engine = record { budget = a.budget; widening = a.widening }; marks = a.marks; tallies = a.tallies } };
 }
 
-/// The marks of each procedure, by its place.
-#[tactic(auto, using(crate::proofs::Kept::marks_more, crate::proofs::Kept::marks_whole))]
-fn all_marks(alloc: Global, widening: Widening, prog: &View<'_>) -> Result<Items<Marks>, Memory>
-    ensures is { IfOk result (λ all. all ≡ all_marks widening (routines_of prog.now)) }
+/// A setting of no procedures yet.
+fn no_parts(alloc: Global, budget: u32, widening: Widening) -> Setting
+    ensures is { result ≡ record { engine = engine_of budget widening; marks = []; tallies = [] } }
 {
-    let mut all = Items::new(alloc);
-    for place in 0..procedure_count(prog) {
-        let marks = marks(alloc, widening, prog, ProcId::new(place))?;
-        all.push(Marks::new(alloc, marks)?)?;
+    Setting {
+        budget,
+        widening,
+        marks: Items::new(alloc),
+        tallies: Items::new(alloc),
     }
-    Ok(all)
 }
 
 impl Setting {
@@ -104,12 +182,21 @@ impl Setting {
     ) -> Result<Setting, Memory>
         ensures is { IfOk result (λ setting. setting ≡ setting_of (engine_of budget widening) (routines_of prog.now)) }
     {
-        let marks = all_marks(alloc, widening, prog)?;
-        Ok(Setting {
-            budget,
-            widening,
-            marks,
-        })
+        let mut setting = no_parts(alloc, budget, widening);
+        for place in 0..procedure_count(prog) {
+            setting.push(Part::new(alloc, widening, prog, ProcId::new(place))?)?;
+        }
+        Ok(setting)
+    }
+
+    /// Adds the part of one more procedure.
+    fn push(&mut self, part: Part) -> Result<(), Memory>
+        ensures engine { self.new.engine ≡ self.old.engine }
+        ensures marks { OnOk result (self.new.marks ≡ self.old.marks ++ part.marks ∷ []) }
+        ensures tallies { OnOk result (self.new.tallies ≡ self.old.tallies ++ part.tally ∷ []) }
+    {
+        self.marks.push(part.marks)?;
+        self.tallies.push(part.tally)
     }
 
     /// How often the iterates of a loop are made at most.
@@ -136,10 +223,10 @@ impl Setting {
         }
     }
 
-    /// The setting of the program that a change makes, where this is that of the program before it. Procedures to
-    /// which the change brings no statement, and which begin with the same one, share their marks with this setting, so
-    /// it takes the time of [`marks`] of the others, and time linear in the procedures and the change. It fails for want
-    /// of memory alone.
+    /// The setting of the program that a change makes, where this is that of the program before it. Procedures that keep
+    /// the set of their numbers share their marks with this setting. Of these it takes time linear in the change and in
+    /// the different numbers of the procedures that the change touches, and of others the time of [`marks`] too, and time
+    /// linear in the number of procedures. It fails for want of memory alone.
     pub fn after(&self, alloc: Global, table: &Table, change: &Change) -> Result<Setting, Memory>
         ghost program: { List Procedure }
         requires makes { Makes table.now.program change.now program }
@@ -148,56 +235,111 @@ impl Setting {
         requires before { self.now ≡ setting_of self.now.engine (routines_of table.now.program) }
         ensures is { IfOk result (λ setting. setting ≡ setting_of self.now.engine (routines_of program)) }
     {
+        let old = table.view();
         let new = table.changed(change);
-        let marks = self.marks_after(alloc, &table.view(), &new, change.entries.as_slice())?;
-        Ok(Setting {
-            budget: self.budget,
-            widening: self.widening,
-            marks,
-        })
+        old.procs();
+        new.procs();
+        self.over(alloc, &old, &new, change.entries.as_slice())
     }
 
-    /// The marks of each procedure of the program that a change makes.
-    #[tactic(auto, using(crate::proofs::Kept::keep_marks, crate::proofs::Kept::marks_more, crate::proofs::Kept::marks_whole))]
-    fn marks_after(
+    /// The setting of a program that has these entries over those of the program before it.
+    fn over(
         &self,
         alloc: Global,
         old: &View<'_>,
         new: &View<'_>,
         puts: &[Put],
-    ) -> Result<Items<Marks>, Memory>
+    ) -> Result<Setting, Memory>
         requires brings { Brings old.now new.now puts.now }
-        requires before { self.now.marks ≡ all_marks self.now.engine.widening (routines_of old.now) }
-        ensures are { IfOk result (λ all. all ≡ all_marks self.now.engine.widening (routines_of new.now)) }
+        requires before { self.now ≡ setting_of self.now.engine (routines_of old.now) }
+        ensures is { IfOk result (λ setting. setting ≡ setting_of self.now.engine (routines_of new.now)) }
     {
-        let touched = touched_places(alloc, puts)?;
-        let mut all = Items::new(alloc);
+        let touched = touched_places(alloc, old, puts)?;
+        let mut setting = no_parts(alloc, self.budget, self.widening);
         for place in 0..procedure_count(new) {
-            all.push(self.marks_at(alloc, old, new, &touched, ProcId::new(place))?)?;
+            setting.push(self.part_over(alloc, old, new, puts, &touched, ProcId::new(place))?)?;
         }
-        Ok(all)
+        Ok(setting)
     }
 
-    /// The marks of a procedure of that program, where these procedures are touched.
-    fn marks_at(
+    /// The part of a procedure of that program, where these procedures are touched.
+    fn part_over(
         &self,
         alloc: Global,
         old: &View<'_>,
         new: &View<'_>,
+        puts: &[Put],
         touched: &BTreeSet<u32>,
         proc: ProcId,
-    ) -> Result<Marks, Memory>
-        requires kept { KeepMarks self.now.engine.widening old.now new.now touched.now }
-        requires before { self.now.marks ≡ all_marks self.now.engine.widening (routines_of old.now) }
+    ) -> Result<Part, Memory>
+        requires brings { Brings old.now new.now puts.now }
+        requires before { self.now ≡ setting_of self.now.engine (routines_of old.now) }
+        requires touched { (k : ℕ) → contains nat_cmp touched.now k ≡ touches (entry_of (entries_of old.now)) puts.now k }
         requires there { proc < length new.now }
+        ensures is { IfOk result (λ part. IsPart self.now.engine.widening (routines_of new.now) proc part.marks part.tally) }
+    {
+        let place = proc.place() as usize;
+        let (Some(marks), Some(tally)) = (self.marks.get(place), self.tallies.get(place)) else {
+            return Part::new(alloc, self.widening, new, proc);
+        };
+        if self.recounts(touched, proc) {
+            self.changed_part(alloc, old, new, puts, proc, marks, tally)
+        } else {
+            Part::shared(marks, tally)
+        }
+    }
+
+    /// Whether a procedure may have other marks, where these are touched.
+    fn recounts(&self, touched: &BTreeSet<u32>, proc: ProcId) -> bool
+        ensures is { result ≡ (self.now.engine.widening.thresholds && contains nat_cmp touched.now proc) }
+    {
+        self.widening.thresholds && touched.contains(&proc.place())
+    }
+
+    /// The part of a procedure that a change touches, where it had these marks and this tally.
+    fn changed_part(
+        &self,
+        alloc: Global,
+        old: &View<'_>,
+        new: &View<'_>,
+        puts: &[Put],
+        proc: ProcId,
+        before: &Marks,
+        tally: &Tally,
+    ) -> Result<Part, Memory>
+        requires brings { Brings old.now new.now puts.now }
+        requires thresholds { self.now.engine.widening.thresholds ≡ true }
+        requires part { IsPart self.now.engine.widening (routines_of old.now) proc before.now tally.now }
+        requires there { proc < length new.now }
+        ensures is { IfOk result (λ part. IsPart self.now.engine.widening (routines_of new.now) proc part.marks part.tally) }
+    {
+        let lost = lost(alloc, old, puts, proc)?;
+        let gained = gained(alloc, puts, proc)?;
+        let counts = changed(alloc, tally.counts(), lost.as_slice(), gained.as_slice())?;
+        let is_kept = counts.has_same_numbers(tally.counts());
+        let marks = self.marks_over(alloc, new, proc, before, is_kept)?;
+        Ok(Part {
+            marks,
+            tally: Tally::new(alloc, counts)?,
+        })
+    }
+
+    /// The marks of a procedure, which are these where they are kept.
+    fn marks_over(
+        &self,
+        alloc: Global,
+        new: &View<'_>,
+        proc: ProcId,
+        before: &Marks,
+        is_kept: bool,
+    ) -> Result<Marks, Memory>
+        requires there { proc < length new.now }
+        requires kept { OnTrue is_kept (slice_get (all_marks self.now.engine.widening (routines_of new.now)) proc ≡ Some before.now) }
         ensures are { IfOk result (λ marks. slice_get (all_marks self.now.engine.widening (routines_of new.now)) proc ≡ Some marks) }
     {
-        if stays(old, new, touched, proc) {
-            if let Some(marks) = self.marks.get(proc.place() as usize) {
-                return Ok(marks.clone()?);
-            }
+        if is_kept {
+            return Ok(before.clone()?);
         }
-        let marks = marks(alloc, self.widening, new, proc)?;
-        Marks::new(alloc, marks)
+        Marks::new(alloc, marks(alloc, self.widening, new, proc)?)
     }
 }

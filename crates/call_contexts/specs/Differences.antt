@@ -1,0 +1,24 @@
+-- The numbers that a change takes from a procedure and brings to it, by statements.
+use Rattle.std.specs.Prelude.{ℕ, List, [], ◌∷◌, ◌++◌, Option, Some, None, ◌==◌, if◌then◌else◌}
+use Rattle.imp_check.specs.declared.entry.Entry.{Entry}
+use Rattle.imp_check.specs.declared.change.Put.{Put}
+use Rattle.call_contexts.specs.Literals.{form_literals, literals_in}
+
+-- the numbers of what is a statement of the procedure at a place
+abbrev pub lists_in : (place : ℕ) → Option Entry → List (List ℕ)
+lists_in k None = []
+lists_in k (Some e) = if e.context.proc == k then form_literals e.form ∷ [] else []
+
+-- those of the statements that a change takes away, and of those that it brings
+abbrev pub lost : (place : ℕ) → (at : ℕ → Option Entry) → List Put → List (List ℕ)
+lost k at [] = []
+lost k at (p ∷ ps) = lists_in k (at p.number) ++ lost k at ps
+
+abbrev pub gained : (place : ℕ) → List Put → List (List ℕ)
+gained k [] = []
+gained k (p ∷ ps) = lists_in k p.entry ++ gained k ps
+
+-- those of these statements, in their order
+abbrev pub lists_by : (at : ℕ → Option Entry) → List ℕ → List (List ℕ)
+lists_by at [] = []
+lists_by at (n ∷ ns) = literals_in (at n) ∷ lists_by at ns

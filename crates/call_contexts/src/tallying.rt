@@ -1,0 +1,107 @@
+//! In how many statements of a procedure each of its numbers stands.
+ghost use Rattle.std.specs.Prelude.{◌≡◌, ◌+◌, ◌-◌, ◌<◌, ◌^◌, ℕ, length, slice_get, IfOk, OnOk, Some};
+ghost use Rattle.imp_check.specs.Entries.{entries_of, entry_of};
+ghost use Rattle.imp_check.specs.Slots.{routines_of};
+ghost use Rattle.program_chains.specs.Chains.{has};
+ghost use Rattle.call_contexts.specs.Literals.{literals_in};
+ghost use Rattle.call_contexts.specs.Tallies.{one_if, times, Tells, capped, all_tallies};
+ghost use Rattle.call_contexts.specs.Differences.{lists_by};
+
+use crate::counts::Counts;
+use crate::literals::numbers_of;
+use imp_check::View;
+use imp_syntax::{ProcId, StmtId};
+use plain_values::{Items, Memory, Number};
+use program_chains::Widening;
+use std::alloc::Global;
+
+/// Counts a statement, if it is there.
+fn count_statement(
+    alloc: Global,
+    prog: &View<'_>,
+    stmt: StmtId,
+    counts: &mut Counts,
+) -> Result<(), Memory>
+    ensures more { OnOk result ((f : ℕ → ℕ) → Tells counts.old (λ n. capped (f n)) → Tells counts.new (λ n. capped (f n + one_if (has n (literals_in (entry_of (entries_of prog.now) stmt)))))) }
+{
+    match prog.entry(stmt) {
+        Some(entry) => {
+            let numbers = numbers_of(alloc, &entry.form)?;
+            counts.add(alloc, numbers.as_slice())?;
+            Ok(())
+        }
+        None => Ok(()),
+    }
+}
+
+/// Counts these statements.
+fn count_statements(
+    alloc: Global,
+    prog: &View<'_>,
+    stmts: &[StmtId],
+    counts: &mut Counts,
+) -> Result<(), Memory>
+    ensures more { OnOk result ((f : ℕ → ℕ) → Tells counts.old (λ n. capped (f n)) → Tells counts.new (λ n. capped (f n + times n (lists_by (entry_of (entries_of prog.now)) stmts.now)))) }
+{
+    for stmt in stmts {
+        count_statement(alloc, prog, *stmt, counts)?;
+    }
+    Ok(())
+}
+
+/// The counts of a procedure; none where there are no thresholds. It takes time linear in the procedure, times the
+/// logarithm of its numbers.
+#[tactic(auto, using(crate::proofs::Parted::no_tally))]
+pub(crate) fn tally(
+    alloc: Global,
+    widening: Widening,
+    prog: &View<'_>,
+    proc: ProcId,
+) -> Result<Counts, Memory>
+    requires there { proc < length prog.now }
+    ensures is { IfOk result (λ counts. slice_get (all_tallies widening (routines_of prog.now)) proc ≡ Some counts) }
+{
+    prog.procs();
+    let mut counts = Counts::new(alloc);
+    if !widening.thresholds {
+        return Ok(counts);
+    }
+    let stmts = prog.statements(alloc, proc)?;
+    count_statements(alloc, prog, stmts.as_slice(), &mut counts)?;
+    Ok(counts)
+}
+
+/// One statement more for each of these.
+fn add_all(alloc: Global, counts: &mut Counts, lists: &[Items<Number>]) -> Result<(), Memory>
+    ensures more { OnOk result ((f : ℕ → ℕ) → Tells counts.old (λ n. capped (f n)) → Tells counts.new (λ n. capped (f n + times n lists.now))) }
+{
+    for numbers in lists {
+        counts.add(alloc, numbers.as_slice())?;
+    }
+    Ok(())
+}
+
+/// One statement less for each of these.
+fn take_all(alloc: Global, counts: &mut Counts, lists: &[Items<Number>]) -> Result<(), Memory>
+    ensures less { OnOk result ((f : ℕ → ℕ) → Tells counts.old f → Tells counts.new (λ n. f n - times n lists.now)) }
+{
+    for numbers in lists {
+        counts.take(alloc, numbers.as_slice())?;
+    }
+    Ok(())
+}
+
+/// The counts without these statements, and then with those.
+pub(crate) fn changed(
+    alloc: Global,
+    counts: &Counts,
+    lost: &[Items<Number>],
+    gained: &[Items<Number>],
+) -> Result<Counts, Memory>
+    ensures told { IfOk result (λ after. (f : ℕ → ℕ) → Tells counts.now f → ((n : ℕ) → f n < 2 ^ 32) → Tells after (λ n. capped ((f n - times n lost.now) + times n gained.now))) }
+{
+    let mut after = counts.copy()?;
+    take_all(alloc, &mut after, lost)?;
+    add_all(alloc, &mut after, gained)?;
+    Ok(after)
+}
