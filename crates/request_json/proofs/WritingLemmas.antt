@@ -17,13 +17,13 @@ use Rattle.request_json.specs.Replies.{reply_fields, object_of, count, list_of, 
 use Rattle.request_json.specs.Pieces.{fields_text}
 
 -- pieces, put one behind the other
-two : (old a x b : List ℕ) → ((old ++ a) ++ x) ++ b ≡ old ++ (a ++ (x ++ b))
+pub two : (old a x b : List ℕ) → ((old ++ a) ++ x) ++ b ≡ old ++ (a ++ (x ++ b))
 two old a x b = append_assoc (old ++ a) x b ∙ append_assoc old a (x ++ b)
 
-three : (old a x b y c : List ℕ) → ((((old ++ a) ++ x) ++ b) ++ y) ++ c ≡ old ++ (a ++ (x ++ (b ++ (y ++ c))))
+pub three : (old a x b y c : List ℕ) → ((((old ++ a) ++ x) ++ b) ++ y) ++ c ≡ old ++ (a ++ (x ++ (b ++ (y ++ c))))
 three old a x b y c = two ((old ++ a) ++ x) b y c ∙ two old a x (b ++ (y ++ c))
 
-four : (old a x b y c z d : List ℕ) → ((((((old ++ a) ++ x) ++ b) ++ y) ++ c) ++ z) ++ d ≡ old ++ (a ++ (x ++ (b ++ (y ++ (c ++ (z ++ d))))))
+pub four : (old a x b y c z d : List ℕ) → ((((((old ++ a) ++ x) ++ b) ++ y) ++ c) ++ z) ++ d ≡ old ++ (a ++ (x ++ (b ++ (y ++ (c ++ (z ++ d))))))
 four old a x b y c z d = two ((((old ++ a) ++ x) ++ b) ++ y) c z d ∙ three old a x b y (c ++ (z ++ d))
 
 -- lists

@@ -1,0 +1,239 @@
+-- Following, one statement at a time, over plain variables.
+use Rattle.std.proofs.Common.{ℕ, suc, ◌≡◌, ◌+◌, ◌<◌, ◌≤◌, Bool, true, false, List, [], ◌∷◌, ◌++◌, length, drop, take, reverse, get_or, slice_get, Option, Some, None, Result, Ok, Err, IfOk, refl, sym, ap, subst, ◌∙◌, append_assoc}
+use Rattle.std.specs.Prelude.{if◌then◌else◌}
+use Rattle.std.proofs.lemmas.List.{drop_all, append-nil}
+use Rattle.imp_slots.specs.Plain.{DoBreak, Does, Guard, Invoke, Code, Stop, Simple, If, While, Call, Break, Routine}
+use Rattle.imp_slots.specs.ActionViews.{effect_of}
+use Rattle.imp_slots.specs.BlockViews.{before_code, code_of}
+use Rattle.imp_slots.specs.declared.blocks.SlotNode.{SlotNode}
+use Rattle.imp_slots.specs.declared.blocks.SlotNode.TheVariants as node
+use Rattle.domain_laws.specs.Operations.{Operations}
+use Rattle.batch_meaning.specs.Values.{State}
+use Rattle.batch_meaning.specs.Batch.{Engine}
+use Rattle.batch_meaning.specs.Batch as batch
+use Rattle.batch_meaning.specs.Places.{from, main_layout}
+use Rattle.plain_values.proofs.Lists.{drop_item, get_take}
+use Rattle.plain_values.proofs.Cases.{by_test}
+use Rattle.cert_meaning.specs.Followed as plain
+use Rattle.cert_meaning.specs.Followed.{Why, Passes, Fails, Missing, Entry, Step, passing, after, unless, where_written, joined, followed, followed_procedure, followed_last, followed_program}
+use Rattle.batch_interp.specs.Frames.{earlier}
+use Rattle.batch_interp.specs.Passing.{states}
+use Rattle.batch_interp.specs.declared.frames.Frame.{Frame}
+use Rattle.batch_interp.proofs.Procedures.{from_earlier, from_gone}
+use Rattle.batch_interp.proofs.Walkings.{standing, whole}
+use Rattle.cert_check.specs.Table.{state_at}
+use Rattle.cert_check.specs.Following.{why_of, ended, EndsSo, round, calls_in, followed_in}
+use Rattle.cert_check.specs.declared.followed.Followed as code
+use Rattle.cert_check.specs.declared.followed.Followed.TheVariants as came
+
+module _ {S : Type 0} where
+  after_none : (p : plain.Followed S) → after [] p ≡ p
+  after_none (Passes s ss) = refl
+  after_none (Fails n z w) = refl
+
+  after_twice : (xs ys : List S) (p : plain.Followed S) → after xs (after ys p) ≡ after (xs ++ ys) p
+  after_twice xs ys (Passes s ss) = ap (Passes s) (sym (append_assoc xs ys ss))
+  after_twice xs ys (Fails n z w) = refl
+
+  -- what a block passes with, where others left before it
+  passed_alone : (xs : List S) (p : plain.Followed S) (s : S) (ss : List S) → after xs p ≡ Passes s ss → (ls : List S) × (p ≡ Passes s ls) × (ss ≡ xs ++ ls)
+  passed_alone xs (Passes t ls) s ss e = (ls, (let k : t ≡ s = cc in ap (λ t. Passes t ls) k), cc)
+  passed_alone xs (Fails n z w) s ss e = absurd cc
+
+  failed_alone : (xs : List S) (p : plain.Followed S) (n : ℕ) (z : List ℕ) (w : Why) → after xs p ≡ Fails n z w → p ≡ Fails n z w
+  failed_alone xs (Passes t ls) n z w e = absurd cc
+  failed_alone xs (Fails m y v) n z w e = e
+
+module _ {S : Type 0} (dom : Operations S) (leq : S → S → Bool) (written : (z : List ℕ) → (n : ℕ) → Option S) (z : List ℕ) (calls : (n q : ℕ) → S → plain.Followed S) where
+  abbrev B : Code → S → plain.Followed S
+  B = followed dom leq written z calls
+
+  -- a loop, from what is written of it
+  from_head : (n : ℕ) (g : Guard) (b r : Code) (a x : S) (c : Bool) → leq a x ≡ c → unless c (Fails n z Entry) (passing (B b (dom.assume g true x)) (λ y ys. unless (leq y x) (Fails n z Step) (B r (joined dom (dom.assume g false x) ys)))) ≡ passing (unless c (Fails n z Entry) (round dom leq z n g (B b) x)) (λ y ys. after ys (B r y))
+  from_head n g b r a x false e = refl
+  from_head n g b r a x true e = go (B b (dom.assume g true x))
+    where
+      ends : (c : Bool) (s : S) → unless c (Fails n z Step) (B r s) ≡ passing (unless c (Fails n z Step) (Passes s [])) (λ y ys. after ys (B r y))
+      ends false s = refl
+      ends true s = sym (after_none (B r s))
+
+      go : (p : plain.Followed S) → passing p (λ y ys. unless (leq y x) (Fails n z Step) (B r (joined dom (dom.assume g false x) ys))) ≡ passing (passing p (λ y ys. unless (leq y x) (Fails n z Step) (Passes (joined dom (dom.assume g false x) ys) []))) (λ y ys. after ys (B r y))
+      go (Passes y ys) = ends (leq y x) (joined dom (dom.assume g false x) ys)
+      go (Fails m y w) = refl
+
+  -- a statement, and what comes behind it
+  follows_before : (s : SlotNode) (r : Code) (a : S) → B (before_code s r) a ≡ passing (B (before_code s Stop) a) (λ y ys. after ys (B r y))
+  follows_before (node.Simple n e) r a = sym (after_none (B r (dom.post (Does (effect_of e)) a)))
+  follows_before (node.If n g t e) r a = first (B t (dom.assume g true a))
+    where
+      second : (x : S) (xs : List S) (q : plain.Followed S) → passing q (λ y ys. after (xs ++ ys) (B r (dom.join x y))) ≡ passing (passing q (λ y ys. after (xs ++ ys) (Passes (dom.join x y) []))) (λ y ys. after ys (B r y))
+      second x xs (Passes y ys) = ap (λ ls. after ls (B r (dom.join x y))) (sym (append-nil (xs ++ ys)))
+      second x xs (Fails m y w) = refl
+
+      first : (p : plain.Followed S) → passing p (λ x xs. passing (B e (dom.assume g false a)) (λ y ys. after (xs ++ ys) (B r (dom.join x y)))) ≡ passing (passing p (λ x xs. passing (B e (dom.assume g false a)) (λ y ys. after (xs ++ ys) (Passes (dom.join x y) [])))) (λ y ys. after ys (B r y))
+      first (Passes x xs) = second x xs (B e (dom.assume g false a))
+      first (Fails m y w) = refl
+  follows_before (node.While n g b) r a = by (written z n)
+    where
+      by : (o : Option S) → where_written o (Fails n z Missing) (λ x. unless (leq a x) (Fails n z Entry) (passing (B b (dom.assume g true x)) (λ y ys. unless (leq y x) (Fails n z Step) (B r (joined dom (dom.assume g false x) ys))))) ≡ passing (where_written o (Fails n z Missing) (λ x. unless (leq a x) (Fails n z Entry) (round dom leq z n g (B b) x))) (λ y ys. after ys (B r y))
+      by None = refl
+      by (Some x) = from_head n g b r a x (leq a x) refl
+  follows_before (node.Call n i q) r a = by (calls n q (dom.enter i.entering a))
+    where
+      by : (p : plain.Followed S) → passing p (λ d ds. B r (dom.leave i.returning a d)) ≡ passing (passing p (λ d ds. Passes (dom.leave i.returning a d) [])) (λ y ys. after ys (B r y))
+      by (Passes d ds) = sym (after_none (B r (dom.leave i.returning a d)))
+      by (Fails m y w) = refl
+  follows_before (node.Break n) r a = refl
+
+  pub block_step : (ss : List SlotNode) (i : ℕ) (s : SlotNode) (now next : S) (before behind : List S) → i < length ss → s ≡ get_or ss i s → after before (B (before_code s Stop) now) ≡ Passes next behind → after behind (B (code_of (drop (i + 1) ss)) next) ≡ after before (B (code_of (drop i ss)) now)
+  block_step ss i s now next before behind h e k =
+      let r = code_of (drop (i + 1) ss) in
+      let p = passed_alone before (B (before_code s Stop) now) next behind k in
+      ap (λ xs. after xs (B r next)) p.2.1
+      ∙ sym (after_twice before p.0 (B r next))
+      ∙ ap (λ q. after before (passing q (λ y ys. after ys (B r y)))) (sym p.1)
+      ∙ ap (after before) (sym (follows_before s r now))
+      ∙ ap (λ xs. after before (B (code_of xs) now)) (sym (drop_item ss i s h e))
+
+  pub block_fails : (ss : List SlotNode) (i : ℕ) (s : SlotNode) (now : S) (before : List S) (n : ℕ) (y : List ℕ) (w : Why) → i < length ss → s ≡ get_or ss i s → after before (B (before_code s Stop) now) ≡ Fails n y w → after before (B (code_of (drop i ss)) now) ≡ Fails n y w
+  block_fails ss i s now before n y w h e k =
+      let r = code_of (drop (i + 1) ss) in
+      ap (λ xs. after before (B (code_of xs) now)) (drop_item ss i s h e)
+      ∙ ap (after before) (follows_before s r now)
+      ∙ ap (λ q. after before (passing q (λ y ys. after ys (B r y)))) (failed_alone before (B (before_code s Stop) now) n y w k)
+
+  pub block_end : (ss : List SlotNode) (i : ℕ) (now : S) (before : List S) → length ss ≤ i → after before (B (code_of (drop i ss)) now) ≡ Passes now before
+  block_end ss i now before h = ap (λ xs. after before (B (code_of xs) now)) (drop_all i ss h) ∙ ap (Passes now) (append-nil before)
+
+  -- both blocks of an if
+  pub if_both : (g : Guard) (t e : Code) (s a b l r j : S) (before middle behind : List S) → a ≡ dom.assume g true s → after before (B t a) ≡ Passes l middle → b ≡ dom.assume g false s → after middle (B e b) ≡ Passes r behind → j ≡ dom.join l r → after before (B (If 0 g t e Stop) s) ≡ Passes j behind
+  if_both g t e s a b l r j before middle behind k h m u d =
+      let p = passed_alone before (B t a) l middle h in
+      let q = passed_alone middle (B e b) r behind u in
+      let all : before ++ ((p.0 ++ q.0) ++ []) ≡ behind =
+      ap (λ xs. before ++ xs) (append-nil (p.0 ++ q.0)) ∙ sym (append_assoc before p.0 q.0) ∙ ap (λ xs. xs ++ q.0) (sym p.2.1) ∙ sym q.2.1 in
+      ap (λ v. after before (passing v (λ x xs. passing (B e (dom.assume g false s)) (λ y ys. after (xs ++ ys) (Passes (dom.join x y) []))))) (ap (B t) (sym k) ∙ p.1)
+      ∙ ap (λ v. after before (passing v (λ y ys. after (p.0 ++ ys) (Passes (dom.join l y) [])))) (ap (B e) (sym m) ∙ q.1)
+      ∙ (λ i. Passes (sym d i) (all i))
+
+  pub if_left : (g : Guard) (t e : Code) (s a : S) (before : List S) (n : ℕ) (y : List ℕ) (w : Why) → a ≡ dom.assume g true s → after before (B t a) ≡ Fails n y w → after before (B (If 0 g t e Stop) s) ≡ Fails n y w
+  if_left g t e s a before n y w k h =
+      ap (λ v. after before (passing v (λ x xs. passing (B e (dom.assume g false s)) (λ y ys. after (xs ++ ys) (Passes (dom.join x y) []))))) (ap (B t) (sym k) ∙ failed_alone before (B t a) n y w h)
+
+  pub if_right : (g : Guard) (t e : Code) (s a b l : S) (before middle : List S) (n : ℕ) (y : List ℕ) (w : Why) → a ≡ dom.assume g true s → after before (B t a) ≡ Passes l middle → b ≡ dom.assume g false s → after middle (B e b) ≡ Fails n y w → after before (B (If 0 g t e Stop) s) ≡ Fails n y w
+  if_right g t e s a b l before middle n y w k h m u =
+      let p = passed_alone before (B t a) l middle h in
+      ap (λ v. after before (passing v (λ x xs. passing (B e (dom.assume g false s)) (λ y ys. after (xs ++ ys) (Passes (dom.join x y) []))))) (ap (B t) (sym k) ∙ p.1)
+      ∙ ap (λ v. after before (passing v (λ y ys. after (p.0 ++ ys) (Passes (dom.join l y) [])))) (ap (B e) (sym m) ∙ failed_alone middle (B e b) n y w u)
+
+  -- a break
+  pub break_leaves : (n : ℕ) (s t : S) (before behind : List S) → t ≡ dom.post DoBreak s → behind ≡ before ++ s ∷ [] → after before (B (Break n Stop) s) ≡ Passes t behind
+  break_leaves n s t before behind e l = λ i. Passes (sym e i) (sym l i)
+
+  -- a statement that nothing leaves
+  pub alone : (p : plain.Followed S) (before : List S) (a : code.Followed S) → p ≡ ended [] a → after before p ≡ ended before a
+  alone p before (came.Behind t) e = ap (after before) e ∙ ap (Passes t) (append-nil before)
+  alone p before (came.Fails n chain w) e = ap (after before) e
+
+  -- a loop of which no state is written, of which the state in front is not found below, and one that is gone through
+  pub loop_missing : (n : ℕ) (g : Guard) (b : Code) (s : S) → written z n ≡ None → B (While n g b Stop) s ≡ Fails n z Missing
+  loop_missing n g b s e = ap (λ o. where_written o (Fails n z Missing) (λ x. unless (leq s x) (Fails n z Entry) (round dom leq z n g (B b) x))) e
+
+  pub loop_above : (n : ℕ) (g : Guard) (b : Code) (s x : S) → written z n ≡ Some x → leq s x ≡ false → B (While n g b Stop) s ≡ Fails n z Entry
+  loop_above n g b s x e f =
+      ap (λ o. where_written o (Fails n z Missing) (λ x. unless (leq s x) (Fails n z Entry) (round dom leq z n g (B b) x))) e ∙ ap (λ c. unless c (Fails n z Entry) (round dom leq z n g (B b) x)) f
+
+  pub loop_round : (n : ℕ) (g : Guard) (b : Code) (s x : S) → written z n ≡ Some x → leq s x ≡ true → B (While n g b Stop) s ≡ round dom leq z n g (B b) x
+  loop_round n g b s x e f =
+      ap (λ o. where_written o (Fails n z Missing) (λ x. unless (leq s x) (Fails n z Entry) (round dom leq z n g (B b) x))) e ∙ ap (λ c. unless c (Fails n z Entry) (round dom leq z n g (B b) x)) f
+
+-- a round, by how its body ends
+module _ {S : Type 0} (dom : Operations S) (leq : S → S → Bool) (z : List ℕ) (n : ℕ) (g : Guard) (body : S → plain.Followed S) where
+  joined_same : (e : Engine) (s : S) (xs : List S) → batch.joined dom e (State s) (states xs) ≡ State (joined dom s xs)
+  joined_same e s [] = refl
+  joined_same e s (x ∷ xs) = joined_same e (dom.join s x) xs
+
+  state_inj : (s t : S) → State s ≡ State t → s ≡ t
+  state_inj s t e = cc
+
+  any : Engine
+  any = record { budget = 0; widening = record { delay = 0; thresholds = false } }
+
+  pub round_holds : (x a end out all : S) (none leaving others : List S) → none ≡ [] → a ≡ dom.assume g true x → after none (body a) ≡ Passes end leaving → leq end x ≡ true → out ≡ dom.assume g false x → others ≡ leaving → ((e : Engine) → State all ≡ batch.joined dom e (State out) (states others)) → round dom leq z n g body x ≡ Passes all []
+  round_holds x a end out all none leaving others o k h f i same j =
+      let p = sym (after_none (body a)) ∙ ap (λ xs. after xs (body a)) (sym o) ∙ h in
+      ap (λ v. passing v (λ y ys. unless (leq y x) (Fails n z Step) (Passes (joined dom (dom.assume g false x) ys) []))) (ap body (sym k) ∙ p)
+      ∙ ap (λ c. unless c (Fails n z Step) (Passes (joined dom (dom.assume g false x) leaving) [])) f
+      ∙ ap (λ t. Passes t [])
+      ((λ m. joined dom (sym i m) (sym same m)) ∙ sym (state_inj all (joined dom out others) (j any ∙ joined_same any out others)))
+
+  pub round_rises : (x a end : S) (none leaving : List S) → none ≡ [] → a ≡ dom.assume g true x → after none (body a) ≡ Passes end leaving → leq end x ≡ false → round dom leq z n g body x ≡ Fails n z Step
+  round_rises x a end none leaving o k h f =
+      let p = sym (after_none (body a)) ∙ ap (λ xs. after xs (body a)) (sym o) ∙ h in
+      ap (λ v. passing v (λ y ys. unless (leq y x) (Fails n z Step) (Passes (joined dom (dom.assume g false x) ys) []))) (ap body (sym k) ∙ p)
+      ∙ ap (λ c. unless c (Fails n z Step) (Passes (joined dom (dom.assume g false x) leaving) [])) f
+
+  pub round_fails : (x a : S) (none : List S) (m : ℕ) (y : List ℕ) (w : Why) → none ≡ [] → a ≡ dom.assume g true x → after none (body a) ≡ Fails m y w → round dom leq z n g body x ≡ Fails m y w
+  round_fails x a none m y w o k h =
+      ap (λ v. passing v (λ y ys. unless (leq y x) (Fails n z Step) (Passes (joined dom (dom.assume g false x) ys) []))) (ap body (sym k) ∙ failed_alone none (body a) m y w h)
+
+-- bodies of procedures
+module _ {S : Type 0} (dom : Operations S) (leq : S → S → Bool) (written : (z : List ℕ) → (n : ℕ) → Option S) where
+  body_of : List Routine → List ℕ → S → plain.Followed S
+  body_of [] z a = Passes a []
+  body_of (r ∷ rest) z a = followed dom leq written z (λ n. followed_procedure dom leq written rest (n ∷ z)) r.code a
+
+  procedure_from : (ps : List Routine) (z : List ℕ) (q : ℕ) (a : S) → followed_procedure dom leq written ps z q a ≡ body_of (from ps q) z a
+  unfolding body_of
+  procedure_from [] z q a = refl
+  procedure_from (b ∷ ps) z q a =
+      by_test q (length ps) (λ c. (if c then followed dom leq written z (λ n. followed_procedure dom leq written ps (n ∷ z)) b.code a else followed_procedure dom leq written ps z q a) ≡ body_of (if c then b ∷ ps else from ps q) z a)
+      (λ k. refl)
+      (λ k. procedure_from ps z q a)
+
+module _ {S : Type 0} (dom : Operations S) (leq : S → S → Bool) (table : List (List ℕ × S)) (program : List Routine) where
+  pub call_there : (place : ℕ) (z : List ℕ) (n q : ℕ) (r : Routine) (a : S) → slice_get (take place program) q ≡ Some r → calls_in dom leq table program place z n q a ≡ followed_in dom leq table program q (n ∷ z) r.code a
+  unfolding body_of
+  call_there place z n q r a e =
+      procedure_from dom leq (state_at table) (earlier program place) (n ∷ z) q a
+      ∙ ap (λ ps. body_of dom leq (state_at table) ps (n ∷ z) a) (from_earlier program place q r e)
+
+  pub call_gone : (place : ℕ) (z : List ℕ) (n q : ℕ) (a : S) → slice_get (take place program) q ≡ None → calls_in dom leq table program place z n q a ≡ Passes a []
+  unfolding body_of
+  call_gone place z n q a e =
+      procedure_from dom leq (state_at table) (earlier program place) (n ∷ z) q a
+      ∙ ap (λ ps. body_of dom leq (state_at table) ps (n ∷ z) a) (from_gone program place q e)
+
+  -- a body ends as its block does
+  pub of_callee : {E : Type 0} (r : Result (code.Followed S) E) (none leaving : List S) (place : ℕ) (z : List ℕ) (n q : ℕ) (routine : Routine) (c : Code) (inner : Frame) (a : S) → Some routine ≡ slice_get (take place program) q → inner ≡ record { place = q; sites = n ∷ z } → c ≡ routine.code → none ≡ [] → IfOk r (λ x. after none (followed_in dom leq table program inner.place inner.sites c a) ≡ ended leaving x) → IfOk r (EndsSo (calls_in dom leq table program place z n q a))
+  of_callee (Err e) none leaving place z n q routine c inner a there same body o h = h
+  of_callee (Ok x) none leaving place z n q routine c inner a there same body o h = (
+    leaving,
+    call_there place z n q routine a (sym there)
+    ∙ sym (λ i. followed_in dom leq table program (same i).place (same i).sites (body i) a)
+    ∙ sym (after_none (followed_in dom leq table program inner.place inner.sites c a))
+    ∙ ap (λ xs. after xs (followed_in dom leq table program inner.place inner.sites c a)) (sym o)
+    ∙ h,
+  )
+
+  -- a call, by how the body of its procedure ends
+  pub call_ends : (place : ℕ) (z : List ℕ) (n : ℕ) (i : Invoke) (q : ℕ) (s a d t : S) (leaving : List S) → a ≡ dom.enter i.entering s → calls_in dom leq table program place z n q a ≡ Passes d leaving → t ≡ dom.leave i.returning s d → followed_in dom leq table program place z (Call n i q Stop) s ≡ Passes t []
+  call_ends place z n i q s a d t leaving k h e =
+      ap (λ v. passing v (λ d ds. Passes (dom.leave i.returning s d) [])) (ap (calls_in dom leq table program place z n q) (sym k) ∙ h) ∙ ap (λ t. Passes t []) (sym e)
+
+  pub call_fails : (place : ℕ) (z : List ℕ) (n : ℕ) (i : Invoke) (q : ℕ) (s a : S) (m : ℕ) (y : List ℕ) (w : Why) → a ≡ dom.enter i.entering s → calls_in dom leq table program place z n q a ≡ Fails m y w → followed_in dom leq table program place z (Call n i q Stop) s ≡ Fails m y w
+  call_fails place z n i q s a m y w k h = ap (λ v. passing v (λ d ds. Passes (dom.leave i.returning s d) [])) (ap (calls_in dom leq table program place z n q) (sym k) ∙ h)
+
+  -- main's body is that of the program
+  pub main_ends : {E : Type 0} (x : Result (code.Followed S) E) (none leaving : List S) (k : ℕ) (r : Routine) (c : Code) (frame : Frame) (a : S) → length program ≡ suc k → slice_get program k ≡ Some r → frame ≡ record { place = k; sites = [] } → c ≡ r.code → a ≡ dom.init r.layout → none ≡ [] → IfOk x (λ x. after none (followed_in dom leq table program frame.place frame.sites c a) ≡ ended leaving x) → IfOk x (EndsSo (followed_program dom leq (state_at table) program))
+  main_ends (Err e) none leaving k r c frame a l g f b i o h = h
+  main_ends (Ok x) none leaving k r c frame a l g f b i o h =
+      let all : reverse program ≡ r ∷ earlier program k = sym (whole program k l) ∙ standing program k r g in
+      (
+        leaving,
+        ap (λ ps. followed_last dom leq (state_at table) ps (dom.init (main_layout ps))) all
+        ∙ sym (λ j. followed_in dom leq table program (f j).place (f j).sites (b j) (i j))
+        ∙ sym (after_none (followed_in dom leq table program frame.place frame.sites c a))
+        ∙ ap (λ xs. after xs (followed_in dom leq table program frame.place frame.sites c a)) (sym o)
+        ∙ h,
+      )

@@ -1,0 +1,4 @@
+pub mod FollowLemmas
+pub mod LineLemmas
+pub mod TableLemmas
+pub mod ReadLemmas

@@ -1,0 +1,77 @@
+-- Tables of states and of chains, one entry at a time.
+use Rattle.std.proofs.Common.{ℕ, zero, suc, ◌≡◌, ◌+◌, ◌<◌, ◌≤◌, Bool, true, false, List, [], ◌∷◌, ◌++◌, length, map, drop, reverse, get_or, slice_get, Option, Some, None, refl, sym, ap, subst, ◌∙◌, arith}
+use Rattle.std.specs.Prelude.{◌==◌, ◌&&◌, nat_lt, if◌then◌else◌}
+use Rattle.std.specs.Str.{bytes_eq}
+use Rattle.std.specs.Map.{lookup}
+use Rattle.std.specs.List.{list_any}
+use Rattle.std.proofs.lemmas.Bool.{and_parts}
+use Rattle.std.proofs.lemmas.Bool.Decides.{nat_tests}
+use Rattle.std.proofs.lemmas.Slice.Eq.{bytes_eq-Decides}
+use Rattle.std.proofs.lemmas.List.{drop_all}
+use Rattle.imp_slots.specs.Plain.{Routine}
+use Rattle.imp_slots.specs.Fits.{IsChecked}
+use Rattle.program_chains.specs.Chains.{chains}
+use Rattle.plain_values.proofs.Cases.{by_bool}
+use Rattle.plain_values.proofs.Lists.{drop_item, get_last, get_other}
+use Rattle.call_contexts.proofs.Tabled.{none_past}
+use Rattle.cert_lines.specs.Lines.{Entry, written_in, is_chain}
+use Rattle.cert_check.specs.Table.{state_at, HasEntries, in_set, chain_in, AreChains}
+
+-- chains of a set are looked for from the first on
+pub any_chain : (z : List ℕ) (zs : List (List ℕ)) → list_any (bytes_eq z) zs ≡ is_chain z zs
+any_chain z [] = refl
+any_chain z (y ∷ ys) = ap (λ b. if bytes_eq z y then true else b) (any_chain z ys)
+
+swap_tests : (a b c : Bool) → (if (if a then true else b) then true else c) ≡ (if b then true else (if a then true else c))
+swap_tests true true c = refl
+swap_tests true false c = refl
+swap_tests false true c = refl
+swap_tests false false c = refl
+
+-- the set so far with the chains to come has what all chains have
+pub chains_step : (z : List ℕ) (zs : List (List ℕ)) (i : ℕ) (y key : List ℕ) (before behind : Bool) → i < length zs → y ≡ get_or zs i y → key ≡ reverse y → behind ≡ (if bytes_eq z key then true else before) → (if behind then true else is_chain z (map reverse (drop (i + 1) zs))) ≡ (if before then true else is_chain z (map reverse (drop i zs)))
+chains_step z zs i y key before behind h e k b =
+    let rest = is_chain z (map reverse (drop (i + 1) zs)) in
+    ap (λ c. if c then true else rest) (b ∙ ap (λ x. if bytes_eq z x then true else before) k)
+    ∙ swap_tests (bytes_eq z (reverse y)) before rest
+    ∙ ap (λ ys. if before then true else is_chain z (map reverse ys)) (sym (drop_item zs i y h e))
+
+pub chains_end : (z : List ℕ) (zs : List (List ℕ)) (i : ℕ) (found : Bool) → length zs ≤ i → (if found then true else is_chain z (map reverse (drop i zs))) ≡ found
+chains_end z zs i found h = ap (λ ys. if found then true else is_chain z (map reverse ys)) (drop_all i zs h) ∙ go found
+  where
+    go : (b : Bool) → (if b then true else false) ≡ b
+    go true = refl
+    go false = refl
+
+-- The chains to the procedures so far.
+pub record Chained (program : List Routine) (sets : List (List (List ℕ))) (place : ℕ) : Type 0 where
+  pub count : length sets ≡ place
+  pub told : (p : ℕ) (z : List ℕ) → p < place → chain_in sets p z ≡ is_chain z (chains program p)
+
+one_longer : {A : Type 0} (xs : List A) (x : A) → length (xs ++ x ∷ []) ≡ length xs + 1
+one_longer [] x = refl
+one_longer (y ∷ ys) x = omega (arith, one_longer ys x)
+
+pub sets_step : (program : List Routine) (sets more : List (List (List ℕ))) (place : ℕ) (set : List (List ℕ)) → more ≡ sets ++ set ∷ [] → ((z : List ℕ) → is_chain z set ≡ is_chain z (chains program place)) → Chained program sets place → Chained program more (place + 1)
+sets_step program sets more place set e f c = record {
+  count = ap length e ∙ one_longer sets set ∙ ap (λ n. n + 1) c.count;
+  told = λ p z h. by_bool (p == place)
+    (λ b.
+    let k : p ≡ place = grind (arith, nat_tests, b) in
+    ap (λ ss. in_set (slice_get ss p) z) e
+    ∙ ap (λ q. in_set (slice_get (sets ++ set ∷ []) q) z) (k ∙ sym c.count)
+    ∙ ap (λ o. in_set o z) (get_last sets set)
+    ∙ f z ∙ ap (λ q. is_chain z (chains program q)) (sym k))
+    (λ b.
+    let k : p < place = grind (arith, nat_tests, b, h) in
+    let l = c.count in
+    ap (λ ss. in_set (slice_get ss p) z) e ∙ ap (λ o. in_set o z) (get_other sets set p (λ n. omega (arith, n, l, k))) ∙ c.told p z k);
+}
+
+pub sets_whole : (program : List Routine) (sets : List (List (List ℕ))) (place : ℕ) → IsChecked program → length program ≤ place → Chained program sets place → AreChains program sets
+sets_whole program sets place checked h c p z = by_bool (nat_lt p place) (λ b. c.told p z (grind (arith, nat_tests, b))) (λ b. let k : place ≤ p = grind (arith, nat_tests, b) in let l = c.count in ap (λ o. in_set o z) (past sets p (omega (arith, l, k))) ∙ sym (ap (is_chain z) (none_past program p checked (omega (arith, h, k)))))
+  where
+    past : {A : Type 0} (xs : List A) (p : ℕ) → length xs ≤ p → slice_get xs p ≡ None
+    past [] p h = refl
+    past (x ∷ xs) zero h = absurd (omega arith)
+    past (x ∷ xs) (suc p) h = past xs p (omega arith)

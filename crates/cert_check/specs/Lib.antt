@@ -1,0 +1,4 @@
+pub mod Table
+pub mod Following
+pub mod Reading
+pub mod Verified

@@ -1,0 +1,294 @@
+//! Blocks followed once, with written states in place of the heads of loops.
+ghost use Rattle.std.specs.Prelude.{◌≡◌, ◌<◌, [], length, take, slice_get, IfOk};
+ghost use Rattle.std.specs.Option.{option_copied};
+ghost use Rattle.imp_slots.specs.Plain.{Stop, If, While, Call};
+ghost use Rattle.imp_slots.specs.BlockViews.{before_code};
+ghost use Rattle.cert_meaning.specs.Followed as plain;
+ghost use Rattle.cert_meaning.specs.Followed.{after, followed_program};
+ghost use Rattle.cert_check.specs.Table.{state_at};
+ghost use Rattle.cert_check.specs.Following.{ended, why_of, calls_in, followed_in, round, EndsSo};
+
+use crate::followed::{Followed, Why};
+use crate::written::{Written, loop_key};
+use batch_interp::{Frame, behind_action, behind_break, joined_states};
+use imp_slots::{Routine, SlotBlock, SlotCall, SlotCond, SlotNode};
+use imp_syntax::StmtId;
+use plain_values::{Items, Memory};
+use portable_states::Portable;
+use std::alloc::Global;
+use std::sync::ledger::Ledger;
+use step_counter::Steps;
+
+/// A block: the state behind it, or the first loop whose written state does not do. The states in front of
+/// breaks that leave the loop around it are added to `leaving`.
+#[cycle(following)]
+#[tactic(auto, using(imp_slots::specs::BlockFalls::node_falls))]
+fn follow_block<D: Portable, L: Ledger>(
+    alloc: Global,
+    dom: &D,
+    routines: &[Routine],
+    written: &Written<D::State>,
+    frame: &Frame,
+    block: &SlotBlock,
+    state: D::State,
+    leaving: &mut Items<D::State>,
+    steps: &mut Steps<L>,
+) -> Result<Followed<D::State>, Memory>
+    ensures is { IfOk result (λ r. after leaving.old (followed_in (D.operations dom.now) (D.port dom.now).leq written.now routines.now frame.now.place frame.now.sites block.now state) ≡ ended leaving.new r) }
+{
+    let mut now = state;
+    for node in block.statements() {
+        match follow_node(alloc, dom, routines, written, frame, node, &now, leaving, steps)? {
+            Followed::Behind(next) => now = next,
+            Followed::Fails { at, chain, why } => return Ok(Followed::Fails { at, chain, why }),
+        }
+    }
+    Ok(Followed::Behind(now))
+}
+
+/// A statement alone, as a block.
+#[cycle(following)]
+fn follow_node<D: Portable, L: Ledger>(
+    alloc: Global,
+    dom: &D,
+    routines: &[Routine],
+    written: &Written<D::State>,
+    frame: &Frame,
+    node: &SlotNode,
+    state: &D::State,
+    leaving: &mut Items<D::State>,
+    steps: &mut Steps<L>,
+) -> Result<Followed<D::State>, Memory>
+    ensures is { IfOk result (λ r. after leaving.old (followed_in (D.operations dom.now) (D.port dom.now).leq written.now routines.now frame.now.place frame.now.sites (before_code node.now Stop) state.now) ≡ ended leaving.new r) }
+{
+    match node {
+        SlotNode::Simple(_, action) => {
+            let next = behind_action(alloc, dom, action, state, steps)?;
+            Ok(Followed::Behind(next))
+        }
+        SlotNode::If(_, cond, then, els) => {
+            follow_if(
+                alloc, dom, routines, written, frame, cond, then, els, state, leaving, steps,
+            )
+        }
+        SlotNode::While(n, cond, body) => {
+            follow_while(
+                alloc, dom, routines, written, frame, *n, cond, body, state, steps,
+            )
+        }
+        SlotNode::Call(n, call, callee) => {
+            follow_call(
+                alloc, dom, routines, written, frame, *n, call, *callee, state, steps,
+            )
+        }
+        SlotNode::Break(_) => {
+            let next = behind_break(alloc, dom, state, leaving, steps)?;
+            Ok(Followed::Behind(next))
+        }
+    }
+}
+
+/// Both blocks of an if, joined. The states that leave the first one stand first.
+#[cycle(following)]
+fn follow_if<D: Portable, L: Ledger>(
+    alloc: Global,
+    dom: &D,
+    routines: &[Routine],
+    written: &Written<D::State>,
+    frame: &Frame,
+    cond: &SlotCond,
+    then: &SlotBlock,
+    els: &SlotBlock,
+    state: &D::State,
+    leaving: &mut Items<D::State>,
+    steps: &mut Steps<L>,
+) -> Result<Followed<D::State>, Memory>
+    ensures is { IfOk result (λ r. after leaving.old (followed_in (D.operations dom.now) (D.port dom.now).leq written.now routines.now frame.now.place frame.now.sites (If 0 cond.now then.now els.now Stop) state.now) ≡ ended leaving.new r) }
+{
+    let holds = dom.assume(alloc, cond, true, state, steps)?;
+    let left = match follow_block(alloc, dom, routines, written, frame, then, holds, leaving, steps)? {
+        Followed::Behind(left) => left,
+        Followed::Fails { at, chain, why } => return Ok(Followed::Fails { at, chain, why }),
+    };
+    let fails = dom.assume(alloc, cond, false, state, steps)?;
+    let right = match follow_block(alloc, dom, routines, written, frame, els, fails, leaving, steps)? {
+        Followed::Behind(right) => right,
+        Followed::Fails { at, chain, why } => return Ok(Followed::Fails { at, chain, why }),
+    };
+    Ok(Followed::Behind(dom.join(alloc, &left, &right, steps)?))
+}
+
+/// A loop whose written state does not do.
+fn fail<S>(alloc: Global, frame: &Frame, n: u32, why: Why) -> Result<Followed<S>, Memory>
+    ensures is { IfOk result (λ r. ended [] r ≡ plain.Fails n frame.now.sites (why_of why)) }
+{
+    Ok(Followed::Fails {
+        at: StmtId::new(n),
+        chain: frame.chain(alloc)?,
+        why,
+    })
+}
+
+/// A loop, from the state in front of it.
+#[cycle(following)]
+fn follow_while<D: Portable, L: Ledger>(
+    alloc: Global,
+    dom: &D,
+    routines: &[Routine],
+    written: &Written<D::State>,
+    frame: &Frame,
+    n: u32,
+    cond: &SlotCond,
+    body: &SlotBlock,
+    state: &D::State,
+    steps: &mut Steps<L>,
+) -> Result<Followed<D::State>, Memory>
+    ensures is { IfOk result (λ r. followed_in (D.operations dom.now) (D.port dom.now).leq written.now routines.now frame.now.place frame.now.sites (While n cond.now body.now Stop) state.now ≡ ended [] r) }
+{
+    let key = loop_key(alloc, StmtId::new(n), frame.sites.as_slice())?;
+    match written.get(&key) {
+        None => fail(alloc, frame, n, Why::Missing),
+        Some(head) => {
+            if dom.leq(alloc, state, head)? {
+                follow_round(
+                    alloc, dom, routines, written, frame, n, cond, body, head, steps,
+                )
+            } else {
+                fail(alloc, frame, n, Why::Entry)
+            }
+        }
+    }
+}
+
+/// A round of a loop from its head, and what is behind the loop.
+#[cycle(following)]
+fn follow_round<D: Portable, L: Ledger>(
+    alloc: Global,
+    dom: &D,
+    routines: &[Routine],
+    written: &Written<D::State>,
+    frame: &Frame,
+    n: u32,
+    cond: &SlotCond,
+    body: &SlotBlock,
+    head: &D::State,
+    steps: &mut Steps<L>,
+) -> Result<Followed<D::State>, Memory>
+    ensures is { IfOk result (λ r. round (D.operations dom.now) (D.port dom.now).leq frame.now.sites n cond.now (followed_in (D.operations dom.now) (D.port dom.now).leq written.now routines.now frame.now.place frame.now.sites body.now) head.now ≡ ended [] r) }
+{
+    let mut leaving = Items::new(alloc);
+    let inside = dom.assume(alloc, cond, true, head, steps)?;
+    let end = match follow_block(
+        alloc, dom, routines, written, frame, body, inside, &mut leaving, steps,
+    )? {
+        Followed::Behind(end) => end,
+        Followed::Fails { at, chain, why } => return Ok(Followed::Fails { at, chain, why }),
+    };
+    if dom.leq(alloc, &end, head)? {
+        let out = dom.assume(alloc, cond, false, head, steps)?;
+        let all = joined_states(alloc, dom, out, leaving.as_slice(), steps)?;
+        Ok(Followed::Behind(all))
+    } else {
+        fail(alloc, frame, n, Why::Step)
+    }
+}
+
+/// A call: its procedure is entered and left.
+#[cycle(following)]
+fn follow_call<D: Portable, L: Ledger>(
+    alloc: Global,
+    dom: &D,
+    routines: &[Routine],
+    written: &Written<D::State>,
+    frame: &Frame,
+    n: u32,
+    call: &SlotCall,
+    callee: u32,
+    state: &D::State,
+    steps: &mut Steps<L>,
+) -> Result<Followed<D::State>, Memory>
+    ensures is { IfOk result (λ r. followed_in (D.operations dom.now) (D.port dom.now).leq written.now routines.now frame.now.place frame.now.sites (Call n call.now callee Stop) state.now ≡ ended [] r) }
+{
+    let entered = dom.enter(alloc, call, state, steps)?;
+    match follow_callee(
+        alloc, dom, routines, written, frame, n, callee as usize, entered, steps,
+    )? {
+        Followed::Behind(done) => Ok(Followed::Behind(dom.leave(alloc, call, state, &done, steps)?)),
+        Followed::Fails { at, chain, why } => Ok(Followed::Fails { at, chain, why }),
+    }
+}
+
+/// The procedure at a place, where it stands in front of the one at `place`.
+fn callee_at(routines: &[Routine], place: usize, callee: usize) -> Option<&Routine>
+    ensures is { option_copied result ≡ slice_get (take place routines.now) callee }
+{
+    if callee < place {
+        routines.get(callee)
+    } else {
+        None
+    }
+}
+
+/// The body of a procedure that is called, from the state in front of it.
+#[cycle(following)]
+#[tactic(auto, using(batch_interp::proofs::Weights::weight_falls))]
+fn follow_callee<D: Portable, L: Ledger>(
+    alloc: Global,
+    dom: &D,
+    routines: &[Routine],
+    written: &Written<D::State>,
+    frame: &Frame,
+    n: u32,
+    callee: usize,
+    entered: D::State,
+    steps: &mut Steps<L>,
+) -> Result<Followed<D::State>, Memory>
+    ensures is { IfOk result (EndsSo (calls_in (D.operations dom.now) (D.port dom.now).leq written.now routines.now frame.now.place frame.now.sites n callee entered)) }
+{
+    match callee_at(routines, frame.place, callee) {
+        None => Ok(Followed::Behind(entered)),
+        Some(routine) => {
+            let inner = frame.callee(alloc, n, callee)?;
+            let mut leaving = Items::new(alloc);
+            follow_block(
+                alloc,
+                dom,
+                routines,
+                written,
+                &inner,
+                routine.body(),
+                entered,
+                &mut leaving,
+                steps,
+            )
+        }
+    }
+}
+
+/// The body of main, from its first state.
+pub(crate) fn follow_main<D: Portable, L: Ledger>(
+    alloc: Global,
+    dom: &D,
+    routines: &[Routine],
+    written: &Written<D::State>,
+    steps: &mut Steps<L>,
+) -> Result<Followed<D::State>, Memory>
+    requires some { 0 < length routines.now }
+    ensures is { IfOk result (EndsSo (followed_program (D.operations dom.now) (D.port dom.now).leq (state_at written.now) routines.now)) }
+{
+    let frame = Frame::main(alloc, routines);
+    let main = &routines[frame.place];
+    let first = dom.init(alloc, main.layout(), steps)?;
+    let mut leaving = Items::new(alloc);
+    follow_block(
+        alloc,
+        dom,
+        routines,
+        written,
+        &frame,
+        main.body(),
+        first,
+        &mut leaving,
+        steps,
+    )
+}

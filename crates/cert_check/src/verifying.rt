@@ -1,0 +1,82 @@
+//! Checking a certificate.
+ghost use Rattle.std.specs.Prelude.{◌≡◌, IfOk};
+ghost use Rattle.imp_check.specs.Slots.{routines_of};
+ghost use Rattle.cert_meaning.specs.Followed.{followed_program};
+ghost use Rattle.cert_lines.specs.Verify.{of_followed, verify, verified_line, Yes};
+ghost use Rattle.cert_check.specs.Table.{state_at};
+ghost use Rattle.cert_check.specs.Verified.{verified_of, CoversRuns};
+
+use crate::chain_sets::ChainSets;
+use crate::followed::Followed;
+use crate::following::follow_main;
+use crate::reading::{Lines, read_lines};
+use crate::verified::{Verified, verified_line};
+use crate::written::Written;
+use call_contexts::main_place;
+use cert_lines::a_yes_is_sound;
+use imp_check::Checked;
+use plain_values::Memory;
+use portable_states::Portable;
+use std::alloc::Global;
+use std::sync::ledger::Ledger;
+use step_counter::Steps;
+
+/// What following main's body with these states comes to.
+fn verify_written<D: Portable, L: Ledger>(
+    alloc: Global,
+    dom: &D,
+    prog: &Checked,
+    written: &Written<D::State>,
+    steps: &mut Steps<L>,
+) -> Result<Verified, Memory>
+    ensures is { IfOk result (λ v. verified_of v ≡ of_followed (followed_program (D.operations dom.now) (D.port dom.now).leq (state_at written.now) (routines_of prog.now))) }
+{
+    main_place(&prog.view());
+    match follow_main(alloc, dom, prog.routines(), written, steps)? {
+        Followed::Behind(_) => Ok(Verified::Yes),
+        Followed::Fails { at, chain, why } => Ok(Verified::No { at, chain, why }),
+    }
+}
+
+/// What checking comes to.
+#[tactic(auto, unfolding(cert_lines::specs::Verify::verify))]
+fn verified<D: Portable, L: Ledger>(
+    alloc: Global,
+    dom: &D,
+    prog: &Checked,
+    cert: &[u8],
+    steps: &mut Steps<L>,
+) -> Result<Verified, Memory>
+    ensures is { IfOk result (λ v. verified_of v ≡ verify (D.operations dom.now) (D.port dom.now) (routines_of prog.now) cert.now) }
+{
+    let chains = ChainSets::new(alloc, &prog.view())?;
+    match read_lines(alloc, dom, prog, &chains, cert)? {
+        Lines::Bad(line) => Ok(Verified::BadLine(line)),
+        Lines::Read(written) => verify_written(alloc, dom, prog, &written, steps),
+    }
+}
+
+/// The line that says whether a certificate of a program holds: `{"verify":"yes"}`; or the first bad line,
+/// counted from 1, as `{"line":i,"verify":"no"}`; or the first loop, as main's body is followed, of which what is written
+/// does not do, as `{"at":n,"chain":[..],"verify":"no","why":W}`, with W `missing` where no state is written, `entry` where
+/// the state in front of the loop is not found below the written one, `step` where what a round makes of it is not.
+///
+/// Where the answer is yes, each configuration of a run that stands at the test of a loop, under any inputs, is described
+/// by the state of the line of that loop under the configuration's call sites, whoever wrote the lines.
+///
+/// Nothing is widened, and no loop is gone through more than once under a chain. Its only error is want of memory.
+pub fn verify<D: Portable, L: Ledger>(
+    alloc: Global,
+    dom: &D,
+    prog: &Checked,
+    cert: &[u8],
+    steps: &mut Steps<L>,
+) -> Result<Vec<u8>, Memory>
+    ensures line { IfOk result (λ v. v.items ≡ verified_line (verify (D.operations dom.now) (D.port dom.now) (routines_of prog.now) cert.now)) }
+    ensures sound { IfOk result (λ v. v.items ≡ verified_line Yes → CoversRuns (D.covers dom.now) (D.port dom.now) (routines_of prog.now) cert.now) }
+{
+    let verified = verified(alloc, dom, prog, cert, steps)?;
+    a_yes_is_sound::<D>();
+    prog.routines();
+    verified_line(alloc, &verified)
+}

@@ -1,0 +1,40 @@
+-- Certificates as they are written, a line at a time.
+use Rattle.std.specs.Prelude.{ℕ, List, [], ◌∷◌, ◌++◌, Option, Some, None, codes}
+use Rattle.imp_syntax.specs.declared.edit.Location.TheVariants.{Head}
+use Rattle.serde_json.specs.Data.{Data, string}
+use Rattle.request_json.specs.Replies.{object_of, count, list_of}
+use Rattle.imp_slots.specs.Plain.{Routine}
+use Rattle.domain_laws.specs.Operations.{Operations}
+use Rattle.batch_meaning.specs.Values.{Value}
+use Rattle.batch_meaning.specs.Batch.{Engine}
+use Rattle.batch_meaning.specs.Places.{value_at}
+use Rattle.cert_meaning.specs.Portable.{Portable}
+use Rattle.cert_lines.specs.Certificate.{Certificate, Lines, Gives, with_line, lines_text, certificate_text}
+
+-- the line of a loop under a chain, which has the outermost call first
+abbrev pub line_data : (n : ℕ) → (chain state : List ℕ) → Data
+line_data n chain state = object_of ((codes "at", count n) ∷ (codes "chain", list_of count chain) ∷ (codes "state", string state) ∷ [])
+
+-- what is written where these bytes came before: they stay in front of lines, and an Over stands alone
+abbrev pub behind : List ℕ → Certificate → List ℕ
+behind before (Lines ds) = before ++ lines_text ds
+behind before (Gives n z) = certificate_text (Gives n z)
+
+-- the line of an Over, or else these bytes
+abbrev pub or_over : Option (List ℕ) → List ℕ → List ℕ
+or_over None text = text
+or_over (Some line) text = line
+
+abbrev pub bytes_in : {Z : Type 0} → Option (Vec ℕ Z) → Option (List ℕ)
+bytes_in o = option_map (λ (v : Vec _ _). v.items) o
+
+module _ {S : Type 0} (dom : Operations S) (port : Portable S) (engine : Engine) (program : List Routine) where
+  -- loops under one chain, with the values at their heads, in front of more
+  abbrev pub lines_under : (z : List ℕ) → List (ℕ × Option (Value S)) → Certificate → Certificate
+  lines_under z [] more = more
+  lines_under z (h ∷ hs) more = with_line dom port engine program z h.0 h.1 (lines_under z hs more)
+
+  -- loops under chains, in front of more
+  abbrev pub lines_before : List (List ℕ × ℕ) → Certificate → Certificate
+  lines_before [] more = more
+  lines_before (x ∷ xs) more = with_line dom port engine program x.0 x.1 (value_at dom engine program (Head x.1) x.0) (lines_before xs more)
