@@ -10,7 +10,7 @@ use Rattle.command_words.specs.declared.job.Settings.{Settings}
 use Rattle.command_words.specs.declared.job.Job.{Job}
 use Rattle.command_words.specs.declared.job.Job.TheVariants as job
 use Rattle.command_words.specs.Line.{daig_app}
-use Rattle.command_words.specs.Values.{number_in, domain_of, thresholds_of}
+use Rattle.command_words.specs.Values.{number_in, domain_of, single_of, thresholds_of}
 
 -- what is read of the value of an argument
 abbrev pub value_in : {A : Type 0} → (Text → Option A) → Text → List Row → Option A
@@ -57,13 +57,27 @@ gen_in rows =
     option_and_then (λ domain. both (gen_with domain) (value_in (number_in 0 most_seed) (codes "seed") rows) (value_in (number_in 1 1000) (codes "size") rows))
     (value_in domain_of (codes "domain") rows)
 
+abbrev pub cert_in : List Row → Option Job
+cert_in rows =
+    option_and_then
+    (λ domain. option_and_then (λ widening. both (job.Cert domain widening) (value_in (number_in 1 10000) (codes "budget") rows) (file_in rows)) (widening_in rows))
+    (value_in single_of (codes "domain") rows)
+
+abbrev pub certificate_in : List Row → Option (List ℕ)
+certificate_in rows = first_of (codes "CERT") rows
+
+abbrev pub verify_in : List Row → Option Job
+verify_in rows = option_and_then (λ domain. both (job.Verify domain) (file_in rows) (certificate_in rows)) (value_in single_of (codes "domain") rows)
+
 -- the job of a command that was named, by the values of its arguments
 unfoldable pub job_in : Text × List Row → Option Job
 job_in command =
     if bytes_eq command.0 (codes "serve") then serve_in command.1
     else (if bytes_eq command.0 (codes "batch") then batch_in command.1
     else (if bytes_eq command.0 (codes "gen") then gen_in command.1
-    else None))
+    else (if bytes_eq command.0 (codes "cert") then cert_in command.1
+    else (if bytes_eq command.0 (codes "verify") then verify_in command.1
+    else None))))
 
 -- The job of the words, of which the first is the program's own name: that of the command that they name, where
 -- `clap` finds no fault in them and each value is in form.

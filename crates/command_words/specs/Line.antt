@@ -37,7 +37,11 @@ size_rule = needed_of (codes "size")
 abbrev pub file_rule : Rule
 file_rule = record (new_rule (codes "FILE")) { action = Some Set; required = true }
 
--- the three commands, and the program
+-- the file of a certificate, which has to be there
+abbrev pub cert_rule : Rule
+cert_rule = record (new_rule (codes "CERT")) { action = Some Set; required = true }
+
+-- the commands, and the program
 abbrev pub serve_shape : Shape
 serve_shape = record (new_shape (codes "serve")) { rules = domain_rule ∷ widening_rule ∷ delay_rule ∷ budget_rule ∷ memo_rule ∷ file_rule ∷ [] }
 
@@ -47,8 +51,14 @@ batch_shape = record (new_shape (codes "batch")) { rules = domain_rule ∷ widen
 abbrev pub gen_shape : Shape
 gen_shape = record (new_shape (codes "gen")) { rules = domain_rule ∷ seed_rule ∷ size_rule ∷ [] }
 
+abbrev pub cert_shape : Shape
+cert_shape = record (new_shape (codes "cert")) { rules = domain_rule ∷ widening_rule ∷ delay_rule ∷ budget_rule ∷ file_rule ∷ [] }
+
+abbrev pub verify_shape : Shape
+verify_shape = record (new_shape (codes "verify")) { rules = domain_rule ∷ file_rule ∷ cert_rule ∷ [] }
+
 abbrev pub daig_app : App
 daig_app = record {
   top = record (new_shape (codes "daig")) { is_leaf = false; disable_help_flag = true; disable_help_subcommand = true };
-  subs = serve_shape ∷ batch_shape ∷ gen_shape ∷ [];
+  subs = serve_shape ∷ batch_shape ∷ gen_shape ∷ cert_shape ∷ verify_shape ∷ [];
 }

@@ -4,6 +4,8 @@ use Rattle.std.specs.Str.{bytes_eq}
 use Rattle.std.specs.Str.Parse.{digits_value}
 use Rattle.command_words.specs.declared.job.DomainName.{DomainName}
 use Rattle.command_words.specs.declared.job.DomainName.TheVariants.{Interval, Octagon, ListSeg, IntervalListSeg, OctagonListSeg}
+use Rattle.command_words.specs.declared.job.SingleDomain.{SingleDomain}
+use Rattle.command_words.specs.declared.job.SingleDomain.TheVariants as single
 
 -- a number within these bounds, as its decimal digits
 unfoldable pub number_in : ℕ → ℕ → List ℕ → Option ℕ
@@ -19,6 +21,14 @@ domain_of text =
     else (if bytes_eq text (codes "interval+listseg") then Some IntervalListSeg
     else (if bytes_eq text (codes "octagon+listseg") then Some OctagonListSeg
     else None))))
+
+-- a domain that is no product
+unfoldable pub single_of : List ℕ → Option SingleDomain
+single_of text =
+    if bytes_eq text (codes "interval") then Some single.Interval
+    else (if bytes_eq text (codes "octagon") then Some single.Octagon
+    else (if bytes_eq text (codes "listseg") then Some single.ListSeg
+    else None))
 
 -- whether the numbers of a procedure are the marks of widening
 unfoldable pub thresholds_of : List ℕ → Option Bool

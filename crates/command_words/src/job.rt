@@ -35,6 +35,26 @@ pub enum Job {
         /// What is known of variables.
         domain: DomainName,
     },
+    /// The states at the heads of a program's loops, as the lines of a certificate.
+    Cert {
+        /// What is known of variables.
+        domain: SingleDomain,
+        /// How loops are widened; the delay is 0 to 100.
+        widening: Widening,
+        /// How many iterates a loop may take, 1 to 10,000.
+        budget: u32,
+        /// The program's file.
+        file: FileName,
+    },
+    /// Whether a certificate of a program holds.
+    Verify {
+        /// What is known of variables.
+        domain: SingleDomain,
+        /// The program's file.
+        file: FileName,
+        /// The certificate's file.
+        cert: FileName,
+    },
 }
 
 /// How a program is analysed.
@@ -61,6 +81,17 @@ pub enum DomainName {
     IntervalListSeg,
     /// Octagons and list segments as one.
     OctagonListSeg,
+}
+
+/// A domain that is no product: its states can be written and read back.
+#[derive(Clone, Copy, Debug, PartialEq, Eq, Hash)]
+pub enum SingleDomain {
+    /// A range for each number.
+    Interval,
+    /// Bounds on numbers, and on the sums and differences of two.
+    Octagon,
+    /// Which lists the variables name, and what they share.
+    ListSeg,
 }
 
 /// The name of a file, seen as the list of its bytes.

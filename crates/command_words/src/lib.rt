@@ -4,9 +4,11 @@
 //! daig serve [--domain interval] [--widening plain|thresholds] [--delay D] [--budget N] [--memo N] FILE
 //! daig batch [--domain interval] [--widening plain|thresholds] [--delay D] [--budget N] FILE
 //! daig gen --seed N --size N [--domain interval]
+//! daig cert [--domain interval] [--widening plain|thresholds] [--delay D] [--budget N] FILE
+//! daig verify [--domain interval] FILE CERT
 //! ```
 //!
-//! Where an option in brackets is left out, the domain is `interval`, the widening `thresholds`, the delay 0, the
+//! Of the domains `cert` and `verify` take those that are no product: `interval`, `octagon`, `listseg`. Where an option in brackets is left out, the domain is `interval`, the widening `thresholds`, the delay 0, the
 //! budget 100, the memo 1,024. The delay is 0 to 100, the budget 1 to 10,000, the memo 1 to 65,536, the seed 0 to
 //! 2^63 - 1, the size 1 to 1,000; numbers are decimal digits without a sign or a leading zero.
 //!
@@ -23,5 +25,5 @@ mod reading;
 mod values;
 
 pub use error::WordsError;
-pub use job::{DomainName, FileName, Job, Settings};
+pub use job::{DomainName, FileName, Job, Settings, SingleDomain};
 pub use reading::read_words;

@@ -4,7 +4,7 @@ ghost use Rattle.std.specs.Prelude.{◌≡◌, IfOk, codes, false};
 ghost use Rattle.clap.specs.Walk.{rule_of};
 ghost use Rattle.clap.specs.Simple.{app_of, shape_of, with_rule, with_subcommand};
 ghost use Rattle.clap.specs.declared.builder.command.Command.TheViews.{out-Command as fields_of};
-ghost use Rattle.command_words.specs.Line.{option_of, needed_of, domain_rule, widening_rule, delay_rule, budget_rule, memo_rule, seed_rule, size_rule, file_rule, serve_shape, batch_shape, gen_shape, daig_app};
+ghost use Rattle.command_words.specs.Line.{option_of, needed_of, domain_rule, widening_rule, delay_rule, budget_rule, memo_rule, seed_rule, size_rule, file_rule, cert_rule, serve_shape, batch_shape, gen_shape, cert_shape, verify_shape, daig_app};
 
 use clap::{Arg, ArgAction, Command};
 use plain_values::Memory;
@@ -38,6 +38,16 @@ fn file<'a>(alloc: Global) -> Arg<'a>
     ensures local { result.global ≡ false }
 {
     Arg::new(alloc, "FILE")
+        .required(true)
+        .action(ArgAction::Set)
+}
+
+/// The file of a certificate.
+fn certificate<'a>(alloc: Global) -> Arg<'a>
+    ensures rule { rule_of result ≡ cert_rule }
+    ensures local { result.global ≡ false }
+{
+    Arg::new(alloc, "CERT")
         .required(true)
         .action(ArgAction::Set)
 }
@@ -78,7 +88,16 @@ fn with_file<'a>(alloc: Global, command: Command<'a>) -> Result<Command<'a>, Mem
     Ok(command)
 }
 
-/// The command with the options that both commands have.
+/// The command with the file of a certificate.
+fn with_certificate<'a>(alloc: Global, command: Command<'a>) -> Result<Command<'a>, Memory>
+    ensures app { IfOk result (λ made. app_of made ≡ with_rule (app_of command.entry) cert_rule) }
+    ensures local { IfOk result (λ made. (fields_of made).has_globals ≡ (fields_of command.entry).has_globals) }
+{
+    let command = command.arg(certificate(alloc))?;
+    Ok(command)
+}
+
+/// The command with the options that say how a program is analysed.
 fn with_settings<'a>(alloc: Global, command: Command<'a>) -> Result<Command<'a>, Memory>
     ensures app { IfOk result (λ made. app_of made ≡ with_rule (with_rule (with_rule (with_rule (app_of command.entry) domain_rule) widening_rule) delay_rule) budget_rule) }
     ensures local { IfOk result (λ made. (fields_of made).has_globals ≡ (fields_of command.entry).has_globals) }
@@ -118,6 +137,25 @@ fn generates<'a>(alloc: Global) -> Result<Command<'a>, Memory>
     with_needed(alloc, command, "size")
 }
 
+/// The command `cert`.
+fn certifies<'a>(alloc: Global) -> Result<Command<'a>, Memory>
+    ensures shape { IfOk result (λ made. shape_of made ≡ cert_shape) }
+    ensures local { IfOk result (λ made. (fields_of made).has_globals ≡ false) }
+{
+    let command = with_settings(alloc, Command::new(alloc, "cert"))?;
+    with_file(alloc, command)
+}
+
+/// The command `verify`.
+fn verifies<'a>(alloc: Global) -> Result<Command<'a>, Memory>
+    ensures shape { IfOk result (λ made. shape_of made ≡ verify_shape) }
+    ensures local { IfOk result (λ made. (fields_of made).has_globals ≡ false) }
+{
+    let command = with_option(alloc, Command::new(alloc, "verify"), "domain", "interval")?;
+    let command = with_file(alloc, command)?;
+    with_certificate(alloc, command)
+}
+
 /// The command with one more command below it.
 fn with_command<'a>(command: Command<'a>, below: Command<'a>) -> Result<Command<'a>, Memory>
     requires local { (fields_of below).has_globals ≡ false }
@@ -127,6 +165,23 @@ fn with_command<'a>(command: Command<'a>, below: Command<'a>) -> Result<Command<
     Ok(command)
 }
 
+/// The command with `serve`, `batch` and `gen` below it.
+fn with_analyses<'a>(alloc: Global, command: Command<'a>) -> Result<Command<'a>, Memory>
+    ensures app { IfOk result (λ made. app_of made ≡ with_subcommand (with_subcommand (with_subcommand (app_of command.entry) serve_shape) batch_shape) gen_shape) }
+{
+    let command = with_command(command, serve(alloc)?)?;
+    let command = with_command(command, batch(alloc)?)?;
+    with_command(command, generates(alloc)?)
+}
+
+/// The command with `cert` and `verify` below it.
+fn with_certificates<'a>(alloc: Global, command: Command<'a>) -> Result<Command<'a>, Memory>
+    ensures app { IfOk result (λ made. app_of made ≡ with_subcommand (with_subcommand (app_of command.entry) cert_shape) verify_shape) }
+{
+    let command = with_command(command, certifies(alloc)?)?;
+    with_command(command, verifies(alloc)?)
+}
+
 /// The program's commands.
 pub(crate) fn daig<'a>(alloc: Global) -> Result<Command<'a>, Memory>
     ensures app { IfOk result (λ made. app_of made ≡ daig_app) }
@@ -134,7 +189,6 @@ pub(crate) fn daig<'a>(alloc: Global) -> Result<Command<'a>, Memory>
     let command = Command::new(alloc, "daig")
         .disable_help_flag(true)
         .disable_help_subcommand(true);
-    let command = with_command(command, serve(alloc)?)?;
-    let command = with_command(command, batch(alloc)?)?;
-    with_command(command, generates(alloc)?)
+    let command = with_analyses(alloc, command)?;
+    with_certificates(alloc, command)
 }

@@ -7,13 +7,13 @@ ghost use Rattle.clap.specs.Simple.{subcommand_of, subcommand_rows_of};
 ghost use Rattle.clap.specs.Faults.{fault_of};
 ghost use Rattle.clap.specs.Matches.{found_of};
 ghost use Rattle.command_words.specs.Line.{daig_app};
-ghost use Rattle.command_words.specs.Values.{number_in, domain_of, thresholds_of};
-ghost use Rattle.command_words.specs.Jobs.{value_in, widening_in, settings_in, file_in, serve_in, batch_in, gen_in, job_in, job_of};
+ghost use Rattle.command_words.specs.Values.{number_in, domain_of, single_of, thresholds_of};
+ghost use Rattle.command_words.specs.Jobs.{value_in, widening_in, settings_in, serve_in, batch_in, gen_in, cert_in, verify_in, job_in, job_of};
 
 use crate::error::WordsError;
-use crate::job::{DomainName, FileName, Job, Settings};
+use crate::job::{DomainName, FileName, Job, Settings, SingleDomain};
 use crate::line::daig;
-use crate::values::{domain_of, number_in, thresholds_of};
+use crate::values::{domain_of, number_in, single_of, thresholds_of};
 use clap::ArgMatches;
 use clap::error::ErrorKind;
 use plain_values::Memory;
@@ -62,6 +62,16 @@ fn domain_at(matches: &ArgMatches<'_>) -> Option<DomainName>
     }
 }
 
+/// The domain, which is no product.
+fn single_at(matches: &ArgMatches<'_>) -> Option<SingleDomain>
+    ensures domain { result ≡ value_in single_of (codes "domain") (rows_of (found_of matches.now)) }
+{
+    match value_at(matches, "domain") {
+        Some(text) => single_of(text),
+        None => None,
+    }
+}
+
 /// Whether the numbers of a procedure are the marks of widening.
 fn thresholds_at(matches: &ArgMatches<'_>) -> Option<bool>
     ensures thresholds { result ≡ value_in thresholds_of (codes "widening") (rows_of (found_of matches.now)) }
@@ -105,11 +115,11 @@ fn settings_at(matches: &ArgMatches<'_>) -> Option<Settings>
     }
 }
 
-/// The file.
-fn file_at(alloc: Global, matches: &ArgMatches<'_>) -> Result<Option<FileName>, Memory>
-    ensures file { IfOk result (λ file. file ≡ file_in (rows_of (found_of matches.now))) }
+/// The file that is the value of an argument.
+fn file_at(alloc: Global, matches: &ArgMatches<'_>, name: &str) -> Result<Option<FileName>, Memory>
+    ensures file { IfOk result (λ file. file ≡ first_of name.now (rows_of (found_of matches.now))) }
 {
-    match value_at(matches, "FILE") {
+    match value_at(matches, name) {
         Some(text) => Ok(Some(FileName::new(alloc, text)?)),
         None => Ok(None),
     }
@@ -125,7 +135,7 @@ fn serve_at(alloc: Global, matches: &ArgMatches<'_>) -> Result<Option<Job>, Memo
     let Some(memo) = number_at(matches, "memo", 1, 65_536) else {
         return Ok(None);
     };
-    match file_at(alloc, matches)? {
+    match file_at(alloc, matches, "FILE")? {
         Some(file) => Ok(Some(Job::Serve {
             settings,
             memo,
@@ -142,7 +152,7 @@ fn batch_at(alloc: Global, matches: &ArgMatches<'_>) -> Result<Option<Job>, Memo
     let Some(settings) = settings_at(matches) else {
         return Ok(None);
     };
-    match file_at(alloc, matches)? {
+    match file_at(alloc, matches, "FILE")? {
         Some(file) => Ok(Some(Job::Batch { settings, file })),
         None => Ok(None),
     }
@@ -164,6 +174,46 @@ fn gen_at(matches: &ArgMatches<'_>) -> Option<Job>
     }
 }
 
+/// The job of `cert`.
+fn cert_at(alloc: Global, matches: &ArgMatches<'_>) -> Result<Option<Job>, Memory>
+    ensures job { IfOk result (λ job. job ≡ cert_in (rows_of (found_of matches.now))) }
+{
+    let Some(domain) = single_at(matches) else {
+        return Ok(None);
+    };
+    let Some(widening) = widening_at(matches) else {
+        return Ok(None);
+    };
+    let Some(budget) = number_at(matches, "budget", 1, 10_000) else {
+        return Ok(None);
+    };
+    match file_at(alloc, matches, "FILE")? {
+        Some(file) => Ok(Some(Job::Cert {
+            domain,
+            widening,
+            budget,
+            file,
+        })),
+        None => Ok(None),
+    }
+}
+
+/// The job of `verify`.
+fn verify_at(alloc: Global, matches: &ArgMatches<'_>) -> Result<Option<Job>, Memory>
+    ensures job { IfOk result (λ job. job ≡ verify_in (rows_of (found_of matches.now))) }
+{
+    let Some(domain) = single_at(matches) else {
+        return Ok(None);
+    };
+    let Some(file) = file_at(alloc, matches, "FILE")? else {
+        return Ok(None);
+    };
+    match file_at(alloc, matches, "CERT")? {
+        Some(cert) => Ok(Some(Job::Verify { domain, file, cert })),
+        None => Ok(None),
+    }
+}
+
 /// The job of the command of this name.
 #[tactic(auto, unfolding(crate::specs::Jobs::job_in))]
 fn job_at(alloc: Global, name: &str, matches: &ArgMatches<'_>) -> Result<Option<Job>, Memory>
@@ -173,6 +223,8 @@ fn job_at(alloc: Global, name: &str, matches: &ArgMatches<'_>) -> Result<Option<
         "serve" => serve_at(alloc, matches),
         "batch" => batch_at(alloc, matches),
         "gen" => Ok(gen_at(matches)),
+        "cert" => cert_at(alloc, matches),
+        "verify" => verify_at(alloc, matches),
         _ => Ok(None),
     }
 }

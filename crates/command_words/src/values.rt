@@ -1,9 +1,9 @@
 //! The values of options from their texts: which numbers, domains and widenings
 //! [`read_words`](crate::read_words) takes.
 ghost use Rattle.std.specs.Prelude.{◌≡◌, ◌≤◌, codes, IfSome};
-ghost use Rattle.command_words.specs.Values.{number_in, domain_of, thresholds_of};
+ghost use Rattle.command_words.specs.Values.{number_in, domain_of, single_of, thresholds_of};
 
-use crate::job::DomainName;
+use crate::job::{DomainName, SingleDomain};
 use itoa::Buffer;
 
 /// The number that the text is, as decimal digits without a sign or a leading zero, where it is
@@ -36,6 +36,19 @@ pub(crate) fn domain_of(text: &str) -> Option<DomainName>
         "listseg" => Some(DomainName::ListSeg),
         "interval+listseg" => Some(DomainName::IntervalListSeg),
         "octagon+listseg" => Some(DomainName::OctagonListSeg),
+        _ => None,
+    }
+}
+
+/// The domain of this name that is no product.
+#[tactic(auto, unfolding(crate::specs::Values::single_of))]
+pub(crate) fn single_of(text: &str) -> Option<SingleDomain>
+    ensures domain { result ≡ single_of text.now }
+{
+    match text {
+        "interval" => Some(SingleDomain::Interval),
+        "octagon" => Some(SingleDomain::Octagon),
+        "listseg" => Some(SingleDomain::ListSeg),
         _ => None,
     }
 }
