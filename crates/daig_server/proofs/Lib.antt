@@ -2,6 +2,7 @@ pub mod NumberingLemmas
 pub mod FewLemmas
 pub mod LineLemmas
 pub mod ServeLemmas
+pub mod CertificateLemmas
 pub mod WordsLemmas
 pub mod TallyLemmas
 pub mod SourceLemmas

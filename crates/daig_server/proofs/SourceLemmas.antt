@@ -22,11 +22,17 @@ accepted_work (Ok w) source program read is faultless = λ readings.
     source_is readings source program (read readings) ∙ ap (unless_faulty program) faultless ∙ ap Ok (sym is)
 accepted_work (Err e) source program read is faultless = tt
 
+pub accepted_checked : {E : Type 0} (r : Result (List Procedure) E) (source : List ℕ) (program : List Procedure) → ((readings : Readings) → readings.program.answer source ≡ Ok program) →
+    IfOk r (λ c. c ≡ program) → IfOk r (λ _. check_fault program ≡ None) → IfOk r (λ c. (readings : Readings) → source_of readings source ≡ Ok c)
+accepted_checked (Ok c) source program read is faultless = λ readings.
+    source_is readings source program (read readings) ∙ ap (unless_faulty program) faultless ∙ ap Ok (sym is)
+accepted_checked (Err e) source program read is faultless = tt
+
 error_moved : (a b : Result (List Procedure) Refusal) (e : SourceError) → a ≡ b → IsSourceError b e → IsSourceError a e
 error_moved a b (Refused why) same is = same ∙ is
 error_moved a b Memory same is = tt
 
-pub refused_work : (r : Result Work SourceError) (source : List ℕ) (program : List Procedure) → ((readings : Readings) → readings.program.answer source ≡ Ok program) →
+pub refused_work : {A : Type 0} (r : Result A SourceError) (source : List ℕ) (program : List Procedure) → ((readings : Readings) → readings.program.answer source ≡ Ok program) →
     IfErr r (IsSourceError (unless_faulty program (check_fault program))) → IfErr r (λ e. (readings : Readings) → IsSourceError (source_of readings source) e)
 refused_work (Ok w) source program read refused = tt
 refused_work (Err e) source program read refused = λ readings.

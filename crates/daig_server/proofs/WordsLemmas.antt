@@ -1,5 +1,5 @@
 -- The numbers of a job are within their bounds.
-use Rattle.std.proofs.Common.{◌≡◌, ◌≤◌, ◌<◌, ℕ, nat_le, Bool, true, false, ◌&&◌, List, Option, Some, None, option_and_then, option_map, codes, if◌then◌else◌, refl, sym, arith}
+use Rattle.std.proofs.Common.{◌≡◌, ◌≤◌, ◌<◌, ℕ, nat_le, Bool, true, false, ◌&&◌, List, Option, Some, None, option_and_then, option_map, codes, if◌then◌else◌, refl, sym, subst, arith}
 use Rattle.std.proofs.lemmas.Bool.Decides.{nat_tests}
 use Rattle.std.specs.Str.{bytes_eq}
 use Rattle.clap.specs.Walk.{Row, Text, first_of, is_empty}
@@ -10,8 +10,8 @@ use Rattle.command_words.specs.declared.job.Job.{Job}
 use Rattle.command_words.specs.declared.job.Job.TheVariants as job
 use Rattle.command_words.specs.declared.job.Settings.{Settings}
 use Rattle.command_words.specs.Line.{daig_app}
-use Rattle.command_words.specs.Values.{number_in, domain_of}
-use Rattle.command_words.specs.Jobs.{batch_in, both, file_in, gen_in, gen_with, job_in, job_of, most_seed, serve_in, settings_in, value_in}
+use Rattle.command_words.specs.Values.{number_in, domain_of, single_of}
+use Rattle.command_words.specs.Jobs.{batch_in, both, cert_in, certificate_in, file_in, gen_in, gen_with, job_in, job_of, most_seed, serve_in, settings_in, value_in, verify_in, widening_in}
 
 then_some : {A B : Type 0} (f : A → Option B) (o : Option A) (b : B) → option_and_then f o ≡ Some b → (a : A) × (o ≡ Some a) × (f a ≡ Some b)
 then_some f (Some a) b is = (a, refl, is)
@@ -56,81 +56,61 @@ value_within least most name rows n is =
     let read = then_some (number_in least most) (first_of name rows) n is in
     within least most read.0 n read.2
 
--- a job of serve, and of gen
-same_memo : (s t : Settings) (m n : ℕ) (f g : List ℕ) → job.Serve s m f ≡ job.Serve t n g → m ≡ n
-same_memo s t m n f g is = cc
-
-same_size : (s t : ℕ) (m n : ℕ) (f g : DomainName) → job.Gen s m f ≡ job.Gen t n g → m ≡ n
-same_size s t m n f g is = cc
-
-serve_within : (rows : List Row) (settings : Settings) (memo : ℕ) (file : List ℕ) → serve_in rows ≡ Some (job.Serve settings memo file) → 1 ≤ memo
-serve_within rows settings memo file is =
-    let outer = then_some (λ s. both (job.Serve s) (value_in (number_in 1 65536) (codes "memo") rows) (file_in rows)) (settings_in rows) (job.Serve settings memo file) is in
-    let inner = first_some (job.Serve outer.0) (value_in (number_in 1 65536) (codes "memo") rows) (file_in rows) (job.Serve settings memo file) outer.2 in
-    rw (sym (same_memo outer.0 settings inner.0 memo inner.1 file inner.4)) (value_within 1 65536 (codes "memo") rows inner.0 inner.2).0
-
-gen_within : (rows : List Row) (seed size : ℕ) (domain : DomainName) → gen_in rows ≡ Some (job.Gen seed size domain) → size ≤ 1000
-gen_within rows seed size domain is =
-    let outer = then_some (λ d. both (gen_with d) (value_in (number_in 0 most_seed) (codes "seed") rows) (value_in (number_in 1 1000) (codes "size") rows)) (value_in domain_of (codes "domain") rows) (job.Gen seed size domain) is in
-    let inner = first_some (gen_with outer.0) (value_in (number_in 0 most_seed) (codes "seed") rows) (value_in (number_in 1 1000) (codes "size") rows) (job.Gen seed size domain) outer.2 in
-    rw (sym (same_size inner.0 seed inner.1 size outer.0 domain inner.4)) (value_within 1 1000 (codes "size") rows inner.1 inner.3).1
-
--- no job of one command is one of another
-batch_serve : (s t : Settings) (f : List ℕ) (m : ℕ) (g : List ℕ) → job.Batch s f ≡ job.Serve t m g → ⊥
-batch_serve s t f m g is = cc
-
-batch_gen : (s : Settings) (f : List ℕ) (a b : ℕ) (d : DomainName) → job.Batch s f ≡ job.Gen a b d → ⊥
-batch_gen s f a b d is = cc
-
-gen_serve : (a b : ℕ) (d : DomainName) (t : Settings) (m : ℕ) (g : List ℕ) → job.Gen a b d ≡ job.Serve t m g → ⊥
-gen_serve a b d t m g is = cc
-
-serve_gen : (t : Settings) (m : ℕ) (g : List ℕ) (a b : ℕ) (d : DomainName) → job.Serve t m g ≡ job.Gen a b d → ⊥
-serve_gen t m g a b d is = cc
-
 -- a job that is served or generated, whichever command it comes of
 abbrev Bounded : Job → Type 0
 Bounded (job.Serve settings memo file) = 1 ≤ memo
 Bounded (job.Batch settings file) = Unit {0}
 Bounded (job.Gen seed size domain) = size ≤ 1000
+Bounded (job.Cert domain widening budget file) = Unit {0}
+Bounded (job.Verify domain file cert) = Unit {0}
 
 serve_bounded : (rows : List Row) (j : Job) → serve_in rows ≡ Some j → Bounded j
-serve_bounded rows (job.Serve settings memo file) is = serve_within rows settings memo file is
-serve_bounded rows (job.Batch settings file) is = tt
-serve_bounded rows (job.Gen seed size domain) is =
-    let outer = then_some (λ s. both (job.Serve s) (value_in (number_in 1 65536) (codes "memo") rows) (file_in rows)) (settings_in rows) (job.Gen seed size domain) is in
-    let inner = first_some (job.Serve outer.0) (value_in (number_in 1 65536) (codes "memo") rows) (file_in rows) (job.Gen seed size domain) outer.2 in
-    absurd (serve_gen outer.0 inner.0 inner.1 seed size domain inner.4)
+serve_bounded rows j is =
+    let outer = then_some (λ s. both (job.Serve s) (value_in (number_in 1 65536) (codes "memo") rows) (file_in rows)) (settings_in rows) j is in
+    let inner = first_some (job.Serve outer.0) (value_in (number_in 1 65536) (codes "memo") rows) (file_in rows) j outer.2 in
+    subst Bounded inner.4 (value_within 1 65536 (codes "memo") rows inner.0 inner.2).0
 
 batch_bounded : (rows : List Row) (j : Job) → batch_in rows ≡ Some j → Bounded j
-batch_bounded rows (job.Serve settings memo file) is =
-    let inner = first_some job.Batch (settings_in rows) (file_in rows) (job.Serve settings memo file) is in
-    absurd (batch_serve inner.0 settings inner.1 memo file inner.4)
-batch_bounded rows (job.Batch settings file) is = tt
-batch_bounded rows (job.Gen seed size domain) is =
-    let inner = first_some job.Batch (settings_in rows) (file_in rows) (job.Gen seed size domain) is in
-    absurd (batch_gen inner.0 inner.1 seed size domain inner.4)
+batch_bounded rows j is =
+    let inner = first_some job.Batch (settings_in rows) (file_in rows) j is in
+    subst Bounded inner.4 tt
 
 gen_bounded : (rows : List Row) (j : Job) → gen_in rows ≡ Some j → Bounded j
-gen_bounded rows (job.Serve settings memo file) is =
-    let outer = then_some (λ d. both (gen_with d) (value_in (number_in 0 most_seed) (codes "seed") rows) (value_in (number_in 1 1000) (codes "size") rows)) (value_in domain_of (codes "domain") rows) (job.Serve settings memo file) is in
-    let inner = first_some (gen_with outer.0) (value_in (number_in 0 most_seed) (codes "seed") rows) (value_in (number_in 1 1000) (codes "size") rows) (job.Serve settings memo file) outer.2 in
-    absurd (gen_serve inner.0 inner.1 outer.0 settings memo file inner.4)
-gen_bounded rows (job.Batch settings file) is = tt
-gen_bounded rows (job.Gen seed size domain) is = gen_within rows seed size domain is
+gen_bounded rows j is =
+    let outer = then_some (λ d. both (gen_with d) (value_in (number_in 0 most_seed) (codes "seed") rows) (value_in (number_in 1 1000) (codes "size") rows)) (value_in domain_of (codes "domain") rows) j is in
+    let inner = first_some (gen_with outer.0) (value_in (number_in 0 most_seed) (codes "seed") rows) (value_in (number_in 1 1000) (codes "size") rows) j outer.2 in
+    subst Bounded inner.4 (value_within 1 1000 (codes "size") rows inner.1 inner.3).1
 
-chosen : (first second third : Bool) (a b c : Option Job) (j : Job) → (a ≡ Some j → Bounded j) → (b ≡ Some j → Bounded j) → (c ≡ Some j → Bounded j) →
-    (if first then a else (if second then b else (if third then c else None))) ≡ Some j → Bounded j
-chosen true second third a b c j p q r is = p is
-chosen false true third a b c j p q r is = q is
-chosen false false true a b c j p q r is = r is
-chosen false false false a b c j p q r is = cc
+cert_bounded : (rows : List Row) (j : Job) → cert_in rows ≡ Some j → Bounded j
+cert_bounded rows j is =
+    let budget = value_in (number_in 1 10000) (codes "budget") rows in
+    let outer = then_some (λ d. option_and_then (λ w. both (job.Cert d w) budget (file_in rows)) (widening_in rows)) (value_in single_of (codes "domain") rows) j is in
+    let middle = then_some (λ w. both (job.Cert outer.0 w) budget (file_in rows)) (widening_in rows) j outer.2 in
+    let inner = first_some (job.Cert outer.0 middle.0) budget (file_in rows) j middle.2 in
+    subst Bounded inner.4 tt
+
+verify_bounded : (rows : List Row) (j : Job) → verify_in rows ≡ Some j → Bounded j
+verify_bounded rows j is =
+    let outer = then_some (λ d. both (job.Verify d) (file_in rows) (certificate_in rows)) (value_in single_of (codes "domain") rows) j is in
+    let inner = first_some (job.Verify outer.0) (file_in rows) (certificate_in rows) j outer.2 in
+    subst Bounded inner.4 tt
+
+chosen : (test : Bool) (a b : Option Job) (j : Job) → (a ≡ Some j → Bounded j) → (b ≡ Some j → Bounded j) → (if test then a else b) ≡ Some j → Bounded j
+chosen true a b j p q is = p is
+chosen false a b j p q is = q is
+
+no_job : (j : Job) → None ≡ Some j → Bounded j
+no_job j is = cc
 
 command_bounded : (command : Text × List Row) (j : Job) → job_in command ≡ Some j → Bounded j
 unfolding job_in
 command_bounded command j is =
-    chosen (bytes_eq command.0 (codes "serve")) (bytes_eq command.0 (codes "batch")) (bytes_eq command.0 (codes "gen")) (serve_in command.1) (batch_in command.1) (gen_in command.1) j
-    (serve_bounded command.1 j) (batch_bounded command.1 j) (gen_bounded command.1 j) is
+    let rows = command.1 in
+    let verifies = chosen (bytes_eq command.0 (codes "verify")) (verify_in rows) None j (verify_bounded rows j) (no_job j) in
+    let certifies = chosen (bytes_eq command.0 (codes "cert")) (cert_in rows) _ j (cert_bounded rows j) verifies in
+    let generates = chosen (bytes_eq command.0 (codes "gen")) (gen_in rows) _ j (gen_bounded rows j) certifies in
+    let batches = chosen (bytes_eq command.0 (codes "batch")) (batch_in rows) _ j (batch_bounded rows j) generates in
+    chosen (bytes_eq command.0 (codes "serve")) (serve_in rows) _ j (serve_bounded rows j) batches is
 
 words_bounded : (words : List Text) (j : Job) → job_of words ≡ Some j → Bounded j
 unfolding job_of

@@ -7,16 +7,22 @@ use Rattle.batch_meaning.specs.Batch.{Engine}
 use Rattle.batch_meaning.specs.Report.{report}
 use Rattle.interval_meaning.specs.Covers.{covers as covered_by_intervals}
 use Rattle.interval_meaning.specs.Domain.{intervals}
+use Rattle.interval_words.specs.Words.{interval_port}
 use Rattle.octagon_meaning.specs.Covers.{covers as covered_by_octagons}
 use Rattle.octagon_meaning.specs.Domain.{octagons}
+use Rattle.octagon_words.specs.Words.{octagon_port}
 use Rattle.listseg_meaning.specs.Covers.{covers as covered_by_segments}
 use Rattle.listseg_meaning.specs.Domain.{segments}
+use Rattle.listseg_words.specs.Words.{segment_port}
+use Rattle.cert_meaning.specs.Portable.{Portable}
 use Rattle.product_meaning.specs.Product.{product, covered_by_both}
 use Rattle.session_machine.specs.Machine.{Machine}
 use Rattle.line_answers.specs.Readings.{Readings}
 use Rattle.line_answers.specs.Lines.{line_turn}
 use Rattle.command_words.specs.declared.job.DomainName.{DomainName}
 use Rattle.command_words.specs.declared.job.DomainName.TheVariants.{Interval, Octagon, ListSeg, IntervalListSeg, OctagonListSeg}
+use Rattle.command_words.specs.declared.job.SingleDomain.{SingleDomain}
+use Rattle.command_words.specs.declared.job.SingleDomain.TheVariants as single
 
 -- What a domain means: its states, the operations on them, and which configurations a state describes.
 pub record Meaning : Type 1 where
@@ -46,6 +52,16 @@ meaning_of Octagon = by_octagons
 meaning_of ListSeg = by_segments
 meaning_of IntervalListSeg = both by_intervals by_segments
 meaning_of OctagonListSeg = both by_octagons by_segments
+
+-- What a domain means whose states can be written, read back and compared.
+pub record Carried : Type 1 where
+  pub meaning : Meaning
+  pub port : Portable meaning.State
+
+abbrev pub carried_of : SingleDomain → Carried
+carried_of single.Interval = record { meaning = by_intervals; port = interval_port }
+carried_of single.Octagon = record { meaning = by_octagons; port = octagon_port }
+carried_of single.ListSeg = record { meaning = by_segments; port = segment_port }
 
 -- With these operations each line is answered, and each report made, as by the domain of this name.
 pub record AnswersAs {S : Type 0} (name : DomainName) (dom : Operations S) : Type 0 where

@@ -1,7 +1,9 @@
 -- What the words ask for.
 use Rattle.std.specs.Prelude.{◌≡◌, ℕ, List, Option, Some, None, true, false}
 use Rattle.command_words.specs.declared.job.DomainName.{DomainName}
-use Rattle.command_words.specs.declared.job.DomainName.TheVariants.{Interval}
+use Rattle.command_words.specs.declared.job.DomainName.TheVariants.{Interval, Octagon, ListSeg}
+use Rattle.command_words.specs.declared.job.SingleDomain.{SingleDomain}
+use Rattle.command_words.specs.declared.job.SingleDomain.TheVariants as single
 use Rattle.command_words.specs.declared.job.Job.{Job}
 use Rattle.command_words.specs.declared.job.Job.TheVariants as job
 use Rattle.command_words.specs.declared.job.Settings.{Settings}
@@ -17,21 +19,19 @@ engine_of settings = record { budget = settings.budget; widening = settings.wide
 abbrev pub by_default : DomainName → Settings
 by_default domain = record { domain = domain; widening = record { delay = 0; thresholds = true }; budget = 100 }
 
--- what a job does, how, and for the program of which file, if it has one
-abbrev pub task_of : Job → Task
-task_of (job.Serve settings memo file) = Serve memo
-task_of (job.Batch settings file) = Batch
-task_of (job.Gen seed size domain) = Gen (record { seed = seed; size = size })
+-- the domain of this name
+abbrev pub name_of : SingleDomain → DomainName
+name_of single.Interval = Interval
+name_of single.Octagon = Octagon
+name_of single.ListSeg = ListSeg
 
+-- how a program is analysed for a job; checking a certificate iterates nothing
 abbrev pub settings_of : Job → Settings
 settings_of (job.Serve settings memo file) = settings
 settings_of (job.Batch settings file) = settings
 settings_of (job.Gen seed size domain) = by_default domain
-
-abbrev pub file_of : Job → Option (List ℕ)
-file_of (job.Serve settings memo file) = Some file
-file_of (job.Batch settings file) = Some file
-file_of (job.Gen seed size domain) = None
+settings_of (job.Cert domain widening budget file) = record { domain = name_of domain; widening = widening; budget = budget }
+settings_of (job.Verify domain file cert) = by_default (name_of domain)
 
 -- the lines of a script are answered
 abbrev pub Serves : Task → Type 0
@@ -42,7 +42,11 @@ Serves (Gen drawn) = ⊥
 -- the words name a job that does so
 abbrev pub AsksToServe : Option Job → Type 0
 AsksToServe None = ⊥
-AsksToServe (Some job) = Serves (task_of job)
+AsksToServe (Some (job.Serve settings memo file)) = Unit {0}
+AsksToServe (Some (job.Batch settings file)) = ⊥
+AsksToServe (Some (job.Gen seed size domain)) = ⊥
+AsksToServe (Some (job.Cert domain widening budget file)) = ⊥
+AsksToServe (Some (job.Verify domain file cert)) = ⊥
 
 -- the words name the job of a generated program
 abbrev pub AsksToGenerate : Option Job → Type 0
@@ -50,6 +54,8 @@ AsksToGenerate None = ⊥
 AsksToGenerate (Some (job.Serve settings memo file)) = ⊥
 AsksToGenerate (Some (job.Batch settings file)) = ⊥
 AsksToGenerate (Some (job.Gen seed size domain)) = Unit {0}
+AsksToGenerate (Some (job.Cert domain widening budget file)) = ⊥
+AsksToGenerate (Some (job.Verify domain file cert)) = ⊥
 
 -- how loops are interpreted for a job; without one nothing is
 abbrev pub engine_in : Option Job → Engine

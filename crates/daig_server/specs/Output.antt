@@ -1,5 +1,5 @@
 -- What the program writes, and the status that it ends with.
-use Rattle.std.specs.Prelude.{◌≡◌, ◌≤◌, ℕ, nat_le, List, [], ◌∷◌, ◌++◌, length, Option, Some, None, Result, Ok, Err, codes, if◌then◌else◌}
+use Rattle.std.specs.Prelude.{◌≡◌, ◌≤◌, ℕ, nat_le, List, [], ◌∷◌, ◌++◌, ◌⊎◌, length, Option, Some, None, Result, Ok, Err, codes, if◌then◌else◌}
 use Rattle.imp_syntax.specs.Plain.{Procedure}
 use Rattle.imp_check.specs.Slots.{routines_of}
 use Rattle.batch_meaning.specs.Batch.{Engine}
@@ -14,6 +14,9 @@ use Rattle.command_words.specs.declared.job.DomainName.{DomainName}
 use Rattle.command_words.specs.declared.job.Job.{Job}
 use Rattle.command_words.specs.declared.job.Job.TheVariants as job
 use Rattle.command_words.specs.declared.job.Settings.{Settings}
+use Rattle.command_words.specs.declared.job.SingleDomain.{SingleDomain}
+use Rattle.cert_lines.specs.Certificate.{certificate, certificate_text}
+use Rattle.cert_lines.specs.Verify.{verify, verified_line}
 use Rattle.line_replies.specs.Texts.{listing}
 use Rattle.domain_laws.specs.Operations.{Operations}
 use Rattle.daig_gen.specs.Script.{script_of}
@@ -26,9 +29,11 @@ use Rattle.line_answers.specs.Fine.{opening}
 use Rattle.daig_server.specs.declared.task.Drawn.{Drawn}
 use Rattle.daig_server.specs.declared.task.Task.{Task}
 use Rattle.daig_server.specs.declared.task.Task.TheVariants.{Serve, Batch, Gen}
+use Rattle.daig_server.specs.declared.task.CertTask.{CertTask}
+use Rattle.daig_server.specs.declared.task.CertTask.TheVariants.{Write, Check}
 use Rattle.daig_server.specs.Sources.{source_of}
-use Rattle.daig_server.specs.Domains.{meaning_of}
-use Rattle.daig_server.specs.Jobs.{by_default, file_of, engine_of}
+use Rattle.daig_server.specs.Domains.{carried_of, meaning_of}
+use Rattle.daig_server.specs.Jobs.{by_default, engine_of}
 
 -- the line that is written where the words are not taken
 unfoldable pub usage : List ℕ
@@ -37,6 +42,10 @@ usage = codes "usage: daig serve|batch|gen [OPTIONS] [FILE]" ++ 10 ∷ []
 -- the most bytes of a source
 abbrev pub most_source : ℕ
 most_source = 1048576
+
+-- the most bytes of a certificate
+abbrev pub most_certificate : ℕ
+most_certificate = 67108864
 
 -- A status, and the bytes that are written.
 pub record Output : Type 0 where
@@ -72,17 +81,42 @@ program_bytes readings domain engine (Serve memo) program script = served_bytes 
 program_bytes readings domain engine Batch program script = batch_bytes domain engine program
 program_bytes readings domain engine (Gen drawn) program script = gen_bytes domain (opening readings engine program) drawn.seed drawn.size
 
--- a source that is refused, or a program
-abbrev pub source_output : Readings → Task → Settings → Result (List Procedure) Refusal → List ℕ → Output
-source_output readings task settings (Err why) script = record { status = 3; bytes = reply_text (r.Refused why) }
-source_output readings task settings (Ok program) script =
-    record { status = 0; bytes = program_bytes readings settings.domain (engine_of settings) task program script }
+-- the lines of the certificate of a program
+unfoldable pub cert_bytes : SingleDomain → Engine → List Procedure → List ℕ
+cert_bytes domain engine program = certificate_text (certificate (carried_of domain).meaning.operations (carried_of domain).port engine (routines_of program))
 
--- a file that is absent, too long, or a source
+-- the line that says whether a certificate of a program holds
+unfoldable pub verify_bytes : SingleDomain → List Procedure → (cert : List ℕ) → List ℕ
+verify_bytes domain program cert = verified_line (verify (carried_of domain).meaning.operations (carried_of domain).port (routines_of program) cert)
+
+abbrev pub done : List ℕ → Output
+done bytes = record { status = 0; bytes = bytes }
+
+-- what a source that is refused gives, or its program
+abbrev pub of_source : Result (List Procedure) Refusal → (List Procedure → Output) → Output
+of_source (Err why) give = record { status = 3; bytes = reply_text (r.Refused why) }
+of_source (Ok program) give = give program
+
+-- what a file that is absent or too long gives, or its bytes
+abbrev pub of_file : (most : ℕ) → Option (List ℕ) → (List ℕ → Output) → Output
+of_file most None give = record { status = 7; bytes = [] }
+of_file most (Some bytes) give = if nat_le (length bytes) most then give bytes else record { status = 9; bytes = [] }
+
+-- what the program gives that a file is
+abbrev pub program_output : Readings → Option (List ℕ) → (List Procedure → Output) → Output
+program_output readings file give = of_file most_source file (λ source. of_source (source_of readings source) give)
+
+abbrev pub source_output : Readings → Task → Settings → Result (List Procedure) Refusal → List ℕ → Output
+source_output readings task settings source script =
+    of_source source (λ program. done (program_bytes readings settings.domain (engine_of settings) task program script))
+
 abbrev pub file_output : Readings → Task → Settings → Option (List ℕ) → List ℕ → Output
-file_output readings task settings None script = record { status = 7; bytes = [] }
-file_output readings task settings (Some source) script =
-    if nat_le (length source) most_source then source_output readings task settings (source_of readings source) script else record { status = 9; bytes = [] }
+file_output readings task settings file script = of_file most_source file (λ source. source_output readings task settings (source_of readings source) script)
+
+-- what is written of the certificate of a program: its lines; or whether those of a file hold
+abbrev pub certified : SingleDomain → CertTask → (List ℕ → Option (List ℕ)) → List Procedure → Output
+certified domain (Write widening budget) files program = done (cert_bytes domain (record { budget = budget; widening = widening }) program)
+certified domain (Check cert) files program = of_file most_certificate (files cert) (λ text. done (verify_bytes domain program text))
 
 -- a generated source, whose loops are interpreted by default
 abbrev pub generated_output : Readings → Drawn → DomainName → List ℕ → Output
@@ -94,6 +128,8 @@ abbrev pub job_output : Readings → Job → (List ℕ → Option (List ℕ)) �
 job_output readings (job.Serve settings memo file) files script = file_output readings (Serve memo) settings (files file) script
 job_output readings (job.Batch settings file) files script = file_output readings Batch settings (files file) script
 job_output readings (job.Gen seed size domain) files script = generated_output readings (record { seed = seed; size = size }) domain script
+job_output readings (job.Cert domain widening budget file) files script = program_output readings (files file) (certified domain (Write widening budget) files)
+job_output readings (job.Verify domain file cert) files script = program_output readings (files file) (certified domain (Check cert) files)
 
 abbrev pub output : Readings → Option Job → (List ℕ → Option (List ℕ)) → List ℕ → Output
 output readings None files script = record { status = 2; bytes = usage }
@@ -109,16 +145,32 @@ abbrev pub IsAcceptedFor : Readings → Job → (List ℕ → Option (List ℕ))
 IsAcceptedFor readings (job.Serve settings memo file) files program = IsProgram readings (files file) program
 IsAcceptedFor readings (job.Batch settings file) files program = IsProgram readings (files file) program
 IsAcceptedFor readings (job.Gen seed size domain) files program = source_of readings (generated.source_of seed size) ≡ Ok program
+IsAcceptedFor readings (job.Cert domain widening budget file) files program = IsProgram readings (files file) program
+IsAcceptedFor readings (job.Verify domain file cert) files program = IsProgram readings (files file) program
 
 abbrev pub IsAccepted : Readings → Option Job → (List ℕ → Option (List ℕ)) → List Procedure → Type 0
 IsAccepted readings None files program = ⊥
 IsAccepted readings (Some job) files program = IsAcceptedFor readings job files program
 
--- the files are told, and the job's file is not among them
-abbrev pub LacksNamed : Option (List ℕ → Option (List ℕ)) → Option (List ℕ) → Type 0
-LacksNamed files None = ⊥
-LacksNamed files (Some name) = Lacks files name
+-- the files are told, and this one is a program
+abbrev pub HasProgram : Option (List ℕ → Option (List ℕ)) → (name : List ℕ) → Type 0
+HasProgram None name = ⊥
+HasProgram (Some files) name = (readings : Readings) → (program : List Procedure) × IsProgram readings (files name) program
 
+-- the files are told, and the certificate that is to be checked is not among them
+abbrev pub LacksCertificate : Option (List ℕ → Option (List ℕ)) → CertTask → Type 0
+LacksCertificate files (Write widening budget) = ⊥
+LacksCertificate files (Check cert) = Lacks files cert
+
+-- the files are told, and that of the program is not among them; or it is a program, and that of its certificate is not
+abbrev pub LacksEither : Option (List ℕ → Option (List ℕ)) → (name : List ℕ) → CertTask → Type 0
+LacksEither files name task = Lacks files name ⊎ (HasProgram files name × LacksCertificate files task)
+
+-- the files are told, and one that the job needs is not among them
 abbrev pub LacksFile : Option (List ℕ → Option (List ℕ)) → Option Job → Type 0
 LacksFile files None = ⊥
-LacksFile files (Some job) = LacksNamed files (file_of job)
+LacksFile files (Some (job.Serve settings memo file)) = Lacks files file
+LacksFile files (Some (job.Batch settings file)) = Lacks files file
+LacksFile files (Some (job.Gen seed size domain)) = ⊥
+LacksFile files (Some (job.Cert domain widening budget file)) = LacksEither files file (Write widening budget)
+LacksFile files (Some (job.Verify domain file cert)) = LacksEither files file (Check cert)

@@ -9,12 +9,14 @@
 //! show it is the machine that holds the present program alone, is changed by accepted edits alone, and interprets the
 //! program from scratch at each question (`server` of `line_answers`), by the domain that the words name
 //! (`specs/Domains.antt`). A source is read by `source_of` of `specs/Sources.antt`. The listing and the report of `batch`
-//! come by batch interpretation alone.
+//! come by batch interpretation alone. Certificates are written and checked by `cert_write` and `cert_check`.
 #![tactic(auto)]
 
 mod batch;
+mod certificates;
 mod domains;
 mod generated;
+mod refusing;
 mod run;
 mod server;
 mod serving;

@@ -3,8 +3,6 @@
 ghost use Rattle.std.specs.Prelude.{◌≡◌, ◌^◌, ◌<◌, ◌≤◌, ◌⊎◌, ℕ, List, length, Option, Some, None, Ok};
 ghost use Rattle.io_edge.specs.Outside.{Rose, Lacks};
 ghost use Rattle.imp_syntax.specs.Plain.{Procedure};
-ghost use Rattle.request_json.specs.declared.reply.Reply.TheVariants as r;
-ghost use Rattle.request_json.specs.Replies.{reply_text};
 ghost use Rattle.script_loop.specs.Replies.{ReadToEnd, ReadBytes};
 ghost use Rattle.line_answers.specs.Readings.{Readings};
 ghost use Rattle.daig_server.specs.Sources.{source_of};
@@ -14,9 +12,11 @@ ghost use Rattle.daig_server.specs.Ends.{Fits, Wrote};
 ghost use Rattle.daig_server.specs.Told.{asked, TellsFiles, TellsScript};
 ghost use Rattle.daig_server.specs.Works.{Remembers};
 
-use crate::source::{SourceError, read_source};
+use crate::certificates::run_certificate;
+use crate::refusing::refuse_source;
+use crate::source::{MOST_SOURCE, SourceError, read_source};
 use crate::status::Status;
-use crate::task::{Drawn, Task};
+use crate::task::{CertTask, Drawn, Task};
 use crate::work::do_work;
 use command_words::{DomainName, Job, Settings, WordsError, read_words};
 use generated_sources::sources_are_accepted;
@@ -24,34 +24,13 @@ use imp_parse::each_text_has_one_answer;
 use io_edge::{Failed, Files, LoadFault, Sink, Source};
 use line_answers::texts_are_read;
 use program_chains::Widening;
-use request_json::{Refusal, Reply, reply_line};
 use script_loop::write_all;
 use std::alloc::Global;
 use std::sync::ledger::Ledger;
 use step_counter::Steps;
 
-/// The most bytes of a source.
-const MOST_SOURCE: usize = 1_048_576;
-
 /// The line that is written where the words are not taken.
 const USAGE: &[u8] = b"usage: daig serve|batch|gen [OPTIONS] [FILE]\n";
-
-/// Refuses the source.
-fn refuse_source<O: Sink>(alloc: Global, why: Refusal, out: &mut O) -> Status
-    ensures status { (result ≡ Status.Source) ⊎ ((result ≡ Status.Sink) ⊎ (result ≡ Status.Memory)) }
-    ensures fits { Fits result 3 }
-    ensures wrote { (text taken : List ℕ) (rest : Option (List ℕ)) → O.told out.old ≡ Some taken
-        → Wrote result (record { status = 3; bytes = reply_text (r.Refused why) }) text taken rest (O.told out.new) }
-    ensures sink_failed { result ≡ Status.Sink → Rose (O.faults out.old) (O.faults out.new) }
-{
-    let Ok(line) = reply_line(alloc, &Reply::Refused(why)) else {
-        return Status::Memory;
-    };
-    match write_all(out, line.as_slice()) {
-        Ok(()) => Status::Source,
-        Err(Failed) => Status::Sink,
-    }
-}
 
 /// Refuses the words.
 #[tactic(auto, unfolding(crate::specs::Output::usage))]
@@ -230,6 +209,23 @@ pub(crate) fn run<F: Files, I: Source, O: Sink, L: Ledger>(
         Ok(Job::Gen { seed, size, domain }) => {
             let drawn = Drawn { seed, size };
             run_generated(alloc, drawn, domain, script, out, steps)
+        }
+        Ok(
+            Job::Cert {
+                domain,
+                widening,
+                budget,
+                file,
+            },
+        ) => {
+            let task = CertTask::Write { widening, budget };
+            let name = file.as_str();
+            run_certificate(alloc, domain, &task, name, files, out, steps)
+        }
+        Ok(Job::Verify { domain, file, cert }) => {
+            let task = CertTask::Check { cert };
+            let name = file.as_str();
+            run_certificate(alloc, domain, &task, name, files, out, steps)
         }
         Err(WordsError::Refused) => refuse_words(out),
         Err(WordsError::Memory) => Status::Memory,

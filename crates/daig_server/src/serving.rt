@@ -1,18 +1,21 @@
 //! The top call [`serve`], with all that is claimed of it.
-ghost use Rattle.std.specs.Prelude.{◌≡◌, ◌≢◌, ◌<◌, ◌^◌, ◌⊎◌, ℕ, List, Option, Some, None, length};
+ghost use Rattle.std.specs.Prelude.{◌≡◌, ◌≢◌, ◌<◌, ◌^◌, ◌++◌, ◌⊎◌, ℕ, List, Option, Some, None, length};
 ghost use Rattle.io_edge.specs.Outside.{Rose};
 ghost use Rattle.imp_syntax.specs.Plain.{Procedure};
 ghost use Rattle.command_words.specs.declared.job.Settings.{Settings};
 ghost use Rattle.command_words.specs.declared.job.Job.TheVariants as job;
+ghost use Rattle.command_words.specs.declared.job.SingleDomain.{SingleDomain as Single};
+ghost use Rattle.cert_lines.specs.Verify.{verified_line, Yes};
 ghost use Rattle.script_loop.specs.Replies.{ReadBytes, ReadToEnd};
 ghost use Rattle.line_answers.specs.Readings.{Readings};
 ghost use Rattle.daig_server.specs.Domains.{meaning_of};
 ghost use Rattle.daig_server.specs.Jobs.{AsksToGenerate, AsksToServe, domain_in, engine_in};
-ghost use Rattle.daig_server.specs.Output.{IsAccepted, LacksFile, output};
-ghost use Rattle.daig_server.specs.Sound.{IsBatchSound, IsSoundAfter};
+ghost use Rattle.daig_server.specs.Output.{IsAccepted, IsProgram, LacksFile, output};
+ghost use Rattle.daig_server.specs.Sound.{AreRunsCovered, IsBatchSound, IsSoundAfter};
 ghost use Rattle.daig_server.specs.Ends.{Fits, IsStatus, Wrote, WroteAll, status_of};
 ghost use Rattle.daig_server.specs.Told.{asked, given, Tells, TellsFiles, Told};
 
+use crate::certificates::each_yes_is_sound;
 use crate::domains::named_domains_are_sound;
 use crate::run::run;
 use dom_interval::Interval;
@@ -33,9 +36,9 @@ use step_counter::Steps;
 /// | 4 | only where a read of the script failed |
 /// | 5 | only where a write failed |
 /// | 6 | memory ran out |
-/// | 7 | only where the file could not be loaded, or is not there |
+/// | 7 | only where the file could not be loaded, or is not there; of `verify`, where it is a program, so of the certificate |
 /// | 8 | exactly where 2^40 bytes of the script were read |
-/// | 9 | exactly where the file has more than 1,048,576 bytes |
+/// | 9 | exactly where the file has more than 1,048,576 bytes; of `verify`, where it is a program, where the certificate has more than 67,108,864 |
 ///
 /// Of `serve` each line costs what is missing for it in the cells that are kept; a line and its reply are kept at a time.
 pub fn serve<F: Files, I: Source, O: Sink, L: Ledger>(
@@ -71,11 +74,17 @@ pub fn serve<F: Files, I: Source, O: Sink, L: Ledger>(
         → IsSoundAfter (meaning_of (domain_in (asked words.now))) readings (engine_in (asked words.now)) program before line }
     ensures reports_sound { (readings : Readings) (folder : List ℕ → Option (List ℕ)) (program : List Procedure) → IsAccepted readings (asked words.now) folder program
         → IsBatchSound (meaning_of (domain_in (asked words.now))) (engine_in (asked words.now)) program }
+    // Where a certificate is checked, whoever wrote it, and the line that is written is the yes, each configuration of a run of
+    // the program that stands at the test of a loop is described by the state that is written of the loop under its calls.
+    ensures verified { (readings : Readings) (told : Told) (domain : Single) (file cert text : List ℕ) (program : List Procedure) → asked words.now ≡ Some (job.Verify domain file cert)
+        → Tells readings (asked words.now) (F.told files.old) (I.told script.old) (O.told out.old) told → IsProgram readings (told.folder file) program → told.folder cert ≡ Some text
+        → result ≡ 0 → O.told out.new ≡ Some (told.taken ++ verified_line Yes) → AreRunsCovered domain program text }
     // No byte depends on how many results are remembered.
     ensures memo_unseen { (readings : Readings) (settings : Settings) (memo other : ℕ) (file : List ℕ) (folder : List ℕ → Option (List ℕ)) (text : List ℕ)
         → output readings (Some (job.Serve settings memo file)) folder text ≡ output readings (Some (job.Serve settings other file)) folder text }
 {
     named_domains_are_sound();
+    each_yes_is_sound();
     machines_stay_fine::<Interval>();
     run(alloc, words, files, script, out, steps).code()
 }

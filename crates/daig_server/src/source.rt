@@ -19,6 +19,9 @@ use request_json::Refusal;
 use std::alloc::Global;
 use thiserror::Error;
 
+/// The most bytes of a source.
+pub(crate) const MOST_SOURCE: usize = 1_048_576;
+
 /// Why a source gives no program.
 #[derive(Debug, Drop, Error)]
 pub(crate) enum SourceError {
@@ -121,4 +124,18 @@ pub(crate) fn read_source(alloc: Global, task: Task, source: &[u8]) -> Result<Wo
     machines_stay_fine::<Interval>();
     let program = read_program(alloc, source)?;
     work_for(alloc, task, program)
+}
+
+/// The program without faults that a source is, as a tree.
+///
+/// # Errors
+///
+/// As for [`read_source`].
+pub(crate) fn read_checked(alloc: Global, source: &[u8]) -> Result<Checked, SourceError>
+    requires short { length source.now < 2 ^ 31 }
+    ensures accepted { IfOk result (λ c. (readings : Readings) → source_of readings source.now ≡ Ok c) }
+    ensures refused { IfErr result (λ e. (readings : Readings) → IsSourceError (source_of readings source.now) e) }
+{
+    let program = read_program(alloc, source)?;
+    checked(alloc, program)
 }

@@ -1,6 +1,8 @@
 //! What is to be done, and for which program.
 
+use command_words::FileName;
 use imp_check::{Checked, Table};
+use program_chains::Widening;
 
 /// What is drawn for a generated source and its script.
 #[derive(Clone, Copy, Debug, Drop, PartialEq, Eq)]
@@ -23,6 +25,23 @@ pub enum Task {
     Batch,
     /// The generated script is answered, and its replies are summed up.
     Gen(Drawn),
+}
+
+/// What is to be done about the certificate of a program.
+#[derive(Drop)]
+pub enum CertTask {
+    /// It is written.
+    Write {
+        /// How loops are widened.
+        widening: Widening,
+        /// How many iterates a loop may take.
+        budget: u32,
+    },
+    /// The one that a file has is checked.
+    Check {
+        /// The file.
+        cert: FileName,
+    },
 }
 
 /// What is to be done, with the program that it is done for.

@@ -30,8 +30,8 @@ const SERVED: [(&str, &str); 13] = [
 ];
 
 /// The files of rows.
-const ROWS: [&str; 13] = [
-    "states", "calls", "edits", "tickets", "undo", "runs", "lines", "domains", "batches",
+const ROWS: [&str; 14] = [
+    "states", "calls", "edits", "tickets", "undo", "runs", "lines", "domains", "batches", "certs",
     "sources", "texts", "faults", "words",
 ];
 

@@ -1,6 +1,7 @@
 //! Runs that a text tells of: blocks of lines, an empty line behind each. The first byte of a line says what it is: `#` a
-//! remark, `$` the words, `:` a line of the source `f`, `>` a line of the script and `~` a last one without its end, `<` a
-//! line that is to be written, `?` the status to end with, 0 where none is told. What it holds stands behind a space.
+//! remark, `$` the words, `:` a line of the source `f`, `%` a line of the certificate `c`, `>` a line of the script and `~` a
+//! last one without its end, `<` a line that is to be written, `?` the status to end with, 0 where none is told. What it holds
+//! stands behind a space; `%` alone says that there is a certificate, of which other lines tell.
 use crate::served::{MOST, status_of};
 use io_edge::{FaultPlan, MemFiles, MemSink, MemSource, NamedFile};
 use std::alloc::Global;
@@ -11,6 +12,8 @@ use std::io::Error;
 struct Row {
     words: Vec<u8>,
     source: Vec<u8>,
+    certificate: Vec<u8>,
+    has_certificate: bool,
     script: Vec<u8>,
     wanted: Vec<u8>,
     status: Vec<u8>,
@@ -22,6 +25,8 @@ impl Row {
         Row {
             words: Vec::new(alloc),
             source: Vec::new(alloc),
+            certificate: Vec::new(alloc),
+            has_certificate: false,
             script: Vec::new(alloc),
             wanted: Vec::new(alloc),
             status: Vec::new(alloc),
@@ -33,6 +38,11 @@ impl Row {
         match line {
             [b'$', b' ', words @ ..] => self.words.extend_from_slice(words)?,
             [b':', b' ', source @ ..] => add_line(&mut self.source, source)?,
+            [b'%', b' ', line @ ..] => {
+                self.has_certificate = true;
+                add_line(&mut self.certificate, line)?
+            }
+            [b'%'] => self.has_certificate = true,
             [b'>', b' ', request @ ..] => add_line(&mut self.script, request)?,
             [b'>'] => self.script.push(b'\n')?,
             [b'~', b' ', request @ ..] => self.script.extend_from_slice(request)?,
@@ -43,12 +53,22 @@ impl Row {
         Ok(())
     }
 
+    /// The files that there are.
+    fn files(&self, alloc: Global) -> Result<Vec<NamedFile>, Error> {
+        let source = NamedFile::new(String::from_str(alloc, "f")?, self.source.clone()?);
+        let mut files = vec![in alloc; source]?;
+        if self.has_certificate {
+            let name = String::from_str(alloc, "c")?;
+            files.push(NamedFile::new(name, self.certificate.clone()?))?;
+        }
+        Ok(files)
+    }
+
     /// What the run writes, where that or its status is not what is told.
     fn differs(&self, alloc: Global) -> Result<Option<Vec<u8>>, Error> {
         let line = String::from_utf8_lossy(alloc, self.words.as_slice())?;
         let words = words_of(alloc, line.as_str())?;
-        let file = NamedFile::new(String::from_str(alloc, "f")?, self.source.clone()?);
-        let mut files = MemFiles::new(vec![in alloc; file]?, FaultPlan::none(alloc));
+        let mut files = MemFiles::new(self.files(alloc)?, FaultPlan::none(alloc));
         let mut script = MemSource::new(self.script.clone()?, MOST, FaultPlan::none(alloc));
         let mut out = MemSink::new(alloc, MOST, FaultPlan::none(alloc));
         let status = status_of(alloc, words.as_slice(), &mut files, &mut script, &mut out);

@@ -29,3 +29,23 @@ run_generated-requires g c = record { few = size_few _ _ _ _ (rw c.in-Ok-Gen.fie
 
 pub returns-in-Ok-Serve-clause-ended : goal.returns-in-Ok-Serve-clause-ended
 returns-in-Ok-Serve-clause-ended g c = λ done _. c.run_file.ensures.ended done tt
+
+pub returns-in-Ok-Cert-clause-fits : goal.returns-in-Ok-Cert-clause-fits
+returns-in-Ok-Cert-clause-fits g c = λ readings folder text told.
+    let is = rw c.in-Ok-Cert.field-0-is at (c.in-Ok-Cert.ensures {u = tt}).job in
+    rw is (rw c.as_str-name-in-Ok-Cert.ensures.is at (c.run_certificate.ensures.fits readings folder (rw is at told)))
+
+pub returns-in-Ok-Cert-clause-wrote : goal.returns-in-Ok-Cert-clause-wrote
+returns-in-Ok-Cert-clause-wrote g c = λ readings folder text taken told script sink.
+    let is = rw c.in-Ok-Cert.field-0-is at (c.in-Ok-Cert.ensures {u = tt}).job in
+    rw is (rw c.as_str-name-in-Ok-Cert.ensures.is at (c.run_certificate.ensures.wrote readings folder text taken (g.I.Source.told c.args.script.now) (rw is at told) sink))
+
+pub returns-in-Ok-Verify-clause-fits : goal.returns-in-Ok-Verify-clause-fits
+returns-in-Ok-Verify-clause-fits g c = λ readings folder text told.
+    let is = rw c.in-Ok-Verify.field-0-is at (c.in-Ok-Verify.ensures {u = tt}).job in
+    rw is (rw c.as_str-name-in-Ok-Verify.ensures.is at (c.run_certificate-in-Ok-Verify.ensures.fits readings folder (rw is at told)))
+
+pub returns-in-Ok-Verify-clause-wrote : goal.returns-in-Ok-Verify-clause-wrote
+returns-in-Ok-Verify-clause-wrote g c = λ readings folder text taken told script sink.
+    let is = rw c.in-Ok-Verify.field-0-is at (c.in-Ok-Verify.ensures {u = tt}).job in
+    rw is (rw c.as_str-name-in-Ok-Verify.ensures.is at (c.run_certificate-in-Ok-Verify.ensures.wrote readings folder text taken (g.I.Source.told c.args.script.now) (rw is at told) sink))

@@ -6,7 +6,8 @@ use Rattle.daig_server.specs.Jobs.{domain_in, engine_in}
 use Rattle.daig_server.specs.Output.{output}
 use Rattle.daig_server.specs.Told.{asked}
 use Rattle.daig_server.specs.declared.status.Status.TheVariants.{Done, Words, Script, Sink, Files, LongScript, LongFile}
-use Rattle.daig_server.proofs.ServeLemmas.{accepted_read, ends_generated, ends_refused, named_by, same_status, told_by, wrote_complete, zero_accepted}
+use Rattle.daig_server.proofs.CertificateLemmas.{yes_covers}
+use Rattle.daig_server.proofs.ServeLemmas.{accepted_read, ends_generated, ends_refused, file_read, named_by, same_status, told_by, wrote_complete, zero_accepted}
 use Rattle.daig_server.proofs.serving.serve.Goals as goal
 
 pub returns-clause-named : goal.returns-clause-named
@@ -66,3 +67,11 @@ returns-clause-reports_sound g c = λ readings folder program accepted.
     let read = accepted_read readings (asked c.args.words.now) folder program accepted in
     let fine = (c.machines_stay_fine.ensures.source readings (engine_in (asked c.args.words.now)) read.0 program read.1).present.fine in
     λ f has. c.named_domains_are_sound.ensures.reports (domain_in (asked c.args.words.now)) (engine_in (asked c.args.words.now)) _ f fine.fit has
+
+pub returns-clause-verified : goal.returns-clause-verified
+returns-clause-verified g c = λ readings told domain file cert text program named tells accepted there zero yes.
+    let read = file_read readings (told.folder file) program accepted in
+    let fine = (c.machines_stay_fine.ensures.source readings (engine_in (asked c.args.words.now)) read.0 program read.1).present.fine in
+    let done = same_status c.run.result Done _ c.code.ensures.code zero in
+    let wrote = rw (done, named) at (c.run.ensures.wrote readings told.folder told.script told.taken tells.files_are tells.script_is tells.sink_is) in
+    yes_covers readings domain told.folder file cert text told.taken program _ (c.each_yes_is_sound.ensures.sound domain) fine.fit accepted there wrote yes
