@@ -12,4 +12,4 @@ pub returns-in-Ok-clause-wrote : goal.returns-in-Ok-clause-wrote
 returns-in-Ok-clause-wrote g c = λ folder text taken rest told sink.
     rw (short_file most_certificate (folder c.args.name.now) c.in-Ok.cert.items (λ text. done (verify_bytes c.args.domain c.args.program.now text))
     (told_file (g.F.Files.told c.args.files.now) folder c.args.name.now c.in-Ok.cert.items told (c.in-Ok.ensures {u = tt}).bytes) (c.in-Ok.ensures {u = tt}).fits)
-    (c.write_done.ensures.wrote (verify_bytes c.args.domain c.args.program.now c.in-Ok.cert.items) text taken rest (rw c.as_slice.ensures.value at c.verify_line.ensures.bytes) sink)
+    (c.write_done.ensures.wrote (verify_bytes c.args.domain c.args.program.now c.in-Ok.cert.items) text taken rest (rw c.as_slice.ensures.value at c.verify_line-line.ensures.bytes) sink)
