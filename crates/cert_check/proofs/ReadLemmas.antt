@@ -16,15 +16,7 @@ use Rattle.cert_lines.specs.Lines.{written_in, unless_there, with_entry, entry_o
 use Rattle.cert_check.specs.Table.{state_at, HasEntries}
 use Rattle.cert_check.specs.Reading.{entry_told, lines_from, IsRead, IsFirst, IsAdded, IsReading}
 use Rattle.cert_check.specs.declared.entry.Entry.{Entry}
-
-bytes_swapped : (m n : ℕ) → (m == n) ≡ (n == m)
-bytes_swapped m n = grind (arith, nat_tests)
-
-texts_swapped : (xs ys : List ℕ) → bytes_eq xs ys ≡ bytes_eq ys xs
-texts_swapped [] [] = refl
-texts_swapped [] (y ∷ ys) = refl
-texts_swapped (x ∷ xs) [] = refl
-texts_swapped (x ∷ xs) (y ∷ ys) = λ i. bytes_swapped x y i && texts_swapped xs ys i
+use Rattle.cert_check.proofs.TableLemmas.{texts_swapped}
 
 -- an entry is put into the table
 pub entry_put : {S : Type 0} (before behind : List (List ℕ × S)) (es : List (plain.Entry S)) (e : plain.Entry S) (key : List ℕ) → key ≡ e.at ∷ e.sites → ((q : List ℕ) → lookup (bytes_eq q) behind ≡ (if bytes_eq key q then Some e.state else lookup (bytes_eq q) before)) → HasEntries before es → HasEntries behind (e ∷ es)
@@ -57,9 +49,9 @@ module _ {S : Type 0} (port : Portable S) (program : List Routine) (all : plain.
       let x = a r.entries r.has in
       record {
         entries = x.0 ∷ r.entries;
-        has = x.2.2;
+        has = x.3;
         comes =
-            sym (ap (λ o. with_entry i r.entries o (λ es. entries port program (i + 1) es rest)) x.1 ∙ ap (λ o. unless_there o (plain.Bad i) (entries port program (i + 1) (x.0 ∷ r.entries) rest)) x.2.0)
+            sym (ap (λ o. with_entry i r.entries o (λ es. entries port program (i + 1) es rest)) x.1 ∙ ap (λ o. unless_there o (plain.Bad i) (entries port program (i + 1) (x.0 ∷ r.entries) rest)) x.2)
             ∙ r.comes;
       }
 
