@@ -71,19 +71,20 @@ module _ {S : Type 0} (port : Portable S) (program : List Routine) (all : plain.
   along : (table : List (List ℕ × S)) (i : ℕ) (rest rest' : List (List ℕ)) → rest ≡ rest' → IsReading port program table i rest all → IsReading port program table i rest' all
   along table i rest rest' e r = subst (λ ls. IsReading port program table i ls all) e r
 
-  alone : (part : List ℕ) (b : ℕ) (rest : List ℕ) → part ≡ b ∷ rest → last_line part ≡ part ∷ []
-  alone part b rest e = ap last_line e ∙ ap (λ p. p ∷ []) (sym e)
+  alone : (part : List ℕ) → 0 < length part → last_line part ≡ part ∷ []
+  alone [] h = absurd (omega arith)
+  alone (b ∷ rest) h = refl
 
   -- what is behind the last LF
   pub at_end : (table : List (List ℕ × S)) (i : ℕ) (part text : List ℕ) (k : ℕ) → length text ≤ k → IsReading port program table i (lines_from part (drop k text)) all → IsReading port program table i (last_line part) all
   at_end table i part text k h r = along table i (lines_from part (drop k text)) (last_line part) (ap (lines_from part) (drop_all k text h)) r
 
   -- the rest of the lines, and what is behind the last LF
-  pub rest_read : (table more : List (List ℕ × S)) (i : ℕ) (part : List ℕ) (b : ℕ) (rest : List ℕ) → part ≡ b ∷ rest → IsAdded port program part table more true → IsReading port program table i (last_line part) all → (es : List (plain.Entry S)) × (all ≡ plain.Reads es) × HasEntries more es
-  rest_read table more i part b rest e a r = all_read more (i + 1) (line_read table more i part [] a (along table i (last_line part) (part ∷ []) (alone part b rest e) r))
+  pub rest_read : (table more : List (List ℕ × S)) (i : ℕ) (part : List ℕ) → 0 < length part → IsAdded port program part table more true → IsReading port program table i (last_line part) all → (es : List (plain.Entry S)) × (all ≡ plain.Reads es) × HasEntries more es
+  rest_read table more i part h a r = all_read more (i + 1) (line_read table more i part [] a (along table i (last_line part) (part ∷ []) (alone part h) r))
 
-  pub rest_bad : (table more : List (List ℕ × S)) (i : ℕ) (part : List ℕ) (b : ℕ) (rest : List ℕ) → part ≡ b ∷ rest → IsAdded port program part table more false → IsReading port program table i (last_line part) all → all ≡ plain.Bad i
-  rest_bad table more i part b rest e a r = line_bad table more i part [] a (along table i (last_line part) (part ∷ []) (alone part b rest e) r)
+  pub rest_bad : (table more : List (List ℕ × S)) (i : ℕ) (part : List ℕ) → 0 < length part → IsAdded port program part table more false → IsReading port program table i (last_line part) all → all ≡ plain.Bad i
+  rest_bad table more i part h a r = line_bad table more i part [] a (along table i (last_line part) (part ∷ []) (alone part h) r)
 
 -- the bytes from a place on
 pub drop_byte : (xs : List ℕ) (i : ℕ) → i < length xs → drop i xs ≡ get_or xs i 0 ∷ drop (i + 1) xs
@@ -120,5 +121,5 @@ module _ {S : Type 0} (port : Portable S) (program : List Routine) where
   bad_byte all cert k table more i j part longer h g r = g all (drop (k + 1) cert) (along port program all table i (lines_from part (drop k cert)) (lines_from part (get_or cert k 0 ∷ drop (k + 1) cert)) (ap (lines_from part) (drop_byte cert k h)) r)
 
   pub last_read : {E : Type 0} (x : Result (Lines S) E) (all : plain.Entries S) (cert : List ℕ) (k : ℕ) (table : List (List ℕ × S)) (i : ℕ) (part line : List ℕ) → length cert ≤ k → line ≡ part → IsReading port program table i (lines_from part (drop k cert)) all → IfOk x (λ y. (all : plain.Entries S) → IsReading port program table i (last_line line) all → IsRead all y) → IfOk x (IsRead all)
-  last_read (Err e) all cert k table i part line h e r f = f
+  last_read (Err error) all cert k table i part line h e r f = f
   last_read (Ok y) all cert k table i part line h e r f = f all (subst (λ l. IsReading port program table i (last_line l) all) (sym e) (at_end port program all table i part cert k h r))
