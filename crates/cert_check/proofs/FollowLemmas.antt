@@ -1,8 +1,8 @@
 -- Following, one statement at a time, over plain variables.
-use Rattle.std.proofs.Common.{ℕ, suc, ◌≡◌, ◌+◌, ◌<◌, ◌≤◌, Bool, true, false, List, [], ◌∷◌, ◌++◌, length, drop, take, reverse, get_or, slice_get, Option, Some, None, Result, Ok, Err, IfOk, refl, sym, ap, subst, ◌∙◌, append_assoc}
+use Rattle.std.proofs.Common.{ℕ, suc, ◌≡◌, ◌+◌, ◌<◌, ◌≤◌, Bool, true, false, List, [], ◌∷◌, ◌++◌, length, drop, take, reverse, get_or, slice_get, Option, Some, None, Result, Ok, Err, IfOk, refl, sym, ap, ◌∙◌, append_assoc}
 use Rattle.std.specs.Prelude.{if◌then◌else◌}
 use Rattle.std.proofs.lemmas.List.{drop_all, append-nil}
-use Rattle.imp_slots.specs.Plain.{DoBreak, Does, Guard, Invoke, Code, Stop, Simple, If, While, Call, Break, Routine}
+use Rattle.imp_slots.specs.Plain.{DoBreak, Does, Guard, Invoke, Code, Stop, If, While, Call, Break, Routine}
 use Rattle.imp_slots.specs.ActionViews.{effect_of}
 use Rattle.imp_slots.specs.BlockViews.{before_code, code_of}
 use Rattle.imp_slots.specs.declared.blocks.SlotNode.{SlotNode}
@@ -12,7 +12,7 @@ use Rattle.batch_meaning.specs.Values.{State}
 use Rattle.batch_meaning.specs.Batch.{Engine}
 use Rattle.batch_meaning.specs.Batch as batch
 use Rattle.batch_meaning.specs.Places.{from, main_layout}
-use Rattle.plain_values.proofs.Lists.{drop_item, get_take}
+use Rattle.plain_values.proofs.Lists.{drop_item}
 use Rattle.plain_values.proofs.Cases.{by_test}
 use Rattle.cert_meaning.specs.Followed as plain
 use Rattle.cert_meaning.specs.Followed.{Why, Passes, Fails, Missing, Entry, Step, passing, after, unless, where_written, joined, followed, followed_procedure, followed_last, followed_program}
@@ -22,7 +22,7 @@ use Rattle.batch_interp.specs.declared.frames.Frame.{Frame}
 use Rattle.batch_interp.proofs.Procedures.{from_earlier, from_gone}
 use Rattle.batch_interp.proofs.Walkings.{standing, whole}
 use Rattle.cert_check.specs.Table.{state_at}
-use Rattle.cert_check.specs.Following.{why_of, ended, EndsSo, round, calls_in, followed_in}
+use Rattle.cert_check.specs.Following.{ended, EndsSo, round, calls_in, followed_in}
 use Rattle.cert_check.specs.declared.followed.Followed as code
 use Rattle.cert_check.specs.declared.followed.Followed.TheVariants as came
 
@@ -89,7 +89,7 @@ module _ {S : Type 0} (dom : Operations S) (leq : S → S → Bool) (written : (
   block_step ss i s now next before behind h e k =
       let r = code_of (drop (i + 1) ss) in
       let p = passed_alone before (B (before_code s Stop) now) next behind k in
-      ap (λ xs. after xs (B r next)) p.2.1
+      ap (λ xs. after xs (B r next)) p.2
       ∙ sym (after_twice before p.0 (B r next))
       ∙ ap (λ q. after before (passing q (λ y ys. after ys (B r y)))) (sym p.1)
       ∙ ap (after before) (sym (follows_before s r now))
@@ -111,7 +111,7 @@ module _ {S : Type 0} (dom : Operations S) (leq : S → S → Bool) (written : (
       let p = passed_alone before (B t a) l middle h in
       let q = passed_alone middle (B e b) r behind u in
       let all : before ++ ((p.0 ++ q.0) ++ []) ≡ behind =
-      ap (λ xs. before ++ xs) (append-nil (p.0 ++ q.0)) ∙ sym (append_assoc before p.0 q.0) ∙ ap (λ xs. xs ++ q.0) (sym p.2.1) ∙ sym q.2.1 in
+      ap (λ xs. before ++ xs) (append-nil (p.0 ++ q.0)) ∙ sym (append_assoc before p.0 q.0) ∙ ap (λ xs. xs ++ q.0) (sym p.2) ∙ sym q.2 in
       ap (λ v. after before (passing v (λ x xs. passing (B e (dom.assume g false s)) (λ y ys. after (xs ++ ys) (Passes (dom.join x y) []))))) (ap (B t) (sym k) ∙ p.1)
       ∙ ap (λ v. after before (passing v (λ y ys. after (p.0 ++ ys) (Passes (dom.join l y) [])))) (ap (B e) (sym m) ∙ q.1)
       ∙ (λ i. Passes (sym d i) (all i))
@@ -210,10 +210,10 @@ module _ {S : Type 0} (dom : Operations S) (leq : S → S → Bool) (table : Lis
   of_callee (Ok x) none leaving place z n q routine c inner a there same body o h = (
     leaving,
     call_there place z n q routine a (sym there)
-    ∙ sym (λ i. followed_in dom leq table program (same i).place (same i).sites (body i) a)
-    ∙ sym (after_none (followed_in dom leq table program inner.place inner.sites c a))
-    ∙ ap (λ xs. after xs (followed_in dom leq table program inner.place inner.sites c a)) (sym o)
-    ∙ h,
+        ∙ sym (λ i. followed_in dom leq table program (same i).place (same i).sites (body i) a)
+        ∙ sym (after_none (followed_in dom leq table program inner.place inner.sites c a))
+        ∙ ap (λ xs. after xs (followed_in dom leq table program inner.place inner.sites c a)) (sym o)
+        ∙ h,
   )
 
   -- a call, by how the body of its procedure ends
@@ -228,12 +228,11 @@ module _ {S : Type 0} (dom : Operations S) (leq : S → S → Bool) (table : Lis
   pub main_ends : {E : Type 0} (x : Result (code.Followed S) E) (none leaving : List S) (k : ℕ) (r : Routine) (c : Code) (frame : Frame) (a : S) → length program ≡ suc k → slice_get program k ≡ Some r → frame ≡ record { place = k; sites = [] } → c ≡ r.code → a ≡ dom.init r.layout → none ≡ [] → IfOk x (λ x. after none (followed_in dom leq table program frame.place frame.sites c a) ≡ ended leaving x) → IfOk x (EndsSo (followed_program dom leq (state_at table) program))
   main_ends (Err e) none leaving k r c frame a l g f b i o h = h
   main_ends (Ok x) none leaving k r c frame a l g f b i o h =
-      let all : reverse program ≡ r ∷ earlier program k = sym (whole program k l) ∙ standing program k r g in
-      (
+      let all : reverse program ≡ r ∷ earlier program k = sym (whole program k l) ∙ standing program k r g in (
         leaving,
         ap (λ ps. followed_last dom leq (state_at table) ps (dom.init (main_layout ps))) all
-        ∙ sym (λ j. followed_in dom leq table program (f j).place (f j).sites (b j) (i j))
-        ∙ sym (after_none (followed_in dom leq table program frame.place frame.sites c a))
-        ∙ ap (λ xs. after xs (followed_in dom leq table program frame.place frame.sites c a)) (sym o)
-        ∙ h,
+            ∙ sym (λ j. followed_in dom leq table program (f j).place (f j).sites (b j) (i j))
+            ∙ sym (after_none (followed_in dom leq table program frame.place frame.sites c a))
+            ∙ ap (λ xs. after xs (followed_in dom leq table program frame.place frame.sites c a)) (sym o)
+            ∙ h,
       )

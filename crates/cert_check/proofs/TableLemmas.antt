@@ -1,12 +1,9 @@
 -- Tables of states and of chains, one entry at a time.
-use Rattle.std.proofs.Common.{ℕ, zero, suc, ◌≡◌, ◌+◌, ◌<◌, ◌≤◌, Bool, true, false, List, [], ◌∷◌, ◌++◌, length, map, drop, reverse, get_or, slice_get, Option, Some, None, refl, sym, ap, subst, ◌∙◌, arith}
-use Rattle.std.specs.Prelude.{◌==◌, ◌&&◌, nat_lt, if◌then◌else◌}
+use Rattle.std.proofs.Common.{ℕ, zero, suc, ◌≡◌, ◌+◌, ◌<◌, ◌≤◌, Bool, true, false, List, [], ◌∷◌, ◌++◌, length, map, drop, reverse, get_or, slice_get, None, refl, sym, ap, ◌∙◌, arith}
+use Rattle.std.specs.Prelude.{◌==◌, ◌&&◌, ◌||◌, nat_lt, if◌then◌else◌}
 use Rattle.std.specs.Str.{bytes_eq}
-use Rattle.std.specs.Map.{lookup}
 use Rattle.std.specs.List.{list_any}
-use Rattle.std.proofs.lemmas.Bool.{and_parts}
 use Rattle.std.proofs.lemmas.Bool.Decides.{nat_tests}
-use Rattle.std.proofs.lemmas.Slice.Eq.{bytes_eq-Decides}
 use Rattle.std.proofs.lemmas.List.{drop_all}
 use Rattle.imp_slots.specs.Plain.{Routine}
 use Rattle.imp_slots.specs.Fits.{IsChecked}
@@ -14,13 +11,31 @@ use Rattle.program_chains.specs.Chains.{chains}
 use Rattle.plain_values.proofs.Cases.{by_bool}
 use Rattle.plain_values.proofs.Lists.{drop_item, get_last, get_other}
 use Rattle.call_contexts.proofs.Tabled.{none_past}
-use Rattle.cert_lines.specs.Lines.{Entry, written_in, is_chain}
-use Rattle.cert_check.specs.Table.{state_at, HasEntries, in_set, chain_in, AreChains}
+use Rattle.cert_lines.specs.Lines.{is_chain}
+use Rattle.cert_check.specs.Table.{in_set, chain_in, AreChains}
 
 -- chains of a set are looked for from the first on
 pub any_chain : (z : List ℕ) (zs : List (List ℕ)) → list_any (bytes_eq z) zs ≡ is_chain z zs
 any_chain z [] = refl
-any_chain z (y ∷ ys) = ap (λ b. if bytes_eq z y then true else b) (any_chain z ys)
+any_chain z (y ∷ ys) = either (bytes_eq z y) (list_any (bytes_eq z) ys) ∙ ap (λ b. if bytes_eq z y then true else b) (any_chain z ys)
+  where
+    either : (a b : Bool) → (a || b) ≡ (if a then true else b)
+    either true b = refl
+    either false b = refl
+
+bytes_swapped : (m n : ℕ) → (m == n) ≡ (n == m)
+bytes_swapped m n = grind (arith, nat_tests)
+
+pub texts_swapped : (xs ys : List ℕ) → bytes_eq xs ys ≡ bytes_eq ys xs
+texts_swapped [] [] = refl
+texts_swapped [] (y ∷ ys) = refl
+texts_swapped (x ∷ xs) [] = refl
+texts_swapped (x ∷ xs) (y ∷ ys) = λ i. bytes_swapped x y i && texts_swapped xs ys i
+
+-- a chain is put into a set
+pub set_put : (before behind : List (List ℕ)) (key : List ℕ) → ((q : List ℕ) → list_any (bytes_eq q) behind ≡ (if bytes_eq key q then true else list_any (bytes_eq q) before)) → (z : List ℕ) → is_chain z behind ≡ (if bytes_eq z key then true else is_chain z before)
+set_put before behind key put z =
+    sym (any_chain z behind) ∙ put z ∙ (λ i. if texts_swapped key z i then true else any_chain z before i)
 
 swap_tests : (a b c : Bool) → (if (if a then true else b) then true else c) ≡ (if b then true else (if a then true else c))
 swap_tests true true c = refl
@@ -56,16 +71,16 @@ pub sets_step : (program : List Routine) (sets more : List (List (List ℕ))) (p
 sets_step program sets more place set e f c = record {
   count = ap length e ∙ one_longer sets set ∙ ap (λ n. n + 1) c.count;
   told = λ p z h. by_bool (p == place)
-    (λ b.
-    let k : p ≡ place = grind (arith, nat_tests, b) in
-    ap (λ ss. in_set (slice_get ss p) z) e
-    ∙ ap (λ q. in_set (slice_get (sets ++ set ∷ []) q) z) (k ∙ sym c.count)
-    ∙ ap (λ o. in_set o z) (get_last sets set)
-    ∙ f z ∙ ap (λ q. is_chain z (chains program q)) (sym k))
-    (λ b.
-    let k : p < place = grind (arith, nat_tests, b, h) in
-    let l = c.count in
-    ap (λ ss. in_set (slice_get ss p) z) e ∙ ap (λ o. in_set o z) (get_other sets set p (λ n. omega (arith, n, l, k))) ∙ c.told p z k);
+      (λ b.
+      let k : p ≡ place = grind (arith, nat_tests, b) in
+      ap (λ ss. in_set (slice_get ss p) z) e
+      ∙ ap (λ q. in_set (slice_get (sets ++ set ∷ []) q) z) (k ∙ sym c.count)
+      ∙ ap (λ o. in_set o z) (get_last sets set)
+      ∙ f z ∙ ap (λ q. is_chain z (chains program q)) (sym k))
+      (λ b.
+      let k : p < place = grind (arith, nat_tests, b, h) in
+      let l = c.count in
+      ap (λ ss. in_set (slice_get ss p) z) e ∙ ap (λ o. in_set o z) (get_other sets set p (λ n. omega (arith, n, l, k))) ∙ c.told p z k);
 }
 
 pub sets_whole : (program : List Routine) (sets : List (List (List ℕ))) (place : ℕ) → IsChecked program → length program ≤ place → Chained program sets place → AreChains program sets
