@@ -8,9 +8,10 @@
 //! daig verify [--domain interval] FILE CERT
 //! ```
 //!
-//! Of the domains `cert` and `verify` take those that are no product: `interval`, `octagon`, `listseg`. Where an option in brackets is left out, the domain is `interval`, the widening `thresholds`, the delay 0, the
+//! Where an option in brackets is left out, the domain is `interval`, the widening `thresholds`, the delay 0, the
 //! budget 100, the memo 1,024. The delay is 0 to 100, the budget 1 to 10,000, the memo 1 to 65,536, the seed 0 to
-//! 2^63 - 1, the size 1 to 1,000; numbers are decimal digits without a sign or a leading zero.
+//! 2^63 - 1, the size 1 to 1,000; numbers are decimal digits without a sign or a leading zero. `cert` and `verify` take
+//! the domains that are no product: `interval`, `octagon`, `listseg`.
 //!
 //! `clap` takes the words apart: `specs/Line.antt` has the command, as `clap` defines commands, and
 //! `job_of` of `specs/Jobs.antt` is the job of the words that this command takes. So an option stands

@@ -6,6 +6,7 @@ use Rattle.imp_syntax.specs.Plain.{Procedure}
 use Rattle.imp_slots.specs.Fits.{IsChecked}
 use Rattle.imp_check.specs.Slots.{routines_of}
 use Rattle.command_words.specs.declared.job.SingleDomain.{SingleDomain}
+use Rattle.command_words.specs.declared.job.SingleDomain.TheVariants.{Interval, Octagon, ListSeg}
 use Rattle.cert_lines.specs.Theorem.{IsYesSound}
 use Rattle.cert_lines.specs.Verify.{verify, verified_line, Yes}
 use Rattle.cert_check.proofs.LineLemmas.{yes_alone}
@@ -47,8 +48,17 @@ pub yes_covers : (readings : Readings) (domain : SingleDomain) (folder : List �
     IsYesSound (carried_of domain).meaning.operations (carried_of domain).meaning.covers (carried_of domain).port → IsChecked (routines_of program) →
     IsProgram readings (folder file) program → folder cert ≡ Some text → WroteAll 0 (program_output readings (folder file) (certified domain (Check cert) folder)) taken written →
     written ≡ Some (taken ++ verified_line Yes) → AreRunsCovered domain program text
-yes_covers readings domain folder file cert text taken program written sound checked accepted there wrote yes =
+yes_covers readings domain folder file cert text taken program written sound checked accepted there wrote is =
     let line = checked_line readings domain folder file cert text program accepted there wrote.same in
-    let same : taken ++ verify_bytes domain program text ≡ taken ++ verified_line Yes = some_inj _ _ (ap (λ xs. Some (taken ++ xs)) (sym line) ∙ sym wrote.all ∙ yes) in
+    let same : taken ++ verify_bytes domain program text ≡ taken ++ verified_line Yes = some_inj _ _ (ap (λ xs. Some (taken ++ xs)) (sym line) ∙ sym wrote.all ∙ is) in
     let found = yes_found domain program text (append_cancel_left taken (verify_bytes domain program text) (verified_line Yes) same) in
     λ n c reach. sound (routines_of program) text n c checked found reach
+
+-- what a yes says by each domain that the words name
+abbrev IsSoundBy : SingleDomain → Type 0
+IsSoundBy name = IsYesSound (carried_of name).meaning.operations (carried_of name).meaning.covers (carried_of name).port
+
+pub by_each : IsSoundBy Interval → IsSoundBy Octagon → IsSoundBy ListSeg → (name : SingleDomain) → IsSoundBy name
+by_each intervals octagons segments Interval = intervals
+by_each intervals octagons segments Octagon = octagons
+by_each intervals octagons segments ListSeg = segments

@@ -1,6 +1,5 @@
 -- Generated sources are accepted.
 use Rattle.std.proofs.Common.{◌≡◌, ◌∙◌, ◌≤◌, ◌⊎◌, inl, inr, ℕ, Ok, ap, sym, refl, arith}
-use Rattle.imp_check.specs.Programs.{check_fault}
 use Rattle.imp_parse.specs.Answer.{HasOneAnswer}
 use Rattle.imp_parse.specs.Languages.{ProgramText}
 use Rattle.imp_parse.specs.Limits.{outside}

@@ -10,7 +10,6 @@ use Rattle.script_loop.specs.Replies.{ReadBytes}
 use Rattle.request_json.specs.declared.reply.Refusal.{Refusal}
 use Rattle.line_answers.specs.Readings.{Readings}
 use Rattle.line_answers.specs.Fine.{IsProgramOf}
-use Rattle.command_words.specs.declared.job.DomainName.{DomainName}
 use Rattle.command_words.specs.declared.job.Job.{Job}
 use Rattle.command_words.specs.declared.job.Job.TheVariants as job
 use Rattle.daig_gen.specs.Source as generated

@@ -1,5 +1,5 @@
 -- From the reading of a source and the check of its program to the work that is done for it.
-use Rattle.std.proofs.Common.{◌≡◌, ◌∙◌, ℕ, List, None, Result, Ok, Err, IfOk, IfErr, ap, sym, refl}
+use Rattle.std.proofs.Common.{◌≡◌, ◌∙◌, ℕ, List, None, Result, Ok, Err, IfOk, IfErr, ap, sym}
 use Rattle.imp_syntax.specs.Plain.{Procedure}
 use Rattle.imp_check.specs.Programs.{check_fault}
 use Rattle.batch_meaning.specs.Batch.{Engine}

@@ -1,5 +1,5 @@
 -- What the words ask for.
-use Rattle.std.specs.Prelude.{◌≡◌, ℕ, List, Option, Some, None, true, false}
+use Rattle.std.specs.Prelude.{Option, Some, None, true, false}
 use Rattle.command_words.specs.declared.job.DomainName.{DomainName}
 use Rattle.command_words.specs.declared.job.DomainName.TheVariants.{Interval, Octagon, ListSeg}
 use Rattle.command_words.specs.declared.job.SingleDomain.{SingleDomain}

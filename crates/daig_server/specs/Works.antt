@@ -1,5 +1,5 @@
 -- What is to be done, with the program that it is done for.
-use Rattle.std.specs.Prelude.{ℕ, ◌<◌, List}
+use Rattle.std.specs.Prelude.{◌<◌, List}
 use Rattle.imp_syntax.specs.Plain.{Procedure}
 use Rattle.daig_session.specs.Books.{AreBelow}
 use Rattle.daig_server.specs.declared.task.Task.{Task}

@@ -36,9 +36,12 @@ use step_counter::Steps;
 /// | 4 | only where a read of the script failed |
 /// | 5 | only where a write failed |
 /// | 6 | memory ran out |
-/// | 7 | only where the file could not be loaded, or is not there; of `verify`, where it is a program, so of the certificate |
+/// | 7 | only where the file could not be loaded, or is not there |
 /// | 8 | exactly where 2^40 bytes of the script were read |
-/// | 9 | exactly where the file has more than 1,048,576 bytes; of `verify`, where it is a program, where the certificate has more than 67,108,864 |
+/// | 9 | exactly where the file has more than 1,048,576 bytes |
+///
+/// Of `verify` 7 and 9 come of the certificate's file too, where the first is a program, by its own limit of 67,108,864
+/// bytes.
 ///
 /// Of `serve` each line costs what is missing for it in the cells that are kept; a line and its reply are kept at a time.
 pub fn serve<F: Files, I: Source, O: Sink, L: Ledger>(
@@ -74,8 +77,8 @@ pub fn serve<F: Files, I: Source, O: Sink, L: Ledger>(
         → IsSoundAfter (meaning_of (domain_in (asked words.now))) readings (engine_in (asked words.now)) program before line }
     ensures reports_sound { (readings : Readings) (folder : List ℕ → Option (List ℕ)) (program : List Procedure) → IsAccepted readings (asked words.now) folder program
         → IsBatchSound (meaning_of (domain_in (asked words.now))) (engine_in (asked words.now)) program }
-    // Where a certificate is checked, whoever wrote it, and the line that is written is the yes, each configuration of a run of
-    // the program that stands at the test of a loop is described by the state that is written of the loop under its calls.
+    // Where a certificate is checked, whoever wrote it, and the line that is written is the yes, each configuration of a
+    // run of the program that stands at the test of a loop is described by the state written of the loop under its calls.
     ensures verified { (readings : Readings) (told : Told) (domain : Single) (file cert text : List ℕ) (program : List Procedure) → asked words.now ≡ Some (job.Verify domain file cert)
         → Tells readings (asked words.now) (F.told files.old) (I.told script.old) (O.told out.old) told → IsProgram readings (told.folder file) program → told.folder cert ≡ Some text
         → result ≡ 0 → O.told out.new ≡ Some (told.taken ++ verified_line Yes) → AreRunsCovered domain program text }

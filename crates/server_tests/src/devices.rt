@@ -116,3 +116,20 @@ fn files(rt: HostRuntime) -> Result<(), Fail> {
     }
     Ok(())
 }
+
+/// Each load fails in turn where a certificate is checked; then none: the source is no certificate.
+#[test]
+fn certificates(rt: HostRuntime) -> Result<(), Fail> {
+    let alloc = rt.alloc();
+    let words = words_of(alloc, "daig verify f f")?;
+    let line = b"{\"line\":1,\"verify\":\"no\"}\n".as_slice();
+    for (call, code, wanted) in [(0, 7, b"".as_slice()), (1, 7, b"".as_slice()), (2, 0, line)] {
+        let mut files = folder(alloc, SOURCE, failing(alloc, &[call])?)?;
+        let mut script = MemSource::new(Vec::new(alloc), 1, FaultPlan::none(alloc));
+        let mut out = MemSink::new(alloc, 1, FaultPlan::none(alloc));
+        let given = status(alloc, words.as_slice(), &mut files, &mut script, &mut out);
+        assert_eq!(rt; given, code, "{call}");
+        assert_eq!(rt; out.bytes(), wanted, "{call}");
+    }
+    Ok(())
+}

@@ -1,4 +1,4 @@
-use Rattle.std.proofs.Common.{◌∙◌, ◌+◌, ◌++◌, [], ◌∷◌, suc, length, take, slice_index_or, ap, sym, refl, arith}
+use Rattle.std.proofs.Common.{◌∙◌, [], ◌∷◌, suc, take, slice_index_or, ap, sym, refl, arith}
 use Rattle.gen_summary.specs.Summary.{nothing}
 use Rattle.script_loop.specs.Lines.{whole_lines}
 use Rattle.script_loop.proofs.LineLemmas.{lines_more, part_more}

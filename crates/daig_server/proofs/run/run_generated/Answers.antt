@@ -1,4 +1,4 @@
-use Rattle.std.proofs.Common.{◌∙◌, [], ap, sym, length, arith}
+use Rattle.std.proofs.Common.{◌∙◌, [], ap, length, arith}
 use Rattle.daig_server.specs.Sources.{source_of}
 use Rattle.daig_server.proofs.GeneratedLemmas.{generated_accepted, generated_ends}
 use Rattle.daig_server.proofs.LengthLemmas.{source_short}

@@ -1,9 +1,5 @@
-use Rattle.std.proofs.Common.{◌∙◌, inl, inr, sym}
-use Rattle.batch_meaning.specs.Batch.{Engine}
-use Rattle.daig_server.specs.Domains.{meaning_of}
-use Rattle.daig_server.specs.Ends.{Fits, Wrote}
+use Rattle.std.proofs.Common.{◌∙◌, inl, inr}
 use Rattle.daig_server.specs.Jobs.{domain_in, engine_in}
-use Rattle.daig_server.specs.Output.{output}
 use Rattle.daig_server.specs.Told.{asked}
 use Rattle.daig_server.specs.declared.status.Status.TheVariants.{Done, Words, Script, Sink, Files, LongScript, LongFile}
 use Rattle.daig_server.proofs.CertificateLemmas.{yes_covers}
@@ -69,9 +65,9 @@ returns-clause-reports_sound g c = λ readings folder program accepted.
     λ f has. c.named_domains_are_sound.ensures.reports (domain_in (asked c.args.words.now)) (engine_in (asked c.args.words.now)) _ f fine.fit has
 
 pub returns-clause-verified : goal.returns-clause-verified
-returns-clause-verified g c = λ readings told domain file cert text program named tells accepted there zero yes.
+returns-clause-verified g c = λ readings told domain file cert text program named tells accepted there zero is.
     let read = file_read readings (told.folder file) program accepted in
     let fine = (c.machines_stay_fine.ensures.source readings (engine_in (asked c.args.words.now)) read.0 program read.1).present.fine in
     let done = same_status c.run.result Done _ c.code.ensures.code zero in
     let wrote = rw (done, named) at (c.run.ensures.wrote readings told.folder told.script told.taken tells.files_are tells.script_is tells.sink_is) in
-    yes_covers readings domain told.folder file cert text told.taken program _ (c.each_yes_is_sound.ensures.sound domain) fine.fit accepted there wrote yes
+    yes_covers readings domain told.folder file cert text told.taken program _ (c.each_yes_is_sound.ensures.sound domain) fine.fit accepted there wrote is
