@@ -18,3 +18,5 @@ mod products;
 mod segments;
 #[cfg(test)]
 mod steps;
+#[cfg(test)]
+mod texts;
