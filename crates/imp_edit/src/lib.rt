@@ -16,6 +16,8 @@
 
 mod alone;
 mod applying;
+mod beside;
+mod coming;
 mod error;
 mod gap;
 mod numbers;
