@@ -10,7 +10,7 @@ use Rattle.imp_check.specs.Statements.{block_fault}
 use Rattle.imp_check.specs.declared.entry.Entry.{Entry}
 use Rattle.edit_entries.specs.Gaps.{are_simple, is_simple, lone}
 use Rattle.imp_edit.proofs.SpliceLemmas.{simple_head, simple_rest, entries_step, fit_step, none_step}
-use Rattle.imp_edit.proofs.splicing.entries_of.Goals as goal
+use Rattle.imp_edit.proofs.coming.entries_of.Goals as goal
 
 pub loop-i-preserved : goal.loop-i-preserved
 loop-i-preserved c =

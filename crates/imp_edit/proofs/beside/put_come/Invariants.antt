@@ -4,7 +4,7 @@ use Rattle.imp_check.specs.Changes.{AreFalling, AreWithin, overlay}
 use Rattle.imp_check.specs.Entries.{entry_of}
 use Rattle.imp_check.specs.Faults.{first}
 use Rattle.imp_check.specs.declared.entry.Entry.{Entry}
-use Rattle.imp_edit.proofs.splicing.put_come.Given as goal
+use Rattle.imp_edit.proofs.beside.put_come.Given as goal
 
 -- the entries that are left come in front of those that are put
 abbrev pub invariant-loop-entry : goal.invariant-loop-entry

@@ -11,7 +11,7 @@ use Rattle.imp_check.proofs.RebuildLemmas.{entry_numbers, block_numbers}
 use Rattle.edit_entries.specs.Spliced.{is, with_front, with_next}
 use Rattle.imp_edit.specs.Gaps.{gone_in}
 use Rattle.imp_edit.proofs.SpliceLemmas.{come_is, all_numbers_below}
-use Rattle.imp_edit.proofs.splicing.puts_of.Goals as goal
+use Rattle.imp_edit.proofs.beside.puts_of.Goals as goal
 
 pub returns-clause-are : goal.returns-clause-are
 returns-clause-are c m =

@@ -6,7 +6,7 @@ use Rattle.imp_check.specs.Names.{variables}
 use Rattle.imp_check.specs.Slots.{code_in, layout_in}
 use Rattle.imp_check.specs.Statements.{block_fault}
 use Rattle.edit_entries.specs.Gaps.{are_simple, lone}
-use Rattle.imp_edit.proofs.splicing.entries_of.Given as goal
+use Rattle.imp_edit.proofs.coming.entries_of.Given as goal
 
 -- the entries so far, and those of the statements to come
 abbrev pub invariant-loop-i : goal.invariant-loop-i

@@ -5,7 +5,7 @@ use Rattle.imp_check.specs.Entries.{entry_of}
 use Rattle.imp_check.specs.Faults.{first}
 use Rattle.imp_check.specs.declared.entry.Entry.{Entry}
 use Rattle.imp_edit.proofs.SpliceLemmas.{popped, all_front, all_last}
-use Rattle.imp_edit.proofs.splicing.put_come.Goals as goal
+use Rattle.imp_edit.proofs.beside.put_come.Goals as goal
 
 pub loop-entry-preserved : goal.loop-entry-preserved
 loop-entry-preserved c =
