@@ -1,6 +1,6 @@
 -- What is written, one line after another.
-use Rattle.std.proofs.Common.{ℕ, zero, suc, ◌≡◌, ◌+◌, ◌<◌, ◌≤◌, List, [], ◌∷◌, ◌++◌, length, map, drop, reverse, get_or, slice_get, Option, Some, None, refl, sym, ap, subst, ◌∙◌, arith, append_assoc, add-one}
-use Rattle.std.specs.Prelude.{Contains}
+use Rattle.std.proofs.Common.{ℕ, zero, suc, ◌≡◌, ◌+◌, ◌<◌, ◌≤◌, List, [], ◌∷◌, ◌++◌, length, map, drop, reverse, get_or, slice_get, Option, Some, None, Result, Ok, Err, IfOk, refl, sym, ap, subst, ◌∙◌, arith, append_assoc, add-one}
+use Rattle.std.specs.Prelude.{Contains, Vec}
 use Rattle.std.proofs.lemmas.List.{drop_all, reverse-reverse}
 use Rattle.serde_json.specs.Written.{compact_text}
 use Rattle.imp_syntax.specs.declared.edit.Location.TheVariants.{Head as AtHead}
@@ -17,7 +17,7 @@ use Rattle.batch_interp.specs.Heads.{head_told, loops_in, heads_under}
 use Rattle.batch_interp.specs.declared.heads.Head.{Head}
 use Rattle.batch_interp.specs.declared.value.Answer.TheVariants as known
 use Rattle.cert_lines.specs.Certificate.{Certificate, Lines, Gives, in_front, under, loops_from, all_loops, with_line, certificate_of, lines_text, certificate_text}
-use Rattle.cert_write.specs.Writing.{line_data, behind, lines_under, lines_before}
+use Rattle.cert_write.specs.Writing.{line_data, behind, or_over, bytes_in, lines_under, lines_before}
 
 module _ {S : Type 0} (dom : Operations S) (port : Portable S) (engine : Engine) (program : List Routine) where
   -- a line goes in front of more
@@ -28,7 +28,7 @@ module _ {S : Type 0} (dom : Operations S) (port : Portable S) (engine : Engine)
   pub added_state : (chain : List ℕ) (h : Head S) (s : S) (text old new : List ℕ) (more : Certificate) → h.value ≡ known.State s → text ≡ port.put s → new ≡ old ++ (compact_text (line_data h.stmt chain text) ++ 10 ∷ []) → behind old (lines_under dom port engine program (reverse chain) (head_told h ∷ []) more) ≡ behind new more
   added_state chain h s text old new more is t e =
       ap (λ v. behind old (with_line dom port engine program (reverse chain) h.stmt (Some (value_of v)) more)) is
-      ∙ line_goes (reverse chain) h.stmt s old new more (e ∙ (λ i. old ++ (compact_text (line_data h.stmt (reverse-reverse chain (~ i)) (t i)) ++ 10 ∷ [])))
+      ∙ line_goes (reverse chain) h.stmt s old new more (e ∙ (let turned : chain ≡ reverse (reverse chain) = sym (reverse-reverse chain) in λ i. old ++ (compact_text (line_data h.stmt (turned i) (t i)) ++ 10 ∷ [])))
 
   pub added_over : (chain : List ℕ) (h : Head S) (n : ℕ) (y line old : List ℕ) (more : Certificate) → h.value ≡ known.Over n y → line ≡ certificate_text (Gives n (reverse y)) → behind old (lines_under dom port engine program (reverse chain) (head_told h ∷ []) more) ≡ line
   added_over chain h n y line old more is e = ap (λ v. behind old (with_line dom port engine program (reverse chain) h.stmt (Some (value_of v)) more)) is ∙ sym e
@@ -48,8 +48,12 @@ module _ {S : Type 0} (dom : Operations S) (port : Portable S) (engine : Engine)
   told z (n ∷ ns) more = ap (with_line dom port engine program z n (value_at dom engine program (AtHead n) z)) (told z ns more)
 
   -- the heads that are found are the loops of the procedure
-  pub heads_lines : (p : ℕ) (z : List ℕ) (hs : List (Head S)) (more : Certificate) → map head_told hs ≡ heads_under dom engine program p z → lines_under dom port engine program z (map head_told hs) more ≡ lines_before dom port engine program (map (λ n. (z, n)) (loops_in (slice_get program p))) more
+  heads_lines : (p : ℕ) (z : List ℕ) (hs : List (Head S)) (more : Certificate) → map head_told hs ≡ heads_under dom engine program p z → lines_under dom port engine program z (map head_told hs) more ≡ L (map (λ n. (z, n)) (loops_in (slice_get program p))) more
   heads_lines p z hs more e = ap (λ xs. lines_under dom port engine program z xs more) e ∙ told z (loops_in (slice_get program p)) more
+
+  pub chain_lines : {E Z : Type 0} (r : Result (Option (Vec ℕ Z)) E) (p : ℕ) (chain : List ℕ) (hs : List (Head S)) (old new : List ℕ) → map head_told hs ≡ heads_under dom engine program p (reverse chain) → IfOk r (λ o. (engine : Engine) (program : List Routine) (more : Certificate) → behind old (lines_under dom port engine program (reverse chain) (map head_told hs) more) ≡ or_over (bytes_in o) (behind new more)) → IfOk r (λ o. (more : Certificate) → behind old (lines_before dom port engine program (map (λ n. (reverse chain, n)) (loops_in (slice_get program p))) more) ≡ or_over (bytes_in o) (behind new more))
+  chain_lines (Err e) p chain hs old new t h = h
+  chain_lines (Ok o) p chain hs old new t h = λ more. sym (ap (behind old) (heads_lines p (reverse chain) hs more t)) ∙ h engine program more
 
   before_both : (xs ys : List (List ℕ × ℕ)) (more : Certificate) → L (xs ++ ys) more ≡ L xs (L ys more)
   before_both [] ys more = refl
@@ -80,8 +84,8 @@ module _ {S : Type 0} (dom : Operations S) (port : Portable S) (engine : Engine)
   pub procedure_step : (k : ℕ) (more : Certificate) → k < length program → lines_before dom port engine program (loops_from program k (drop k program)) more ≡ lines_before dom port engine program (under (loops_in (slice_get program k)) (chains program k)) (lines_before dom port engine program (loops_from program (k + 1) (drop (k + 1) program)) more)
   procedure_step k more h =
       let x = at program k h in
-      ap (λ rs. L (loops_from program k rs) more) x.2.1
-      ∙ ap (λ o. L (under (loops_in o) (chains program k) ++ loops_from program (suc k) (drop (suc k) program)) more) (sym x.2.0)
+      ap (λ rs. L (loops_from program k rs) more) x.2
+      ∙ ap (λ o. L (under (loops_in o) (chains program k) ++ loops_from program (suc k) (drop (suc k) program)) more) (sym x.1)
       ∙ before_both (under (loops_in (slice_get program k)) (chains program k)) (loops_from program (suc k) (drop (suc k) program)) more
       ∙ next
     where

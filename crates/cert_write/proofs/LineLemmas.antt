@@ -1,5 +1,5 @@
 -- The lines as the code puts them together.
-use Rattle.std.proofs.Common.{◌≡◌, ℕ, List, [], ◌∷◌, ◌++◌, codes, reverse, ap, ◌∙◌}
+use Rattle.std.proofs.Common.{◌≡◌, ℕ, List, [], ◌∷◌, ◌++◌, codes, reverse, sym, ap}
 use Rattle.std.specs.Prelude.{decimal}
 use Rattle.std.proofs.lemmas.List.{reverse-reverse}
 use Rattle.json.specs.Print.{quoted}
@@ -21,4 +21,4 @@ unfolding reply_text reply_fields
 over_text n chain = ap (λ z. reply_text (r.Over n z)) (turned chain)
   where
     turned : (z : List ℕ) → z ≡ reverse (reverse z)
-    turned z = λ i. reverse-reverse z (~ i)
+    turned z = sym (reverse-reverse z)

@@ -1,5 +1,5 @@
 -- Certificates as they are written, a line at a time.
-use Rattle.std.specs.Prelude.{ℕ, List, [], ◌∷◌, ◌++◌, Option, Some, None, codes}
+use Rattle.std.specs.Prelude.{ℕ, List, [], ◌∷◌, ◌++◌, Option, Some, None, Vec, option_map, codes}
 use Rattle.imp_syntax.specs.declared.edit.Location.TheVariants.{Head}
 use Rattle.serde_json.specs.Data.{Data, string}
 use Rattle.request_json.specs.Replies.{object_of, count, list_of}

@@ -88,8 +88,9 @@ pub(crate) fn add_lines<D: Portable>(
     ensures added { IfOk result (λ o. (engine : Engine) (program : List Routine) (more : Certificate) → behind text.old.items (lines_under (D.operations dom.now) (D.port dom.now) engine program (reverse chain.now) (map head_told heads.now) more) ≡ or_over (bytes_in o) (behind text.new.items more)) }
 {
     for head in heads {
-        if let Some(line) = add_line(alloc, dom, chain, head, text)? {
-            return Ok(Some(line));
+        match add_line(alloc, dom, chain, head, text)? {
+            Some(line) => return Ok(Some(line)),
+            None => {}
         }
     }
     Ok(None)

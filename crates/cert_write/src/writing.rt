@@ -53,8 +53,9 @@ fn add_procedure<D: Portable, L: Ledger>(
 {
     let chains = chains(alloc, &prog.view(), proc, &[])?;
     for chain in chains.as_slice() {
-        if let Some(line) = add_chain(alloc, dom, prog, setting, proc, chain, text, steps)? {
-            return Ok(Some(line));
+        match add_chain(alloc, dom, prog, setting, proc, chain, text, steps)? {
+            Some(line) => return Ok(Some(line)),
+            None => {}
         }
     }
     Ok(None)
@@ -82,8 +83,9 @@ pub fn certificate<D: Portable, L: Ledger>(
     let count = few_routines(prog).len() as u32;
     for place in 0..count {
         let proc = ProcId::new(place);
-        if let Some(line) = add_procedure(alloc, dom, prog, &setting, proc, &mut text, steps)? {
-            return Ok(line);
+        match add_procedure(alloc, dom, prog, &setting, proc, &mut text, steps)? {
+            Some(line) => return Ok(line),
+            None => {}
         }
     }
     Ok(text)

@@ -9,5 +9,5 @@ use Rattle.cert_write.proofs.writing.certificate.Given as goal
 abbrev pub invariant-loop-place : goal.invariant-loop-place
 invariant-loop-place g l =
     let program = routines_of l.prog in
-    let lines = lines_before (g.D.Domain.operations l.dom) (g.D.Portable.port l.dom) (engine_of l.budget l.widening) program in
+    let lines = lines_before (g.D.Domain.operations l.dom) (g.D.Portable.port l.dom) (engine_of l.fn.budget l.fn.widening) program in
     behind l.text.items (lines (loops_from program l.place (drop l.place program)) (Lines [])) ≡ behind [] (lines (all_loops program) (Lines []))
