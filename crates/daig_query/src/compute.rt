@@ -4,9 +4,9 @@ ghost use Rattle.cell_names.specs.Paths.{path_at, sites_of};
 ghost use Rattle.loop_unroll.specs.Iterates.{iterate_of, state_in, IsEqual};
 ghost use Rattle.daig_query.specs.Kept.{IsValue};
 ghost use Rattle.daig_query.specs.Right.{found, IsRight};
-ghost use Rattle.daig_query.specs.Made.{alone_in, index_in, number, row_result, state_at};
+ghost use Rattle.daig_query.specs.Made.{IsFixed, alone_in, index_in, number, row_result, state_at};
 ghost use Rattle.daig_query.specs.Opened.{name_of, IsReady, Computes};
-ghost use Rattle.daig_query.specs.Overs.{HasNoOver, IsFirstOver};
+ghost use Rattle.daig_query.specs.Overs.{HasNoOver, HasOver, IsFirstOver};
 ghost use Rattle.imp_flow.specs.declared.row.Row.TheVariants.{Fixed};
 
 use crate::held::Held;
@@ -225,7 +225,7 @@ fn applied<D: Domain, L: Ledger>(
 }
 
 /// The value of a name all of whose inputs are found: an Over among them, the left one first; else what its row makes of
-/// their states. It ticks for an operation that is not remembered.
+/// their states. It ticks for an operation that is not remembered, and neither for an Over nor for a fixed point.
 pub(crate) fn compute<D: Domain, L: Ledger>(
     alloc: Global,
     dom: &D,
@@ -240,6 +240,8 @@ pub(crate) fn compute<D: Domain, L: Ledger>(
     ensures computes { Computes (D.operations dom.now) flow.now store.old store.new }
     ensures least { steps.old ≤ steps.new }
     ensures most { steps.new ≤ steps.old + D.counted dom.now }
+    ensures fixed { IsFixed row.now → steps.new ≡ steps.old }
+    ensures over { HasOver store.old.graph.cells entry.now.inputs → steps.new ≡ steps.old }
 {
     if let Some(over) = first_over(&store.graph, entry.inputs.as_slice()) {
         let chain = over.1.clone()?;
