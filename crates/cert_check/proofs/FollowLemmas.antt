@@ -89,7 +89,7 @@ module _ {S : Type 0} (dom : Operations S) (leq : S → S → Bool) (written : (
   block_step ss i s now next before behind h e k =
       let r = code_of (drop (i + 1) ss) in
       let p = passed_alone before (B (before_code s Stop) now) next behind k in
-      ap (λ xs. after xs (B r next)) p.2.1
+      ap (λ xs. after xs (B r next)) p.2
       ∙ sym (after_twice before p.0 (B r next))
       ∙ ap (λ q. after before (passing q (λ y ys. after ys (B r y)))) (sym p.1)
       ∙ ap (after before) (sym (follows_before s r now))
@@ -111,7 +111,7 @@ module _ {S : Type 0} (dom : Operations S) (leq : S → S → Bool) (written : (
       let p = passed_alone before (B t a) l middle h in
       let q = passed_alone middle (B e b) r behind u in
       let all : before ++ ((p.0 ++ q.0) ++ []) ≡ behind =
-      ap (λ xs. before ++ xs) (append-nil (p.0 ++ q.0)) ∙ sym (append_assoc before p.0 q.0) ∙ ap (λ xs. xs ++ q.0) (sym p.2.1) ∙ sym q.2.1 in
+      ap (λ xs. before ++ xs) (append-nil (p.0 ++ q.0)) ∙ sym (append_assoc before p.0 q.0) ∙ ap (λ xs. xs ++ q.0) (sym p.2) ∙ sym q.2 in
       ap (λ v. after before (passing v (λ x xs. passing (B e (dom.assume g false s)) (λ y ys. after (xs ++ ys) (Passes (dom.join x y) []))))) (ap (B t) (sym k) ∙ p.1)
       ∙ ap (λ v. after before (passing v (λ y ys. after (p.0 ++ ys) (Passes (dom.join l y) [])))) (ap (B e) (sym m) ∙ q.1)
       ∙ (λ i. Passes (sym d i) (all i))

@@ -11,11 +11,11 @@ use Rattle.cert_meaning.specs.Followed.{Why}
 use Rattle.cert_lines.specs.Verify.{Verified, Yes, BadLine, No, why_name, verified_data, verified_line}
 
 pub yes_text : (old : List ℕ) → old ++ codes "{\"verify\":\"yes\"}" ≡ old ++ compact_text (verified_data Yes)
-unfolding serde_json_on_literals
+unfolding serde_json_on_literals verified_data
 yes_text old = refl
 
 pub bad_text : (old : List ℕ) (line : ℕ) → ((old ++ codes "{\"line\":") ++ decimal line) ++ codes ",\"verify\":\"no\"}" ≡ old ++ compact_text (verified_data (BadLine line))
-unfolding serde_json_on_literals
+unfolding serde_json_on_literals verified_data
 bad_text old line = two old (codes "{\"line\":") (decimal line) (codes ",\"verify\":\"no\"}")
 
 turned : (z : List ℕ) → z ≡ reverse (reverse z)
@@ -23,7 +23,7 @@ turned z = sym (reverse-reverse z)
 
 no_alone : (old : List ℕ) (n : ℕ) (z : List ℕ) (why : Why) →
     ((((((old ++ codes "{\"at\":") ++ decimal n) ++ codes ",\"chain\":") ++ compact_text (list_of count (reverse z))) ++ codes ",\"verify\":\"no\",\"why\":") ++ quoted (why_name why)) ++ codes "}" ≡ old ++ compact_text (verified_data (No n z why))
-unfolding serde_json_on_literals
+unfolding serde_json_on_literals verified_data
 no_alone old n z why = four old (codes "{\"at\":") (decimal n) (codes ",\"chain\":") (compact_text (list_of count (reverse z))) (codes ",\"verify\":\"no\",\"why\":") (quoted (why_name why)) (codes "}")
 
 pub no_text : (old : List ℕ) (n : ℕ) (chain : List ℕ) (why : Why) →
@@ -40,7 +40,7 @@ third (a ∷ (b ∷ (c ∷ ds))) = c
 
 -- the line of a yes is that of nothing else
 pub yes_alone : (v : Verified) → verified_line v ≡ verified_line Yes → v ≡ Yes
-unfolding serde_json_on_literals third
+unfolding serde_json_on_literals verified_data third
 yes_alone Yes e = refl
 yes_alone (BadLine line) e = let k : 108 ≡ 118 = ap third e in absurd (omega (arith, k))
 yes_alone (No n z why) e = let k : 97 ≡ 118 = ap third e in absurd (omega (arith, k))

@@ -1,6 +1,6 @@
 -- Lines read one after another.
-use Rattle.std.proofs.Common.{ℕ, zero, suc, ◌≡◌, ◌+◌, ◌<◌, ◌≤◌, Bool, true, false, List, [], ◌∷◌, ◌++◌, length, drop, get_or, Option, Some, None, refl, sym, ap, subst, ◌∙◌, arith}
-use Rattle.std.specs.Prelude.{◌==◌, ◌&&◌, if◌then◌else◌}
+use Rattle.std.proofs.Common.{ℕ, zero, suc, ◌≡◌, ◌+◌, ◌<◌, ◌≤◌, Bool, true, false, List, [], ◌∷◌, ◌++◌, length, drop, get_or, Option, Some, None, Result, Ok, Err, IfOk, ◌≢◌, refl, sym, ap, subst, ◌∙◌, arith}
+use Rattle.std.specs.Prelude.{◌==◌, ◌&&◌, is_some, if◌then◌else◌}
 use Rattle.std.specs.Str.{bytes_eq}
 use Rattle.std.specs.Map.{lookup}
 use Rattle.std.proofs.lemmas.Bool.{and_parts}
@@ -14,17 +14,15 @@ use Rattle.cert_meaning.specs.Portable.{Portable}
 use Rattle.cert_lines.specs.Lines as plain
 use Rattle.cert_lines.specs.Lines.{written_in, unless_there, with_entry, entry_of, entries}
 use Rattle.cert_check.specs.Table.{state_at, HasEntries}
-use Rattle.cert_check.specs.Reading.{entry_told, lines_from, IsRead, IsFirst, IsAdded, IsReading}
+use Rattle.cert_check.specs.Reading.{entry_told, lines_from, IsRead, IsFirst, IsAdded, IsReading, GoesOn}
 use Rattle.cert_check.specs.declared.entry.Entry.{Entry}
+use Rattle.cert_check.specs.declared.reading.Lines.{Lines}
+use Rattle.cert_check.specs.declared.reading.Next.TheVariants as next
+use Rattle.cert_check.proofs.TableLemmas.{texts_swapped}
 
-bytes_swapped : (m n : ℕ) → (m == n) ≡ (n == m)
-bytes_swapped m n = grind (arith, nat_tests)
-
-texts_swapped : (xs ys : List ℕ) → bytes_eq xs ys ≡ bytes_eq ys xs
-texts_swapped [] [] = refl
-texts_swapped [] (y ∷ ys) = refl
-texts_swapped (x ∷ xs) [] = refl
-texts_swapped (x ∷ xs) (y ∷ ys) = λ i. bytes_swapped x y i && texts_swapped xs ys i
+pub absent : {A : Type 0} (o : Option A) → is_some o ≡ false → o ≡ None
+absent None e = refl
+absent (Some x) e = absurd cc
 
 -- an entry is put into the table
 pub entry_put : {S : Type 0} (before behind : List (List ℕ × S)) (es : List (plain.Entry S)) (e : plain.Entry S) (key : List ℕ) → key ≡ e.at ∷ e.sites → ((q : List ℕ) → lookup (bytes_eq q) behind ≡ (if bytes_eq key q then Some e.state else lookup (bytes_eq q) before)) → HasEntries before es → HasEntries behind (e ∷ es)
@@ -57,9 +55,9 @@ module _ {S : Type 0} (port : Portable S) (program : List Routine) (all : plain.
       let x = a r.entries r.has in
       record {
         entries = x.0 ∷ r.entries;
-        has = x.2.2;
+        has = x.3;
         comes =
-            sym (ap (λ o. with_entry i r.entries o (λ es. entries port program (i + 1) es rest)) x.1 ∙ ap (λ o. unless_there o (plain.Bad i) (entries port program (i + 1) (x.0 ∷ r.entries) rest)) x.2.0)
+            sym (ap (λ o. with_entry i r.entries o (λ es. entries port program (i + 1) es rest)) x.1 ∙ ap (λ o. unless_there o (plain.Bad i) (entries port program (i + 1) (x.0 ∷ r.entries) rest)) x.2)
             ∙ r.comes;
       }
 
@@ -73,22 +71,55 @@ module _ {S : Type 0} (port : Portable S) (program : List Routine) (all : plain.
   along : (table : List (List ℕ × S)) (i : ℕ) (rest rest' : List (List ℕ)) → rest ≡ rest' → IsReading port program table i rest all → IsReading port program table i rest' all
   along table i rest rest' e r = subst (λ ls. IsReading port program table i ls all) e r
 
-  -- a byte ends a line, or goes on with it
-  pub at_feed : (table : List (List ℕ × S)) (i : ℕ) (part text : List ℕ) (k : ℕ) (byte : ℕ) → k < length text → byte ≡ get_or text k byte → byte ≡ 10 → IsReading port program table i (lines_from part (drop k text)) all → IsReading port program table i (part ∷ lines_from [] (drop (k + 1) text)) all
-  at_feed table i part text k byte h e f r =
-      along table i (lines_from part (drop k text)) (part ∷ lines_from [] (drop (k + 1) text))
-      (ap (lines_from part) (drop_item text k byte h e)
-      ∙ by_test byte 10 (λ c. (if c then part ∷ whole_lines [] (drop (k + 1) text) else whole_lines (part ++ byte ∷ []) (drop (k + 1) text)) ++ last_line (if c then last_part [] (drop (k + 1) text) else last_part (part ++ byte ∷ []) (drop (k + 1) text)) ≡ part ∷ lines_from [] (drop (k + 1) text)) (λ e. refl) (λ n. absurd (n f)))
-      r
-
-  pub at_byte : (table : List (List ℕ × S)) (i : ℕ) (part more text : List ℕ) (k : ℕ) (byte : ℕ) → k < length text → byte ≡ get_or text k byte → (byte ≡ 10 → ⊥) → more ≡ part ++ byte ∷ [] → IsReading port program table i (lines_from part (drop k text)) all → IsReading port program table i (lines_from more (drop (k + 1) text)) all
-  at_byte table i part more text k byte h e f m r =
-      along table i (lines_from part (drop k text)) (lines_from more (drop (k + 1) text))
-      (ap (lines_from part) (drop_item text k byte h e)
-      ∙ by_test byte 10 (λ c. (if c then part ∷ whole_lines [] (drop (k + 1) text) else whole_lines (part ++ byte ∷ []) (drop (k + 1) text)) ++ last_line (if c then last_part [] (drop (k + 1) text) else last_part (part ++ byte ∷ []) (drop (k + 1) text)) ≡ lines_from (part ++ byte ∷ []) (drop (k + 1) text)) (λ e. absurd (f e)) (λ n. refl)
-      ∙ ap (λ p. lines_from p (drop (k + 1) text)) (sym m))
-      r
+  alone : (part : List ℕ) → 0 < length part → last_line part ≡ part ∷ []
+  alone [] h = absurd (omega arith)
+  alone (b ∷ rest) h = refl
 
   -- what is behind the last LF
   pub at_end : (table : List (List ℕ × S)) (i : ℕ) (part text : List ℕ) (k : ℕ) → length text ≤ k → IsReading port program table i (lines_from part (drop k text)) all → IsReading port program table i (last_line part) all
   at_end table i part text k h r = along table i (lines_from part (drop k text)) (last_line part) (ap (lines_from part) (drop_all k text h)) r
+
+  -- the rest of the lines, and what is behind the last LF
+  pub rest_read : (table more : List (List ℕ × S)) (i : ℕ) (part : List ℕ) → 0 < length part → IsAdded port program part table more true → IsReading port program table i (last_line part) all → (es : List (plain.Entry S)) × (all ≡ plain.Reads es) × HasEntries more es
+  rest_read table more i part h a r = all_read more (i + 1) (line_read table more i part [] a (along table i (last_line part) (part ∷ []) (alone part h) r))
+
+  pub rest_bad : (table more : List (List ℕ × S)) (i : ℕ) (part : List ℕ) → 0 < length part → IsAdded port program part table more false → IsReading port program table i (last_line part) all → all ≡ plain.Bad i
+  rest_bad table more i part h a r = line_bad table more i part [] a (along table i (last_line part) (part ∷ []) (alone part h) r)
+
+-- the bytes from a place on
+pub drop_byte : (xs : List ℕ) (i : ℕ) → i < length xs → drop i xs ≡ get_or xs i 0 ∷ drop (i + 1) xs
+drop_byte xs i h = go xs i h ∙ (let e : suc i ≡ i + 1 = omega arith in ap (λ k. get_or xs i 0 ∷ drop k xs) e)
+  where
+    go : (xs : List ℕ) (i : ℕ) → i < length xs → drop i xs ≡ get_or xs i 0 ∷ drop (suc i) xs
+    go [] i h = absurd (omega arith)
+    go (x ∷ xs) zero h = refl
+    go (x ∷ xs) (suc i) h = go xs i (omega arith)
+
+module _ {S : Type 0} (port : Portable S) (program : List Routine) where
+  -- LF ends a line, which is added or bad; another byte goes on with it
+  pub goes_ended : (byte : ℕ) (table more : List (List ℕ × S)) (i j : ℕ) (part cleared : List ℕ) → byte ≡ 10 → IsAdded port program part table more true → cleared ≡ [] → j ≡ i + 1 → GoesOn port program byte table i part more j cleared next.More
+  goes_ended byte table more i j part cleared e a c k all rest r =
+      subst (λ n. IsReading port program more n (lines_from cleared rest) all) (sym k)
+      (along port program all more (i + 1) (lines_from [] rest) (lines_from cleared rest) (ap (λ p. lines_from p rest) (sym c))
+      (line_read port program all table more i part (lines_from [] rest) a (along port program all table i (lines_from part (byte ∷ rest)) (part ∷ lines_from [] rest) (ap (λ b. lines_from part (b ∷ rest)) e) r)))
+
+  pub goes_bad : (byte : ℕ) (table more : List (List ℕ × S)) (i : ℕ) (part part' : List ℕ) → byte ≡ 10 → IsAdded port program part table more false → GoesOn port program byte table i part more i part' next.Bad
+  goes_bad byte table more i part part' e a all rest r =
+      line_bad port program all table more i part (lines_from [] rest) a (along port program all table i (lines_from part (byte ∷ rest)) (part ∷ lines_from [] rest) (ap (λ b. lines_from part (b ∷ rest)) e) r)
+
+  pub goes_on : (byte : ℕ) (table : List (List ℕ × S)) (i : ℕ) (part longer : List ℕ) → byte ≢ 10 → longer ≡ part ++ byte ∷ [] → GoesOn port program byte table i part table i longer next.More
+  goes_on byte table i part longer n e all rest r =
+      along port program all table i (lines_from part (byte ∷ rest)) (lines_from longer rest)
+      (by_test byte 10 (λ c. (if c then part ∷ whole_lines [] rest else whole_lines (part ++ byte ∷ []) rest) ++ last_line (if c then last_part [] rest else last_part (part ++ byte ∷ []) rest) ≡ lines_from (part ++ byte ∷ []) rest) (λ e. absurd (n e)) (λ n. refl)
+      ∙ ap (λ p. lines_from p rest) (sym e))
+      r
+
+  pub one_byte : (all : plain.Entries S) (cert : List ℕ) (k : ℕ) (table more : List (List ℕ × S)) (i j : ℕ) (part longer : List ℕ) → k < length cert → GoesOn port program (get_or cert k 0) table i part more j longer next.More → IsReading port program table i (lines_from part (drop k cert)) all → IsReading port program more j (lines_from longer (drop (k + 1) cert)) all
+  one_byte all cert k table more i j part longer h g r = g all (drop (k + 1) cert) (along port program all table i (lines_from part (drop k cert)) (lines_from part (get_or cert k 0 ∷ drop (k + 1) cert)) (ap (lines_from part) (drop_byte cert k h)) r)
+
+  pub bad_byte : (all : plain.Entries S) (cert : List ℕ) (k : ℕ) (table more : List (List ℕ × S)) (i j : ℕ) (part longer : List ℕ) → k < length cert → GoesOn port program (get_or cert k 0) table i part more j longer next.Bad → IsReading port program table i (lines_from part (drop k cert)) all → all ≡ plain.Bad j
+  bad_byte all cert k table more i j part longer h g r = g all (drop (k + 1) cert) (along port program all table i (lines_from part (drop k cert)) (lines_from part (get_or cert k 0 ∷ drop (k + 1) cert)) (ap (lines_from part) (drop_byte cert k h)) r)
+
+  pub last_read : {E : Type 0} (x : Result (Lines S) E) (all : plain.Entries S) (cert : List ℕ) (k : ℕ) (table : List (List ℕ × S)) (i : ℕ) (part line : List ℕ) → length cert ≤ k → line ≡ part → IsReading port program table i (lines_from part (drop k cert)) all → IfOk x (λ y. (all : plain.Entries S) → IsReading port program table i (last_line line) all → IsRead all y) → IfOk x (IsRead all)
+  last_read (Err error) all cert k table i part line h e r f = f
+  last_read (Ok y) all cert k table i part line h e r f = f all (subst (λ l. IsReading port program table i (last_line l) all) (sym e) (at_end port program all table i part cert k h r))

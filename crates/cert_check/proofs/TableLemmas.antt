@@ -1,6 +1,6 @@
 -- Tables of states and of chains, one entry at a time.
 use Rattle.std.proofs.Common.{ℕ, zero, suc, ◌≡◌, ◌+◌, ◌<◌, ◌≤◌, Bool, true, false, List, [], ◌∷◌, ◌++◌, length, map, drop, reverse, get_or, slice_get, Option, Some, None, refl, sym, ap, subst, ◌∙◌, arith}
-use Rattle.std.specs.Prelude.{◌==◌, ◌&&◌, nat_lt, if◌then◌else◌}
+use Rattle.std.specs.Prelude.{◌==◌, ◌&&◌, ◌||◌, nat_lt, if◌then◌else◌}
 use Rattle.std.specs.Str.{bytes_eq}
 use Rattle.std.specs.Map.{lookup}
 use Rattle.std.specs.List.{list_any}
@@ -20,7 +20,25 @@ use Rattle.cert_check.specs.Table.{state_at, HasEntries, in_set, chain_in, AreCh
 -- chains of a set are looked for from the first on
 pub any_chain : (z : List ℕ) (zs : List (List ℕ)) → list_any (bytes_eq z) zs ≡ is_chain z zs
 any_chain z [] = refl
-any_chain z (y ∷ ys) = ap (λ b. if bytes_eq z y then true else b) (any_chain z ys)
+any_chain z (y ∷ ys) = either (bytes_eq z y) (list_any (bytes_eq z) ys) ∙ ap (λ b. if bytes_eq z y then true else b) (any_chain z ys)
+  where
+    either : (a b : Bool) → (a || b) ≡ (if a then true else b)
+    either true b = refl
+    either false b = refl
+
+bytes_swapped : (m n : ℕ) → (m == n) ≡ (n == m)
+bytes_swapped m n = grind (arith, nat_tests)
+
+pub texts_swapped : (xs ys : List ℕ) → bytes_eq xs ys ≡ bytes_eq ys xs
+texts_swapped [] [] = refl
+texts_swapped [] (y ∷ ys) = refl
+texts_swapped (x ∷ xs) [] = refl
+texts_swapped (x ∷ xs) (y ∷ ys) = λ i. bytes_swapped x y i && texts_swapped xs ys i
+
+-- a chain is put into a set
+pub set_put : (before behind : List (List ℕ)) (key : List ℕ) → ((q : List ℕ) → list_any (bytes_eq q) behind ≡ (if bytes_eq key q then true else list_any (bytes_eq q) before)) → (z : List ℕ) → is_chain z behind ≡ (if bytes_eq z key then true else is_chain z before)
+set_put before behind key put z =
+    sym (any_chain z behind) ∙ put z ∙ (λ i. if texts_swapped key z i then true else any_chain z before i)
 
 swap_tests : (a b c : Bool) → (if (if a then true else b) then true else c) ≡ (if b then true else (if a then true else c))
 swap_tests true true c = refl

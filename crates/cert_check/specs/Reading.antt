@@ -9,6 +9,8 @@ use Rattle.cert_check.specs.Table.{HasEntries}
 use Rattle.cert_check.specs.declared.entry.Entry.{Entry}
 use Rattle.cert_check.specs.declared.reading.Lines.{Lines}
 use Rattle.cert_check.specs.declared.reading.Lines.TheVariants.{Read, Bad}
+use Rattle.cert_check.specs.declared.reading.Next.{Next}
+use Rattle.cert_check.specs.declared.reading.Next.TheVariants.{More, Bad as Ended}
 
 abbrev pub entry_told : {S : Type 0} → Entry S → plain.Entry S
 entry_told e = record { at = e.at; sites = e.sites; state = e.state }
@@ -43,3 +45,9 @@ pub record IsReading {S : Type 0} (port : Portable S) (program : List Routine) (
   pub entries : List (plain.Entry S)
   pub has : HasEntries table entries
   pub comes : plain.entries port program line entries rest ≡ all
+
+-- Goes on by one byte, with the table, the number of the line and the pending line before and after it: what was read with
+-- the byte in front goes on behind it, or the line that ended is bad.
+abbrev pub GoesOn : {S : Type 0} → Portable S → List Routine → (byte : ℕ) → (table : List (List ℕ × S)) → (line : ℕ) → (part : List ℕ) → (table' : List (List ℕ × S)) → (line' : ℕ) → (part' : List ℕ) → Next → Type 0
+GoesOn {S} port program byte table line part table' line' part' More = (all : plain.Entries S) (rest : List ℕ) → IsReading port program table line (lines_from part (byte ∷ rest)) all → IsReading port program table' line' (lines_from part' rest) all
+GoesOn {S} port program byte table line part table' line' part' Ended = (all : plain.Entries S) (rest : List ℕ) → IsReading port program table line (lines_from part (byte ∷ rest)) all → all ≡ plain.Bad line'

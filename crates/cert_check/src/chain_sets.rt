@@ -81,6 +81,7 @@ impl ChainSets {
     pub(crate) fn new(alloc: Global, prog: &View<'_>) -> Result<ChainSets, Memory>
         ensures are { IfOk result (λ t. AreChains (routines_of prog.now) t.sets) }
     {
+        prog.procs();
         let mut sets = Items::new(alloc);
         for place in 0..procedure_count(prog) {
             let chains = chains(alloc, prog, ProcId::new(place), &[])?;

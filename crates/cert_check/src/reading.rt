@@ -1,10 +1,10 @@
 //! The lines of a certificate, read once.
-ghost use Rattle.std.specs.Prelude.{◌≡◌, ◌∷◌, ◌+◌, ◌<◌, ◌^◌, [], List, IfOk, OnOk, length, option_map, if◌then◌else◌};
+ghost use Rattle.std.specs.Prelude.{◌≡◌, ◌∷◌, ◌+◌, ◌<◌, ◌≤◌, ◌^◌, [], List, IfOk, OnOk, length, option_map, if◌then◌else◌};
 ghost use Rattle.imp_check.specs.Slots.{routines_of};
-ghost use Rattle.script_loop.specs.Lines.{all_lines};
+ghost use Rattle.script_loop.specs.Lines.{all_lines, last_line};
 ghost use Rattle.cert_lines.specs.Lines as plain;
 ghost use Rattle.cert_check.specs.Table.{AreChains};
-ghost use Rattle.cert_check.specs.Reading.{IsRead, IsAdded};
+ghost use Rattle.cert_check.specs.Reading.{GoesOn, IsAdded, IsRead, IsReading};
 
 use crate::chain_sets::ChainSets;
 use crate::entry::entry_of;
@@ -46,6 +46,71 @@ fn add_line<D: Portable>(
     Ok(true)
 }
 
+/// What reading one byte more comes to.
+#[derive(Drop)]
+pub(crate) enum Next {
+    /// It goes on.
+    More,
+    /// The line that ended is bad.
+    Bad,
+}
+
+/// Goes on by one byte: LF ends the pending line, which is read; any other byte goes on with it.
+fn read_byte<D: Portable>(
+    alloc: Global,
+    dom: &D,
+    prog: &Checked,
+    chains: &ChainSets,
+    byte: u8,
+    line: &mut Vec<u8>,
+    count: &mut usize,
+    written: &mut Written<D::State>,
+) -> Result<Next, Memory>
+    requires chains { AreChains (routines_of prog.now) chains.now.sets }
+    requires room { count.old + 1 < 2 ^ 64 }
+    ensures counted { OnOk result (count.new ≤ count.old + 1) }
+    ensures goes { IfOk result (GoesOn (D.port dom.now) (routines_of prog.now) byte written.old count.old line.old.items written.new count.new line.new.items) }
+{
+    if byte == b'\n' {
+        if add_line(alloc, dom, prog, chains, line.as_slice(), written)? {
+            line.clear();
+            *count += 1;
+            Ok(Next::More)
+        } else {
+            Ok(Next::Bad)
+        }
+    } else {
+        line.push(byte)?;
+        Ok(Next::More)
+    }
+}
+
+/// Reads what is behind the last LF, if it has a byte.
+fn read_rest<D: Portable>(
+    alloc: Global,
+    dom: &D,
+    prog: &Checked,
+    chains: &ChainSets,
+    line: &[u8],
+    count: usize,
+    written: Written<D::State>,
+) -> Result<Lines<D::State>, Memory>
+    requires chains { AreChains (routines_of prog.now) chains.now.sets }
+    ensures is { IfOk result (λ r. (all : plain.Entries D.State) → IsReading (D.port dom.now) (routines_of prog.now) written count (last_line line.now) all → IsRead all r) }
+{
+    let mut all = written;
+    match line {
+        [] => Ok(Lines::Read(all)),
+        _ => {
+            if add_line(alloc, dom, prog, chains, line, &mut all)? {
+                Ok(Lines::Read(all))
+            } else {
+                Ok(Lines::Bad(count))
+            }
+        }
+    }
+}
+
 /// Reads the lines of a certificate in their order, up to the first bad one. It takes time linear in the certificate,
 /// beside what the domain takes for its texts.
 pub(crate) fn read_lines<D: Portable>(
@@ -62,19 +127,10 @@ pub(crate) fn read_lines<D: Portable>(
     let mut line: Vec<u8> = Vec::new(alloc);
     let mut count = 1;
     for byte in cert {
-        if *byte == b'\n' {
-            if !add_line(alloc, dom, prog, chains, line.as_slice(), &mut written)? {
-                return Ok(Lines::Bad(count));
-            }
-            line.clear();
-            count += 1;
-        } else {
-            line.push(*byte)?;
+        match read_byte(alloc, dom, prog, chains, *byte, &mut line, &mut count, &mut written)? {
+            Next::More => {}
+            Next::Bad => return Ok(Lines::Bad(count)),
         }
     }
-    if line.is_empty() || add_line(alloc, dom, prog, chains, line.as_slice(), &mut written)? {
-        Ok(Lines::Read(written))
-    } else {
-        Ok(Lines::Bad(count))
-    }
+    read_rest(alloc, dom, prog, chains, line.as_slice(), count, written)
 }

@@ -1,5 +1,6 @@
 //! What checking a certificate comes to, and its line.
-ghost use Rattle.std.specs.Prelude.{◌≡◌, ◌++◌, IfOk, OnOk, reverse};
+ghost use Rattle.std.specs.Prelude.{◌≡◌, ◌++◌, IfOk, OnOk, codes, decimal, reverse};
+ghost use Rattle.request_json.specs.Replies.{count, list_of};
 ghost use Rattle.serde_json.specs.Written.{compact_text};
 ghost use Rattle.cert_meaning.specs.Followed as plain;
 ghost use Rattle.cert_lines.specs.Verify.{verified_data, verified_line, why_name, No, BadLine, Yes};
@@ -45,15 +46,22 @@ fn put_bad(text: &mut Vec<u8>, line: usize) -> Result<(), Memory>
     Ok(())
 }
 
-/// Adds that what is written of a loop does not do.
-#[tactic(auto, using(crate::proofs::LineLemmas::no_text))]
-fn put_no(text: &mut Vec<u8>, at: StmtId, chain: &Chain, why: Why) -> Result<(), Memory>
-    ensures line { OnOk result (text.new.items ≡ text.old.items ++ compact_text (verified_data (No at (reverse chain.now) (why_of why)))) }
+/// Adds a loop and the calls of its chain, as the first members of an object.
+fn put_place(text: &mut Vec<u8>, at: StmtId, chain: &Chain) -> Result<(), Memory>
+    ensures place { OnOk result (text.new.items ≡ (((text.old.items ++ codes "{\"at\":") ++ decimal at) ++ codes ",\"chain\":") ++ compact_text (list_of count chain.now)) }
 {
     text.extend_from_slice(b"{\"at\":")?;
     put_number(text, u64::from(at.number()))?;
     text.extend_from_slice(b",\"chain\":")?;
     put_ids(text, chain.sites())?;
+    Ok(())
+}
+
+/// Adds that what is written of a loop does not do.
+fn put_no(text: &mut Vec<u8>, at: StmtId, chain: &Chain, why: Why) -> Result<(), Memory>
+    ensures line { OnOk result (text.new.items ≡ text.old.items ++ compact_text (verified_data (No at (reverse chain.now) (why_of why)))) }
+{
+    put_place(text, at, chain)?;
     text.extend_from_slice(b",\"verify\":\"no\",\"why\":")?;
     put_quoted(text, why_word(why).as_bytes())?;
     text.push(b'}')?;

@@ -38,7 +38,7 @@ pub(crate) fn loop_key(
     Ok(Items::from_vec(key))
 }
 
-impl<S> Written<S> {
+impl<S: Drop> Written<S> {
     /// No states. It takes no memory yet.
     pub(crate) fn new(alloc: Global) -> Written<S>
         ensures empty { result ≡ [] }
@@ -49,7 +49,6 @@ impl<S> Written<S> {
     }
 
     /// The state under a loop and call sites.
-    #[tactic(auto, using(crate::proofs::TableLemmas::key_tests))]
     pub(crate) fn get(&self, key: &Items<StmtId>) -> Option<&S>
         ensures state { option_copied result ≡ lookup (bytes_eq key.now) self.now }
     {

@@ -31,7 +31,7 @@ module _ {S : Type 0} (dom : Operations S) (covers : S → Heap → List Variabl
 
   entry_comes_in : (bytes : List ℕ) (l : Line) (e : Entry S) → Contains (all_lines cert) bytes → line_of bytes ≡ Some l → entry_in port program l ≡ Some e → Comes e
   entry_comes_in bytes l e among says k =
-      by_bool (is_loop_under port program l.at (reverse l.chain))
+      by_bool (is_loop_under program l.at (reverse l.chain))
       (λ b. by (port.take (layouts_around program (l.at ∷ reverse l.chain)) l.state) refl (sym (ap (λ c. if c then taken else None) b) ∙ k))
       (λ b. let i : None ≡ Some e = sym (ap (λ c. if c then taken else None) b) ∙ k in absurd cc)
     where

@@ -60,19 +60,19 @@ abbrev pub with_entry : {S : Type 0} → (line : ℕ) → List (Entry S) → Opt
 with_entry line done None go = Bad line
 with_entry line done (Some e) go = unless_there (written_in done e.sites e.at) (Bad line) (go (e ∷ done))
 
+abbrev pub is_chain_to : List Routine → Option ℕ → List ℕ → Bool
+is_chain_to program None z = false
+is_chain_to program (Some p) z = is_chain z (chains program p)
+
+-- whether n is a loop of the program, and z a chain of its procedure
+abbrev pub is_loop_under : List Routine → ℕ → List ℕ → Bool
+is_loop_under program n z = is_while n program && is_chain_to program (holder n program) z
+
 module _ {S : Type 0} (port : Portable S) (program : List Routine) where
-  abbrev pub is_chain_to : Option ℕ → List ℕ → Bool
-  is_chain_to None z = false
-  is_chain_to (Some p) z = is_chain z (chains program p)
-
-  -- whether n is a loop of the program, and z a chain of its procedure
-  abbrev pub is_loop_under : ℕ → List ℕ → Bool
-  is_loop_under n z = is_while n program && is_chain_to (holder n program) z
-
   abbrev pub entry_in : Line → Option (Entry S)
   entry_in l =
       let z = reverse l.chain in
-      if is_loop_under l.at z then option_map (λ s. record { at = l.at; sites = z; state = s }) (port.take (layouts_around program (l.at ∷ z)) l.state) else None
+      if is_loop_under program l.at z then option_map (λ s. record { at = l.at; sites = z; state = s }) (port.take (layouts_around program (l.at ∷ z)) l.state) else None
 
   abbrev pub entry_of : List ℕ → Option (Entry S)
   entry_of bytes = option_and_then entry_in (line_of bytes)

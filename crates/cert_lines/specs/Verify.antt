@@ -33,7 +33,7 @@ why_name Missing = codes "missing"
 why_name AtEntry = codes "entry"
 why_name Step = codes "step"
 
-abbrev pub verified_data : Verified → Data
+unfoldable pub verified_data : Verified → Data
 verified_data Yes = object_of ((codes "verify", string (codes "yes")) ∷ [])
 verified_data (BadLine line) = object_of ((codes "line", count line) ∷ (codes "verify", string (codes "no")) ∷ [])
 verified_data (No n z why) =
