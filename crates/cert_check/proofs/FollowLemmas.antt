@@ -210,10 +210,10 @@ module _ {S : Type 0} (dom : Operations S) (leq : S → S → Bool) (table : Lis
   of_callee (Ok x) none leaving place z n q routine c inner a there same body o h = (
     leaving,
     call_there place z n q routine a (sym there)
-    ∙ sym (λ i. followed_in dom leq table program (same i).place (same i).sites (body i) a)
-    ∙ sym (after_none (followed_in dom leq table program inner.place inner.sites c a))
-    ∙ ap (λ xs. after xs (followed_in dom leq table program inner.place inner.sites c a)) (sym o)
-    ∙ h,
+        ∙ sym (λ i. followed_in dom leq table program (same i).place (same i).sites (body i) a)
+        ∙ sym (after_none (followed_in dom leq table program inner.place inner.sites c a))
+        ∙ ap (λ xs. after xs (followed_in dom leq table program inner.place inner.sites c a)) (sym o)
+        ∙ h,
   )
 
   -- a call, by how the body of its procedure ends
@@ -228,12 +228,11 @@ module _ {S : Type 0} (dom : Operations S) (leq : S → S → Bool) (table : Lis
   pub main_ends : {E : Type 0} (x : Result (code.Followed S) E) (none leaving : List S) (k : ℕ) (r : Routine) (c : Code) (frame : Frame) (a : S) → length program ≡ suc k → slice_get program k ≡ Some r → frame ≡ record { place = k; sites = [] } → c ≡ r.code → a ≡ dom.init r.layout → none ≡ [] → IfOk x (λ x. after none (followed_in dom leq table program frame.place frame.sites c a) ≡ ended leaving x) → IfOk x (EndsSo (followed_program dom leq (state_at table) program))
   main_ends (Err e) none leaving k r c frame a l g f b i o h = h
   main_ends (Ok x) none leaving k r c frame a l g f b i o h =
-      let all : reverse program ≡ r ∷ earlier program k = sym (whole program k l) ∙ standing program k r g in
-      (
+      let all : reverse program ≡ r ∷ earlier program k = sym (whole program k l) ∙ standing program k r g in (
         leaving,
         ap (λ ps. followed_last dom leq (state_at table) ps (dom.init (main_layout ps))) all
-        ∙ sym (λ j. followed_in dom leq table program (f j).place (f j).sites (b j) (i j))
-        ∙ sym (after_none (followed_in dom leq table program frame.place frame.sites c a))
-        ∙ ap (λ xs. after xs (followed_in dom leq table program frame.place frame.sites c a)) (sym o)
-        ∙ h,
+            ∙ sym (λ j. followed_in dom leq table program (f j).place (f j).sites (b j) (i j))
+            ∙ sym (after_none (followed_in dom leq table program frame.place frame.sites c a))
+            ∙ ap (λ xs. after xs (followed_in dom leq table program frame.place frame.sites c a)) (sym o)
+            ∙ h,
       )

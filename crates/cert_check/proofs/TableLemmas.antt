@@ -74,16 +74,16 @@ pub sets_step : (program : List Routine) (sets more : List (List (List ℕ))) (p
 sets_step program sets more place set e f c = record {
   count = ap length e ∙ one_longer sets set ∙ ap (λ n. n + 1) c.count;
   told = λ p z h. by_bool (p == place)
-    (λ b.
-    let k : p ≡ place = grind (arith, nat_tests, b) in
-    ap (λ ss. in_set (slice_get ss p) z) e
-    ∙ ap (λ q. in_set (slice_get (sets ++ set ∷ []) q) z) (k ∙ sym c.count)
-    ∙ ap (λ o. in_set o z) (get_last sets set)
-    ∙ f z ∙ ap (λ q. is_chain z (chains program q)) (sym k))
-    (λ b.
-    let k : p < place = grind (arith, nat_tests, b, h) in
-    let l = c.count in
-    ap (λ ss. in_set (slice_get ss p) z) e ∙ ap (λ o. in_set o z) (get_other sets set p (λ n. omega (arith, n, l, k))) ∙ c.told p z k);
+      (λ b.
+      let k : p ≡ place = grind (arith, nat_tests, b) in
+      ap (λ ss. in_set (slice_get ss p) z) e
+      ∙ ap (λ q. in_set (slice_get (sets ++ set ∷ []) q) z) (k ∙ sym c.count)
+      ∙ ap (λ o. in_set o z) (get_last sets set)
+      ∙ f z ∙ ap (λ q. is_chain z (chains program q)) (sym k))
+      (λ b.
+      let k : p < place = grind (arith, nat_tests, b, h) in
+      let l = c.count in
+      ap (λ ss. in_set (slice_get ss p) z) e ∙ ap (λ o. in_set o z) (get_other sets set p (λ n. omega (arith, n, l, k))) ∙ c.told p z k);
 }
 
 pub sets_whole : (program : List Routine) (sets : List (List (List ℕ))) (place : ℕ) → IsChecked program → length program ≤ place → Chained program sets place → AreChains program sets

@@ -38,7 +38,9 @@ fn follow_block<D: Portable, L: Ledger>(
 {
     let mut now = state;
     for node in block.statements() {
-        match follow_node(alloc, dom, routines, written, frame, node, &now, leaving, steps)? {
+        match follow_node(
+            alloc, dom, routines, written, frame, node, &now, leaving, steps,
+        )? {
             Followed::Behind(next) => now = next,
             Followed::Fails { at, chain, why } => return Ok(Followed::Fails { at, chain, why }),
         }
@@ -106,12 +108,16 @@ fn follow_if<D: Portable, L: Ledger>(
     ensures is { IfOk result (λ r. after leaving.old (followed_in (D.operations dom.now) (D.port dom.now).leq written.now routines.now frame.now.place frame.now.sites (If 0 cond.now then.now els.now Stop) state.now) ≡ ended leaving.new r) }
 {
     let holds = dom.assume(alloc, cond, true, state, steps)?;
-    let left = match follow_block(alloc, dom, routines, written, frame, then, holds, leaving, steps)? {
+    let left = match follow_block(
+        alloc, dom, routines, written, frame, then, holds, leaving, steps,
+    )? {
         Followed::Behind(left) => left,
         Followed::Fails { at, chain, why } => return Ok(Followed::Fails { at, chain, why }),
     };
     let fails = dom.assume(alloc, cond, false, state, steps)?;
-    let right = match follow_block(alloc, dom, routines, written, frame, els, fails, leaving, steps)? {
+    let right = match follow_block(
+        alloc, dom, routines, written, frame, els, fails, leaving, steps,
+    )? {
         Followed::Behind(right) => right,
         Followed::Fails { at, chain, why } => return Ok(Followed::Fails { at, chain, why }),
     };
@@ -179,7 +185,15 @@ fn follow_round<D: Portable, L: Ledger>(
     let mut leaving = Items::new(alloc);
     let inside = dom.assume(alloc, cond, true, head, steps)?;
     let end = match follow_block(
-        alloc, dom, routines, written, frame, body, inside, &mut leaving, steps,
+        alloc,
+        dom,
+        routines,
+        written,
+        frame,
+        body,
+        inside,
+        &mut leaving,
+        steps,
     )? {
         Followed::Behind(end) => end,
         Followed::Fails { at, chain, why } => return Ok(Followed::Fails { at, chain, why }),
@@ -211,9 +225,19 @@ fn follow_call<D: Portable, L: Ledger>(
 {
     let entered = dom.enter(alloc, call, state, steps)?;
     match follow_callee(
-        alloc, dom, routines, written, frame, n, callee as usize, entered, steps,
+        alloc,
+        dom,
+        routines,
+        written,
+        frame,
+        n,
+        callee as usize,
+        entered,
+        steps,
     )? {
-        Followed::Behind(done) => Ok(Followed::Behind(dom.leave(alloc, call, state, &done, steps)?)),
+        Followed::Behind(done) => Ok(Followed::Behind(dom.leave(
+            alloc, call, state, &done, steps,
+        )?)),
         Followed::Fails { at, chain, why } => Ok(Followed::Fails { at, chain, why }),
     }
 }

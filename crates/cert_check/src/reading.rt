@@ -127,7 +127,16 @@ pub(crate) fn read_lines<D: Portable>(
     let mut line: Vec<u8> = Vec::new(alloc);
     let mut count = 1;
     for byte in cert {
-        match read_byte(alloc, dom, prog, chains, *byte, &mut line, &mut count, &mut written)? {
+        match read_byte(
+            alloc,
+            dom,
+            prog,
+            chains,
+            *byte,
+            &mut line,
+            &mut count,
+            &mut written,
+        )? {
             Next::More => {}
             Next::Bad => return Ok(Lines::Bad(count)),
         }

@@ -17,12 +17,7 @@ use std::alloc::Global;
 
 /// Adds a loop under a chain, with the text of its state, as an object.
 #[tactic(auto, using(crate::proofs::LineLemmas::state_text))]
-fn put_state(
-    text: &mut Vec<u8>,
-    stmt: StmtId,
-    chain: &Chain,
-    state: &[u8],
-) -> Result<(), Memory>
+fn put_state(text: &mut Vec<u8>, stmt: StmtId, chain: &Chain, state: &[u8]) -> Result<(), Memory>
     ensures object { OnOk result (text.new.items ≡ text.old.items ++ compact_text (line_data stmt chain.now state.now)) }
 {
     text.extend_from_slice(b"{\"at\":")?;

@@ -24,11 +24,11 @@ loop-head-preserved g c =
     let port = g.D.Portable.port c.args.dom.now in
     let z = reverse c.args.chain.now in
     λ engine program more.
-        let rest = lines_under dom port engine program z (map head_told (drop (c.loop-head.head-index + 1) c.args.heads.now)) more in
-        sym (ap (λ o. or_over (bytes_in o) (behind c.add_line.new.text.items rest)) c.in-None.is)
-        ∙ sym (c.in_ok-line.ensures.added engine program rest)
-        ∙ sym (ap (behind c.loop-head.text.items) (lines_step dom port engine program z c.args.heads.now c.loop-head.head-index c.head-item.result more c.loop-head-test.true c.head-item.is))
-        ∙ c.loop-head.invariant engine program more
+    let rest = lines_under dom port engine program z (map head_told (drop (c.loop-head.head-index + 1) c.args.heads.now)) more in
+    sym (ap (λ o. or_over (bytes_in o) (behind c.add_line.new.text.items rest)) c.in-None.is)
+    ∙ sym (c.in_ok-line.ensures.added engine program rest)
+    ∙ sym (ap (behind c.loop-head.text.items) (lines_step dom port engine program z c.args.heads.now c.loop-head.head-index c.head-item.result more c.loop-head-test.true c.head-item.is))
+    ∙ c.loop-head.invariant engine program more
 
 pub returns : goal.returns
 returns g c =

@@ -11,4 +11,4 @@ abbrev pub invariant-loop-head : goal.invariant-loop-head
 invariant-loop-head g l =
     let lines = lines_under (g.D.Domain.operations l.dom) (g.D.Portable.port l.dom) in
     (engine : Engine) (program : List Routine) (more : Certificate) →
-        behind l.text.items (lines engine program (reverse l.chain) (map head_told (drop l.head-index l.heads)) more) ≡ behind l.initial.text.items (lines engine program (reverse l.chain) (map head_told l.heads) more)
+    behind l.text.items (lines engine program (reverse l.chain) (map head_told (drop l.head-index l.heads)) more) ≡ behind l.initial.text.items (lines engine program (reverse l.chain) (map head_told l.heads) more)

@@ -47,8 +47,8 @@ loop-chain-preserved g c =
     let ns = loops_in (slice_get program c.args.proc) in
     let zs = c.as_slice-chain-items.result.now in
     λ more.
-        let rest = lines_before dom port engine program (under ns (map reverse (drop (c.loop-chain.chain-index + 1) zs))) more in
-        sym (ap (λ o. or_over (bytes_in o) (behind c.add_chain.new.text.items rest)) c.in-None.is)
-        ∙ sym (c.in_ok-line.ensures.added rest)
-        ∙ sym (ap (behind c.loop-chain.text.items) (chain_step dom port engine program ns zs c.loop-chain.chain-index c.chain-item.result more c.loop-chain-test.true c.chain-item.is))
-        ∙ c.loop-chain.invariant more
+    let rest = lines_before dom port engine program (under ns (map reverse (drop (c.loop-chain.chain-index + 1) zs))) more in
+    sym (ap (λ o. or_over (bytes_in o) (behind c.add_chain.new.text.items rest)) c.in-None.is)
+    ∙ sym (c.in_ok-line.ensures.added rest)
+    ∙ sym (ap (behind c.loop-chain.text.items) (chain_step dom port engine program ns zs c.loop-chain.chain-index c.chain-item.result more c.loop-chain-test.true c.chain-item.is))
+    ∙ c.loop-chain.invariant more

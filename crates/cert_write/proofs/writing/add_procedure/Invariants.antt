@@ -12,4 +12,4 @@ invariant-loop-chain g l =
     let program = routines_of l.prog in
     let lines = lines_before (g.D.Domain.operations l.dom) (g.D.Portable.port l.dom) l.setting.engine program in
     (more : Certificate) →
-        behind l.text.items (lines (under (loops_in (slice_get program l.proc)) (map reverse (drop l.chain-index l.chain-items))) more) ≡ behind l.initial.text.items (lines (under (loops_in (slice_get program l.proc)) (chains program l.proc)) more)
+    behind l.text.items (lines (under (loops_in (slice_get program l.proc)) (map reverse (drop l.chain-index l.chain-items))) more) ≡ behind l.initial.text.items (lines (under (loops_in (slice_get program l.proc)) (chains program l.proc)) more)
