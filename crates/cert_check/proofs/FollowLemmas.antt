@@ -1,8 +1,8 @@
 -- Following, one statement at a time, over plain variables.
-use Rattle.std.proofs.Common.{ℕ, suc, ◌≡◌, ◌+◌, ◌<◌, ◌≤◌, Bool, true, false, List, [], ◌∷◌, ◌++◌, length, drop, take, reverse, get_or, slice_get, Option, Some, None, Result, Ok, Err, IfOk, refl, sym, ap, subst, ◌∙◌, append_assoc}
+use Rattle.std.proofs.Common.{ℕ, suc, ◌≡◌, ◌+◌, ◌<◌, ◌≤◌, Bool, true, false, List, [], ◌∷◌, ◌++◌, length, drop, take, reverse, get_or, slice_get, Option, Some, None, Result, Ok, Err, IfOk, refl, sym, ap, ◌∙◌, append_assoc}
 use Rattle.std.specs.Prelude.{if◌then◌else◌}
 use Rattle.std.proofs.lemmas.List.{drop_all, append-nil}
-use Rattle.imp_slots.specs.Plain.{DoBreak, Does, Guard, Invoke, Code, Stop, Simple, If, While, Call, Break, Routine}
+use Rattle.imp_slots.specs.Plain.{DoBreak, Does, Guard, Invoke, Code, Stop, If, While, Call, Break, Routine}
 use Rattle.imp_slots.specs.ActionViews.{effect_of}
 use Rattle.imp_slots.specs.BlockViews.{before_code, code_of}
 use Rattle.imp_slots.specs.declared.blocks.SlotNode.{SlotNode}
@@ -12,7 +12,7 @@ use Rattle.batch_meaning.specs.Values.{State}
 use Rattle.batch_meaning.specs.Batch.{Engine}
 use Rattle.batch_meaning.specs.Batch as batch
 use Rattle.batch_meaning.specs.Places.{from, main_layout}
-use Rattle.plain_values.proofs.Lists.{drop_item, get_take}
+use Rattle.plain_values.proofs.Lists.{drop_item}
 use Rattle.plain_values.proofs.Cases.{by_test}
 use Rattle.cert_meaning.specs.Followed as plain
 use Rattle.cert_meaning.specs.Followed.{Why, Passes, Fails, Missing, Entry, Step, passing, after, unless, where_written, joined, followed, followed_procedure, followed_last, followed_program}
@@ -22,7 +22,7 @@ use Rattle.batch_interp.specs.declared.frames.Frame.{Frame}
 use Rattle.batch_interp.proofs.Procedures.{from_earlier, from_gone}
 use Rattle.batch_interp.proofs.Walkings.{standing, whole}
 use Rattle.cert_check.specs.Table.{state_at}
-use Rattle.cert_check.specs.Following.{why_of, ended, EndsSo, round, calls_in, followed_in}
+use Rattle.cert_check.specs.Following.{ended, EndsSo, round, calls_in, followed_in}
 use Rattle.cert_check.specs.declared.followed.Followed as code
 use Rattle.cert_check.specs.declared.followed.Followed.TheVariants as came
 

@@ -1,20 +1,17 @@
 -- Lines read one after another.
-use Rattle.std.proofs.Common.{ℕ, zero, suc, ◌≡◌, ◌+◌, ◌<◌, ◌≤◌, Bool, true, false, List, [], ◌∷◌, ◌++◌, length, drop, get_or, Option, Some, None, Result, Ok, Err, IfOk, ◌≢◌, refl, sym, ap, subst, ◌∙◌, arith}
+use Rattle.std.proofs.Common.{ℕ, zero, suc, ◌≡◌, ◌+◌, ◌<◌, ◌≤◌, true, false, List, [], ◌∷◌, ◌++◌, length, drop, get_or, Option, Some, None, Result, Ok, Err, IfOk, ◌≢◌, refl, sym, ap, subst, ◌∙◌, arith}
 use Rattle.std.specs.Prelude.{◌==◌, ◌&&◌, is_some, if◌then◌else◌}
 use Rattle.std.specs.Str.{bytes_eq}
 use Rattle.std.specs.Map.{lookup}
-use Rattle.std.proofs.lemmas.Bool.{and_parts}
-use Rattle.std.proofs.lemmas.Bool.Decides.{nat_tests}
 use Rattle.std.proofs.lemmas.List.{drop_all}
 use Rattle.imp_slots.specs.Plain.{Routine}
-use Rattle.script_loop.specs.Lines.{whole_lines, last_part, last_line, all_lines}
+use Rattle.script_loop.specs.Lines.{whole_lines, last_part, last_line}
 use Rattle.plain_values.proofs.Cases.{by_test}
-use Rattle.plain_values.proofs.Lists.{drop_item}
 use Rattle.cert_meaning.specs.Portable.{Portable}
 use Rattle.cert_lines.specs.Lines as plain
 use Rattle.cert_lines.specs.Lines.{written_in, unless_there, with_entry, entry_of, entries}
-use Rattle.cert_check.specs.Table.{state_at, HasEntries}
-use Rattle.cert_check.specs.Reading.{entry_told, lines_from, IsRead, IsFirst, IsAdded, IsReading, GoesOn}
+use Rattle.cert_check.specs.Table.{HasEntries}
+use Rattle.cert_check.specs.Reading.{entry_told, lines_from, IsRead, IsAdded, IsReading, GoesOn}
 use Rattle.cert_check.specs.declared.entry.Entry.{Entry}
 use Rattle.cert_check.specs.declared.reading.Lines.{Lines}
 use Rattle.cert_check.specs.declared.reading.Next.TheVariants as next

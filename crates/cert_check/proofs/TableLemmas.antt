@@ -1,12 +1,9 @@
 -- Tables of states and of chains, one entry at a time.
-use Rattle.std.proofs.Common.{ℕ, zero, suc, ◌≡◌, ◌+◌, ◌<◌, ◌≤◌, Bool, true, false, List, [], ◌∷◌, ◌++◌, length, map, drop, reverse, get_or, slice_get, Option, Some, None, refl, sym, ap, subst, ◌∙◌, arith}
+use Rattle.std.proofs.Common.{ℕ, zero, suc, ◌≡◌, ◌+◌, ◌<◌, ◌≤◌, Bool, true, false, List, [], ◌∷◌, ◌++◌, length, map, drop, reverse, get_or, slice_get, None, refl, sym, ap, ◌∙◌, arith}
 use Rattle.std.specs.Prelude.{◌==◌, ◌&&◌, ◌||◌, nat_lt, if◌then◌else◌}
 use Rattle.std.specs.Str.{bytes_eq}
-use Rattle.std.specs.Map.{lookup}
 use Rattle.std.specs.List.{list_any}
-use Rattle.std.proofs.lemmas.Bool.{and_parts}
 use Rattle.std.proofs.lemmas.Bool.Decides.{nat_tests}
-use Rattle.std.proofs.lemmas.Slice.Eq.{bytes_eq-Decides}
 use Rattle.std.proofs.lemmas.List.{drop_all}
 use Rattle.imp_slots.specs.Plain.{Routine}
 use Rattle.imp_slots.specs.Fits.{IsChecked}
@@ -14,8 +11,8 @@ use Rattle.program_chains.specs.Chains.{chains}
 use Rattle.plain_values.proofs.Cases.{by_bool}
 use Rattle.plain_values.proofs.Lists.{drop_item, get_last, get_other}
 use Rattle.call_contexts.proofs.Tabled.{none_past}
-use Rattle.cert_lines.specs.Lines.{Entry, written_in, is_chain}
-use Rattle.cert_check.specs.Table.{state_at, HasEntries, in_set, chain_in, AreChains}
+use Rattle.cert_lines.specs.Lines.{is_chain}
+use Rattle.cert_check.specs.Table.{in_set, chain_in, AreChains}
 
 -- chains of a set are looked for from the first on
 pub any_chain : (z : List ℕ) (zs : List (List ℕ)) → list_any (bytes_eq z) zs ≡ is_chain z zs

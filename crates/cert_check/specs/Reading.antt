@@ -1,7 +1,7 @@
 -- Reading the lines of a certificate.
-use Rattle.std.specs.Prelude.{◌≡◌, ℕ, List, [], ◌∷◌, ◌++◌, Option, Some, None, Bool, true, false, option_map, if◌then◌else◌}
+use Rattle.std.specs.Prelude.{◌≡◌, ℕ, List, ◌∷◌, ◌++◌, Option, Some, None, Bool, true, false, option_map, if◌then◌else◌}
 use Rattle.imp_slots.specs.Plain.{Routine}
-use Rattle.script_loop.specs.Lines.{whole_lines, last_part, last_line, all_lines}
+use Rattle.script_loop.specs.Lines.{whole_lines, last_part, last_line}
 use Rattle.cert_meaning.specs.Portable.{Portable}
 use Rattle.cert_meaning.specs.Chained.{layouts_around}
 use Rattle.cert_lines.specs.Lines as plain

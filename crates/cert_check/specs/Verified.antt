@@ -1,5 +1,5 @@
 -- What checking a certificate comes to, and what a yes says.
-use Rattle.std.specs.Prelude.{◌≡◌, ℕ, List, [], reverse}
+use Rattle.std.specs.Prelude.{ℕ, List, [], reverse}
 use Rattle.imp_syntax.specs.declared.edit.Location.TheVariants.{Head}
 use Rattle.imp_slots.specs.Plain.{Routine}
 use Rattle.concrete_sem.specs.Values.{Variables, Heap}

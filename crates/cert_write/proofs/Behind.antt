@@ -1,5 +1,5 @@
 -- What is written, one line after another.
-use Rattle.std.proofs.Common.{ℕ, zero, suc, ◌≡◌, ◌+◌, ◌<◌, ◌≤◌, List, [], ◌∷◌, ◌++◌, length, map, drop, reverse, get_or, slice_get, Option, Some, None, Result, Ok, Err, IfOk, refl, sym, ap, subst, ◌∙◌, arith, append_assoc, add-one}
+use Rattle.std.proofs.Common.{ℕ, zero, suc, ◌≡◌, ◌+◌, ◌<◌, ◌≤◌, List, [], ◌∷◌, ◌++◌, length, map, drop, reverse, get_or, slice_get, Option, Some, Result, Ok, Err, IfOk, refl, sym, ap, subst, ◌∙◌, arith, append_assoc, add-one}
 use Rattle.std.specs.Prelude.{Contains, Vec}
 use Rattle.std.proofs.lemmas.List.{drop_all, reverse-reverse}
 use Rattle.serde_json.specs.Written.{compact_text}
@@ -7,7 +7,7 @@ use Rattle.imp_syntax.specs.declared.edit.Location.TheVariants.{Head as AtHead}
 use Rattle.imp_slots.specs.Plain.{Routine}
 use Rattle.program_chains.specs.Chains.{chains}
 use Rattle.domain_laws.specs.Operations.{Operations}
-use Rattle.batch_meaning.specs.Values.{Value, State, Over}
+use Rattle.batch_meaning.specs.Values.{State}
 use Rattle.batch_meaning.specs.Batch.{Engine}
 use Rattle.batch_meaning.specs.Places.{value_at}
 use Rattle.plain_values.proofs.Lists.{drop_item}
@@ -16,7 +16,7 @@ use Rattle.batch_interp.specs.Answered.{value_of}
 use Rattle.batch_interp.specs.Heads.{head_told, loops_in, heads_under}
 use Rattle.batch_interp.specs.declared.heads.Head.{Head}
 use Rattle.batch_interp.specs.declared.value.Answer.TheVariants as known
-use Rattle.cert_lines.specs.Certificate.{Certificate, Lines, Gives, in_front, under, loops_from, all_loops, with_line, certificate_of, lines_text, certificate_text}
+use Rattle.cert_lines.specs.Certificate.{Certificate, Lines, Gives, under, loops_from, all_loops, with_line, certificate_of, lines_text, certificate_text}
 use Rattle.cert_write.specs.Writing.{line_data, behind, or_over, bytes_in, lines_under, lines_before}
 
 module _ {S : Type 0} (dom : Operations S) (port : Portable S) (engine : Engine) (program : List Routine) where

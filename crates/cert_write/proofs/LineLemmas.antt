@@ -1,5 +1,5 @@
 -- The lines as the code puts them together.
-use Rattle.std.proofs.Common.{◌≡◌, ℕ, List, [], ◌∷◌, ◌++◌, codes, reverse, sym, ap}
+use Rattle.std.proofs.Common.{◌≡◌, ℕ, List, ◌++◌, codes, reverse, sym, ap}
 use Rattle.std.specs.Prelude.{decimal}
 use Rattle.std.proofs.lemmas.List.{reverse-reverse}
 use Rattle.json.specs.Print.{quoted}

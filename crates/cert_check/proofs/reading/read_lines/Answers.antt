@@ -1,4 +1,4 @@
-use Rattle.std.proofs.Common.{◌+◌, [], sym, ap, ◌∙◌, arith}
+use Rattle.std.proofs.Common.{[], arith}
 use Rattle.script_loop.specs.Lines.{all_lines}
 use Rattle.imp_check.specs.Slots.{routines_of}
 use Rattle.cert_lines.specs.Lines.{entries}

@@ -1,4 +1,4 @@
-use Rattle.std.proofs.Common.{◌≡◌, sym, ap, ◌∙◌, map, reverse}
+use Rattle.std.proofs.Common.{◌≡◌, ap, ◌∙◌, map, reverse}
 use Rattle.imp_check.specs.Slots.{routines_of}
 use Rattle.batch_interp.specs.Heads.{head_told, heads_under}
 use Rattle.cert_write.proofs.Behind.{chain_lines}

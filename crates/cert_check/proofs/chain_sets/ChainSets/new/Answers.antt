@@ -1,4 +1,4 @@
-use Rattle.std.proofs.Common.{◌≡◌, List, [], ap, ◌∙◌, arith, map, reverse}
+use Rattle.std.proofs.Common.{◌≡◌, [], ap, ◌∙◌, arith, map, reverse}
 use Rattle.imp_check.specs.Slots.{routines_of}
 use Rattle.program_chains.specs.Chains.{chains}
 use Rattle.call_contexts.proofs.Few.{as_many}
