@@ -15,7 +15,8 @@ use Rattle.daig_session.specs.Going.{IsGoing, IsRefused}
 use Rattle.daig_session.specs.Holds.{Holds, IsReady}
 use Rattle.daig_session.specs.Reports.{IsUnticked}
 use Rattle.daig_session.specs.Turns.{Explains}
-use Rattle.daig_session.proofs.Answering.{answered_here, between_some, no_steps, upstream_here, why_refused_turn, IsListed}
+use Rattle.daig_session.proofs.Answering.{between_some, no_steps}
+use Rattle.daig_session.proofs.Explained.{answered_here, upstream_here, why_refused_turn, IsListed}
 use Rattle.daig_session.proofs.Filled.{asked_holds, fills_ready, missing_here}
 use Rattle.daig_session.proofs.session.Session.why.Goals as goal
 
@@ -138,7 +139,7 @@ returns-clause-explains g c = λ m h.
     let listed = subst (λ d. IsListed (ops d) new walk (flow_in s.book) l string c.in_ok-stmts.stmts) c.fill_all.ensures.domain (subst (λ (p : Plan). IsListed (ops c.fill_all.new.engine.domain) new walk p l string c.in_ok-stmts.stmts) c.flow-now.ensures.is c.in_ok-stmts.ensures.is) in
     let stmts = listed going.asked.place ts going.asked.there going.asked.are c.in_ok-filled.ensures.filled in
     let e = c.in_ok-filled.ensures.all ∙ ap length (missing_here dom s.book s.engine.store new m l string ts h going.asked) in (
-      answered_here dom s.book s.engine.store m l string ts h going.asked,
+      answered_here dom s.book s.engine.store m l string ts c.requires.ready.right.checked h going.asked,
       upstream_here dom s.book s.engine.store m l string ts c.in_ok-stmts.stmts h going.asked stmts,
       subst (λ d. Holds (ops d) new (record s.book { cost = n }) (asked dom l string m)) (sym c.fill_all.ensures.domain) (
           asked_holds dom s.book s.engine.store new l string ts (added s.engine.store new) c.requires.ready.right.checked going.asked c.fill_all.ensures.fills (c.questions_keep_cells.ensures.question s.engine.domain) m n h e (sym c.in_ok-filled.ensures.counted ∙ e)),
