@@ -5,7 +5,6 @@ use Rattle.imp_slots.specs.Fits.{IsChecked}
 use Rattle.domain_laws.specs.Operations.{Operations}
 use Rattle.batch_meaning.specs.Answers.{answer, In, procedure_of}
 use Rattle.cell_rows.specs.Targets.{Target, targets}
-use Rattle.imp_check.specs.Slots.{routines_of}
 use Rattle.imp_flow.specs.Plans.{Plan}
 use Rattle.named_cells.specs.Same.{same_name}
 use Rattle.daig_query.specs.declared.store.Store.{Store}
