@@ -129,8 +129,8 @@ impl<D: Domain> Session<D> {
         ensures most { steps.new ≤ steps.old + D.counted self.old.engine.domain * suc (added self.old.engine.store self.new.engine.store) }
     {
         questions_keep_cells::<D>();
-        let flow = self.book.flow();
-        let mut going = begun(alloc, &self.engine, &flow, at, string)?;
+        let before = self.book.flow();
+        let mut going = begun(alloc, &self.engine, &before, at, string)?;
         let filled = fill_all(alloc, &mut self.engine, &self.book, &mut going, steps)?;
         let now = self.book.flow();
         let stmts = upstream(alloc, &self.engine, &now, at, string, &going.walk)?;

@@ -62,9 +62,9 @@ fn request_line<D: Domain, L: Ledger>(
 ///
 /// # Errors
 ///
-/// [`Memory`] alone. A line that asks no question, for no list of causes, for no report and for no step then leaves the session as it was. After
-/// one that does, either some of what was missing is kept, the first of it, and nothing else is changed; or the session
-/// stands for the machine after the line, and the reply alone is not written.
+/// [`Memory`] alone. A line that asks no question, for no list of statements, for no report and for no step then leaves the
+/// session as it was. After one that does, either some of what was missing is kept, the first of it, and nothing else is
+/// changed; or the session stands for the machine after the line, and the reply alone is not written.
 pub fn answer_line<D: Domain, L: Ledger>(
     alloc: Global,
     session: &mut Session<D>,

@@ -23,18 +23,18 @@ use Rattle.daig_session.proofs.session.Session.why.Goals as goal
 pub begun-requires : goal.begun-requires
 begun-requires g c =
     let s = c.args.self.now in
-    record { right = subst (λ (p : Plan). IsRight (g.D.Domain.operations s.engine.domain) p s.engine.store) (sym c.flow-flow.ensures.is) c.requires.ready.right }
+    record { right = subst (λ (p : Plan). IsRight (g.D.Domain.operations s.engine.domain) p s.engine.store) (sym c.flow-before.ensures.is) c.requires.ready.right }
 
 pub fill_all-requires-clause-going : goal.fill_all-requires-clause-going
 fill_all-requires-clause-going g c =
     let s = c.args.self.now in
-    (c.args.at.now, c.args.string.now, subst (λ (p : Plan). IsGoing (g.D.Domain.operations s.engine.domain) p s.engine.store c.args.at.now c.args.string.now c.in_ok-going.going) c.flow-flow.ensures.is c.in_ok-going.ensures.going)
+    (c.args.at.now, c.args.string.now, subst (λ (p : Plan). IsGoing (g.D.Domain.operations s.engine.domain) p s.engine.store c.args.at.now c.args.string.now c.in_ok-going.going) c.flow-before.ensures.is c.in_ok-going.ensures.going)
 
 pub returns-in_err-going-clause-explains : goal.returns-in_err-going-clause-explains
 returns-in_err-going-clause-explains g c = λ m h.
     let s = c.args.self.now in
     let dom = g.D.Domain.operations s.engine.domain in
-    let is = subst (λ (p : Plan). IsRefused (answer dom p.engine p.program c.args.at.now c.args.string.now) c.in_err-going.field-0.0) c.flow-flow.ensures.is c.in_err-going.ensures.refused in
+    let is = subst (λ (p : Plan). IsRefused (answer dom p.engine p.program c.args.at.now c.args.string.now) c.in_err-going.field-0.0) c.flow-before.ensures.is c.in_err-going.ensures.refused in
     let e : c.from_residual.result ≡ Err c.in_err-going.field-0.0 = search rules in
     subst (Explains dom m (Holds dom s.engine.store s.book) c.args.at.now c.args.string.now) (sym e) (why_refused_turn dom s.book s.engine.store m c.args.at.now c.args.string.now c.in_err-going.field-0.0 h is)
 
@@ -61,7 +61,7 @@ returns-in_err-filled-clause-explains g c = λ m h.
     let l = c.args.at.now in
     let string = c.args.string.now in
     let ts = map target_of c.in_ok-going.going.targets in
-    let going = subst (λ (p : Plan). IsGoing dom p s.engine.store l string c.in_ok-going.going) c.flow-flow.ensures.is c.in_ok-going.ensures.going in
+    let going = subst (λ (p : Plan). IsGoing dom p s.engine.store l string c.in_ok-going.going) c.flow-before.ensures.is c.in_ok-going.ensures.going in
     let p = err_from_is_err_and c.from_residual-in_err-filled.result c.from_residual-in_err-filled.ensures.1 in
     rw (p.1, p.2) (subst (λ d. IsBetween (missing_at dom l string m) m (Holds (ops d) new s.book)) (sym c.fill_all.ensures.domain) (
     between_some dom s.book s.engine.store new l string ts (added s.engine.store new) c.requires.ready.right.checked going.asked c.fill_all.ensures.fills (c.questions_keep_cells.ensures.question s.engine.domain) m h))
@@ -75,7 +75,7 @@ upstream-requires g c =
     let l = c.args.at.now in
     let string = c.args.string.now in
     let ts = map target_of c.in_ok-going.going.targets in
-    let going = subst (λ (p : Plan). IsGoing (ops s.engine.domain) p s.engine.store l string c.in_ok-going.going) c.flow-flow.ensures.is c.in_ok-going.ensures.going in
+    let going = subst (λ (p : Plan). IsGoing (ops s.engine.domain) p s.engine.store l string c.in_ok-going.going) c.flow-before.ensures.is c.in_ok-going.ensures.going in
     let filled = subst (λ d. AreFilled (ops d) new walk (flow_in s.book) ts) (sym c.fill_all.ensures.domain) c.in_ok-filled.ensures.filled in
     record { filled = subst (λ (p : Plan). (q : ℕ) × (us : List Target) × (procedure_of p.program l ≡ In q) × (targets p.program q l string ≡ Some us) × AreFilled (ops c.fill_all.new.engine.domain) new walk p us) (sym c.flow-now.ensures.is) (going.asked.place, ts, going.asked.there, going.asked.are, filled) }
 
@@ -96,7 +96,7 @@ returns-in_err-stmts-clause-explains g c = λ m h.
     let l = c.args.at.now in
     let string = c.args.string.now in
     let ts = map target_of c.in_ok-going.going.targets in
-    let going = subst (λ (p : Plan). IsGoing dom p s.engine.store l string c.in_ok-going.going) c.flow-flow.ensures.is c.in_ok-going.ensures.going in
+    let going = subst (λ (p : Plan). IsGoing dom p s.engine.store l string c.in_ok-going.going) c.flow-before.ensures.is c.in_ok-going.ensures.going in
     let p = err_from_is_err_and c.from_residual-in_err-stmts.result c.from_residual-in_err-stmts.ensures.1 in
     rw (p.1, p.2) (subst (λ d. IsBetween (missing_at dom l string m) m (Holds (ops d) new s.book)) (sym c.fill_all.ensures.domain) (
     between_some dom s.book s.engine.store new l string ts (added s.engine.store new) c.requires.ready.right.checked going.asked c.fill_all.ensures.fills (c.questions_keep_cells.ensures.question s.engine.domain) m h))
@@ -134,7 +134,7 @@ returns-clause-explains g c = λ m h.
     let string = c.args.string.now in
     let ts = map target_of c.in_ok-going.going.targets in
     let n = c.in_ok-filled.filled in
-    let going = subst (λ (p : Plan). IsGoing dom p s.engine.store l string c.in_ok-going.going) c.flow-flow.ensures.is c.in_ok-going.ensures.going in
+    let going = subst (λ (p : Plan). IsGoing dom p s.engine.store l string c.in_ok-going.going) c.flow-before.ensures.is c.in_ok-going.ensures.going in
     let filled = subst (λ d. AreFilled (ops d) new walk (flow_in s.book) ts) (sym c.fill_all.ensures.domain) c.in_ok-filled.ensures.filled in
     let listed = subst (λ d. IsListed (ops d) new walk (flow_in s.book) l string c.in_ok-stmts.stmts) c.fill_all.ensures.domain (subst (λ (p : Plan). IsListed (ops c.fill_all.new.engine.domain) new walk p l string c.in_ok-stmts.stmts) c.flow-now.ensures.is c.in_ok-stmts.ensures.is) in
     let stmts = listed going.asked.place ts going.asked.there going.asked.are c.in_ok-filled.ensures.filled in
@@ -153,6 +153,6 @@ returns-clause-ticked g c = λ m h.
     let l = c.args.at.now in
     let string = c.args.string.now in
     let ts = map target_of c.in_ok-going.going.targets in
-    let going = subst (λ (p : Plan). IsGoing dom p s.engine.store l string c.in_ok-going.going) c.flow-flow.ensures.is c.in_ok-going.ensures.going in
+    let going = subst (λ (p : Plan). IsGoing dom p s.engine.store l string c.in_ok-going.going) c.flow-before.ensures.is c.in_ok-going.ensures.going in
     let e = c.in_ok-filled.ensures.all ∙ ap length (missing_here dom s.book s.engine.store new m l string ts h going.asked) in
     subst (λ n. c.fill_all.new.steps ≤ c.args.steps.now + g.D.Domain.counted s.engine.domain * n) e c.in_ok-filled.ensures.ticked
