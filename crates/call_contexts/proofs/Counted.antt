@@ -17,6 +17,12 @@ use Rattle.call_contexts.specs.Tallies.{one_if, times, occurs, rising, or_none, 
 use Rattle.call_contexts.proofs.Lists.{by_test, drop_item, drop_none, take_item}
 use Rattle.call_contexts.proofs.TallyLemmas.{same_test, times_both, rising_sorted, rising_has}
 
+-- a number alone
+pub rising_one : (ns : List ℕ) (n : ℕ) → length ns ≡ 1 → n ≡ get_or ns 0 n → rising ns ≡ n ∷ []
+rising_one [] n h e = absurd (omega arith)
+rising_one (m ∷ []) n h e = ap (λ k. k ∷ []) (sym e)
+rising_one (m ∷ k ∷ ns) n h e = absurd (omega arith)
+
 -- from the last number on
 pub rising_last : (ns : List ℕ) → rising (drop (length ns) ns) ≡ []
 rising_last ns = ap rising (drop_none ns (length ns) (omega arith))

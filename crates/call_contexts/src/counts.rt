@@ -30,10 +30,13 @@ impl Model for Counts {
 }
 
 /// These numbers, rising, each once.
-#[tactic(auto, using(crate::proofs::Counted::rising_last, crate::proofs::Counted::rising_more))]
+#[tactic(auto, using(crate::proofs::Counted::rising_one, crate::proofs::Counted::rising_last, crate::proofs::Counted::rising_more))]
 fn rising(alloc: Global, numbers: &[Number]) -> Result<Vec<u64>, Memory>
     ensures is { IfOk result (λ found. found.items ≡ rising numbers.now) }
 {
+    if numbers.len() == 1 {
+        return Ok(vec![in alloc; numbers[0].value()]?);
+    }
     let mut found = BTreeSet::new(alloc);
     for i in (0..numbers.len()).rev() {
         found.insert(numbers[i].value())?;

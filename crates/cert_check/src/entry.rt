@@ -90,8 +90,8 @@ fn layouts_around(alloc: Global, prog: &Checked, stmts: &[StmtId]) -> Result<Ite
     Ok(layouts)
 }
 
-/// The entry of a loop, call sites and the text of a state, where the program has the loop under such a chain and a state
-/// of it has the text.
+/// The entry of a loop, call sites and the text of a state, where the program has the loop under such a chain and a
+/// state of it has the text.
 fn entry_with<D: Portable>(
     alloc: Global,
     dom: &D,

@@ -1,5 +1,5 @@
 //! The lines of a certificate, read once.
-ghost use Rattle.std.specs.Prelude.{◌≡◌, ◌∷◌, ◌+◌, ◌<◌, ◌≤◌, ◌^◌, [], List, IfOk, OnOk, length, option_map, if◌then◌else◌};
+ghost use Rattle.std.specs.Prelude.{◌≡◌, ◌+◌, ◌<◌, ◌≤◌, ◌^◌, [], IfOk, OnOk};
 ghost use Rattle.imp_check.specs.Slots.{routines_of};
 ghost use Rattle.script_loop.specs.Lines.{all_lines, last_line};
 ghost use Rattle.cert_lines.specs.Lines as plain;
@@ -23,7 +23,8 @@ pub(crate) enum Lines<S> {
     Bad(usize),
 }
 
-/// Adds the entry of a line, and tells whether it could: it is not bad, and no earlier line has its loop and call sites.
+/// Adds the entry of a line, and tells whether it could: it is not bad, and no earlier line has its loop and call
+/// sites.
 fn add_line<D: Portable>(
     alloc: Global,
     dom: &D,

@@ -61,10 +61,11 @@ fn add_procedure<D: Portable, L: Ledger>(
     Ok(None)
 }
 
-/// The certificate of a program, as the bytes of its lines: `{"at":n,"chain":[..],"state":S}` for each loop n under each
-/// chain, the procedures in the order of the text, the chains to a procedure in their order, its loops in preorder. S is
-/// the text of what batch interpretation knows at the head of the loop under the chain, of all frames. Where a loop used
-/// up its budget on the way to one of these, the first such line alone is written, as `{"chain":[..],"over":n}`.
+/// The certificate of a program, as the bytes of its lines: `{"at":n,"chain":[..],"state":S}` for each loop n under
+/// each chain, the procedures in the order of the text, the chains to a procedure in their order, its loops in
+/// preorder. S is the text of what batch interpretation knows at the head of the loop under the chain, of all
+/// frames. Where a loop used up its budget on the way to one of these, the first such line alone is written, as
+/// `{"chain":[..],"over":n}`.
 ///
 /// Its only error is want of memory.
 #[tactic(auto, unfolding(cert_lines::specs::Certificate::certificate))]

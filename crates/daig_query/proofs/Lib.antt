@@ -12,6 +12,7 @@ pub mod Looking
 pub mod Stepping
 pub mod Asking
 pub mod Remembered
+pub mod Recalls
 pub mod Applied
 pub mod Overs
 pub mod Stacked

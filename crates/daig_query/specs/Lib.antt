@@ -2,6 +2,7 @@ pub mod Kept
 pub mod Right
 pub mod Asked
 pub mod Made
+pub mod Recalled
 pub mod Overs
 pub mod Opened
 pub mod Walked

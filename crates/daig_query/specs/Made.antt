@@ -34,6 +34,14 @@ IsOperationOf (Two op a b) o = IsBinaryOf op o
 IsOperationOf (Fixed n p) o = o ≡ owned.Join
 IsOperationOf (Joins stays left n right) o = o ≡ owned.Join
 
+-- the row of a fixed point
+abbrev pub IsFixed : Row → Type 0
+IsFixed (Init layout) = ⊥
+IsFixed (One op a) = ⊥
+IsFixed (Two op a b) = ⊥
+IsFixed (Fixed n p) = Unit {0}
+IsFixed (Joins stays left n right) = ⊥
+
 -- the state that has a number, if one is given
 abbrev pub state_at : {S : Type 0} → List S → Option ℕ → Option S
 state_at states None = None

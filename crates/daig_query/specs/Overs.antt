@@ -1,5 +1,5 @@
 -- Overs among cells.
-use Rattle.std.specs.Prelude.{◌≡◌, ℕ, ◌<◌, List, Some}
+use Rattle.std.specs.Prelude.{◌≡◌, ℕ, ◌<◌, List, length, Some}
 use Rattle.daig_graph.specs.declared.value.Value.TheVariants.{Over}
 use Rattle.loop_unroll.specs.Iterates.{iterate_of}
 use Rattle.daig_query.specs.Kept.{Cells}
@@ -12,6 +12,14 @@ module _ (cells : Cells) (numbers : List ℕ) where
   -- none of the first so many does hold one
   abbrev pub HasNoOver : ℕ → Type 0
   HasNoOver count = (i n : ℕ) (chain : List ℕ) → i < count → ¬ (IsOverAt i n chain)
+
+  -- one of them does
+  pub record HasOver : Type 0 where
+    pub place : ℕ
+    pub within : place < length numbers
+    pub loop : ℕ
+    pub chain : List ℕ
+    pub here : IsOverAt place loop chain
 
   -- the first one
   pub record IsFirstOver (n : ℕ) (chain : List ℕ) : Type 0 where

@@ -4,9 +4,10 @@ ghost use Rattle.cell_names.specs.Paths.{path_at, sites_of};
 ghost use Rattle.loop_unroll.specs.Iterates.{iterate_of, state_in, IsEqual};
 ghost use Rattle.daig_query.specs.Kept.{IsValue};
 ghost use Rattle.daig_query.specs.Right.{found, IsRight};
-ghost use Rattle.daig_query.specs.Made.{alone_in, index_in, number, row_result, state_at};
+ghost use Rattle.daig_query.specs.Made.{IsFixed, alone_in, index_in, number, row_result, state_at};
+ghost use Rattle.daig_query.specs.Recalled.{IsRemembered, IsRecalled};
 ghost use Rattle.daig_query.specs.Opened.{name_of, IsReady, Computes};
-ghost use Rattle.daig_query.specs.Overs.{HasNoOver, IsFirstOver};
+ghost use Rattle.daig_query.specs.Overs.{HasNoOver, HasOver, IsFirstOver};
 ghost use Rattle.imp_flow.specs.declared.row.Row.TheVariants.{Fixed};
 
 use crate::held::Held;
@@ -143,7 +144,7 @@ fn operand<S: Eq + Hash + Drop>(states: &Table<S>, number: Option<usize>) -> Opt
     }
 }
 
-/// The number of what a row makes of the states that have these numbers.
+/// The number of what a row makes of the states that have these numbers. It ticks where that is not remembered.
 fn result_of<D: Domain, L: Ledger>(
     alloc: Global,
     dom: &D,
@@ -162,6 +163,7 @@ fn result_of<D: Domain, L: Ledger>(
     ensures computes { Computes (D.operations dom.now) flow.now store.old store.new }
     ensures least { steps.old ≤ steps.new }
     ensures most { steps.new ≤ steps.old + D.counted dom.now }
+    ensures remembered { IsRemembered store.old row.now left right → steps.new ≡ steps.old }
 {
     let operation = store.operations.intern(operation_of(alloc, row)?)?;
     let key = Key {
@@ -202,6 +204,7 @@ fn applied<D: Domain, L: Ledger>(
     ensures computes { Computes (D.operations dom.now) flow.now store.old store.new }
     ensures least { steps.old ≤ steps.new }
     ensures most { steps.new ≤ steps.old + D.counted dom.now }
+    ensures recalled { IsRecalled store.old row.now entry.now → steps.new ≡ steps.old }
 {
     let cells = entry.inputs.as_slice();
     let left = held_at(&store.graph, cells, 0);
@@ -225,7 +228,8 @@ fn applied<D: Domain, L: Ledger>(
 }
 
 /// The value of a name all of whose inputs are found: an Over among them, the left one first; else what its row makes of
-/// their states. It ticks for an operation that is not remembered.
+/// their states. It ticks for an operation that is not remembered, and neither for a fixed point nor where an input is an
+/// Over.
 pub(crate) fn compute<D: Domain, L: Ledger>(
     alloc: Global,
     dom: &D,
@@ -240,6 +244,9 @@ pub(crate) fn compute<D: Domain, L: Ledger>(
     ensures computes { Computes (D.operations dom.now) flow.now store.old store.new }
     ensures least { steps.old ≤ steps.new }
     ensures most { steps.new ≤ steps.old + D.counted dom.now }
+    ensures fixed { IsFixed row.now → steps.new ≡ steps.old }
+    ensures recalled { IsRecalled store.old row.now entry.now → steps.new ≡ steps.old }
+    ensures over { HasOver store.old.graph.cells entry.now.inputs → steps.new ≡ steps.old }
 {
     if let Some(over) = first_over(&store.graph, entry.inputs.as_slice()) {
         let chain = over.1.clone()?;

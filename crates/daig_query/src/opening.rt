@@ -5,6 +5,9 @@ ghost use Rattle.cell_names.specs.Paths.{path_at, name_in};
 ghost use Rattle.imp_flow.specs.Near.{row_in};
 ghost use Rattle.daig_query.specs.Kept.{kept, Names as OnlyNames};
 ghost use Rattle.daig_query.specs.Opened.{name_of, row_at, IsAt, IsReady, Looks, Puts, Computes};
+ghost use Rattle.daig_query.specs.Made.{IsFixed};
+ghost use Rattle.daig_query.specs.Recalled.{IsRecalled};
+ghost use Rattle.daig_query.specs.Overs.{HasOver};
 ghost use Rattle.daig_query.specs.Right.{IsRight};
 
 use crate::compute::compute;
@@ -86,7 +89,8 @@ pub(crate) fn next_absent<D: Domain>(
     Ok(None)
 }
 
-/// Fills a name all of whose inputs are found. It ticks for an operation that is not remembered.
+/// Fills a name all of whose inputs are found. It ticks for an operation that is not remembered, and neither for a fixed
+/// point nor where an input is an Over.
 pub(crate) fn fill<D: Domain, L: Ledger>(
     alloc: Global,
     dom: &D,
@@ -102,6 +106,9 @@ pub(crate) fn fill<D: Domain, L: Ledger>(
     ensures err { OnErr result (Computes (D.operations dom.now) flow.now store.old store.new) }
     ensures least { steps.old ≤ steps.new }
     ensures most { steps.new ≤ steps.old + D.counted dom.now }
+    ensures fixed { IsFixed row.now → steps.new ≡ steps.old }
+    ensures recalled { IsRecalled store.old row.now entry → steps.new ≡ steps.old }
+    ensures over { HasOver store.old.graph.cells entry.inputs → steps.new ≡ steps.old }
 {
     let value = compute(alloc, dom, flow, store, row, &entry, steps)?;
     let owner = store.names.owner(&entry.name);

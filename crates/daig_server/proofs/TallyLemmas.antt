@@ -15,6 +15,7 @@ use Rattle.request_json.specs.declared.error.ReadError.{ReadError}
 use Rattle.request_json.specs.declared.request.Query.{Query}
 use Rattle.request_json.specs.declared.request.Request.{Request}
 use Rattle.request_json.specs.declared.request.Request.TheVariants as q
+use Rattle.request_json.specs.declared.reply.Reply.{Reply}
 use Rattle.request_json.specs.declared.reply.Reply.TheVariants as r
 use Rattle.request_json.specs.declared.reply.Refusal.{Refusal}
 use Rattle.request_json.specs.declared.reply.Refusal.TheVariants as refusal
@@ -24,9 +25,10 @@ use Rattle.line_replies.specs.Texts.{program_reply}
 use Rattle.imp_slots.specs.Plain.{Routine}
 use Rattle.analysis_words.specs.declared.refusal.Refusal.TheVariants.{LongString}
 use Rattle.line_answers.specs.Lines.{Served, line_turn, read_turn, request_turn, server}
-use Rattle.line_answers.specs.Turns.{Turn, ask_by, cancel_by, edit_by, edit_turn, goes, move_turn, state_by, step_by, step_of, told}
+use Rattle.line_answers.specs.Turns.{Turn, ask_by, ask_turn, cancel_by, edit_by, edit_turn, goes, move_turn, state_by, why_by, step_by, step_of, told}
 use Rattle.line_answers.specs.Edits.{replace_of, insert_of, delete_of, guard_of, declare_of, add_of, drop_of}
 use Rattle.line_answers.specs.Readings.{Readings}
+use Rattle.gen_summary.specs.declared.kind.Kind.{Kind}
 use Rattle.gen_summary.specs.declared.kind.Kind.TheVariants.{Cost}
 use Rattle.gen_summary.specs.declared.tally.Tally.{Tally}
 use Rattle.gen_summary.specs.Summary.{added, cost_in, kind_of, nothing, summary_text, IsWithin}
@@ -97,6 +99,10 @@ step_cost : {S : Type 0} (dom : Operations S) (n : ℕ) (t : Option Ticket) (m :
 step_cost dom n None m = λ is. cc
 step_cost dom n (Some t) m = step_by_cost dom t n (answer_at dom t.at t.string m) m
 
+why_by_cost : {S : Type 0} (dom : Operations S) (query : Query) (a : Answer S) (m : Machine) → TellsCost (why_by dom query a m)
+why_by_cost dom query (Refuses why) m = λ is. cc
+why_by_cost dom query (Answers v) m = λ is. cc
+
 ask_by_cost : {S : Type 0} (dom : Operations S) (query : Query) (a : Answer S) (m : Machine) → TellsCost (ask_by dom query a m)
 ask_by_cost dom query (Refuses why) m = λ is. cc
 ask_by_cost dom query (Answers v) m = λ is. cc
@@ -136,7 +142,7 @@ request_cost readings dom (q.Guard id text) m = edit_cost dom (guard_of readings
 request_cost readings dom (q.Declare proc name kind) m = edit_cost dom (declare_of proc name kind) m
 request_cost readings dom (q.Add before text) m = edit_cost dom (add_of readings m.next before text) m
 request_cost readings dom (q.Drop proc) m = edit_cost dom (drop_of proc) m
-request_cost readings dom (q.Why query) m = λ is. cc
+request_cost readings dom (q.Why query) m = why_by_cost dom query (answer_at dom query.at query.string m) m
 request_cost readings dom q.Undo m = move_cost m.past refusal.NothingToUndo (undone dom m) m
 request_cost readings dom q.Redo m = move_cost m.future refusal.NothingToRedo (redone dom m) m
 request_cost readings dom (q.Ask query) m =

@@ -8,6 +8,7 @@ pub mod Moved
 pub mod Counted
 pub mod Beginning
 pub mod Answering
+pub mod Explained
 pub mod Ticketed
 pub mod Unchanged
 pub mod Stepped

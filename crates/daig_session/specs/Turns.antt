@@ -12,7 +12,7 @@ use Rattle.daig_graph.specs.declared.value.Value.{Value}
 use Rattle.daig_query.specs.Answered.{Covers, Says}
 use Rattle.open_tickets.specs.declared.tickets.NoTicket.{NoTicket}
 use Rattle.session_machine.specs.Machine.{Machine, Ticket}
-use Rattle.session_machine.specs.Turns.{IsBetween, answer_at, asked, closed, ended, missing_at, opened, stepped, targets_of}
+use Rattle.session_machine.specs.Turns.{IsBetween, answer_at, asked, closed, ended, missing_at, opened, stepped, targets_of, upstream_at}
 use Rattle.daig_session.specs.declared.error.QueryError.{QueryError}
 use Rattle.daig_session.specs.declared.error.QueryError.TheVariants as query
 use Rattle.daig_session.specs.declared.error.AskError.{AskError}
@@ -37,6 +37,12 @@ module _ {S : Type 0} (dom : Operations S) (m : Machine) (stands : Machine → T
   Questions l string (Ok v) = Says (answer_at dom l string m) (Some v) × stands (asked dom l string m)
   Questions l string (Err (query.Refused r)) = (answer_at dom l string m ≡ Refuses r) × stands m
   Questions l string (Err query.Memory) = IsBetween (missing_at dom l string m) m stands
+
+  -- The same with the statements that the answer depends on in its place.
+  abbrev pub Explains : Location → (string : List ℕ) → Result (List ℕ) QueryError → Type 0
+  Explains l string (Ok stmts) = IsAnswered (answer_at dom l string m) × (stmts ≡ upstream_at dom l string m) × stands (asked dom l string m)
+  Explains l string (Err (query.Refused r)) = (answer_at dom l string m ≡ Refuses r) × stands m
+  Explains l string (Err query.Memory) = IsBetween (missing_at dom l string m) m stands
 
   -- A ticket is opened, exactly where fewer than sixteen are and the program has an answer.
   abbrev pub Opens : Location → (string : List ℕ) → Result ℕ AskError → Type 0

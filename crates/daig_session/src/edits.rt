@@ -78,8 +78,9 @@ impl<D: Domain> Session<D> {
     /// next one on, in the order of the text. Nothing is changed until [`Prepared::commit`]; where it is dropped, nothing
     /// is changed at all.
     ///
-    /// It takes time linear in the program and in the next number, in the cells of the statements that the edit changes,
-    /// and in the cells that it empties with their inputs.
+    /// It takes the time of [`apply`], which for simple statements and conditions does not grow with the program, and time
+    /// in proportion to the cells of the statements that the edit changes, to the cells that it empties with their inputs,
+    /// and to the different numbers of the procedure.
     ///
     /// # Errors
     ///

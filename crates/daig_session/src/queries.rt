@@ -12,7 +12,7 @@ ghost use Rattle.daig_session.specs.Books.{flow_in};
 ghost use Rattle.daig_session.specs.Going.{IsGoing};
 ghost use Rattle.daig_session.specs.Holds.{Holds, IsReady};
 ghost use Rattle.daig_session.specs.Reports.{IsUnticked};
-ghost use Rattle.daig_session.specs.Turns.{Questions};
+ghost use Rattle.daig_session.specs.Turns.{Explains, Questions};
 
 use crate::asking::{begun, read_answer};
 use crate::book::{Book, Going};
@@ -21,11 +21,12 @@ use crate::session::Session;
 use daig_graph::Value;
 use daig_query::Engine;
 use domain_laws::{Domain, Steps};
-use imp_syntax::Location;
-use plain_values::Memory;
+use imp_syntax::{Location, StmtId};
+use plain_values::{Items, Memory};
 use session_machine::questions_keep_cells;
 use std::alloc::Global;
 use std::sync::ledger::Ledger;
+use why_cells::upstream;
 
 /// Fills what is missing for a question.
 fn fill_all<D: Domain, L: Ledger>(
@@ -94,5 +95,46 @@ impl<D: Domain> Session<D> {
         let value = read_answer(alloc, &self.engine, &going.walk, steps)?;
         self.book.cost = filled as u64;
         Ok(value)
+    }
+
+    /// The statements that the answer of [`Session::query`] depends on, an Over too, rising, each once: the one that the
+    /// location names, the call sites of the selected chains, and those of all that the answer is computed from, but for
+    /// simple statements of which it needs only what is behind an Over or a dead state. Another simple statement in the
+    /// place of one that is not listed gives the same answer, where the marks of all procedures stay.
+    ///
+    /// It fills what the question fills, and costs what it costs; then it takes time in proportion to the cells that the
+    /// answer needs and their inputs. It ticks at most once an operation of the domain for each cell that it fills. Where
+    /// it fails it ticks at most so for what it filled then, and for one operation more.
+    ///
+    /// # Errors
+    ///
+    /// As of [`Session::query`].
+    pub fn why<L: Ledger>(
+        &mut self,
+        alloc: Global,
+        at: &Location,
+        string: &[u32],
+        steps: &mut Steps<L>,
+    ) -> Result<Items<StmtId>, QueryError>
+        requires ready { IsReady (D.operations self.old.engine.domain) self.old.engine.store self.old.book }
+        ensures ready { IsReady (D.operations self.new.engine.domain) self.new.engine.store self.new.book }
+        ensures domain { self.new.engine.domain ≡ self.old.engine.domain }
+        ensures next_ticket { self.new.book.tickets.next ≡ self.old.book.tickets.next }
+        ensures explains { (m : Machine) → Holds (D.operations self.old.engine.domain) self.old.engine.store self.old.book m →
+            Explains (D.operations self.old.engine.domain) m (Holds (D.operations self.new.engine.domain) self.new.engine.store self.new.book) at.now string.now result }
+        ensures least { steps.old ≤ steps.new }
+        ensures unticked { IfErr result (IsUnticked steps.old steps.new) }
+        ensures ticked { (m : Machine) → Holds (D.operations self.old.engine.domain) self.old.engine.store self.old.book m →
+            IfOk result (λ _. steps.new ≤ steps.old + D.counted self.old.engine.domain * length (missing_at (D.operations self.old.engine.domain) at.now string.now m)) }
+        ensures most { steps.new ≤ steps.old + D.counted self.old.engine.domain * suc (added self.old.engine.store self.new.engine.store) }
+    {
+        questions_keep_cells::<D>();
+        let before = self.book.flow();
+        let mut going = begun(alloc, &self.engine, &before, at, string)?;
+        let filled = fill_all(alloc, &mut self.engine, &self.book, &mut going, steps)?;
+        let now = self.book.flow();
+        let stmts = upstream(alloc, &self.engine, &now, at, string, &going.walk)?;
+        self.book.cost = filled as u64;
+        Ok(stmts)
     }
 }

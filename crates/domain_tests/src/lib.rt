@@ -12,3 +12,5 @@ mod graphs;
 mod matrices;
 #[cfg(test)]
 mod steps;
+#[cfg(test)]
+mod texts;

@@ -1,11 +1,10 @@
 //! Places in blocks where simple statements come, or from which one goes.
-ghost use Rattle.std.specs.Prelude.{◌≡◌, ℕ, ◌<◌, ◌+◌, ◌^◌, MatchOption, Some, ⊤};
-ghost use Rattle.imp_check.specs.Entries.{entries_of, entry_of, heads_of, context_at, inside, inside_loop};
-ghost use Rattle.imp_check.specs.Names.{named_in};
+ghost use Rattle.std.specs.Prelude.{◌≡◌, ◌<◌, ◌+◌, ◌^◌, Some};
+ghost use Rattle.imp_check.specs.Entries.{entries_of, entry_of, heads_of, inside};
 ghost use Rattle.edit_entries.specs.Gaps.{are_simple, is_simple};
-ghost use Rattle.imp_edit.specs.Gaps.{gap_of, place_gap, gone_gap, behind_gap, then_gap, else_gap, body_gap, of_entry, of_place, start_gap};
+ghost use Rattle.imp_edit.specs.Gaps.{gap_of, place_gap, gone_gap, behind_gap, then_gap, else_gap, body_gap, of_entry, of_place};
 
-use imp_check::{Around, Context, Entry, Head, Table, Which};
+use imp_check::{Around, Context, Entry, Table, Which};
 use imp_syntax::{Block, Edit, Place, ProcId, Stmt, StmtId, StmtNode};
 
 /// A place in a block where statements come: between two of it, where a statement may go.

@@ -10,12 +10,17 @@
 //!   it. The numbers of the others stay.
 //! - An edit at a procedure changes the first one of a name: `at_named x made`.
 //!
+//! The change is found from the tree of the program, or, for another condition and for simple statements that come or go,
+//! from what is known of the statements beside them, in time that the size of the program does not enter.
+//!
 //! An edit's own statements carry the numbers from `next` on, so a number is never used again, and numbers of the new
 //! program stand once.
 #![tactic(auto)]
 
 mod alone;
 mod applying;
+mod beside;
+mod coming;
 mod error;
 mod gap;
 mod numbers;

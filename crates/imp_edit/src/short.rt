@@ -15,9 +15,10 @@ ghost use Rattle.imp_edit.specs.Refusals.{IsRefusal, fits, site_refusal};
 ghost use Rattle.imp_edit.specs.Short.{IsMade};
 
 use crate::alone::form_alone;
+use crate::beside::entry_again;
 use crate::error::EditError;
 use crate::gap::{Gap, are_simple, gap_of};
-use crate::splicing::{entry_again, splice};
+use crate::splicing::splice;
 use imp_check::{Change, Entry, Place, Put, SlotForm, Table};
 use imp_syntax::{Block, Cond, Edit, Stmt, StmtId, StmtNode};
 use plain_values::{Items, Memory};

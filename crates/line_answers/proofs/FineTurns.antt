@@ -19,7 +19,7 @@ use Rattle.request_json.specs.declared.reply.Refusal.TheVariants as refusal
 use Rattle.request_json.specs.Requests.{request_of}
 use Rattle.line_answers.specs.Readings.{Readings}
 use Rattle.line_answers.specs.Edits.{replace_of, insert_of, delete_of, guard_of, declare_of, add_of, drop_of}
-use Rattle.line_answers.specs.Turns.{Turn, cancel_by, move_turn, state_by, ask_by, step_by, step_of, edit_by, edit_turn}
+use Rattle.line_answers.specs.Turns.{Turn, cancel_by, move_turn, state_by, why_by, ask_by, step_by, step_of, edit_by, edit_turn}
 use Rattle.line_answers.specs.Lines.{Served, request_turn, read_turn, server}
 use Rattle.line_answers.specs.Fine.{HasFinePrograms, LinesKeepFine}
 use Rattle.line_answers.proofs.Carried.{IsNext, Carries, replace_carries, insert_carries, add_carries, guard_carries, delete_carries, declare_carries, drop_carries}
@@ -43,6 +43,10 @@ move_fine (p ∷ ps) otherwise there m moved h = moved
 state_fine : {S : Type 0} (dom : Operations S) (query : Query) (a : Answer S) (m : Machine) → HasFinePrograms m → LeavesFine (state_by dom query a m)
 state_fine dom query (Refuses why) m h = h
 state_fine dom query (Answers v) m h = keeping_fine _ _ m h
+
+why_fine : {S : Type 0} (dom : Operations S) (query : Query) (a : Answer S) (m : Machine) → HasFinePrograms m → LeavesFine (why_by dom query a m)
+why_fine dom query (Refuses why) m h = h
+why_fine dom query (Answers v) m h = keeping_fine _ _ m h
 
 ask_by_fine : {S : Type 0} (dom : Operations S) (query : Query) (a : Answer S) (m : Machine) → HasFinePrograms m → LeavesFine (ask_by dom query a m)
 ask_by_fine dom query (Refuses why) m h = h
@@ -80,7 +84,7 @@ request_fine readings dom (q.Guard id text) m h = edit_fine dom (guard_of readin
 request_fine readings dom (q.Declare proc name kind) m h = edit_fine dom (declare_of proc name kind) m (declare_carries m.next proc name kind) h
 request_fine readings dom (q.Add before text) m h = edit_fine dom (add_of readings m.next before text) m (add_carries readings m.next before text) h
 request_fine readings dom (q.Drop proc) m h = edit_fine dom (drop_of proc) m (drop_carries m.next proc) h
-request_fine readings dom (q.Why query) m h = h
+request_fine readings dom (q.Why query) m h = why_fine dom query (answer_at dom query.at query.string m) m h
 request_fine readings dom q.Undo m h = move_fine m.past refusal.NothingToUndo (undone dom m) m (back_fine dom m.past m h.past h) h
 request_fine readings dom q.Redo m h = move_fine m.future refusal.NothingToRedo (redone dom m) m (on_fine dom m.future m h.future h) h
 request_fine readings dom (q.Ask query) m h =

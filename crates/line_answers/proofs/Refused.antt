@@ -22,7 +22,7 @@ use Rattle.request_json.specs.declared.reply.Refusal.TheVariants as refusal
 use Rattle.request_json.specs.Requests.{request_of}
 use Rattle.line_answers.specs.Readings.{Readings}
 use Rattle.line_answers.specs.Edits.{replace_of, insert_of, delete_of, guard_of, declare_of, add_of, drop_of}
-use Rattle.line_answers.specs.Turns.{Turn, goes, told, cancel_by, move_turn, state_by, ask_by, step_by, step_of, edit_by, edit_turn}
+use Rattle.line_answers.specs.Turns.{Turn, goes, told, cancel_by, move_turn, state_by, why_by, ask_by, step_by, step_of, edit_by, edit_turn}
 use Rattle.line_answers.specs.Lines.{request_turn, read_turn}
 use Rattle.line_answers.specs.Claims.{IsSafe, RefusalsAreSafe}
 
@@ -48,6 +48,10 @@ move_safe (p ∷ ps) otherwise there m = λ why is. cc
 state_safe : {S : Type 0} (dom : Operations S) (query : Query) (a : Answer S) (m : Machine) → IsSafe (state_by dom query a m) m
 state_safe dom query (Refuses w) m = stays (r.Refused (refusal.Query w)) m
 state_safe dom query (Answers v) m = λ why is. absurd (told_accepts dom query.at v m why is)
+
+why_safe : {S : Type 0} (dom : Operations S) (query : Query) (a : Answer S) (m : Machine) → IsSafe (why_by dom query a m) m
+why_safe dom query (Refuses w) m = stays (r.Refused (refusal.Query w)) m
+why_safe dom query (Answers v) m = λ why is. cc
 
 ask_by_safe : {S : Type 0} (dom : Operations S) (query : Query) (a : Answer S) (m : Machine) → IsSafe (ask_by dom query a m) m
 ask_by_safe dom query (Refuses w) m = stays (r.Refused (refusal.Query w)) m
@@ -98,7 +102,7 @@ request_safe readings dom (q.Guard id text) m = edit_safe dom (guard_of readings
 request_safe readings dom (q.Declare proc name kind) m = edit_safe dom (declare_of proc name kind) m
 request_safe readings dom (q.Add before text) m = edit_safe dom (add_of readings m.next before text) m
 request_safe readings dom (q.Drop proc) m = edit_safe dom (drop_of proc) m
-request_safe readings dom (q.Why query) m = stays _ m
+request_safe readings dom (q.Why query) m = why_safe dom query (answer_at dom query.at query.string m) m
 request_safe readings dom q.Undo m = move_safe m.past refusal.NothingToUndo (undone dom m) m
 request_safe readings dom q.Redo m = move_safe m.future refusal.NothingToRedo (redone dom m) m
 request_safe readings dom (q.Ask query) m =

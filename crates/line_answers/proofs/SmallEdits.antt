@@ -8,7 +8,8 @@ use Rattle.imp_syntax.specs.declared.edit.Edit.TheVariants as edit
 use Rattle.imp_syntax.specs.declared.edit.Place.{Place}
 use Rattle.imp_syntax.specs.declared.edit.Place.TheVariants as place
 use Rattle.imp_check.specs.Small.{small_condition, small_statement, small_block, small_program}
-use Rattle.imp_edit.specs.Changes.{append, in_statement, in_block, in_program, deleted, exchanged, followed, then_started, else_started, body_started, guarded, at_named, started, declared_in, preceded, dropped}
+use Rattle.edit_entries.specs.Holes.{append}
+use Rattle.imp_edit.specs.Changes.{in_statement, in_block, in_program, deleted, exchanged, followed, then_started, else_started, body_started, guarded, at_named, started, declared_in, preceded, dropped}
 use Rattle.imp_edit.specs.Edited.{brought, edited, placed}
 
 -- What an edit brings has small literals: its statements, and its condition.

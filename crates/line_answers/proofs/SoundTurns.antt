@@ -31,7 +31,7 @@ use Rattle.line_replies.specs.Runs.{asked_run, found_run, run_reply}
 use Rattle.line_replies.specs.Texts.{program_reply}
 use Rattle.line_answers.specs.Readings.{Readings}
 use Rattle.line_answers.specs.Edits.{replace_of, insert_of, delete_of, guard_of, declare_of, add_of, drop_of}
-use Rattle.line_answers.specs.Turns.{Turn, told, cancel_by, move_turn, state_by, ask_by, step_by, step_of, edit_by, edit_turn}
+use Rattle.line_answers.specs.Turns.{Turn, told, cancel_by, move_turn, state_by, why_by, ask_by, step_by, step_of, edit_by, edit_turn}
 use Rattle.line_answers.specs.Lines.{request_turn, read_turn, server}
 use Rattle.line_answers.specs.Fine.{HasFinePrograms, opening}
 use Rattle.line_answers.specs.Sound.{IsAsked, IsReplySound, TurnsAreSound, MomentsAreSound}
@@ -72,6 +72,10 @@ move_other (p ∷ ps) otherwise there m = tt
 ask_by_other : {S : Type 0} (dom : Operations S) (query : Query) (a : Answer S) (m : Machine) → IsOther (ask_by dom query a m).reply
 ask_by_other dom query (Refuses why) m = tt
 ask_by_other dom query (Answers v) m = tt
+
+why_by_other : {S : Type 0} (dom : Operations S) (query : Query) (a : Answer S) (m : Machine) → IsOther (why_by dom query a m).reply
+why_by_other dom query (Refuses why) m = tt
+why_by_other dom query (Answers v) m = tt
 
 either_other : (b : Bool) (one other : Turn) → IsOther one.reply → IsOther other.reply → IsOther (if b then one else other).reply
 either_other true one other first second = first
@@ -153,7 +157,7 @@ module _ {S : Type 0} (dom : Operations S) (covers : S → Heap → List Variabl
   request_sound readings (q.Declare proc name kind) reads = other_sound _ (edit_other dom (declare_of proc name kind) m)
   request_sound readings (q.Add before text) reads = other_sound _ (edit_other dom (add_of readings m.next before text) m)
   request_sound readings (q.Drop proc) reads = other_sound _ (edit_other dom (drop_of proc) m)
-  request_sound readings (q.Why query) reads = other_sound _ tt
+  request_sound readings (q.Why query) reads = other_sound _ (why_by_other dom query (answer_at dom query.at query.string m) m)
   request_sound readings q.Undo reads = other_sound _ (move_other m.past refusal.NothingToUndo (undone dom m) m)
   request_sound readings q.Redo reads = other_sound _ (move_other m.future refusal.NothingToRedo (redone dom m) m)
   request_sound readings (q.Ask query) reads =

@@ -6,17 +6,16 @@ use Rattle.session_machine.specs.Machine.{Machine}
 use Rattle.request_json.specs.declared.error.ReadError.{ReadError}
 use Rattle.request_json.specs.declared.request.Request.{Request}
 use Rattle.request_json.specs.declared.request.Request.TheVariants as q
-use Rattle.request_json.specs.declared.reply.Refusal.TheVariants as refusal
 use Rattle.request_json.specs.Requests.{request_of}
 use Rattle.request_json.specs.Replies.{reply_text}
 use Rattle.line_replies.specs.Refusals.{line_refusal}
 use Rattle.line_replies.specs.Texts.{long_reply}
 use Rattle.line_answers.specs.Readings.{Readings}
 use Rattle.line_answers.specs.Edits.{replace_of, insert_of, delete_of, guard_of, declare_of, add_of, drop_of}
-use Rattle.line_answers.specs.Turns.{Turn, refused, cost_turn, program_turn, listing_turn, run_turn, state_turn, report_turn, ask_turn, step_turn, cancel_turn, edit_turn, undo_turn, redo_turn}
+use Rattle.line_answers.specs.Turns.{Turn, refused, cost_turn, program_turn, listing_turn, run_turn, state_turn, report_turn, ask_turn, step_turn, cancel_turn, edit_turn, undo_turn, redo_turn, why_turn}
 
 module _ {S : Type 0} (readings : Readings) (dom : Operations S) where
-  -- What a request is replied, and the machine after it. There are no causes yet.
+  -- What a request is replied, and the machine after it.
   unfoldable pub request_turn : Request → Machine → Turn
   request_turn (q.State query) m = state_turn dom query m
   request_turn q.Report m = report_turn dom m
@@ -31,7 +30,7 @@ module _ {S : Type 0} (readings : Readings) (dom : Operations S) where
   request_turn (q.Declare proc name kind) m = edit_turn dom (declare_of proc name kind) m
   request_turn (q.Add before text) m = edit_turn dom (add_of readings m.next before text) m
   request_turn (q.Drop proc) m = edit_turn dom (drop_of proc) m
-  request_turn (q.Why query) m = refused refusal.NoRequest m
+  request_turn (q.Why query) m = why_turn dom query m
   request_turn q.Undo m = undo_turn dom m
   request_turn q.Redo m = redo_turn dom m
   request_turn (q.Ask query) m = ask_turn dom query m

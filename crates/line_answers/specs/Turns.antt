@@ -13,7 +13,7 @@ use Rattle.imp_edit.specs.Edited.{next_after}
 use Rattle.imp_edit.specs.Refusals.{edit_refusal}
 use Rattle.imp_edit.specs.declared.error.EditError.{EditError}
 use Rattle.session_machine.specs.Machine.{Machine, Ticket, ticket_of}
-use Rattle.session_machine.specs.Turns.{answer_at, asked, closed, committed, ended, missing_at, opened, redone, reported, stepped, undone}
+use Rattle.session_machine.specs.Turns.{answer_at, asked, closed, committed, ended, missing_at, opened, redone, reported, stepped, undone, upstream_at}
 use Rattle.request_json.specs.declared.request.Query.{Query}
 use Rattle.request_json.specs.declared.reply.Reply.{Reply}
 use Rattle.request_json.specs.declared.reply.Reply.TheVariants as r
@@ -87,6 +87,15 @@ module _ {S : Type 0} (dom : Operations S) where
 
   abbrev pub state_turn : Query → Machine → Turn
   state_turn query m = state_by query (answer_at dom query.at query.string m) m
+
+  -- The statements that this answer depends on, an Over's too. It does to the kept names and to the cost what the question
+  -- does, and is refused where that is.
+  abbrev pub why_by : Query → Answer S → Machine → Turn
+  why_by query (Refuses why) m = refused (refusal.Query why) m
+  why_by query (Answers v) m = goes (r.Why (upstream_at dom query.at query.string m)) (asked dom query.at query.string m)
+
+  abbrev pub why_turn : Query → Machine → Turn
+  why_turn query m = why_by query (answer_at dom query.at query.string m) m
 
   abbrev pub report_turn : Machine → Turn
   report_turn m = goes (r.Report (report dom m.engine (routines_of m.program))) (reported dom m)

@@ -6,3 +6,4 @@ pub mod Words
 pub mod Ordered
 pub mod Portable
 pub mod Folded
+pub mod Upper

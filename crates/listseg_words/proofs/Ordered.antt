@@ -20,7 +20,7 @@ has-in (h ∷ hs) g e = elim (or_either (eq_by_cmp shape_cmp g h) (has hs g) e) 
   | inr p ↦ inr (has-in hs g p)
 ]
 
-all-in : (hs gs : List Shape) → have_all hs gs ≡ true → (g : Shape) → In g gs → In g hs
+pub all-in : (hs gs : List Shape) → have_all hs gs ≡ true → (g : Shape) → In g gs → In g hs
 all-in hs [] e g i = absurd i
 all-in hs (k ∷ ks) e g (inl p) = let q = and_parts (has hs k) (have_all hs ks) e in subst (λ g. In g hs) (sym p) (has-in hs k q.0)
 all-in hs (k ∷ ks) e g (inr p) = let q = and_parts (has hs k) (have_all hs ks) e in all-in hs ks q.1 g p

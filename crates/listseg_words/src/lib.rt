@@ -16,7 +16,7 @@ mod parts;
 mod read;
 mod write;
 
-pub use laws::segments_are_portable;
+pub use laws::{segments_are_portable, segments_have_upper_bounds};
 pub use order::leq;
 pub use read::take;
 pub use write::put;

@@ -16,7 +16,7 @@ use Rattle.daig_graph.specs.declared.value.Value.{Value}
 use Rattle.daig_query.specs.declared.store.Store.{Store}
 use Rattle.daig_query.specs.Answered.{Says}
 use Rattle.session_machine.specs.Machine.{Machine, Ticket, ticket_of}
-use Rattle.session_machine.specs.Turns.{answer_at, asked, closed, ended, missing_at, stepped}
+use Rattle.session_machine.specs.Turns.{answer_at, asked, closed, ended, missing_at, stepped, upstream_at}
 use Rattle.open_tickets.specs.declared.tickets.Open.{Open}
 use Rattle.open_tickets.specs.declared.tickets.NoTicket.{NoTicket}
 use Rattle.open_tickets.specs.Tickets.{ticket}
@@ -28,14 +28,14 @@ use Rattle.daig_session.specs.declared.error.UndoError.TheVariants as undo
 use Rattle.daig_session.specs.declared.stepping.Turn.TheVariants.{Pending, Done}
 use Rattle.daig_session.specs.Going.{AreWaiting, IsAnswered}
 use Rattle.daig_session.specs.Holds.{Holds, IsReady}
-use Rattle.daig_session.specs.Turns.{Cancels, Goes, IsStepOf, Opens, Questions}
+use Rattle.daig_session.specs.Turns.{Cancels, Explains, Goes, IsStepOf, Opens, Questions}
 use Rattle.daig_session.proofs.Asked.{too_long}
 use Rattle.request_json.specs.declared.request.Query.{Query}
 use Rattle.request_json.specs.declared.reply.Reply.TheVariants as r
 use Rattle.request_json.specs.declared.reply.Refusal.{Refusal}
 use Rattle.request_json.specs.declared.reply.Refusal.TheVariants as refusal
 use Rattle.line_replies.specs.States.{answer_reply, layout_at}
-use Rattle.line_answers.specs.Turns.{Turn, ask_by, ask_turn, cancel_by, goes, move_turn, refused, state_by, state_turn, step_by, step_of, told}
+use Rattle.line_answers.specs.Turns.{Turn, ask_by, ask_turn, cancel_by, goes, move_turn, refused, state_by, state_turn, step_by, step_of, told, why_by, why_turn}
 use Rattle.session_lines.proofs.Places.{missing_answered, says_answered, short_not_long}
 use Rattle.session_lines.proofs.Replied.{IsFollowed, IsReplied, Writes, follows}
 
@@ -71,6 +71,15 @@ module _ {S : Type 0} (dom : Operations S) (m : Machine) (stands : Machine → T
 
   pub state_refused : (query : Query) (why : cause.Refusal) → Questions dom m stands query.at query.string (Err (question.Refused why)) → IsReplied (state_turn dom query m) stands (r.Refused (refusal.Query why))
   state_refused query why h = subst (λ a. IsReplied (state_by dom query a m) stands (r.Refused (refusal.Query why))) (sym h.0) (record { is = refl; after = h.1 })
+
+  why_by_list : (query : Query) (stmts : List ℕ) (a : Answer S) → IsAnswered a → stmts ≡ upstream_at dom query.at query.string m → stands (asked dom query.at query.string m) → IsReplied (why_by dom query a m) stands (r.Why stmts)
+  why_by_list query stmts a (v, is) e h = subst (λ b. IsReplied (why_by dom query b m) stands (r.Why stmts)) (sym is) (record { is = ap r.Why (sym e); after = h })
+
+  pub why_answered : (query : Query) (stmts : List ℕ) → Explains dom m stands query.at query.string (Ok stmts) → IsReplied (why_turn dom query m) stands (r.Why stmts)
+  why_answered query stmts h = why_by_list query stmts (answer_at dom query.at query.string m) h.0 h.1 h.2
+
+  pub why_refused : (query : Query) (why : cause.Refusal) → Explains dom m stands query.at query.string (Err (question.Refused why)) → IsReplied (why_turn dom query m) stands (r.Refused (refusal.Query why))
+  why_refused query why h = subst (λ a. IsReplied (why_by dom query a m) stands (r.Refused (refusal.Query why))) (sym h.0) (record { is = refl; after = h.1 })
 
 -- ---- a ticket is opened
 

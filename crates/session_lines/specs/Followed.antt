@@ -23,6 +23,7 @@ pub record Follows (turn : Turn) (stands : Machine → Type 0) (line : List ℕ)
 abbrev pub Fills : Result Request ReadError → Type 0
 Fills (Err error) = ⊥
 Fills (Ok (q.State query)) = Unit {0}
+Fills (Ok (q.Why query)) = Unit {0}
 Fills (Ok q.Report) = Unit {0}
 Fills (Ok (q.Step ticket n)) = Unit {0}
 Fills (Ok request) = ⊥
@@ -35,6 +36,7 @@ missing_for_ticket dom (Some t) m = missing_at dom t.at t.string m
 abbrev pub missing_of : {S : Type 0} → Operations S → Result Request ReadError → Machine → List CellName
 missing_of dom (Err error) m = []
 missing_of dom (Ok (q.State query)) m = missing_at dom query.at query.string m
+missing_of dom (Ok (q.Why query)) m = missing_at dom query.at query.string m
 missing_of dom (Ok q.Report) m = missing_for_report dom m
 missing_of dom (Ok (q.Step ticket n)) m = missing_for_ticket dom (ticket_of ticket m.tickets) m
 missing_of dom (Ok request) m = []

@@ -8,15 +8,14 @@ ghost use Rattle.line_answers.specs.Lines.{line_turn, request_turn};
 ghost use Rattle.session_lines.specs.Followed.{missing_of, Fills, Follows, IsHalted};
 
 use crate::edits::edit_request;
-use crate::questions::{report_line, state_line};
+use crate::questions::{report_line, state_line, why_line};
 use crate::tickets::{ask_line, cancel_line, redo_line, step_line, undo_line};
 use crate::told::{cost_line, listing_line, program_line, run_line};
-use crate::written::refused;
 use daig_session::Session;
 use domain_laws::{Domain, Steps};
 use line_replies::line_refusal;
 use plain_values::Memory;
-use request_json::{Refusal, Request, read_request, reply_line};
+use request_json::{Request, read_request, reply_line};
 use std::alloc::Global;
 use std::sync::ledger::Ledger;
 
@@ -48,7 +47,7 @@ fn request_line<D: Domain, L: Ledger>(
         Request::Run { inputs, fuel, at } => {
             run_line(alloc, session, inputs.as_slice(), fuel, at.as_ref())
         }
-        Request::Why(_) => refused(alloc, Refusal::NoRequest),
+        Request::Why(query) => why_line(alloc, session, &query, steps),
         Request::Undo => undo_line(alloc, session),
         Request::Redo => redo_line(alloc, session),
         Request::Ask(query) => ask_line(alloc, session, query),
@@ -63,9 +62,9 @@ fn request_line<D: Domain, L: Ledger>(
 ///
 /// # Errors
 ///
-/// [`Memory`] alone. A line that asks no question, for no report and for no step then leaves the session as it was. After
-/// one that does, either some of what was missing is kept, the first of it, and nothing else is changed; or the session
-/// stands for the machine after the line, and the reply alone is not written.
+/// [`Memory`] alone. A line that asks no question, for no list of statements, for no report and for no step then leaves the
+/// session as it was. After one that does, either some of what was missing is kept, the first of it, and nothing else is
+/// changed; or the session stands for the machine after the line, and the reply alone is not written.
 pub fn answer_line<D: Domain, L: Ledger>(
     alloc: Global,
     session: &mut Session<D>,

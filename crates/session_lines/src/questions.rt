@@ -8,7 +8,7 @@ ghost use Rattle.daig_session.specs.Holds.{Holds, IsReady};
 ghost use Rattle.request_json.specs.Replies.{reply_text};
 ghost use Rattle.line_replies.specs.States.{answer_reply, layout_at};
 ghost use Rattle.imp_check.specs.Slots.{routines_of};
-ghost use Rattle.line_answers.specs.Turns.{report_turn, state_turn};
+ghost use Rattle.line_answers.specs.Turns.{report_turn, state_turn, why_turn};
 ghost use Rattle.session_lines.specs.Followed.{Follows, IsHalted};
 
 use crate::written::{line_of, refused};
@@ -64,6 +64,30 @@ pub(crate) fn state_line<D: Domain, L: Ledger>(
     let string = numbers_of(alloc, &query.string)?;
     match session.query(alloc, &query.at, string.as_slice(), steps) {
         Ok(value) => value_line(alloc, session, &query.at, &value),
+        Err(QueryError::Refused(why)) => refused(alloc, Refusal::Query(why)),
+        Err(QueryError::Memory) => Err(Memory),
+    }
+}
+
+/// The statements that the answer at a location under a call string depends on.
+pub(crate) fn why_line<D: Domain, L: Ledger>(
+    alloc: Global,
+    session: &mut Session<D>,
+    query: &Query,
+    steps: &mut Steps<L>,
+) -> Result<Vec<u8>, Memory>
+    requires ready { IsReady (D.operations session.old.engine.domain) session.old.engine.store session.old.book }
+    ensures ready { IsReady (D.operations session.new.engine.domain) session.new.engine.store session.new.book }
+    ensures domain { session.new.engine.domain ≡ session.old.engine.domain }
+    ensures rises { session.new.book.tickets.next ≤ session.old.book.tickets.next + 1 }
+    ensures turn { (m : Machine) → Holds (D.operations session.old.engine.domain) session.old.engine.store session.old.book m →
+        IfOk result (λ v. Follows (why_turn (D.operations session.old.engine.domain) query.now m) (Holds (D.operations session.new.engine.domain) session.new.engine.store session.new.book) v.items) }
+    ensures between { (m : Machine) → Holds (D.operations session.old.engine.domain) session.old.engine.store session.old.book m →
+        IfErr result (λ _. IsHalted (missing_at (D.operations session.old.engine.domain) query.now.at query.now.string m) (why_turn (D.operations session.old.engine.domain) query.now m) m (Holds (D.operations session.new.engine.domain) session.new.engine.store session.new.book)) }
+{
+    let string = numbers_of(alloc, &query.string)?;
+    match session.why(alloc, &query.at, string.as_slice(), steps) {
+        Ok(stmts) => line_of(alloc, Reply::Why(stmts)),
         Err(QueryError::Refused(why)) => refused(alloc, Refusal::Query(why)),
         Err(QueryError::Memory) => Err(Memory),
     }

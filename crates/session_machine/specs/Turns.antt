@@ -15,6 +15,7 @@ use Rattle.imp_edit.specs.Edited.{edited, next_after}
 use Rattle.kept_set.specs.Touched as touched
 use Rattle.kept_after.specs.After.{kept_after}
 use Rattle.named_cells.specs.Same.{same_name}
+use Rattle.why_slice.specs.Upstream.{upstream}
 use Rattle.session_machine.specs.Machine.{Machine, Ticket, keeping, ticketed, turned_to, without_ticket}
 
 -- the targets of a question; none where the program refuses it
@@ -67,6 +68,14 @@ module _ {S : Type 0} (dom : Operations S) where
   -- the answer of the present program, interpreted from scratch
   abbrev pub answer_at : Location → (string : List ℕ) → Machine → Answer S
   answer_at l string m = answer dom m.engine (routines_of m.program) l string
+
+  -- the statements that this answer depends on; none where the program refuses the question
+  abbrev pub upstream_in : Machine → Location → (string : List ℕ) → Found → List ℕ
+  upstream_in m l string (Misses r) = []
+  upstream_in m l string (In p) = upstream dom m.engine (routines_of m.program) same_name l string p (or_none (targets (routines_of m.program) p l string))
+
+  abbrev pub upstream_at : Location → (string : List ℕ) → Machine → List ℕ
+  upstream_at l string m = upstream_in m l string (procedure_of (routines_of m.program) l)
 
   -- the machine after a question that is answered, and after a report
   abbrev pub asked : Location → (string : List ℕ) → Machine → Machine

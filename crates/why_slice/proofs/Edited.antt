@@ -9,7 +9,8 @@ use Rattle.imp_slots.specs.Fits.{Absent, Distinct, routine_numbers}
 use Rattle.imp_slots.proofs.Distinct.{left_once, right_once}
 use Rattle.imp_check.specs.Names.{place_named}
 use Rattle.imp_check.specs.Slots.{Frame, layout_in, guard_in, effect_in, invoke_of, invoke_in, callee_in, statement_in, code_in, routine_of, routines_from, routines_of}
-use Rattle.imp_edit.specs.Changes.{append, in_statement, in_block, in_program, with_body, exchanged}
+use Rattle.edit_entries.specs.Holes.{append, with_body}
+use Rattle.imp_edit.specs.Changes.{in_statement, in_block, in_program, exchanged}
 use Rattle.program_chains.specs.Chains.{has}
 use Rattle.program_chains.specs.declared.widening.Widening.{Widening}
 use Rattle.program_chains.specs.Marks.{marks}

@@ -5,7 +5,7 @@ pub mod ShiftedTable
 mod ShiftedTargets
 mod Fitting
 mod Idle
-mod Staying
+pub mod Staying
 mod Edited
 mod Whole
 pub mod Rising

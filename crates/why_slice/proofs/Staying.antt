@@ -159,7 +159,7 @@ module _ {S : Type 0} (dom : Operations S) (engine : Engine) (program : List Rou
   abbrev rows : Rows CellName (Cell S)
   rows = rows_of dom engine program same
 
-  input_alone : (x a : CellName) (e : Effect) → flat_row engine (reverse program) x.path x.point ≡ Some (One (Posts (Does e)) a) → inputs_of rows x ≡ a ∷ []
+  pub input_alone : (x a : CellName) (e : Effect) → flat_row engine (reverse program) x.path x.point ≡ Some (One (Posts (Does e)) a) → inputs_of rows x ≡ a ∷ []
   unfolding inputs_of
   input_alone x a e h =
       ap (λ o. gather (value_of rows) (λ vs. by_row dom engine o None (λ r. asks_row dom engine r vs)) (by_row dom engine o 0 (most_row dom engine)) []) h

@@ -58,11 +58,11 @@ listed_there : (o : Option ℕ) (n : ℕ) → o ≡ Some n → Member n (listed 
 listed_there o n e = subst (λ o. Member n (listed o)) (sym e) here
 
 -- items of lists that are put one behind another
-all_only : (nss : List (List ℕ)) (n : ℕ) → Member n (all_of nss) → (ns : List ℕ) × Member ns nss × Member n ns
+pub all_only : (nss : List (List ℕ)) (n : ℕ) → Member n (all_of nss) → (ns : List ℕ) × Member ns nss × Member n ns
 all_only [] n m = elim m [ ]
 all_only (ns ∷ nss) n m = elim (either n ns (all_of nss) m) [ inl a ↦ (ns, here, a) | inr b ↦ (let x = all_only nss n b in (x.0, there x.1, x.2)) ]
 
-all_there : (nss : List (List ℕ)) (ns : List ℕ) (n : ℕ) → Member ns nss → Member n ns → Member n (all_of nss)
+pub all_there : (nss : List (List ℕ)) (ns : List ℕ) (n : ℕ) → Member ns nss → Member n ns → Member n (all_of nss)
 all_there [] ns n m k = elim m [ ]
 all_there (ns ∷ nss) _ n here k = in_left (all_of nss) k
 all_there (ms ∷ nss) ns n (there m) k = in_right ms (all_there nss ns n m k)
@@ -93,7 +93,7 @@ module _ {S : Type 0} (dom : Operations S) (engine : Engine) (program : List Rou
       subst (λ o. Member n (hung_on dom engine program same x o)) (sym h.is)
       (subst (λ b. Member n (if b then listed (pointed x.path x.point) else [])) (sym h.counts) (listed_there (pointed x.path x.point) n h.names))
 
-  all_hung_only : (xs : List CellName) (n : ℕ) → Member n (all_hung dom engine program same xs) → (x : CellName) × Member x xs × HangsOn dom engine program same x n
+  pub all_hung_only : (xs : List CellName) (n : ℕ) → Member n (all_hung dom engine program same xs) → (x : CellName) × Member x xs × HangsOn dom engine program same x n
   all_hung_only [] n m = elim m [ ]
   all_hung_only (x ∷ xs) n m =
       elim (either n (hung_on dom engine program same x (row_at x)) (all_hung dom engine program same xs) m) [
@@ -107,7 +107,7 @@ module _ {S : Type 0} (dom : Operations S) (engine : Engine) (program : List Rou
   all_hung_there (y ∷ xs) x n (there m) h = in_right (hung_on dom engine program same y (row_at y)) (all_hung_there xs x n m h)
 
   module _ (l : Location) (string : List ℕ) (p : ℕ) (ts : List Target) where
-    needs : (x : CellName) → (member same (needed_by dom engine program same ts) x ≡ true) ↔ NeededBy dom engine program same ts x
+    pub needs : (x : CellName) → (member same (needed_by dom engine program same ts) x ≡ true) ↔ NeededBy dom engine program same ts x
     needs x = needed (names_of dom engine program same) (system-acyclic (rows dom engine program same is checked) (law dom engine program same is checked)) (demanded (found_by dom engine program same) ts) x
 
     chains : List (List ℕ)

@@ -5,6 +5,7 @@ use Rattle.memo_table.proofs.Telling.{operation_tells}
 use Rattle.daig_query.specs.Made.{row_result}
 use Rattle.daig_query.proofs.Growing.{keeps_refl}
 use Rattle.daig_query.proofs.Remembered.{once_by, result_is, is_result, state_grows, right_more}
+use Rattle.daig_query.proofs.Recalls.{not_remembered}
 use Rattle.daig_query.proofs.compute.result_of.Goals as goal
 
 pub returns-in-Some-clause-is : goal.returns-in-Some-clause-is
@@ -66,3 +67,21 @@ returns-clause-computes g c =
     let again = ap₂ (row_result dom c.args.row.now) (state_grows dom old.states states c.intern-2.ensures.kept c.args.left c.requires.left ∙ sym c.operand.ensures.is) (state_grows dom old.states states c.intern-2.ensures.kept c.args.right c.requires.known ∙ sym c.operand-2.ensures.is) ∙ made in
     let is = is_result dom operations states key c.in_ok-number.number c.args.row.now c.in_ok-operation_of.field-0 c.in_ok-state.state (c.in_ok-operation.ensures.same operation_tells) c.in_ok-operation_of.ensures.is (c.in_ok-number.ensures.same (λ x y h. (same x y).0 (tests x y ∙ h))) again in
     right_more dom c.args.flow.now old _ c.requires.right refl refl c.intern-2.ensures.kept (once_by g.D.State.PartialEq.eq states (λ s. sym (tests s s) ∙ (same s s).1 refl) c.intern-2.ensures.once) (c.keep.ensures.results dom operations states later is)
+
+pub returns-in_err-state-clause-remembered : goal.returns-in_err-state-clause-remembered
+returns-in_err-state-clause-remembered g c =
+    λ r.
+    absurd (not_remembered c.args.store.now c.intern.new.self c.args.row.now c.in_ok-operation_of.field-0 c.in_ok-operation.operation c.args.left c.args.right
+    c.in_ok-operation_of.ensures.is (c.in_ok-operation.ensures.same operation_tells) c.intern.ensures.once c.intern.ensures.kept c.in_default.ensures.value r)
+
+pub returns-in_err-number-clause-remembered : goal.returns-in_err-number-clause-remembered
+returns-in_err-number-clause-remembered g c =
+    λ r.
+    absurd (not_remembered c.args.store.now c.intern.new.self c.args.row.now c.in_ok-operation_of.field-0 c.in_ok-operation.operation c.args.left c.args.right
+    c.in_ok-operation_of.ensures.is (c.in_ok-operation.ensures.same operation_tells) c.intern.ensures.once c.intern.ensures.kept c.in_default.ensures.value r)
+
+pub returns-clause-remembered : goal.returns-clause-remembered
+returns-clause-remembered g c =
+    λ r.
+    absurd (not_remembered c.args.store.now c.intern.new.self c.args.row.now c.in_ok-operation_of.field-0 c.in_ok-operation.operation c.args.left c.args.right
+    c.in_ok-operation_of.ensures.is (c.in_ok-operation.ensures.same operation_tells) c.intern.ensures.once c.intern.ensures.kept c.in_default.ensures.value r)

@@ -2,8 +2,7 @@ use Rattle.std.proofs.Common.{◌≡◌, refl}
 use Rattle.std.specs.Option.{option_copied}
 use Rattle.request_json.specs.declared.request.Request.{Request}
 use Rattle.request_json.specs.declared.request.Request.TheVariants as q
-use Rattle.request_json.specs.declared.reply.Refusal.TheVariants as refusal
-use Rattle.line_answers.specs.Turns.{cost_turn, listing_turn, program_turn, refused}
+use Rattle.line_answers.specs.Turns.{cost_turn, listing_turn, program_turn}
 use Rattle.line_answers.specs.Lines.{request_turn}
 use Rattle.session_lines.specs.Followed.{Edits}
 use Rattle.session_lines.proofs.Answered.{halted, ran, told, turned}
@@ -18,6 +17,16 @@ pub returns-in-State-clause-between : goal.returns-in-State-clause-between
 unfolding request_turn
 returns-in-State-clause-between g c = λ readings m fills h.
     halted c.state_line.result (λ v. v.items) (g.D.Domain.operations c.args.session.now.engine.domain) m _ readings c.args.request (q.State c.in-State.query) c.in-State.is (c.state_line.ensures.between m h)
+
+pub returns-in-Why-clause-turn : goal.returns-in-Why-clause-turn
+unfolding request_turn
+returns-in-Why-clause-turn g c = λ readings m h.
+    turned c.why_line.result (λ v. v.items) (g.D.Domain.operations c.args.session.now.engine.domain) m _ readings c.args.request (q.Why c.in-Why.query) c.in-Why.is (c.why_line.ensures.turn m h)
+
+pub returns-in-Why-clause-between : goal.returns-in-Why-clause-between
+unfolding request_turn
+returns-in-Why-clause-between g c = λ readings m fills h.
+    halted c.why_line.result (λ v. v.items) (g.D.Domain.operations c.args.session.now.engine.domain) m _ readings c.args.request (q.Why c.in-Why.query) c.in-Why.is (c.why_line.ensures.between m h)
 
 pub returns-in-Report-clause-turn : goal.returns-in-Report-clause-turn
 unfolding request_turn
@@ -82,12 +91,6 @@ unfolding request_turn
 returns-in-Run-clause-turn g c = λ readings m h.
     turned c.run_line.result (λ v. v.items) (g.D.Domain.operations c.args.session.now.engine.domain) m _ readings c.args.request (q.Run c.in-Run.inputs c.in-Run.fuel c.in-Run.at) c.in-Run.is
     (ran c.run_line.result (λ v. v.items) m _ c.in-Run.inputs c.as_slice.result.now c.in-Run.fuel c.in-Run.at (option_copied c.as_ref.result) c.as_slice.ensures.same c.as_ref.ensures.value h (c.run_line.ensures.line m h))
-
-pub returns-in-Why-clause-turn : goal.returns-in-Why-clause-turn
-unfolding request_turn
-returns-in-Why-clause-turn g c = λ readings m h.
-    turned c.refused.result (λ v. v.items) (g.D.Domain.operations c.args.session.now.engine.domain) m _ readings c.args.request (q.Why c.in-Why.field-0) c.in-Why.is
-    (told c.refused.result (λ v. v.items) m _ (refused refusal.NoRequest m) refl h c.refused.ensures.line)
 
 pub returns-in_default-clause-turn : goal.returns-in_default-clause-turn
 returns-in_default-clause-turn g c = λ readings m h.

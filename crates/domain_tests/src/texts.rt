@@ -1,0 +1,181 @@
+//! States as texts, read back, refused and compared.
+use dom_interval::Interval;
+use dom_listseg::ListSeg;
+use dom_octagon::Octagon;
+use imp_slots::{Layout, NumericSlot};
+use plain_values::{Items, Text};
+use portable_states::Portable;
+use std::alloc::Global;
+use std::test::Fail;
+
+/// The int `i`, and the array `a` where there is one.
+fn numbers(alloc: Global, has_array: bool) -> Result<[Layout; 1], Fail> {
+    let mut numbers = Items::new(alloc);
+    numbers.push(NumericSlot::new(Text::from_slice(alloc, b"i")?, false))?;
+    if has_array {
+        numbers.push(NumericSlot::new(Text::from_slice(alloc, b"a")?, true))?;
+    }
+    Ok([Layout::new(alloc, numbers, Items::new(alloc))?])
+}
+
+/// The link `p`.
+fn link(alloc: Global) -> Result<[Layout; 1], Fail> {
+    let mut links = Items::new(alloc);
+    links.push(Text::from_slice(alloc, b"p")?)?;
+    Ok([Layout::new(alloc, Items::new(alloc), links)?])
+}
+
+/// Whether a text is taken, and put again as it was.
+fn comes_back<D: Portable>(
+    alloc: Global,
+    dom: &D,
+    layouts: &[Layout],
+    text: &str,
+) -> Result<bool, Fail> {
+    match dom.take(alloc, layouts, text.as_bytes())? {
+        None => Ok(false),
+        Some(s) => Ok(dom.put(alloc, &s)?.as_slice() == text.as_bytes()),
+    }
+}
+
+fn is_refused<D: Portable>(
+    alloc: Global,
+    dom: &D,
+    layouts: &[Layout],
+    text: &str,
+) -> Result<bool, Fail> {
+    Ok(dom.take(alloc, layouts, text.as_bytes())?.is_none())
+}
+
+/// Whether the left text is taken and that of a state below the right one's.
+fn is_below<D: Portable>(
+    alloc: Global,
+    dom: &D,
+    layouts: &[Layout],
+    left: &str,
+    right: &str,
+) -> Result<bool, Fail> {
+    match (
+        dom.take(alloc, layouts, left.as_bytes())?,
+        dom.take(alloc, layouts, right.as_bytes())?,
+    ) {
+        (Some(l), Some(r)) => Ok(dom.leq(alloc, &l, &r)?),
+        (_, _) => Ok(false),
+    }
+}
+
+#[test]
+fn intervals_come_back(rt: HostRuntime) -> Result<(), Fail> {
+    let layouts = numbers(rt.alloc(), true)?;
+    for text in ["0", "1 -5 7 0 1000000"] {
+        assert!(rt; comes_back(rt.alloc(), &Interval, &layouts, text)?);
+    }
+    Ok(())
+}
+
+#[test]
+fn intervals_are_refused(rt: HostRuntime) -> Result<(), Fail> {
+    let layouts = numbers(rt.alloc(), true)?;
+    for text in [
+        "",
+        "2",
+        "-0",
+        "0 ",
+        "1 -5 7",
+        "1 7 -5 0 0",
+        "1 0 0 0 1000001",
+        "1 n 0 0 0",
+    ] {
+        assert!(rt; is_refused(rt.alloc(), &Interval, &layouts, text)?);
+    }
+    Ok(())
+}
+
+#[test]
+fn intervals_are_ordered(rt: HostRuntime) -> Result<(), Fail> {
+    let layouts = numbers(rt.alloc(), false)?;
+    assert!(rt; is_below(rt.alloc(), &Interval, &layouts, "1 0 5", "1 -1 5")?);
+    assert!(rt; is_below(rt.alloc(), &Interval, &layouts, "0", "1 0 5")?);
+    assert!(rt; !is_below(rt.alloc(), &Interval, &layouts, "1 -1 5", "1 0 5")?);
+    Ok(())
+}
+
+#[test]
+fn octagons_come_back(rt: HostRuntime) -> Result<(), Fail> {
+    let layouts = numbers(rt.alloc(), false)?;
+    for text in [
+        "0",
+        "1 0 n 10 0",
+        "1 0 -18446744073709551616 18446744073709551615 0",
+    ] {
+        assert!(rt; comes_back(rt.alloc(), &Octagon, &layouts, text)?);
+    }
+    let layouts = numbers(rt.alloc(), true)?;
+    let text = "1 0 n 3 n n 0 n n n n 0 n n 3 n 0";
+    assert!(rt; comes_back(rt.alloc(), &Octagon, &layouts, text)?);
+    Ok(())
+}
+
+#[test]
+fn octagons_are_refused(rt: HostRuntime) -> Result<(), Fail> {
+    let layouts = numbers(rt.alloc(), false)?;
+    for text in [
+        "1",
+        "1 0 n 10",
+        "1 0 n 10 1",
+        "1 n n 10 n",
+        "1 0 n 18446744073709551616 0",
+    ] {
+        assert!(rt; is_refused(rt.alloc(), &Octagon, &layouts, text)?);
+    }
+    let layouts = numbers(rt.alloc(), true)?;
+    let text = "1 0 n 3 n n 0 n n n n 0 n n 4 n 0";
+    assert!(rt; is_refused(rt.alloc(), &Octagon, &layouts, text)?);
+    Ok(())
+}
+
+/// The left state is closed: bounds that no number keeps make it Empty.
+#[test]
+fn octagons_are_ordered(rt: HostRuntime) -> Result<(), Fail> {
+    let layouts = numbers(rt.alloc(), false)?;
+    assert!(rt; is_below(rt.alloc(), &Octagon, &layouts, "1 0 n 10 0", "1 0 n 12 0")?);
+    assert!(rt; is_below(rt.alloc(), &Octagon, &layouts, "1 0 -12 10 0", "0")?);
+    assert!(rt; !is_below(rt.alloc(), &Octagon, &layouts, "1 0 n 12 0", "1 0 n 10 0")?);
+    Ok(())
+}
+
+#[test]
+fn segments_come_back(rt: HostRuntime) -> Result<(), Fail> {
+    let layouts = link(rt.alloc())?;
+    for text in ["0", "2", "1 1 0 0", "1 1 1 1 1 0", "1 2 0 0 1 1 0 1"] {
+        assert!(rt; comes_back(rt.alloc(), &ListSeg, &layouts, text)?);
+    }
+    Ok(())
+}
+
+/// No graph, a node that no slot reaches, a node that is no anchor, graphs that do not rise.
+#[test]
+fn segments_are_refused(rt: HostRuntime) -> Result<(), Fail> {
+    let layouts = link(rt.alloc())?;
+    for text in [
+        "1 0",
+        "1 1 0 1 0 0",
+        "1 1 1 2 0 2 0 0",
+        "1 2 1 1 0 0 0 0",
+        "1 2 0 0 0 0",
+        "1 1 1 0",
+    ] {
+        assert!(rt; is_refused(rt.alloc(), &ListSeg, &layouts, text)?);
+    }
+    Ok(())
+}
+
+#[test]
+fn segments_are_ordered(rt: HostRuntime) -> Result<(), Fail> {
+    let layouts = link(rt.alloc())?;
+    assert!(rt; is_below(rt.alloc(), &ListSeg, &layouts, "1 1 0 0", "1 2 0 0 1 1 0 0")?);
+    assert!(rt; is_below(rt.alloc(), &ListSeg, &layouts, "2", "2")?);
+    assert!(rt; !is_below(rt.alloc(), &ListSeg, &layouts, "1 1 1 1 0 0", "1 1 0 0")?);
+    assert!(rt; !is_below(rt.alloc(), &ListSeg, &layouts, "2", "1 1 0 0")?);
+    Ok(())
+}

@@ -1,0 +1,268 @@
+//! The entries that change where simple statements come at a place of a block, or one goes.
+ghost use Rattle.std.specs.Prelude.{◌≡◌, ℕ, ◌<◌, [], Option, cond, IfOk, OnOk, None, Some, true};
+ghost use Rattle.std.specs.List.{All};
+ghost use Rattle.std.specs.Option.{option_map};
+ghost use Rattle.imp_syntax.specs.Plain.{Statements};
+ghost use Rattle.imp_check.specs.Changes.{AreFalling, AreWithin, overlay};
+ghost use Rattle.imp_check.specs.Entries.{block_entries, entries_of, entry_of, frame_at};
+ghost use Rattle.imp_check.specs.Faults.{first};
+ghost use Rattle.imp_check.specs.Parts.{first_or, last_or};
+ghost use Rattle.imp_check.specs.Programs.{has};
+ghost use Rattle.imp_check.specs.declared.entry.BlockEnds.{BlockEnds};
+ghost use Rattle.imp_check.specs.declared.entry.Entry.{Entry};
+ghost use Rattle.edit_entries.specs.Gaps.{ends_in, ends_with, held_in, holder_of, with_ends};
+ghost use Rattle.edit_entries.specs.Spliced.{is, with_front, with_next};
+ghost use Rattle.imp_edit.specs.Gaps.{AreBelow, IsBelow, entries_with, gone_in};
+
+use crate::alone::form_again;
+use crate::gap::Gap;
+use crate::puts::put_at;
+use imp_check::{Around, BlockEnds, Entry, Head, Place, Put, Table, Which};
+use imp_syntax::{Block, StmtId};
+use plain_values::Memory;
+use std::alloc::Global;
+
+/// The first statement of a block, or else what stands behind it.
+fn first_or(block: &Block, next: Option<StmtId>) -> Option<StmtId>
+    ensures is { result ≡ first_or block.now next }
+{
+    match block.get(0) {
+        Some(stmt) => Some(stmt.id()),
+        None => next,
+    }
+}
+
+/// The last statement of a block, or else what stands in front of it.
+fn last_or(block: &Block, front: Option<StmtId>) -> Option<StmtId>
+    ensures is { result ≡ last_or block.now front }
+{
+    match block.get(block.len().saturating_sub(1)) {
+        Some(stmt) => Some(stmt.id()),
+        None => front,
+    }
+}
+
+/// The ends of a block, once these statements stand at a place of it.
+pub(crate) fn ends_with(gap: &Gap, news: &Block, ends: BlockEnds) -> BlockEnds
+    ensures is { result ≡ ends_with gap.now.front gap.now.next news.now ends }
+{
+    let first = match gap.front {
+        Some(_) => ends.first,
+        None => first_or(news, gap.next),
+    };
+    let last = match gap.next {
+        Some(_) => ends.last,
+        None => last_or(news, gap.front),
+    };
+    BlockEnds { first, last }
+}
+
+/// A copy of an entry.
+pub(crate) fn entry_again(entry: &Entry) -> Result<Entry, Memory>
+    ensures is { IfOk result (λ copy. copy ≡ entry.now) }
+{
+    Ok(Entry {
+        number: entry.number,
+        part: entry.part.clone()?,
+        form: form_again(&entry.form)?,
+        context: entry.context,
+        front: entry.front,
+        next: entry.next,
+        inner: entry.inner,
+        other: entry.other,
+        breaks: entry.breaks.clone()?,
+    })
+}
+
+/// What stands at a number, with another statement behind it.
+fn with_next(
+    alloc: Global,
+    table: &Table,
+    number: StmtId,
+    next: Option<StmtId>,
+) -> Result<Place, Memory>
+    ensures is { IfOk result (λ place. place ≡ option_map (with_next next) (entry_of (entries_of table.now.program) number)) }
+{
+    match table.entry(number) {
+        Some(entry) => {
+            let mut entry = entry_again(entry)?;
+            entry.next = next;
+            Place::of(alloc, entry)
+        }
+        None => Ok(Place::free()),
+    }
+}
+
+/// What stands at a number, with another statement in front of it.
+fn with_front(
+    alloc: Global,
+    table: &Table,
+    number: StmtId,
+    front: Option<StmtId>,
+) -> Result<Place, Memory>
+    ensures is { IfOk result (λ place. place ≡ option_map (with_front front) (entry_of (entries_of table.now.program) number)) }
+{
+    match table.entry(number) {
+        Some(entry) => {
+            let mut entry = entry_again(entry)?;
+            entry.front = front;
+            Place::of(alloc, entry)
+        }
+        None => Ok(Place::free()),
+    }
+}
+
+/// A statement with the ends of one of its blocks as they then are.
+fn with_ends(entry: Entry, which: Which, gap: &Gap, news: &Block) -> Entry
+    ensures is { result ≡ with_ends which (ends_with gap.now.front gap.now.next news.now (ends_in which entry)) entry }
+{
+    let mut entry = entry;
+    match which {
+        Which::Then => entry.inner = ends_with(gap, news, entry.inner),
+        Which::Else => entry.other = ends_with(gap, news, entry.other),
+        Which::Body => entry.inner = ends_with(gap, news, entry.inner),
+    }
+    entry
+}
+
+/// What stands at the number of the statement that has the block, with the ends of the block as they then are.
+fn holding(
+    alloc: Global,
+    table: &Table,
+    around: Around,
+    gap: &Gap,
+    news: &Block,
+) -> Result<Place, Memory>
+    ensures is { IfOk result (λ place. place ≡ option_map (held_in (Some around) (ends_with gap.now.front gap.now.next news.now)) (entry_of (entries_of table.now.program) around.stmt)) }
+{
+    match table.entry(around.stmt) {
+        Some(entry) => {
+            let entry = entry_again(entry)?;
+            Place::of(alloc, with_ends(entry, around.which, gap, news))
+        }
+        None => Ok(Place::free()),
+    }
+}
+
+/// Whether the ends of the block stay, whatever comes.
+pub(crate) fn ends_stay(gap: &Gap) -> bool
+    ensures stay { result ≡ true → (news : Statements) (ends : BlockEnds) → ends_with gap.now.front gap.now.next news ends ≡ ends }
+{
+    gap.front.is_some() && gap.next.is_some()
+}
+
+/// The change of the statement that has the block, if one has and the ends change.
+#[tactic(auto, using(crate::proofs::SpliceLemmas::none_fall, crate::proofs::SpliceLemmas::none_within))]
+fn holder_puts(alloc: Global, table: &Table, gap: &Gap, news: &Block) -> Result<Vec<Put>, Memory>
+    ensures are { IfOk result (λ puts. (m : ℕ) → overlay puts.items (entry_of (entries_of table.now.program)) m ≡ cond (is (holder_of gap.now.context.around) m) (option_map (held_in gap.now.context.around (ends_with gap.now.front gap.now.next news.now)) (entry_of (entries_of table.now.program) m)) (entry_of (entries_of table.now.program) m)) }
+    ensures falling { IfOk result (λ puts. AreFalling puts.items) }
+    ensures within { IfOk result (λ puts. (b : ℕ) → IsBelow b (holder_of gap.now.context.around) → AreWithin b puts.items) }
+{
+    if ends_stay(gap) {
+        return Ok(Vec::new(alloc));
+    }
+    match gap.context.around {
+        Some(around) => {
+            let stmt = around.stmt;
+            let place = holding(alloc, table, around, gap, news)?;
+            let mut puts = Vec::new(alloc);
+            put_at(&mut puts, stmt, place)?;
+            Ok(puts)
+        }
+        None => Ok(Vec::new(alloc)),
+    }
+}
+
+/// Puts the statement behind the place.
+fn put_next(
+    alloc: Global,
+    table: &Table,
+    gap: &Gap,
+    news: &Block,
+    puts: &mut Vec<Put>,
+) -> Result<(), Memory>
+    requires falling { AreFalling puts.old.items }
+    ensures is { OnOk result ((m : ℕ) → overlay puts.new.items (entry_of (entries_of table.now.program)) m ≡ cond (is gap.now.next m) (option_map (with_front (last_or news.now gap.now.front)) (entry_of (entries_of table.now.program) m)) (overlay puts.old.items (entry_of (entries_of table.now.program)) m)) }
+    ensures falling { OnOk result (AreFalling puts.new.items) }
+    ensures within { OnOk result ((b : ℕ) → IsBelow b gap.now.next → AreWithin b puts.old.items → AreWithin b puts.new.items) }
+{
+    match gap.next {
+        Some(next) => {
+            let place = with_front(alloc, table, next, last_or(news, gap.front))?;
+            put_at(puts, next, place)
+        }
+        None => Ok(()),
+    }
+}
+
+/// Puts the statement in front of the place.
+fn put_front(
+    alloc: Global,
+    table: &Table,
+    gap: &Gap,
+    news: &Block,
+    puts: &mut Vec<Put>,
+) -> Result<(), Memory>
+    requires falling { AreFalling puts.old.items }
+    ensures is { OnOk result ((m : ℕ) → overlay puts.new.items (entry_of (entries_of table.now.program)) m ≡ cond (is gap.now.front m) (option_map (with_next (first_or news.now gap.now.next)) (entry_of (entries_of table.now.program) m)) (overlay puts.old.items (entry_of (entries_of table.now.program)) m)) }
+    ensures falling { OnOk result (AreFalling puts.new.items) }
+    ensures within { OnOk result ((b : ℕ) → IsBelow b gap.now.front → AreWithin b puts.old.items → AreWithin b puts.new.items) }
+{
+    match gap.front {
+        Some(front) => {
+            let place = with_next(alloc, table, front, first_or(news, gap.next))?;
+            put_at(puts, front, place)
+        }
+        None => Ok(()),
+    }
+}
+
+/// Puts the statements that come, the last one first.
+fn put_come(alloc: Global, entries: Vec<Entry>, puts: &mut Vec<Put>) -> Result<(), Memory>
+    requires falling { AreFalling puts.old.items }
+    ensures is { OnOk result ((at : ℕ → Option Entry) (m : ℕ) → overlay puts.new.items at m ≡ first (entry_of entries.items m) (overlay puts.old.items at m)) }
+    ensures falling { OnOk result (AreFalling puts.new.items) }
+    ensures within { OnOk result ((b : ℕ) → All (λ (e : Entry). e.number < b) entries.items → AreWithin b puts.old.items → AreWithin b puts.new.items) }
+{
+    let mut entries = entries;
+    while let Some(entry) = entries.pop() {
+        let number = entry.number;
+        let place = Place::of(alloc, entry)?;
+        put_at(puts, number, place)?;
+    }
+    Ok(())
+}
+
+/// Takes away the statement that goes.
+fn put_gone(gap: &Gap, puts: &mut Vec<Put>) -> Result<(), Memory>
+    requires falling { AreFalling puts.old.items }
+    ensures is { OnOk result ((at : ℕ → Option Entry) (m : ℕ) → overlay puts.new.items at m ≡ cond (has (gone_in gap.now.gone) m) None (overlay puts.old.items at m)) }
+    ensures falling { OnOk result (AreFalling puts.new.items) }
+    ensures within { OnOk result ((b : ℕ) → IsBelow b gap.now.gone → AreWithin b puts.old.items → AreWithin b puts.new.items) }
+{
+    match gap.gone {
+        Some(gone) => put_at(puts, gone, Place::free()),
+        None => Ok(()),
+    }
+}
+
+/// All entries that change, where these come. It takes time in proportion to those that come.
+pub(crate) fn puts_of(
+    alloc: Global,
+    table: &Table,
+    head: &Head,
+    gap: &Gap,
+    news: &Block,
+    entries: Vec<Entry>,
+) -> Result<Vec<Put>, Memory>
+    requires come { entries.items ≡ block_entries (frame_at [] head.now.bare) gap.now.context gap.now.front gap.now.next news.now }
+    ensures are { IfOk result (λ puts. (m : ℕ) → overlay puts.items (entry_of (entries_of table.now.program)) m ≡ entries_with table.now.program head.now gap.now news.now m) }
+    ensures within { IfOk result (λ puts. (b : ℕ) → AreBelow b gap.now news.now → AreWithin b puts.items) }
+{
+    let mut puts = holder_puts(alloc, table, gap, news)?;
+    put_next(alloc, table, gap, news, &mut puts)?;
+    put_front(alloc, table, gap, news, &mut puts)?;
+    put_come(alloc, entries, &mut puts)?;
+    put_gone(gap, &mut puts)?;
+    Ok(puts)
+}

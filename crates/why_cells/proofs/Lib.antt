@@ -1,0 +1,4 @@
+mod Gathers
+mod Ways
+mod Hung
+mod Sliced

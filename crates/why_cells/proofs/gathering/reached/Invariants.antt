@@ -1,0 +1,10 @@
+use Rattle.std.proofs.Common.{◌-◌}
+use Rattle.std.specs.FinMap.{len}
+use Rattle.why_cells.proofs.Gathers.{Gathers}
+use Rattle.why_cells.proofs.gathering.reached.Given as goal
+
+abbrev pub invariant-cells : goal.invariant-cells
+invariant-cells g l = Gathers l.graph.cells l.seeds l.next l.cells.keys
+
+abbrev pub decreases-cells : goal.decreases-cells
+decreases-cells g l = len l.graph.cells - l.next

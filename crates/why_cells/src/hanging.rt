@@ -1,0 +1,206 @@
+//! The statements that the names of cells hang on.
+ghost use Rattle.std.specs.Prelude.{◌≡◌, ◌<◌, ℕ, List, [], ◌∷◌, length, Some, None, slice_get, IfOk, IfSome, IsSome, option_map, reverse};
+ghost use Rattle.std.specs.FinMap as map;
+ghost use Rattle.cell_names.specs.declared.frame.Point.TheVariants.{Entry, Body};
+ghost use Rattle.cell_names.specs.Paths.{CellName, path_at};
+ghost use Rattle.cell_rows.specs.Flat.{flat_row};
+ghost use Rattle.imp_flow.specs.Near.{PathFrame, last_frame, row_in};
+ghost use Rattle.imp_flow.specs.Plans.{Plan};
+ghost use Rattle.daig_graph.specs.Cells.{AreCells, Filled};
+ghost use Rattle.batch_meaning.specs.Values.{Value as PlainValue};
+ghost use Rattle.daig_query.specs.Answered.{value_in};
+ghost use Rattle.named_cells.specs.Named.{AreNumbers};
+ghost use Rattle.named_cells.specs.Same.{same_name};
+ghost use Rattle.daig_query.specs.Right.{found, IsRight};
+ghost use Rattle.why_slice.specs.Upstream.{all_hung, hung_on, is_live, listed, matters, pointed};
+ghost use Rattle.why_cells.specs.Told.{is_effect, IsCellAt};
+
+use cell_names::{Frame, Name, Names, PathId, Point};
+use daig_graph::Graph;
+use daig_query::Engine;
+use domain_laws::Domain;
+use imp_flow::{Flow, Row, Unary};
+use imp_slots::SlotStmt;
+use plain_values::Memory;
+use std::alloc::Global;
+
+/// The last frame of a path.
+fn last_frame(names: &Names, path: PathId) -> Option<Frame>
+    requires there { path < length names.now.paths }
+    ensures is { result ≡ last_frame (path_at names.now.paths path) }
+{
+    match names.last_frame(path) {
+        Some((_, frame)) => Some(frame),
+        None => None,
+    }
+}
+
+/// The call that a frame goes into.
+fn call_of(frame: Frame) -> Option<u32>
+    ensures is { (v : List PathFrame) → result ≡ pointed (frame ∷ v) Entry }
+{
+    match frame {
+        Frame::InCall(site) => Some(site.number()),
+        Frame::InLoop(..) => None,
+    }
+}
+
+/// The call that leads to a body.
+fn called_by(frame: Option<Frame>) -> Option<u32>
+    ensures is { (w : List PathFrame) → last_frame w ≡ frame → result ≡ pointed w Entry }
+{
+    match frame {
+        Some(frame) => call_of(frame),
+        None => None,
+    }
+}
+
+/// The loop that a frame goes into.
+fn loop_of(frame: Frame) -> Option<u32>
+    ensures is { (v : List PathFrame) → result ≡ pointed (frame ∷ v) Body }
+{
+    match frame {
+        Frame::InCall(_) => None,
+        Frame::InLoop(head, _) => Some(head.number()),
+    }
+}
+
+/// The loop that leads to a round.
+fn looped_by(frame: Option<Frame>) -> Option<u32>
+    ensures is { (w : List PathFrame) → last_frame w ≡ frame → result ≡ pointed w Body }
+{
+    match frame {
+        Some(frame) => loop_of(frame),
+        None => None,
+    }
+}
+
+/// The statement that a name names.
+fn pointed(names: &Names, name: &Name) -> Option<u32>
+    requires there { name.now.path < length names.now.paths }
+    ensures is { result ≡ pointed (path_at names.now.paths name.now.path) name.now.point }
+{
+    match name.point {
+        Point::Entry => called_by(last_frame(names, name.path)),
+        Point::Body => looped_by(last_frame(names, name.path)),
+        Point::Then(stmt)
+        | Point::Else(stmt)
+        | Point::Post(stmt)
+        | Point::Iterate(stmt, _)
+        | Point::Fix(stmt)
+        | Point::Exit(stmt)
+        | Point::Leap(_, stmt) => Some(stmt.number()),
+    }
+}
+
+/// The row of a name.
+fn row_of<'a>(flow: &'a Flow<'_>, names: &Names, name: &Name) -> Option<Row<'a>>
+    requires there { name.now.path < length names.now.paths }
+    ensures is { option_map (row_in (path_at names.now.paths name.now.path)) result ≡
+        flat_row flow.now.engine (reverse flow.now.program) (path_at names.now.paths name.now.path) name.now.point }
+{
+    flow.row(last_frame(names, name.path), name.point)
+}
+
+/// Whether the row of a name is that of a point behind a simple statement, which is no break.
+fn is_effect(row: &Row<'_>) -> bool
+    ensures is { (w : List PathFrame) → result ≡ is_effect (row_in w row.now) }
+{
+    match row {
+        Row::One(Unary::Post(stmt), _) => match *stmt {
+            SlotStmt::Break => false,
+            SlotStmt::Simple(_) => true,
+        },
+        _ => false,
+    }
+}
+
+/// Whether a cell holds a state that is not a dead one.
+#[tactic(auto, using(crate::proofs::Hung::live_some, crate::proofs::Hung::live_none))]
+fn is_live<D: Domain>(engine: &Engine<D>, cell: usize) -> bool
+    requires there { (v : PlainValue D.State) × (value_in engine.now.store cell ≡ Some v) }
+    ensures is { (v : PlainValue D.State) → value_in engine.now.store cell ≡ Some v → result ≡ is_live (D.operations engine.now.domain) v }
+{
+    match engine.state(cell) {
+        Some(state) => !engine.domain().dead(state),
+        None => false,
+    }
+}
+
+/// The first input of a cell.
+fn first_input<V>(graph: &Graph<V>, cell: usize) -> Option<usize>
+    ensures is { (f : Filled V) → map.get graph.now.cells cell ≡ Some f → result ≡ slice_get f.inputs 0 }
+    ensures there { IfSome result (λ n. IsSome (map.get graph.now.cells n)) }
+{
+    match graph.inputs(cell) {
+        Some(inputs) => match inputs.first() {
+            Some(first) => Some(*first),
+            None => None,
+        },
+        None => None,
+    }
+}
+
+/// Whether the name of a cell hangs on the statement that it names, by its row.
+#[tactic(auto, using(crate::proofs::Hung::other_matters))]
+fn matters<D: Domain>(engine: &Engine<D>, flow: &Flow<'_>, cell: usize, row: &Row<'_>) -> bool
+    requires right { IsRight (D.operations engine.now.domain) flow.now engine.now.store }
+    requires there { (x : CellName) × IsCellAt engine.now.store cell x × (flat_row flow.now.engine (reverse flow.now.program) x.path x.point ≡ Some (row_in x.path row.now)) }
+    ensures is { (x : CellName) → IsCellAt engine.now.store cell x → flat_row flow.now.engine (reverse flow.now.program) x.path x.point ≡ Some (row_in x.path row.now) →
+        result ≡ matters (D.operations engine.now.domain) (found (D.operations engine.now.domain) flow.now) (row_in x.path row.now) }
+{
+    if !is_effect(row) {
+        return true;
+    }
+    match first_input(engine.graph(), cell) {
+        Some(first) => is_live(engine, first),
+        None => unreachable!(),
+    }
+}
+
+/// The statement that the name of a cell hangs on.
+fn hung_on<D: Domain>(engine: &Engine<D>, flow: &Flow<'_>, cell: usize) -> Option<u32>
+    requires right { IsRight (D.operations engine.now.domain) flow.now engine.now.store }
+    requires there { IsSome (map.get engine.now.store.graph.cells cell) }
+    ensures is { (x : CellName) → slice_get engine.now.store.names.names cell ≡ Some x →
+        listed result ≡ hung_on (D.operations engine.now.domain) flow.now.engine flow.now.program same_name x (flat_row flow.now.engine (reverse flow.now.program) x.path x.point) }
+{
+    let names = engine.names();
+    let name = names.get(cell);
+    match row_of(flow, names, &name) {
+        None => None,
+        Some(row) => {
+            if matters(engine, flow, cell, &row) {
+                pointed(names, &name)
+            } else {
+                None
+            }
+        }
+    }
+}
+
+/// The statements that the names of these cells hang on. It takes constant time for each cell, but for a leap, which takes
+/// time linear in the breaks of its loop.
+///
+/// # Errors
+///
+/// [`Memory`] alone.
+pub(crate) fn all_hung<D: Domain>(
+    alloc: Global,
+    engine: &Engine<D>,
+    flow: &Flow<'_>,
+    cells: &[usize],
+) -> Result<Vec<u32>, Memory>
+    requires right { IsRight (D.operations engine.now.domain) flow.now engine.now.store }
+    requires there { AreCells engine.now.store.graph.cells cells.now }
+    ensures are { (xs : List CellName) → AreNumbers engine.now.store.names.names cells.now xs →
+        IfOk result (λ ns. ns.items ≡ all_hung (D.operations engine.now.domain) flow.now.engine flow.now.program same_name xs) }
+{
+    let mut hung = Vec::new(alloc);
+    for cell in cells {
+        if let Some(number) = hung_on(engine, flow, *cell) {
+            hung.push(number)?;
+        }
+    }
+    Ok(hung)
+}
