@@ -2,4 +2,4 @@ use Rattle.examples.proofs.served.status_of.Given as goal
 
 -- nothing is counted
 abbrev pub ghosts-status : goal.ghosts-status
-ghosts-status a = record { name = a.blank.name; parts = a.blank.parts }
+ghosts-status g a = record { name = a.blank.name; parts = a.blank.parts }
