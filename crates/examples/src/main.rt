@@ -30,9 +30,9 @@ const SERVED: [(&str, &str); 13] = [
 ];
 
 /// The files of rows.
-const ROWS: [&str; 14] = [
+const ROWS: [&str; 15] = [
     "states", "calls", "edits", "tickets", "undo", "runs", "lines", "domains", "batches", "certs",
-    "sources", "texts", "faults", "words",
+    "sources", "texts", "faults", "words", "why",
 ];
 
 /// Runs an example, and tells whether it ends with 0 and writes exactly what it is to write. A file that is not
