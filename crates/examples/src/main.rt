@@ -13,7 +13,7 @@ use std::fs;
 use std::io::Error;
 
 /// The examples, each a program with a script and what comes out, and the domain that answers.
-const SERVED: [(&str, &str); 13] = [
+const SERVED: [(&str, &str); 14] = [
     ("first", "interval"),
     ("three", "interval"),
     ("counting", "interval"),
@@ -27,6 +27,7 @@ const SERVED: [(&str, &str); 13] = [
     ("asking", "interval"),
     ("reversing", "listseg"),
     ("gathering", "octagon+listseg"),
+    ("reviewing", "interval"),
 ];
 
 /// The files of rows.
