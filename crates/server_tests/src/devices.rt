@@ -32,13 +32,16 @@ fn lines_in(bytes: &[u8]) -> usize {
 
 /// So many lines of the text.
 fn first_lines(text: &[u8], count: usize) -> &[u8] {
-    let mut end = 0;
+    let mut lines: usize = 0;
     for i in 0..text.len() {
-        if text[i] == b'\n' && lines_in(&text[..i]) < count {
-            end = i + 1;
+        if lines == count {
+            return &text[..i];
+        }
+        if text[i] == b'\n' {
+            lines = lines.saturating_add(1);
         }
     }
-    &text[..end]
+    text
 }
 
 /// Whatever pieces the bytes come and go in, they are the same; a last line needs no LF.
