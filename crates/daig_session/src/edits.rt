@@ -80,7 +80,7 @@ impl<D: Domain> Session<D> {
     ///
     /// It takes the time of [`apply`], which for simple statements and conditions does not grow with the program, and time
     /// in proportion to the cells of the statements that the edit changes, to the cells that it empties with their inputs,
-    /// and to the different numbers of the procedure.
+    /// and to the different numbers of the procedure; where a number comes or goes and is a threshold, to the procedure.
     ///
     /// # Errors
     ///
