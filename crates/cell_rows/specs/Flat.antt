@@ -1,5 +1,5 @@
 -- The rows by a table of the program's statements, which no path is followed through.
-use Rattle.std.specs.Prelude.{ℕ, zero, suc, List, [], ◌∷◌, ◌++◌, map, Option, Some, None, true, false}
+use Rattle.std.specs.Prelude.{ℕ, zero, suc, List, [], ◌∷◌, ◌++◌, map, Option, Some, None, Bool, true, false}
 use Rattle.imp_slots.specs.Plain.{Code, Routine}
 use Rattle.batch_meaning.specs.Batch.{Engine}
 use Rattle.batch_meaning.specs.Places.{find, if_some, main_layout}
@@ -10,6 +10,38 @@ use Rattle.cell_names.specs.declared.frame.Point.TheVariants.{Entry, Then, Else,
 use Rattle.cell_rows.specs.Names.{Mark, mark, Place, bare, scope_of}
 use Rattle.cell_rows.specs.Rows.{Row, Init, sites_of, branch_row, post_row, next_row, fix_row, exit_row, leap_row, enter_row, turn_row}
 use Rattle.cell_rows.specs.Targets.{Text, texts}
+
+-- The rows of a statement's points, by what is known of a statement (each takes it from G): into a call of this number,
+-- into a branch, into round k of a loop of this number, the iterate behind the k-th, where they stop, behind the loop by
+-- its condition, with a break, and behind the statement.
+pub record RowsAt (G : Type 0) : Type 0 where
+  pub enter : List Frame → ℕ → G
+  pub branch : List Frame → Bool → G
+  pub turn : List Frame → ℕ → ℕ → G
+  pub next : List Frame → ℕ → G
+  pub fix : List Frame → G
+  pub exit : List Frame → G
+  pub leap : List Frame → ℕ → G
+  pub post : List Frame → G
+
+-- The row of a name, by its last frame and the statement of its point: `start` is that of the start of main, and `by`
+-- looks a statement up by its number.
+module _ {G : Type 0} (start : Row) (by : List Frame → ℕ → G → Option Row) (rows : RowsAt G) where
+  abbrev pub row_by : List Frame → Point → Option Row
+  row_by [] Entry = Some start
+  row_by (InCall n ∷ w) Entry = by w n (rows.enter w n)
+  row_by (InLoop n k ∷ w) Entry = None
+  row_by [] Body = None
+  row_by (InCall n ∷ w) Body = None
+  row_by (InLoop n k ∷ w) Body = by w n (rows.turn w n k)
+  row_by w (Then n) = by w n (rows.branch w true)
+  row_by w (Else n) = by w n (rows.branch w false)
+  row_by w (Post n) = by w n (rows.post w)
+  row_by w (Iterate n zero) = None
+  row_by w (Iterate n (suc k)) = by w n (rows.next w k)
+  row_by w (Fix n) = by w n (rows.fix w)
+  row_by w (Exit n) = by w n (rows.exit w)
+  row_by w (Leap n k) = by w n (rows.leap w k)
 
 -- A statement of the program: its procedure, those in front of it, and its text.
 pub record Flat : Type 0 where
@@ -33,19 +65,17 @@ module _ (engine : Engine) (program : List Routine) where
   abbrev pub by_text : List Frame → ℕ → (Place engine bare → Mark (Unit {0}) → Code → Option Row) → Option Row
   by_text w n g = if_some (find n (flat program)) (λ u. g (stand_in w u) (mark u.text.front 0 tt) u.text.code)
 
-  -- The row of a name: by its last frame and the statement of its point.
+  abbrev pub rows_of_text : RowsAt (Place engine bare → Mark (Unit {0}) → Code → Option Row)
+  rows_of_text = record {
+      enter = λ w n b. enter_row engine bare w b n;
+      branch = branch_row engine bare;
+      turn = λ w n k b. turn_row engine bare w b n k;
+      next = next_row engine bare;
+      fix = fix_row engine bare;
+      exit = exit_row engine bare;
+      leap = leap_row engine bare;
+      post = post_row engine bare }
+
+  -- The row of a name: by its last frame and the text of the statement of its point.
   abbrev pub flat_row : List Frame → Point → Option Row
-  flat_row [] Entry = Some (Init (main_layout program))
-  flat_row (InCall n ∷ w) Entry = by_text w n (λ b. enter_row engine bare w b n)
-  flat_row (InLoop n k ∷ w) Entry = None
-  flat_row [] Body = None
-  flat_row (InCall n ∷ w) Body = None
-  flat_row (InLoop n k ∷ w) Body = by_text w n (λ b. turn_row engine bare w b n k)
-  flat_row w (Then n) = by_text w n (branch_row engine bare w true)
-  flat_row w (Else n) = by_text w n (branch_row engine bare w false)
-  flat_row w (Post n) = by_text w n (post_row engine bare w)
-  flat_row w (Iterate n zero) = None
-  flat_row w (Iterate n (suc k)) = by_text w n (next_row engine bare w k)
-  flat_row w (Fix n) = by_text w n (fix_row engine bare w)
-  flat_row w (Exit n) = by_text w n (exit_row engine bare w)
-  flat_row w (Leap n k) = by_text w n (leap_row engine bare w k)
+  flat_row w p = row_by (Init (main_layout program)) by_text rows_of_text w p

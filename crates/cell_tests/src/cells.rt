@@ -1,13 +1,11 @@
-//! A thousand cells, filled and removed.
-ghost use Rattle.std.specs.Prelude.{◌≡◌, ◌<◌, false};
+//! Cells, filled and removed.
+ghost use Rattle.std.specs.Prelude.{◌≡◌, false};
 ghost use Rattle.daig_graph.specs.Cells.{IsUnused};
 
-use daig_graph::{Graph, Inputs, Use, Value, Walk};
+use daig_graph::{Graph, Inputs, Use, Value};
 use plain_values::Memory;
 use std::alloc::Global;
 use std::test::Fail;
-
-const COUNT: usize = 1000;
 
 /// Fills a cell whose inputs are there; `false` where it is there, or an input is not.
 #[tactic(auto, using(crate::proofs::TestLemmas::cells_push, crate::proofs::TestLemmas::cells_none))]
@@ -48,49 +46,6 @@ fn is_used(graph: &Graph<usize>, cell: usize) -> bool
     uses.next().is_some()
 }
 
-fn count<T: Copy>(walk: Walk<'_, T>) -> usize {
-    let mut many = 0usize;
-    for _ in walk {
-        many = many.saturating_add(1);
-    }
-    many
-}
-
-/// The cells in an order of their own.
-fn number(step: usize) -> usize
-    requires { step < 1000 }
-{
-    step * 7 % COUNT
-}
-
-#[test]
-fn a_thousand_cells(rt: HostRuntime) -> Result<(), Fail> {
-    let alloc = rt.alloc();
-    let mut graph = Graph::new(alloc);
-    graph.reserve(COUNT, 2 * COUNT)?;
-    for step in 0..COUNT {
-        let cell = number(step);
-        let filled = if step == 0 {
-            put(alloc, &mut graph, cell, 0, &[])?
-        } else {
-            // from the cell in front, and from cell 0, which all use
-            put(alloc, &mut graph, cell, 1, &[number(step - 1), 0])?
-        };
-        assert!(rt; filled, "cell {cell}");
-    }
-    assert_eq!(rt; graph.kept_count(), COUNT);
-    assert_eq!(rt; count(graph.dependents(0)), COUNT);
-    assert_eq!(rt; count(graph.cells_of_statement(1)), COUNT - 1);
-    assert!(rt; !take(&mut graph, 0));
-    for step in (0..COUNT).rev() {
-        let cell = number(step);
-        assert!(rt; take(&mut graph, cell), "cell {cell}");
-    }
-    assert_eq!(rt; graph.kept_count(), 0);
-    assert!(rt; graph.cells_of_statement(1).next().is_none());
-    Ok(())
-}
-
 #[test]
 fn inputs_and_dependents(rt: HostRuntime) -> Result<(), Fail> {
     let alloc = rt.alloc();
@@ -105,8 +60,11 @@ fn inputs_and_dependents(rt: HostRuntime) -> Result<(), Fail> {
     assert!(rt; uses.next() == Some(Use { cell: 9, place: 1 }));
     assert!(rt; uses.next() == Some(Use { cell: 9, place: 0 }));
     assert!(rt; uses.next().is_none());
+    assert!(rt; graph.cells_of_statement(2).next() == Some(9));
     assert!(rt; !take(&mut graph, 5));
     assert!(rt; take(&mut graph, 9));
+    assert!(rt; graph.cells_of_statement(2).next().is_none());
     assert!(rt; take(&mut graph, 5));
+    assert_eq!(rt; graph.kept_count(), 0);
     Ok(())
 }

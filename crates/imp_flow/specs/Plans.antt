@@ -10,6 +10,7 @@ use Rattle.cell_names.specs.declared.frame.Frame.TheVariants.{InCall, InLoop}
 use Rattle.cell_names.specs.declared.frame.Point.{Point}
 use Rattle.cell_names.specs.declared.frame.Point.TheVariants.{Entry, Then, Else, Body, Post, Iterate, Fix, Exit, Leap}
 use Rattle.cell_rows.specs.Rows.{Row, Init}
+use Rattle.cell_rows.specs.Flat.{RowsAt, row_by}
 use Rattle.imp_flow.specs.Shapes.{Node}
 use Rattle.imp_flow.specs.Nodes.{nodes_of, node_of}
 use Rattle.imp_flow.specs.NodeRows.{post_at, enter_at, branch_at, turn_at, next_at, fix_at, exit_at, leap_at}
@@ -48,19 +49,17 @@ module _ (plan : Plan) where
   abbrev pub next_of : List Frame → (k : ℕ) → Node → Option Row
   next_of w k x = next_at w plan.engine (marks_at plan x.place) k x
 
-  -- The row of a name: by its last frame and the statement of its point.
+  abbrev pub rows_of_node : RowsAt (Node → Option Row)
+  rows_of_node = record {
+      enter = λ w n. enter_at w;
+      branch = branch_at;
+      turn = λ w n. turn_at w plan.engine;
+      next = next_of;
+      fix = fix_at;
+      exit = exit_at;
+      leap = leap_at;
+      post = post_at }
+
+  -- The row of a name: by its last frame and the node of the statement of its point.
   abbrev pub node_row : List Frame → Point → Option Row
-  node_row [] Entry = Some (Init (main_layout (reverse plan.program)))
-  node_row (InCall n ∷ w) Entry = by_node n (enter_at w)
-  node_row (InLoop n k ∷ w) Entry = None
-  node_row [] Body = None
-  node_row (InCall n ∷ w) Body = None
-  node_row (InLoop n k ∷ w) Body = by_node n (turn_at w plan.engine k)
-  node_row w (Then n) = by_node n (branch_at w true)
-  node_row w (Else n) = by_node n (branch_at w false)
-  node_row w (Post n) = by_node n (post_at w)
-  node_row w (Iterate n zero) = None
-  node_row w (Iterate n (suc k)) = by_node n (next_of w k)
-  node_row w (Fix n) = by_node n (fix_at w)
-  node_row w (Exit n) = by_node n (exit_at w)
-  node_row w (Leap n k) = by_node n (leap_at w k)
+  node_row w p = row_by (Init (main_layout (reverse plan.program))) (λ w. by_node) rows_of_node w p
