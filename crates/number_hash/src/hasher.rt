@@ -72,4 +72,14 @@ impl Hasher for NumberHasher {
             self.state = mixed_bytes(self.state, bytes);
         }
     }
+
+    #[inline(always)]
+    fn write_u64(&mut self, i: u64) {
+        self.state = mixed(self.state, i);
+    }
+
+    #[inline(always)]
+    fn write_usize(&mut self, i: usize) {
+        self.state = mixed(self.state, i as u64);
+    }
 }
