@@ -9,6 +9,7 @@ use crate::graph::{Cell, Graph, Use};
 use crate::inputs::Inputs;
 use crate::pool::Lists;
 use crate::value::Value;
+use number_hash::NumberHashing;
 use plain_values::Memory;
 use slab::Slab;
 use smallvec::SmallVec;
@@ -22,7 +23,7 @@ impl<V> Graph<V> {
     {
         Graph {
             cells: Slab::new(alloc),
-            keys: HashMap::new(alloc),
+            keys: HashMap::with_hasher(alloc, NumberHashing::new()),
             owned: Lists::new(alloc),
             uses: Lists::new(alloc),
         }

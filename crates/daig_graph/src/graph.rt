@@ -1,6 +1,7 @@
 //! The graph.
 use crate::pool::Lists;
 use crate::value::Value;
+use number_hash::NumberHashing;
 use slab::Slab;
 use smallvec::SmallVec;
 use std::collections::HashMap;
@@ -30,7 +31,7 @@ pub(crate) struct Cell<V> {
 pub struct Graph<V> {
     pub(crate) cells: Slab<Cell<V>>,
     // the key of a cell, by its number
-    pub(crate) keys: HashMap<usize, usize>,
+    pub(crate) keys: HashMap<usize, usize, NumberHashing>,
     // the cells by their owners
     pub(crate) owned: Lists<usize>,
     // the uses by the cells that are used

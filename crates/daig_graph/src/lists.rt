@@ -6,6 +6,7 @@ ghost use Rattle.daig_graph.specs.Held.{held, Puts, Takes, AreItems};
 
 use crate::pool::{Lists, Member};
 use crate::walk::Walk;
+use number_hash::NumberHashing;
 use slab::Slab;
 use std::alloc::{AllocError, Global};
 use std::collections::HashMap;
@@ -17,7 +18,7 @@ impl<T: Copy> Lists<T> {
     {
         Lists {
             members: Slab::new(alloc),
-            firsts: HashMap::new(alloc),
+            firsts: HashMap::with_hasher(alloc, NumberHashing::new()),
         }
     }
 
@@ -39,7 +40,9 @@ impl<T: Copy> Lists<T> {
         ensures puts { Puts self.old self.new list item result }
         ensures room { self.old.room ≤ self.new.room + 1 }
     {
-        let next = self.firsts.get(&list).copied();
+        let vacant = self.members.vacant_key();
+        let replaced: Result<_, _> = self.firsts.insert(list, vacant);
+        let next = replaced.unwrap_or(None);
         let key = self.members.insert_reserved(Member {
             list,
             item,
@@ -47,7 +50,6 @@ impl<T: Copy> Lists<T> {
             next,
         });
         set_before(&mut self.members, next, Some(key));
-        let _ = self.firsts.insert(list, key);
         key
     }
 
@@ -107,7 +109,7 @@ fn set_next<T: Copy>(members: &mut Slab<Member<T>>, key: Option<usize>, next: Op
 
 /// Another member, or none, is the first of a list, where nothing comes in front of it.
 fn set_first(
-    firsts: &mut HashMap<usize, usize>,
+    firsts: &mut HashMap<usize, usize, NumberHashing>,
     list: usize,
     before: Option<usize>,
     first: Option<usize>,

@@ -1,4 +1,5 @@
 //! Lists in one pool of members.
+use number_hash::NumberHashing;
 use slab::Slab;
 use std::collections::HashMap;
 use std::marker::Model;
@@ -16,7 +17,7 @@ pub(crate) struct Member<T> {
 #[derive(Drop)]
 pub(crate) struct Lists<T> {
     pub(crate) members: Slab<Member<T>>,
-    pub(crate) firsts: HashMap<usize, usize>,
+    pub(crate) firsts: HashMap<usize, usize, NumberHashing>,
 }
 
 impl<T> Model for Lists<T> {

@@ -5,6 +5,7 @@ ghost use Rattle.lru.specs.LruCache.{lru_cache, promoted, put_entries};
 ghost use Rattle.memo_table.specs.Results.{FindsResult, LeavesResults, AddsResult};
 
 use lru::LruCache;
+use number_hash::NumberHashing;
 use plain_values::Memory;
 use std::alloc::Global;
 use std::marker::{Model, PhantomData};
@@ -21,7 +22,7 @@ pub struct Key {
 /// The numbers of states that operations gave, so many at most, of states of one type.
 #[derive(Drop)]
 pub struct Memo<S> {
-    cache: LruCache<Key, usize>,
+    cache: LruCache<Key, usize, NumberHashing>,
     states: PhantomData<S>,
 }
 
@@ -43,7 +44,7 @@ impl<S> Memo<S> {
     {
         match NonZeroUsize::new(capacity) {
             Some(capacity) => {
-                let cache = LruCache::new(alloc, capacity)?;
+                let cache = LruCache::with_hasher(alloc, capacity, NumberHashing::new())?;
                 Ok(Memo {
                     cache,
                     states: PhantomData,

@@ -5,6 +5,7 @@ ghost use Rattle.std.specs.List.{position_or_len};
 ghost use Rattle.state_table.specs.Numbers.{with_state, IsNumberOf, KeepsNumbers, AreOnce, TellsApart, Adds};
 
 use indexmap::IndexSet;
+use number_hash::NumberHashing;
 use plain_values::Memory;
 use std::alloc::Global;
 use std::hash::Hash;
@@ -13,7 +14,7 @@ use std::marker::Model;
 /// States under numbers, as a list: the state at place n has the number n.
 #[derive(Drop)]
 pub struct Table<T: Eq + Hash> {
-    states: IndexSet<T>,
+    states: IndexSet<T, NumberHashing>,
 }
 
 impl<T: Eq + Hash> Model for Table<T> {
@@ -30,7 +31,7 @@ impl<T: Eq + Hash + Drop> Table<T> {
         ensures empty { result ≡ [] }
     {
         Table {
-            states: IndexSet::new(alloc),
+            states: IndexSet::with_hasher(alloc, NumberHashing::new()),
         }
     }
 

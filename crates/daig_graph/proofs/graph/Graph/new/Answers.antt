@@ -8,7 +8,7 @@ use Rattle.daig_graph.proofs.graph.Graph.new.Goals as goal
 pub invariant_of-result : goal.invariant_of-result
 invariant_of-result g c =
     let cells : (k : ℕ) → get c.new.result k ≡ None = λ k. ap (λ s. get_or s k None) c.new.ensures.empty in
-    let keys : (l : ℕ) → map_get nat_eq c.new-2.result l ≡ None = λ l. ap (lookup (nat_eq l)) c.new-2.ensures.empty in
+    let keys : (l : ℕ) → map_get nat_eq c.with_hasher.result l ≡ None = λ l. ap (lookup (nat_eq l)) c.with_hasher.ensures.empty in
     record {
       key_there = λ n k e. none-some (sym (keys n) ∙ e);
       key_back = λ k c e. none-some (sym (cells k) ∙ e);

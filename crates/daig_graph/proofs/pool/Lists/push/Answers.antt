@@ -1,19 +1,29 @@
-use Rattle.std.proofs.Common.{◌≡◌, None, Some, nat_eq, refl, sym, ◌∙◌, ap, arith, rules}
+use Rattle.std.proofs.Common.{◌≡◌, ℕ, Option, None, Some, Result, Ok, Err, IsOk, IfOk, nat_eq, refl, sym, ◌∙◌, ap, subst, arith}
 use Rattle.std.specs.HashMap.{get as map_get, Updates as UpdatesMap}
+use Rattle.std.specs.Result.{result_unwrap_or}
 use Rattle.slab.specs.Slab.{get}
 use Rattle.daig_graph.proofs.Cases.{none-some, nat_eq-false, from_ok}
 use Rattle.daig_graph.proofs.Views.{Puts-views}
 use Rattle.daig_graph.proofs.Pushing.{Pushed, linked-push, held_same}
 use Rattle.daig_graph.proofs.pool.Lists.push.Goals as goal
 
+unwrapped : {E : Type 0} (r : Result (Option ℕ) E) (first : Option ℕ) → IsOk r → IfOk r (λ old. old ≡ first) → result_unwrap_or r None ≡ first
+unwrapped (Ok old) first h e = e
+unwrapped (Err e) first h p = absurd (cc)
+
+is_put : (g : _) (c : goal.After-set_before g) → IsOk c.insert-replaced.result
+is_put g c = c.insert-replaced.ensures.succeeds (omega (arith, c.requires.room, ap (λ v. v.room) c.self.view_is))
+
 -- the first of the list
-first_is : (g : _) (c : goal.After-insert g) → c.copied-next.result ≡ map_get nat_eq c.self.inside.firsts c.args.list
-first_is g c = search rules
+first_is : (g : _) (c : goal.After-set_before g) → c.unwrap_or-next.result ≡ map_get nat_eq c.self.inside.firsts c.args.list
+first_is g c = c.unwrap_or-next.ensures ∙ unwrapped c.insert-replaced.result _ (is_put g c) c.insert-replaced.ensures.old
 
-inserted : (g : _) (c : goal.After-insert g) → UpdatesMap nat_eq c.self.inside.firsts c.insert.new.self c.args.list (Some c.insert_reserved-key.result)
-inserted g c = from_ok c.insert.result _ (c.insert.ensures.succeeds (omega (arith, c.requires.room, ap (λ v. v.room) c.self.view_is))) c.insert.ensures.updates
+inserted : (g : _) (c : goal.After-set_before g) → UpdatesMap nat_eq c.self.inside.firsts c.insert-replaced.new.self c.args.list (Some c.insert_reserved-key.result)
+inserted g c =
+    let P : ℕ → Type 0 = λ k. UpdatesMap nat_eq c.self.inside.firsts c.insert-replaced.new.self c.args.list (Some k) in
+    subst P (c.vacant_key-vacant.ensures.value ∙ sym c.insert_reserved-key.ensures.key) (from_ok c.insert-replaced.result _ (is_put g c) c.insert-replaced.ensures.updates)
 
-pushed : (g : _) (c : goal.After-insert g) → Pushed (get c.self.inside.members) (get c.set_before.new.members) (map_get nat_eq c.self.inside.firsts) (map_get nat_eq c.insert.new.self) c.args.list c.insert_reserved-key.result c.args.item
+pushed : (g : _) (c : goal.After-set_before g) → Pushed (get c.self.inside.members) (get c.set_before.new.members) (map_get nat_eq c.self.inside.firsts) (map_get nat_eq c.insert-replaced.new.self) c.args.list c.insert_reserved-key.result c.args.item
 pushed g c =
     let key = c.insert_reserved-key.result in
     let first = first_is g c in
