@@ -13,3 +13,4 @@ pub mod Filtering
 pub mod LiteralLemmas
 pub mod Balance
 pub mod Parted
+pub mod Keyed

@@ -3,7 +3,8 @@ use Rattle.std.proofs.Common.{◌≡◌, ℕ, ℤ, ◌||◌, Bool, true, false, 
 use Rattle.std.specs.Prelude.{pos, negsuc, neg_ℤ, int_lt, if◌then◌else◌, cond}
 use Rattle.std.proofs.lemmas.Map.Lookups.{exact_signed, btree_set_from_contains}
 use Rattle.std.specs.Cmp.{int_cmp_total, both_ways}
-use Rattle.std.specs.Ordering.{is_eq, int_cmp, match_ordering}
+use Rattle.std.specs.Ordering.{is_eq, int_cmp, match_ordering, ordering_reverse}
+use Rattle.std.specs.declared.cmp.Ordering.{Ordering}
 use Rattle.std.specs.declared.cmp.Ordering.TheVariants.{Less, Equal, Greater}
 use Rattle.std.specs.List.{list_any}
 use Rattle.std.specs.List.Sorted.{IsStrictlySortedBy}
@@ -92,6 +93,25 @@ any_same f xs ys h =
     both_ways (list_any f xs) (list_any f ys)
     (λ t. let r = passed f xs t in passes f ys r.0 (sym (h r.0) ∙ r.1) r.2)
     (λ t. let r = passed f ys t in passes f xs r.0 (h r.0 ∙ r.1) r.2)
+
+-- a number among them is one of its marks
+pub mark_of : (n : ℕ) (ns : List ℕ) → has n ns ≡ true → list_any (is_at (int_cmp (pos n))) (marks_of ns) ≡ true
+mark_of n ns h = marks_have (pos n) ns ∙ ap (λ b. list_any (is_at (int_cmp (pos n))) (marks_of []) || b) (passes (is_mark (pos n)) ns n h (own (is_eq (int_cmp (pos n) (neg_ℤ (pos n)))))) ∙ ends (list_any (is_at (int_cmp (pos n))) (marks_of []))
+  where
+    equal : (r : Ordering) → r ≡ ordering_reverse r → is_eq r ≡ true
+    equal Less e = absurd cc
+    equal Equal e = refl
+    equal Greater e = absurd cc
+
+    itself : is_eq (int_cmp (pos n) (pos n)) ≡ true
+    itself = equal (int_cmp (pos n) (pos n)) (int_cmp_total.antisymm (pos n) (pos n))
+
+    own : (b : Bool) → (is_eq (int_cmp (pos n) (pos n)) || b) ≡ true
+    own b = ap (λ c. c || b) itself
+
+    ends : (b : Bool) → (b || true) ≡ true
+    ends true = refl
+    ends false = refl
 
 abbrev keyed : List ℤ → BTreeSet ℤ
 keyed ks = record { keys = ks }

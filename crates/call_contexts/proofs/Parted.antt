@@ -44,7 +44,7 @@ tally_there : (w : Widening) (ps : List Procedure) (k : ℕ) (p : Procedure) →
 tally_there w ps k p h = slice_get-map (tally_by w) (routines_of ps) k ∙ ap (option_map (tally_by w)) (routine_there ps k p h)
 
 -- what has a tally is there
-had : (w : Widening) (ps : List Procedure) (k : ℕ) (t : List (ℕ × ℕ)) → slice_get (all_tallies w (routines_of ps)) k ≡ Some t → (p : Procedure) × (slice_get ps k ≡ Some p) × (tally_by w (routine_of (take k ps) p) ≡ t)
+pub had : (w : Widening) (ps : List Procedure) (k : ℕ) (t : List (ℕ × ℕ)) → slice_get (all_tallies w (routines_of ps)) k ≡ Some t → (p : Procedure) × (slice_get ps k ≡ Some p) × (tally_by w (routine_of (take k ps) p) ≡ t)
 had w ps k t h =
     let p = there ps k (omega (arith, get_below (all_tallies w (routines_of ps)) k t h, length-map (routines_of ps) (tally_by w), as_many [] ps)) in
     (p.0, p.1, some_inj (tally_by w (routine_of (take k ps) p.0)) t (sym (tally_there w ps k p.0 p.1) ∙ h))
@@ -69,7 +69,7 @@ module _ (old new : List Procedure) (puts : List Put) (b : Brings old new puts) 
 abbrev pub Makes : List (ℕ × ℕ) → List (ℕ × ℕ) → (ls gs : List (List ℕ)) → Type 0
 Makes t u ls gs = (f : ℕ → ℕ) → Tells t f → ((n : ℕ) → f n < 2 ^ 32) → Tells u (λ n. capped ((f n - times n ls) + times n gs))
 
-by_thresholds : (w : Widening) (r : Routine) → w.thresholds ≡ true → tally_by w r ≡ tally r.code
+pub by_thresholds : (w : Widening) (r : Routine) → w.thresholds ≡ true → tally_by w r ≡ tally r.code
 by_thresholds w r e = ap (λ (b : Bool). if b then tally r.code else []) e
 
 pub tally_changed : (w : Widening) (old new : List Procedure) (puts : List Put) (k : ℕ) (t u : List (ℕ × ℕ)) → Brings old new puts → w.thresholds ≡ true → k < length new

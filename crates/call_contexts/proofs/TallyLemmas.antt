@@ -96,6 +96,9 @@ keys_are : (f : ℕ → ℕ) (ks : List ℕ) → keys_of (map (λ n. (n, f n)) k
 keys_are f [] = refl
 keys_are f (k ∷ ks) = ap (λ ns. k ∷ ns) (keys_are f ks)
 
+pub tally_keys : (c : Code) → keys_of (tally c) ≡ rising (literals c)
+tally_keys c = keys_are (λ n. times n (literal_lists c)) (rising (literals c))
+
 looked : (f : ℕ → ℕ) (n : ℕ) (ks : List ℕ) → lookup (is_at (nat_cmp n)) (map (λ n. (n, f n)) ks) ≡ cond (has n ks) (Some (f n)) None
 looked f n [] = refl
 looked f n (k ∷ ks) =

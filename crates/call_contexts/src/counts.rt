@@ -1,13 +1,15 @@
 //! In how many statements each number stands.
-ghost use Rattle.std.specs.Prelude.{◌≡◌, ◌+◌, ◌-◌, ◌==◌, ℕ, List, [], map, min, ◌^◌, unwrap_or, IfOk, OnOk};
+ghost use Rattle.std.specs.Prelude.{◌≡◌, ◌≤◌, ◌+◌, ◌-◌, ◌==◌, ℕ, List, [], map, min, ◌^◌, unwrap_or, IfOk, OnOk};
 ghost use Rattle.std.specs.Bool.{OnTrue};
 ghost use Rattle.std.specs.Ordering.{nat_cmp};
+ghost use Rattle.std.specs.List.{All};
 ghost use Rattle.std.specs.Map.{keys_of};
 ghost use Rattle.std.specs.BTreeMap.{get, IsOrdered, Updates};
+ghost use Rattle.plain_values.specs.Numbers.{greatest};
 ghost use Rattle.program_chains.specs.Chains.{has};
 ghost use Rattle.call_contexts.specs.Tallies.{one_if, occurs, rising, Tells, capped};
 
-use plain_values::{Memory, Number};
+use plain_values::{Items, Memory, Number};
 use std::alloc::Global;
 use std::collections::{BTreeMap, BTreeSet};
 use std::marker::Model;
@@ -42,6 +44,18 @@ fn rising(alloc: Global, numbers: &[Number]) -> Result<Vec<u64>, Memory>
         found.insert(numbers[i].value())?;
     }
     Ok(found.into_iter().collect(alloc)?)
+}
+
+/// Values as numbers.
+fn numbers_of(alloc: Global, values: &[u64]) -> Result<Items<Number>, Memory>
+    requires small { All (λ (n : ℕ). n ≤ greatest) values.now }
+    ensures are { IfOk result (λ numbers. numbers ≡ values.now) }
+{
+    let mut numbers = Items::with_capacity(alloc, values.len())?;
+    for value in values {
+        numbers.push(Number::new(*value))?;
+    }
+    Ok(numbers)
 }
 
 /// The count of a number.
@@ -130,6 +144,15 @@ impl Counts {
     {
         let counts = self.counts.clone()?;
         Ok(Counts { counts })
+    }
+
+    /// The numbers, rising.
+    pub(crate) fn numbers(&self, alloc: Global) -> Result<Items<Number>, Memory>
+        requires small { All (λ (n : ℕ). n ≤ greatest) (keys_of self.now) }
+        ensures are { IfOk result (λ numbers. numbers ≡ keys_of self.now) }
+    {
+        let values: Vec<u64> = self.counts.keys().copied().collect(alloc)?;
+        numbers_of(alloc, values.as_slice())
     }
 
     /// Whether these are of the same numbers.

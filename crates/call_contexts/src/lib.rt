@@ -6,7 +6,7 @@
 //! [`marks`] gives the numbers at which widening stops in a procedure, and a [`Setting`] has those of
 //! all procedures, with how often and how the iterates of a loop are made. It counts in how many statements
 //! each number stands, so after a change of the program [`Setting::after`] looks at the change alone, and
-//! makes the marks of those procedures anew that have other numbers then.
+//! makes the marks of those procedures that have other numbers then of the numbers that it counts.
 //!
 //! A program has at most 4,096 chains, each of at most 8 calls. Nothing walks the program: a place is
 //! read off what is known of the statement, and the chains to a procedure are found along call

@@ -34,7 +34,7 @@ fn first_marks(alloc: Global) -> Result<BTreeSet<i64>, Memory>
 
 /// The marks of these numbers, in time n log n in them.
 #[tactic(auto, using(crate::proofs::Marked::marks_first, crate::proofs::Marked::marks_more))]
-fn marks_of(alloc: Global, numbers: &[Number]) -> Result<Items<i64>, Memory>
+pub(crate) fn marks_of(alloc: Global, numbers: &[Number]) -> Result<Items<i64>, Memory>
     ensures is { IfOk result (λ marks. marks ≡ marks_of numbers.now) }
 {
     let mut marks = first_marks(alloc)?;

@@ -9,18 +9,19 @@ ghost use Rattle.imp_check.specs.Entries.{entries_of, entry_of};
 ghost use Rattle.imp_check.specs.Fine.{IsFine};
 ghost use Rattle.imp_check.specs.Changes.{AreFalling, Makes};
 ghost use Rattle.call_contexts.specs.Settings.{engine_of, all_marks, setting_of, marks_at, IsPart};
+ghost use Rattle.call_contexts.specs.Tallies.{all_tallies};
 ghost use Rattle.call_contexts.specs.Touches.{Brings, touches};
 
 use crate::counts::Counts;
 use crate::differences::{gained, lost};
-use crate::marking::marks;
+use crate::marking::{marks, marks_of};
 use crate::table::procedure_count;
 use crate::tallying::{changed, tally};
 use crate::touched::touched_places;
 use imp_check::{Change, Put, Table, View};
 use imp_syntax::ProcId;
 use plain_values::{Items, Memory};
-use program_chains::Widening;
+use program_chains::{Widening, marks_rise};
 use std::alloc::{AllocError, Global};
 use std::collections::BTreeSet;
 use std::marker::Model;
@@ -224,9 +225,10 @@ impl Setting {
     }
 
     /// The setting of the program that a change makes, where this is that of the program before it. Procedures that keep
-    /// the set of their numbers share their marks with this setting. Of these it takes time linear in the change and in
-    /// the different numbers of the procedures that the change touches, and of others the time of [`marks`] too, and time
-    /// linear in the number of procedures. It fails for want of memory alone.
+    /// the set of their numbers share their marks with this setting; the marks of others are made of the numbers that are
+    /// counted then. It takes time linear in the change, in the number of procedures, and in the different numbers of those
+    /// that the change touches, times the logarithm of these where their set changes; of a procedure more it takes the time
+    /// of [`marks`]. It fails for want of memory alone.
     pub fn after(&self, alloc: Global, table: &Table, change: &Change) -> Result<Setting, Memory>
         ghost program: { List Procedure }
         requires makes { Makes table.now.program change.now program }
@@ -317,29 +319,35 @@ impl Setting {
         let gained = gained(alloc, puts, proc)?;
         let counts = changed(alloc, tally.counts(), lost.as_slice(), gained.as_slice())?;
         let is_kept = counts.has_same_numbers(tally.counts());
-        let marks = self.marks_over(alloc, new, proc, before, is_kept)?;
+        let marks = self.marks_over(alloc, new, proc, before, &counts, is_kept)?;
         Ok(Part {
             marks,
             tally: Tally::new(alloc, counts)?,
         })
     }
 
-    /// The marks of a procedure, which are these where they are kept.
+    /// The marks of a procedure that has these counts. They are those before where they are kept, and are else made of the
+    /// numbers that are counted.
     fn marks_over(
         &self,
         alloc: Global,
         new: &View<'_>,
         proc: ProcId,
         before: &Marks,
+        counts: &Counts,
         is_kept: bool,
     ) -> Result<Marks, Memory>
-        requires there { proc < length new.now }
+        requires thresholds { self.now.engine.widening.thresholds ≡ true }
+        requires counts { slice_get (all_tallies self.now.engine.widening (routines_of new.now)) proc ≡ Some counts.now }
         requires kept { OnTrue is_kept (slice_get (all_marks self.now.engine.widening (routines_of new.now)) proc ≡ Some before.now) }
         ensures are { IfOk result (λ marks. slice_get (all_marks self.now.engine.widening (routines_of new.now)) proc ≡ Some marks) }
     {
         if is_kept {
             return Ok(before.clone()?);
         }
-        Marks::new(alloc, marks(alloc, self.widening, new, proc)?)
+        new.procs();
+        marks_rise();
+        let numbers = counts.numbers(alloc)?;
+        Marks::new(alloc, marks_of(alloc, numbers.as_slice())?)
     }
 }

@@ -9,11 +9,12 @@ use Rattle.cell_names.specs.declared.frame.Frame.{Frame}
 use Rattle.cell_names.specs.declared.frame.Frame.TheVariants.{InLoop}
 use Rattle.cell_rows.specs.Names.{name}
 use Rattle.cell_rows.specs.Rows.{Row, Two, JoinsBoth, Widens, Binary, next_operation}
-use Rattle.imp_flow.specs.Shapes.{Node}
+use Rattle.imp_flow.specs.Shapes.{Node, Shape}
+use Rattle.imp_flow.specs.Shapes as shape
 use Rattle.imp_flow.specs.Nodes.{node_of}
 use Rattle.imp_flow.specs.NodeRows.{Looping, looping, where_so, iterate_at, enter_at, branch_at, turn_at, post_at, next_at, fix_at, exit_at, leap_at}
 use Rattle.imp_flow.specs.Plans.{Plan, marks_at, plan_nodes}
-use Rattle.imp_flow.specs.Changed.{Stays}
+use Rattle.imp_flow.specs.Changed.{Stays, is_looping}
 use Rattle.imp_flow.proofs.ChangedRows.{part, Kept, Rows, Keeps, kept_by}
 use Rattle.imp_flow.proofs.ChangedStays.{kept_stays}
 
@@ -31,6 +32,10 @@ same_next engine ms os k p q h = go (nat_lt k engine.budget) refl
     go true e = let l = ltb-true k engine.budget e in ap (λ o. Some (Two o p q)) (operations (lt-ltb k engine.widening.delay (omega (arith, l, h))))
     go false e = refl
 
+-- These marks are the same, or loops are not widened, or this is no loop.
+abbrev pub AreMarksAlike : Engine → (marks others : List ℤ) → Node → Type 0
+AreMarksAlike engine ms os x = (ms ≡ os) ⊎ ((engine.budget ≤ engine.widening.delay) ⊎ (is_looping x.shape ≡ false))
+
 module _ (engine : Engine) (ms os : List ℤ) (x y : Node) (e : unlooped x ≡ unlooped y) where
   next_y : List ℤ → List Frame → ℕ → Option Row
   next_y ns w k = next_at w engine ns k y
@@ -38,21 +43,31 @@ module _ (engine : Engine) (ms os : List ℤ) (x y : Node) (e : unlooped x ≡ u
   next_is : (w : List Frame) (k : ℕ) → next_at w engine ms k x ≡ next_at w engine ms k y
   next_is w k = ap (λ z. next_at w engine ms k z) e
 
+  abbrev round : List Frame → ℕ → List ℤ → Looping → Option Row
+  round w k ns l = where_so (nat_lt k engine.budget) (Two (next_operation engine ns k) (name w (iterate_at y.stmt y.front k)) (name (InLoop y.stmt k ∷ w) l.end))
+
+  no_loop : is_looping y.shape ≡ false → (w : List Frame) (k : ℕ) → next_at w engine ms k y ≡ next_at w engine os k y
+  no_loop h w k = go y.shape h
+    where
+      go : (s : Shape) → is_looping s ≡ false → if_some (looping s) (round w k ms) ≡ if_some (looping s) (round w k os)
+      go (shape.Act a) h = refl
+      go (shape.If g t e) h = refl
+      go (shape.While g p ls) h = absurd cc
+      go (shape.Call i q p) h = refl
+
   within : engine.budget ≤ engine.widening.delay → (w : List Frame) (k : ℕ) → next_at w engine ms k y ≡ next_at w engine os k y
   within h w k = go (looping y.shape)
     where
-      row : List ℤ → Looping → Option Row
-      row ns l = where_so (nat_lt k engine.budget) (Two (next_operation engine ns k) (name w (iterate_at y.stmt y.front k)) (name (InLoop y.stmt k ∷ w) l.end))
-
-      go : (o : Option Looping) → if_some o (row ms) ≡ if_some o (row os)
+      go : (o : Option Looping) → if_some o (round w k ms) ≡ if_some o (round w k os)
       go None = refl
       go (Some l) = same_next engine ms os k (name w (iterate_at y.stmt y.front k)) (name (InLoop y.stmt k ∷ w) l.end) h
 
-  next_alike : (ms ≡ os) ⊎ (engine.budget ≤ engine.widening.delay) → (w : List Frame) (k : ℕ) → Keeps (next_at w engine ms k x) (next_at w engine os k y)
+  next_alike : AreMarksAlike engine ms os y → (w : List Frame) (k : ℕ) → Keeps (next_at w engine ms k x) (next_at w engine os k y)
   next_alike (inl m) w k r h = sym (next_is w k ∙ ap (λ ns. next_at w engine ns k y) m) ∙ h
-  next_alike (inr l) w k r h = sym (next_is w k ∙ within l w k) ∙ h
+  next_alike (inr (inl l)) w k r h = sym (next_is w k ∙ within l w k) ∙ h
+  next_alike (inr (inr s)) w k r h = sym (next_is w k ∙ no_loop s w k) ∙ h
 
-  rows_alike : (ms ≡ os) ⊎ (engine.budget ≤ engine.widening.delay) → Kept (part engine ms x) (part engine os y)
+  rows_alike : AreMarksAlike engine ms os y → Kept (part engine ms x) (part engine os y)
   rows_alike m = kept_by engine ms os x y (record {
     enter = λ w r h. sym (ap (λ z. enter_at w z) e) ∙ h;
     branch = λ w b r h. sym (ap (λ z. branch_at w b z) e) ∙ h;
@@ -66,5 +81,5 @@ module _ (engine : Engine) (ms os : List ℤ) (x y : Node) (e : unlooped x ≡ u
 
 -- So no change touches it.
 pub alike_stays : (old new : Plan) → old.engine ≡ new.engine → (n : ℕ) (x y : Node) → node_of (plan_nodes old) n ≡ Some x → node_of (plan_nodes new) n ≡ Some y → unlooped x ≡ unlooped y →
-    (marks_at old x.place ≡ marks_at new y.place) ⊎ (old.engine.budget ≤ old.engine.widening.delay) → Stays old new n
+    AreMarksAlike old.engine (marks_at old x.place) (marks_at new y.place) y → Stays old new n
 alike_stays old new one n x y f g e m = kept_stays old new one n (Some x) (Some y) f g (rows_alike old.engine (marks_at old x.place) (marks_at new y.place) x y e m)

@@ -34,13 +34,13 @@ use Rattle.imp_flow.specs.Shapes.{Node, Shape}
 use Rattle.imp_flow.specs.Shapes as shape
 use Rattle.imp_flow.specs.Entered.{Table, behind_or, leave_at, front_in, front_point, end_by, end_of, end_in, branching, shape_from, known_in, node_by}
 use Rattle.imp_flow.specs.Plans.{Plan, plan_of, marks_at}
-use Rattle.imp_flow.specs.Changed.{AreChanged, Stays}
+use Rattle.imp_flow.specs.Changed.{AreChanged, Stays, is_looping, is_loop}
 use Rattle.imp_flow.specs.declared.search.Search.{Search}
-use Rattle.imp_flow.specs.Searches.{left_of, left_by, last_at, EndsAlike, GoesOn, IsLooked, AllLooked, ArePutsLooked, AreCallersLooked, AreLoopsLooked}
+use Rattle.imp_flow.specs.Searches.{left_of, left_by, last_at, EndsAlike, GoesOn, IsLooked, AllLooked, IsLoopLooked, ArePutsLooked, AreCallersLooked, AreLoopsLooked}
 use Rattle.imp_flow.proofs.EnteredLemmas.{node_found, node_gone}
 use Rattle.imp_flow.proofs.ChangedStays.{none_stays}
 use Rattle.imp_flow.proofs.ChangedSet.{are_changed, puts_looked_more, callers_looked_more}
-use Rattle.imp_flow.proofs.Alike.{unlooped, alike_stays}
+use Rattle.imp_flow.proofs.Alike.{unlooped, AreMarksAlike, alike_stays}
 
 -- Whether something of a change has a number, and whether a break of it leaves a loop.
 record Put_at (puts : List Put) (P : Put → Type 0) : Type 0 where
@@ -160,15 +160,19 @@ module _ (ps qs : List Procedure) (puts : List Put) (engine : Engine) (old_check
           | inr a ↦ inl (called a)
         ]
 
-    -- a procedure with the marks that it had, or loops that are not widened, or a statement at which the search looked
-    marked : (n : ℕ) (x : known.Entry) → entry_of (entries_of qs) n ≡ Some x → IsLooked old new s n ⊎ ((marks_at old x.context.proc ≡ marks_at new x.context.proc) ⊎ (engine.budget ≤ engine.widening.delay))
+    -- a statement that marks do not count for, or at which the search looked
+    marked : (n : ℕ) (x : known.Entry) → entry_of (entries_of qs) n ≡ Some x → IsLooked old new s n ⊎ AreMarksAlike engine (marks_at old x.context.proc) (marks_at new x.context.proc) (node_by qs x)
     marked n x e = elim (cases_lt engine.widening.delay engine.budget) [
-      | inr l ↦ inr (inr l)
+      | inr l ↦ inr (inr (inl l))
       | inl l ↦ elim (looked_loops l x.context.proc (place_there qs n x e)) [
         | inl m ↦ inr (inl m)
-        | inr a ↦ let k = number_there qs n x e in inl (a.at k.0 n k.1)
+        | inr a ↦ let k = number_there qs n x e in go (is_looping (node_by qs x).shape) refl (a.at k.0 n k.1)
       ]
     ]
+      where
+        go : (b : Bool) → is_looping (node_by qs x).shape ≡ b → IsLoopLooked old new s n → IsLooked old new s n ⊎ AreMarksAlike engine (marks_at old x.context.proc) (marks_at new x.context.proc) (node_by qs x)
+        go true t l = inl (l (ap is_loop (node_found qs n x new_checked new_numbered e) ∙ t))
+        go false t l = inr (inr (inr t))
 
     stays_there : (n : ℕ) (x : known.Entry) → entry_of (entries_of ps) n ≡ Some x → entry_of (entries_of qs) n ≡ Some x → ((i : ℕ) (p : Put) → slice_get puts i ≡ Some p → left_by p.entry ≡ Some n → ⊥) → IsLooked old new s n ⊎ Stays old new n
     stays_there n x e f none = elim (callee n x x.form f refl) [

@@ -25,10 +25,9 @@ use Rattle.imp_flow.specs.Changed.{is_start, IsChanged, IsTold, AreChanged, Stay
 use Rattle.imp_syntax.specs.Plain.{Procedure}
 use Rattle.imp_slots.specs.Fits.{IsChecked}
 use Rattle.imp_check.specs.Entries.{entries_of, sites_in}
-use Rattle.imp_check.specs.Walks.{numbers_at}
 use Rattle.imp_check.specs.declared.change.Put.{Put}
 use Rattle.imp_flow.specs.declared.search.Search.{Search}
-use Rattle.imp_flow.specs.Searches.{left_by, IsSearch, GoesOn, IsLooked, AllLooked, ArePutsLooked, AreCallersLooked, AreLoopsLooked}
+use Rattle.imp_flow.specs.Searches.{left_by, IsSearch, GoesOn, IsLooked, AllLooked, IsLoopLooked, AllLoopsLooked, ArePutsLooked, AreCallersLooked, AreLoopsLooked}
 
 -- the second set has what the first has, and m, unless it is kept
 abbrev pub Adds : (has more : ℕ → Bool) → (m : ℕ) → (kept : Bool) → Type 0
@@ -193,6 +192,9 @@ module _ (old new : Plan) where
     pub all_looked_more : (ns : List ℕ) → AllLooked old new s ns → AllLooked old new t ns
     all_looked_more ns a = record { at = λ i n e. looked_more n (a.at i n e) }
 
+    pub loop_looked_more : (n : ℕ) → IsLoopLooked old new s n → IsLoopLooked old new t n
+    loop_looked_more n l e = looked_more n (l e)
+
     pub put_looked_more : (p : Put) → IsPutLooked old new s p → IsPutLooked old new t p
     put_looked_more p a = record { at = looked_more p.number a.at; left = λ n e. looked_more n (a.left n e) }
 
@@ -205,7 +207,7 @@ module _ (old new : Plan) where
 
     pub loops_looked_more : (qs : List Procedure) (k : ℕ) → AreLoopsLooked old new s qs k → AreLoopsLooked old new t qs k
     loops_looked_more qs k (inl e) = inl e
-    loops_looked_more qs k (inr a) = inr (all_looked_more (numbers_at qs k) a)
+    loops_looked_more qs k (inr a) = inr (record { at = λ i n e. loop_looked_more n (a.at i n e) })
 
 -- what holds of the first items of a list, and of one more
 pub one_more : {A : Type 0} (xs : List A) (P : A → Type 0) (i : ℕ) (x : A) → ((k : ℕ) (y : A) → k < i → slice_get xs k ≡ Some y → P y) → slice_get xs i ≡ Some x → P x → (k : ℕ) (y : A) → k < i + 1 → slice_get xs k ≡ Some y → P y

@@ -12,11 +12,12 @@ ghost use Rattle.imp_check.specs.Fine.{IsFine};
 ghost use Rattle.imp_check.specs.Changes.{AreFalling, Makes};
 ghost use Rattle.batch_meaning.specs.Places.{main_layout};
 ghost use Rattle.call_contexts.specs.Settings.{setting_of};
-ghost use Rattle.imp_flow.specs.Plans.{marks_at, plan_of};
-ghost use Rattle.imp_flow.specs.Changed.{AreChanged};
-ghost use Rattle.imp_flow.specs.Searches.{left_by, EndsAlike, IsSearch, GoesOn, IsLooked, AllLooked, ArePutsLooked, AreCallersLooked, AreLoopsLooked};
+ghost use Rattle.imp_flow.specs.Nodes.{node_of};
+ghost use Rattle.imp_flow.specs.Plans.{marks_at, plan_nodes, plan_of};
+ghost use Rattle.imp_flow.specs.Changed.{AreChanged, is_loop};
+ghost use Rattle.imp_flow.specs.Searches.{left_by, EndsAlike, IsSearch, GoesOn, IsLooked, AllLooked, IsLoopLooked, AllLoopsLooked, ArePutsLooked, AreCallersLooked, AreLoopsLooked};
 
-use crate::changed::{Pair, pair_at, pair_of, stays};
+use crate::changed::{Pair, is_looping, pair_at, pair_of, stays};
 use crate::flow::{Flow, main_layout};
 use call_contexts::{Setting, procedure_count};
 use imp_check::{Change, Place, Put, SlotForm, Table, View};
@@ -196,7 +197,52 @@ fn look_at_callers(
     Ok(())
 }
 
-/// Looks at the statements of a procedure, where it has other marks.
+/// Whether a statement is a loop.
+fn is_loop(flow: &Flow<'_>, stmt: StmtId) -> bool
+    ensures is { result ≡ is_loop (node_of (plan_nodes flow.now) stmt) }
+{
+    match flow.node(stmt) {
+        None => false,
+        Some(node) => is_looping(&node.shape),
+    }
+}
+
+/// Looks at a statement, if it is a loop.
+fn look_at_loop(
+    old: &Flow<'_>,
+    new: &Flow<'_>,
+    stmt: StmtId,
+    search: &mut Search,
+) -> Result<(), Memory>
+    requires is { IsSearch old.now new.now search.old }
+    ensures on { OnOk result (GoesOn old.now new.now search.old search.new) }
+    ensures looked { OnOk result (IsLoopLooked old.now new.now search.new stmt) }
+{
+    if !is_loop(new, stmt) {
+        return Ok(());
+    }
+    look(old, new, stmt, search)?;
+    Ok(())
+}
+
+/// Looks at the loops among these statements.
+fn look_at_loops_among(
+    old: &Flow<'_>,
+    new: &Flow<'_>,
+    stmts: &[StmtId],
+    search: &mut Search,
+) -> Result<(), Memory>
+    requires is { IsSearch old.now new.now search.old }
+    ensures on { OnOk result (GoesOn old.now new.now search.old search.new) }
+    ensures looked { OnOk result (AllLoopsLooked old.now new.now search.new stmts.now) }
+{
+    for stmt in stmts {
+        look_at_loop(old, new, *stmt, search)?;
+    }
+    Ok(())
+}
+
+/// Looks at the loops of a procedure, where it has other marks.
 fn look_at_loops_of(
     alloc: Global,
     old: &Flow<'_>,
@@ -213,11 +259,11 @@ fn look_at_loops_of(
         return Ok(());
     }
     let stmts = after.statements(alloc, proc)?;
-    look_at_all(old, new, stmts.as_slice(), search)?;
+    look_at_loops_among(old, new, stmts.as_slice(), search)?;
     Ok(())
 }
 
-/// Looks at the statements of procedures that have other marks, where loops are widened.
+/// Looks at the loops of procedures that have other marks, where loops are widened.
 fn look_at_loops(
     alloc: Global,
     old: &Flow<'_>,
@@ -244,9 +290,10 @@ fn look_at_loops(
 /// statement is told by its number, so one that is gone is touched, and one that is new is not.
 ///
 /// It looks at the statements that come or go, at the loops that breaks among them leave, at the calls of procedures that
-/// end with another statement, and, where loops are widened, at the statements of procedures that have other marks. Each
-/// look takes time linear in what the statement uses, as conditions and breaks, times the logarithms of the change and of
-/// how many statements are touched. Beside these looks it takes time linear in the procedures and their marks.
+/// end with another statement, and, where loops are widened, at the loops of procedures that have other marks, whose
+/// statements it goes through. Each look takes time linear in what the statement uses, as conditions and breaks, times the
+/// logarithms of the change and of how many statements are touched. Beside these looks it takes time linear in the
+/// procedures and their marks, and in the statements of procedures that have other marks.
 ///
 /// # Errors
 ///

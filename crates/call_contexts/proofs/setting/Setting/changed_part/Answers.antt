@@ -7,6 +7,20 @@ use Rattle.call_contexts.specs.Differences.{lost, gained}
 use Rattle.call_contexts.proofs.Parted.{tally_changed, marks_kept_if, made_of}
 use Rattle.call_contexts.proofs.setting.Setting.changed_part.Goals as goal
 
+pub marks_over-requires-clause-counts : goal.marks_over-requires-clause-counts
+marks_over-requires-clause-counts c =
+    let w = c.args.self.now.engine.widening in
+    let old = c.args.old.now in
+    let new = c.args.new.now in
+    let puts = c.args.puts.now in
+    let k = c.args.proc in
+    let t = c.args.tally.now in
+    let u = c.in_ok-counts.counts in
+    let ls = lost k (entry_of (entries_of old)) puts in
+    let gs = gained k puts in
+    let makes = made_of t c.counts.result.now u ls c.as_slice.result.now gs c.as_slice-2.result.now c.counts.ensures.is (c.as_slice.ensures.same ∙ c.in_ok-lost.ensures.are) (c.as_slice-2.ensures.same ∙ c.in_ok-gained.ensures.are) c.in_ok-counts.ensures.told in
+    tally_changed w old new puts k t u c.requires.brings c.requires.thresholds c.requires.there c.requires.part.tally_is makes
+
 pub marks_over-requires-clause-kept : goal.marks_over-requires-clause-kept
 marks_over-requires-clause-kept c =
     let w = c.args.self.now.engine.widening in

@@ -1,0 +1,91 @@
+-- The marks of a procedure are those of the numbers that are counted in it.
+use Rattle.std.proofs.lemmas.List.Elements.{All-nil, All-cons}
+use Rattle.std.proofs.lemmas.Map.Lookups.{exact_signed}
+use Rattle.std.proofs.Common.{◌≡◌, ℕ, ℤ, zero, suc, ◌<◌, ◌≤◌, ◌||◌, ◌^◌, Bool, true, false, List, [], ◌∷◌, ◌++◌, take, slice_get, Some, refl, sym, ap, ◌∙◌, subst, arith}
+use Rattle.std.specs.Prelude.{pos, if◌then◌else◌, FitsSigned}
+use Rattle.std.specs.Int.{w64}
+use Rattle.std.specs.List.{All, list_any}
+use Rattle.std.specs.Map.{keys_of}
+use Rattle.std.specs.Ordering.{is_eq, int_cmp}
+use Rattle.std.specs.declared.cmp.Ordering.{Ordering}
+use Rattle.std.specs.declared.cmp.Ordering.TheVariants.{Less, Equal, Greater}
+use Rattle.std.specs.BTreeMap.{is_at}
+use Rattle.plain_values.specs.Numbers.{greatest}
+use Rattle.imp_syntax.specs.Plain.{Procedure}
+use Rattle.imp_slots.specs.Plain.{Routine}
+use Rattle.imp_slots.specs.Fits.{FitsCode, FitInTurn, IsChecked}
+use Rattle.imp_check.specs.Slots.{routine_of, routines_of}
+use Rattle.program_chains.specs.declared.widening.Widening.{Widening}
+use Rattle.program_chains.specs.Chains.{has}
+use Rattle.program_chains.specs.Claims.{MarksRise}
+use Rattle.program_chains.specs.Marks.{literals, marks_of, IsRising}
+use Rattle.call_contexts.specs.Settings.{all_marks}
+use Rattle.call_contexts.specs.Tallies.{rising, all_tallies}
+use Rattle.call_contexts.proofs.Lists.{by_test, some_inj}
+use Rattle.call_contexts.proofs.LiteralLemmas.{routine_there, mark_there}
+use Rattle.call_contexts.proofs.MarkSets.{marks_by_set, mark_of}
+use Rattle.call_contexts.proofs.Parted.{had, by_thresholds}
+use Rattle.call_contexts.proofs.TallyLemmas.{rising_has, tally_keys}
+
+-- Marks that rise are integers of 64 bits.
+first_word : (x : ℤ) (xs : List ℤ) → IsRising (x ∷ xs) → FitsSigned w64 x
+first_word x [] r = r
+first_word x (y ∷ ys) r = r.0
+
+rest_rises : (x : ℤ) (xs : List ℤ) → IsRising (x ∷ xs) → IsRising xs
+rest_rises x [] r = tt
+rest_rises x (y ∷ ys) r = r.2
+
+equal : (r : Ordering) → is_eq r ≡ true → r ≡ Equal
+equal Less e = absurd cc
+equal Equal e = refl
+equal Greater e = absurd cc
+
+words : (xs : List ℤ) → IsRising xs → (z : ℤ) → list_any (is_at (int_cmp z)) xs ≡ true → FitsSigned w64 z
+words [] r z h = absurd cc
+words (x ∷ xs) r z h = go (is_eq (int_cmp z x)) refl h (words xs (rest_rises x xs r) z)
+  where
+    go : (b : Bool) → is_eq (int_cmp z x) ≡ b → (b || list_any (is_at (int_cmp z)) xs) ≡ true → (list_any (is_at (int_cmp z)) xs ≡ true → FitsSigned w64 z) → FitsSigned w64 z
+    go true e h more = let q : z ≡ x = exact_signed z x (equal (int_cmp z x) e) in subst (FitsSigned w64) (sym q) (first_word x xs r)
+    go false e h more = more h
+
+number_word : (n : ℕ) → FitsSigned w64 (pos n) → n ≤ greatest
+number_word n f = let h : n < 2 ^ 63 = f.sfits in omega (arith, h)
+
+-- what holds of each that stands in a list
+all_in : (P : ℕ → Type 0) (ns : List ℕ) → ((n : ℕ) → has n ns ≡ true → P n) → All P ns
+all_in P [] h = All-nil P
+all_in P (n ∷ ns) h =
+    All-cons P n ns
+    (h n (by_test n n (λ b. (if b then true else has n ns) ≡ true) (λ e. refl) (λ e. absurd (e refl))))
+    (all_in P ns (λ m k. h m (by_test m n (λ b. (if b then true else has m ns) ≡ true) (λ e. refl) (λ e. k))))
+
+-- a procedure of a checked program fits
+fits_at : (before rs : List Routine) (k : ℕ) (r : Routine) → FitInTurn before rs → slice_get rs k ≡ Some r → (xs : List Routine) × FitsCode xs r.layout r.code
+fits_at before [] k r f h = absurd cc
+fits_at before (s ∷ rs) zero r f h = let q : s ≡ r = some_inj s r h in (before, subst (λ (z : Routine). FitsCode before z.layout z.code) q f.0.code)
+fits_at before (s ∷ rs) (suc k) r f h = fits_at (before ++ s ∷ []) rs k r f.1 h
+
+-- Where numbers are marks, a procedure has a tally.
+module _ (w : Widening) (ps : List Procedure) (k : ℕ) (u : List (ℕ × ℕ)) (e : w.thresholds ≡ true) (h : slice_get (all_tallies w (routines_of ps)) k ≡ Some u) where
+  abbrev own : Routine
+  own = routine_of (take k ps) (had w ps k u h).0
+
+  own_keys : keys_of u ≡ rising (literals own.code)
+  own_keys = ap keys_of (sym (had w ps k u h).2 ∙ by_thresholds w own e) ∙ tally_keys own.code
+
+  own_has : (n : ℕ) → has n (literals own.code) ≡ has n (keys_of u)
+  own_has n = sym (rising_has n (literals own.code)) ∙ ap (has n) (sym own_keys)
+
+  pub keys_small : MarksRise → IsChecked (routines_of ps) → All (λ (n : ℕ). n ≤ greatest) (keys_of u)
+  keys_small rises checked =
+      let fit = fits_at [] (routines_of ps) k own checked.fit (routine_there ps k (had w ps k u h).0 (had w ps k u h).1) in
+      let rise : IsRising (marks_of (literals own.code)) = subst (λ (b : Bool). IsRising (if b then marks_of (literals own.code) else [])) e (rises w fit.0 own fit.1) in
+      all_in (λ (n : ℕ). n ≤ greatest) (keys_of u) (λ n i. number_word n (words (marks_of (literals own.code)) rise (pos n) (mark_of n (literals own.code) (own_has n ∙ i))))
+
+  pub marks_by_keys : (ms : List ℤ) → ms ≡ marks_of (keys_of u) → slice_get (all_marks w (routines_of ps)) k ≡ Some ms
+  marks_by_keys ms m =
+      mark_there w ps k (had w ps k u h).0 (had w ps k u h).1
+      ∙ ap (λ (b : Bool). Some (if b then marks_of (literals own.code) else [])) e
+      ∙ ap Some (marks_by_set (literals own.code) (keys_of u) own_has)
+      ∙ ap Some (sym m)
