@@ -94,6 +94,10 @@ abbrev some : List ℕ → Bool
 some [] = false
 some (x ∷ xs) = true
 
+none_some : (xs : List ℕ) → some xs ≡ false → xs ≡ []
+none_some [] h = refl
+none_some (x ∷ xs) h = cc
+
 some_both : (xs ys : List ℕ) → some (xs ++ ys) ≡ (some xs || some ys)
 some_both [] ys = refl
 some_both (x ∷ xs) ys = refl
@@ -199,15 +203,16 @@ module _ (p : Procedure) (hs : List Hole) (front olds news behind : Statements) 
   abbrev pub FitsThere : Type 0
   FitsThere = (before : List Routine) (es : List Procedure) → Fits before (layout_in p) (frame_at es p) olds → Fits before (layout_in p) (frame_at es p) news
 
-  module _ (there : FitsThere) (same_breaks : leaving olds ≡ leaving news) where
+  -- where no break leaves the body, none leaves what is then there
+  abbrev pub NoneLeaves : Type 0
+  NoneLeaves = leaving O.body ≡ [] → leaving N.body ≡ []
+
+  module _ (there : FitsThere) (none_leaves : NoneLeaves) where
     own_fits : (before : List Routine) (es : List Procedure) → FitsRoutine before (routine_of es O) → FitsRoutine before (routine_of es N)
     own_fits before es w = record {
       code = part_fits before (layout_in p) (frame_at es p) hs front olds news behind w.code (there before es);
       no_break =
-          block_breaks (frame_at es p) N.body
-          ∙ ap some (sym (plug_leaving (frame_at es p) 0 hs (between front behind olds) (between front behind news) (leaving_between front behind olds news same_breaks)))
-          ∙ sym (block_breaks (frame_at es p) O.body)
-          ∙ w.no_break;
+          block_breaks (frame_at es p) N.body ∙ ap some (none_leaves (none_some (leaving O.body) (sym (block_breaks (frame_at es p) O.body) ∙ w.no_break)));
     }
 
     fits_along : (xs : List Routine) (es ps qs : List Procedure) → FitInTurn xs (routines_from es (ps ++ O ∷ qs)) → FitInTurn xs (routines_from es (ps ++ N ∷ qs))
@@ -236,8 +241,12 @@ some_there : (es ps : List Procedure) (q : Procedure) (qs : List Procedure) → 
 some_there es [] q qs = omega arith
 some_there es (p ∷ ps) q qs = omega arith
 
+-- The breaks that leave a part stay.
+pub same_leave : (p : Procedure) (hs : List Hole) (front olds news behind : Statements) → leaving olds ≡ leaving news → NoneLeaves p hs front olds news behind
+same_leave p hs front olds news behind q z = sym (plug_leaving (frame_at [] p) 0 hs (between front behind olds) (between front behind news) (leaving_between front behind olds news q)) ∙ z
+
 -- The new program fits where the old one does.
-pub program_fits : (p : Procedure) (hs : List Hole) (front olds news behind : Statements) (ps qs : List Procedure) → FitsThere p hs front olds news behind → leaving olds ≡ leaving news →
+pub program_fits : (p : Procedure) (hs : List Hole) (front olds news behind : Statements) (ps qs : List Procedure) → FitsThere p hs front olds news behind → NoneLeaves p hs front olds news behind →
     IsChecked (routines_of (old_program p hs front olds news behind ps qs)) → AreNumbered (new_program p hs front olds news behind ps qs) → IsChecked (routines_of (new_program p hs front olds news behind ps qs))
 program_fits p hs front olds news behind ps qs there q w k =
     let old = old_program p hs front olds news behind ps qs in

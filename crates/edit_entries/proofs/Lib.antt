@@ -14,6 +14,8 @@ pub mod Guards
 pub mod Fitting
 pub mod Sites
 pub mod Standing
+pub mod Breaks
 pub mod Exchange
 pub mod Simple
+pub mod Quiet
 pub mod Parts

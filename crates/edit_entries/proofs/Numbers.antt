@@ -1,7 +1,9 @@
 -- The numbers of a program in which statements are exchanged.
-use Rattle.std.proofs.Common.{◌≡◌, ◌≢◌, ℕ, inl, inr, List, [], ◌∷◌, ◌++◌, refl, sym, ap, ◌∙◌, subst, append_assoc}
+use Rattle.std.proofs.lemmas.Bool.Decides.{nat_tests}
+use Rattle.std.proofs.Common.{◌≡◌, ◌≢◌, ℕ, ◌==◌, ◌||◌, inl, inr, Bool, true, false, List, [], ◌∷◌, ◌++◌, refl, sym, ap, ◌∙◌, subst, arith, append_assoc}
 use Rattle.imp_syntax.specs.Plain.{Statements, Ends, Starts, If, While, Procedure, numbers_in, numbers, program_numbers}
 use Rattle.imp_slots.specs.Fits.{Absent, Distinct}
+use Rattle.imp_check.specs.Programs.{has}
 use Rattle.edit_entries.specs.Holes.{append, Hole, Then, Else, Body, fill, plug, between, with_body}
 use Rattle.edit_entries.proofs.Stay.{left_absent, right_absent}
 use Rattle.edit_entries.proofs.Located.{Has}
@@ -78,10 +80,34 @@ pub both_absent : (m : ℕ) (xs ys : List ℕ) → Absent m xs → Absent m ys �
 both_absent m [] ys a b = b
 both_absent m (x ∷ xs) ys a b = (a.0, both_absent m xs ys a.1 b)
 
-absent_not : (m : ℕ) (xs : List ℕ) → Absent m xs → Has m xs → ⊥
+pub absent_not : (m : ℕ) (xs : List ℕ) → Absent m xs → Has m xs → ⊥
 absent_not m [] a h = h
 absent_not m (x ∷ xs) a (inl e) = a.0 e
 absent_not m (x ∷ xs) a (inr h) = absent_not m xs a.1 h
+
+-- Tests of lists of numbers.
+pub has_true : (m : ℕ) (xs : List ℕ) → has xs m ≡ true → Has m xs
+has_true m [] h = cc
+has_true m (x ∷ xs) h = go (m == x) refl h (has_true m xs)
+  where
+    go : (b : Bool) → (m == x) ≡ b → (b || has xs m) ≡ true → (has xs m ≡ true → Has m xs) → Has m (x ∷ xs)
+    go true e h f = inl (grind (arith, nat_tests))
+    go false e h f = inr (f h)
+
+pub has_false : (m : ℕ) (xs : List ℕ) → has xs m ≡ false → Absent m xs
+has_false m [] h = tt
+has_false m (x ∷ xs) h = go (m == x) refl h (has_false m xs)
+  where
+    go : (b : Bool) → (m == x) ≡ b → (b || has xs m) ≡ false → (has xs m ≡ false → Absent m xs) → Absent m (x ∷ xs)
+    go true e h f = cc
+    go false e h f = (λ q. absurd (grind (arith, nat_tests)), f h)
+
+pub has_is : (m : ℕ) (xs : List ℕ) → Has m xs → has xs m ≡ true
+has_is m xs h = go (has xs m) refl
+  where
+    go : (b : Bool) → has xs m ≡ b → b ≡ true
+    go true e = refl
+    go false e = absurd (absent_not m xs (has_false m xs e) h)
 
 -- A number of the middle stands in no other part.
 pub middle_alone : (l ms r : List ℕ) (m : ℕ) → Distinct (l ++ (ms ++ r)) → Has m ms → Absent m (l ++ r)

@@ -1,5 +1,5 @@
--- What is known of a program in which simple statements come at a place of a block, or go from it.
-use Rattle.std.proofs.Common.{◌≡◌, ℕ, ◌-◌, ◌+◌, nat_lt, ◌⊎◌, inl, inr, List, [], ◌∷◌, ◌++◌, length, Option, Some, None, true, false, refl, sym, ap, ◌∙◌, subst, arith}
+-- What is known of a program in which simple statements come at a place of a block, and others that do not call go from it.
+use Rattle.std.proofs.Common.{◌≡◌, ℕ, ◌-◌, ◌+◌, nat_lt, ◌⊎◌, inl, inr, List, [], ◌∷◌, ◌++◌, length, cond, Option, Some, None, Bool, true, false, refl, sym, ap, ◌∙◌, subst, arith}
 use Rattle.std.specs.Option.{option_map}
 use Rattle.imp_syntax.specs.Plain.{Statements, Ends, Starts, Procedure, number_of, numbers, program_numbers}
 use Rattle.imp_slots.specs.Fits.{Distinct, FitsCode, IsChecked}
@@ -19,16 +19,18 @@ use Rattle.imp_check.specs.declared.entry.Head.{Head}
 use Rattle.imp_check.specs.declared.entry.Which.{Which}
 use Rattle.imp_check.specs.declared.entry.Which.TheVariants as of
 use Rattle.imp_check.specs.declared.fault.Fault.TheVariants.{Statements as TooManyStatements}
-use Rattle.edit_entries.specs.Gaps.{are_simple, lone, or_new, ends_with, ends_in, holder_of, held_in, head_with, heads_in, gap_splice}
-use Rattle.edit_entries.specs.Holes.{Hole, Then, Else, Body, plug, holder, in_loop, between, with_body}
-use Rattle.edit_entries.specs.Spliced.{is, spliced}
+use Rattle.edit_entries.specs.Gaps.{are_quiet, are_simple, lone, or_new, ends_with, ends_in, holder_of, held_in, head_with, heads_in, gap_splice}
+use Rattle.edit_entries.specs.Holes.{Hole, Then, Else, Body, plug, holder, in_loop, loop_of, between, with_body}
+use Rattle.edit_entries.specs.Spliced.{is, losing, spliced, without}
+use Rattle.edit_entries.proofs.Breaks.{Looped, looped, loop_found, loop_with, context_head, holder_last, none_leaves}
 use Rattle.edit_entries.proofs.Exchange.{spliced_fault}
 use Rattle.edit_entries.proofs.Filled.{before as around_before, behind as around_behind, holding, ends_filled}
 use Rattle.edit_entries.proofs.Fitting.{program_fits}
-use Rattle.edit_entries.proofs.Holders.{ends_between, held, holder_last, holds, shown, some_is, edit_body_table}
+use Rattle.edit_entries.proofs.Holders.{ends_between, held, holds, shown, some_is, edit_body_table}
 use Rattle.edit_entries.proofs.Located.{Has}
 use Rattle.edit_entries.proofs.Numbers.{Apart, around_edit}
 use Rattle.edit_entries.proofs.Programs.{old_program, new_program, scope_at}
+use Rattle.edit_entries.proofs.Quiet.{quiet_calls, quiet_sites}
 use Rattle.edit_entries.proofs.Simple.{simple_calls, simple_leaving, simple_nesting, simple_sites, simple_fault, simple_inside, simple_fits}
 use Rattle.edit_entries.proofs.Sites.{sites_stay, heads_stay}
 use Rattle.edit_entries.proofs.Standing.{has_left, has_right, known_has}
@@ -122,7 +124,18 @@ module _ (ps qs : List Procedure) (p : Procedure) (before olds news behind : Sta
   had_ends (Else v n d t r) f c o u x = refl
   had_ends (Body v n d r) f c o u x = refl
 
-  module _ (apart : Apart (numbers olds) (numbers news)) (same : leaving olds ≡ leaving news) where
+  -- .. that may have lost breaks
+  held_losing : (h : Hole) (t : Bool) (x : Entry) → ends_in (which_of h) x ≡ ends_of (between before behind olds) →
+      option_map (held h (ends_of (between before behind news))) (cond t (option_map (without (numbers olds)) (Some x)) (Some x)) ≡ option_map (held_in (around_of h) E) (cond t (option_map (without (numbers olds)) (Some x)) (Some x))
+  held_losing h true x q = ap Some (held_is h (without (numbers olds) x) (kept_ends h ∙ q))
+    where
+      kept_ends : (h : Hole) → ends_in (which_of h) (without (numbers olds) x) ≡ ends_in (which_of h) x
+      kept_ends (Then v n c e r) = refl
+      kept_ends (Else v n c e r) = refl
+      kept_ends (Body v n c r) = refl
+  held_losing h false x q = ap Some (held_is h x q)
+
+  module _ (apart : Apart (numbers olds) (numbers news)) (quits : leaving news ≡ []) where
     abbrev Tabled : List Hole → Type 0
     Tabled hs = Distinct (program_numbers (O hs)) → Distinct (program_numbers (N hs)) → (m : ℕ) →
         entry_of (entries_of (N hs)) m ≡ spliced (gap_splice (frame_at ps p) (k hs) a b (numbers olds) news) (held_in (k hs).around E) (entry_of (entries_of (O hs))) m
@@ -132,23 +145,25 @@ module _ (ps qs : List Procedure) (p : Procedure) (before olds news behind : Sta
         let hs : List Hole = gs ++ h ∷ [] in
         let at = entry_of (entries_of (O hs)) in
         let c = block_entries (frame_at ps p) (k hs) a b news in
-        table_is ps qs p hs before olds news behind old new apart same (held_in (around_of h) E) holding_is m
-        ∙ ap (λ o. spliced (record { gone = numbers olds; come = c; come_numbers = numbers news; front = a; next = b; holder = o; first = first_or news b; last = last_or news a }) (held_in (around_of h) E) at m) (holder_last gs h)
-        ∙ ap (λ o. spliced (record { gone = numbers olds; come = c; come_numbers = numbers news; front = a; next = b; holder = holder_of o; first = first_or news b; last = last_or news a }) (held_in o E) at m) (sym (around_last (context_at (length ps)) gs h))
+        table_is ps qs p hs before olds news behind old new apart quits (held_in (around_of h) E) holding_is m
+        ∙ ap (λ o. spliced (record { gone = numbers olds; come = c; come_numbers = numbers news; front = a; next = b; holder = o; loop = loop_of None hs; first = first_or news b; last = last_or news a }) (held_in (around_of h) E) at m) (holder_last gs h)
+        ∙ ap (λ o. spliced (record { gone = numbers olds; come = c; come_numbers = numbers news; front = a; next = b; holder = holder_of o; loop = loop_of None hs; first = first_or news b; last = last_or news a }) (held_in o E) at m) (sym (around_last (context_at (length ps)) gs h))
+        ∙ ap (λ o. spliced (record { gone = numbers olds; come = c; come_numbers = numbers news; front = a; next = b; holder = holder_of (k hs).around; loop = o; first = first_or news b; last = last_or news a }) (held_in (k hs).around E) at m) (sym (context_head (context_at (length ps)) hs))
       where
-        holding_is : (n : ℕ) → is (last_holder (gs ++ h ∷ [])) n ≡ true → entry_of (entries_of (N (gs ++ h ∷ []))) n ≡ option_map (held_in (around_of h) E) (entry_of (entries_of (O (gs ++ h ∷ []))) n)
+        holding_is : (n : ℕ) → is (last_holder (gs ++ h ∷ [])) n ≡ true → entry_of (entries_of (N (gs ++ h ∷ []))) n ≡ option_map (held_in (around_of h) E) (losing (loop_of None (gs ++ h ∷ [])) (numbers olds) (entry_of (entries_of (O (gs ++ h ∷ [])))) n)
         holding_is n e =
             let x = entry_at (frame_at ps p) (context_of (context_at (length ps)) gs) (last_or (around_before h) None) (first_or (around_behind h) None) (holding h (between before behind olds)) in
             let s : holder h ≡ n = some_is (holder h) n (ap (λ o. is o n) (sym (holder_last gs h)) ∙ e) in
             let w : entry_of (entries_of (O (gs ++ h ∷ []))) n ≡ Some x = ap (entry_of (entries_of (O (gs ++ h ∷ [])))) (sym s) ∙ shown ps qs p gs h before olds news behind (between before behind olds) old in
-            holds ps qs p gs h before olds news behind old new same n e
-            ∙ ap (option_map (held h (ends_of (between before behind news)))) w
-            ∙ ap Some (held_is h x (had_ends h (frame_at ps p) (context_of (context_at (length ps)) gs) (last_or (around_before h) None) (first_or (around_behind h) None) (between before behind olds)))
-            ∙ ap (option_map (held_in (around_of h) E)) (sym w)
+            let t = is (loop_of None (gs ++ h ∷ [])) n in
+            holds ps qs p gs h before olds news behind old new quits n e
+            ∙ ap (λ o. option_map (held h (ends_of (between before behind news))) (cond t (option_map (without (numbers olds)) o) o)) w
+            ∙ held_losing h t x (had_ends h (frame_at ps p) (context_of (context_at (length ps)) gs) (last_or (around_before h) None) (first_or (around_behind h) None) (between before behind olds))
+            ∙ ap (λ o. option_map (held_in (around_of h) E) (cond t (option_map (without (numbers olds)) o) o)) (sym w)
 
     -- Entries.
     pub gap_table : (hs : List Hole) → Tabled hs
-    gap_table hs = by_inmost Tabled (λ old new m. edit_body_table ps qs p before olds news behind old new apart same m) tabled_in hs
+    gap_table hs = by_inmost Tabled (λ old new m. edit_body_table ps qs p before olds news behind old new apart quits m) tabled_in hs
 
   -- Procedures.
   abbrev Headed : List Hole → Type 0
@@ -171,12 +186,9 @@ module _ (ps qs : List Procedure) (p : Procedure) (before olds news behind : Sta
   pub gap_heads : (hs : List Hole) → Headed hs
   gap_heads hs = by_inmost Headed (body_headed (between before behind olds) (between before behind news) ps (ends_changed before behind olds news)) headed_in hs
 
-  module _ (hs : List Hole) (plain : are_simple olds ≡ true) (simple : are_simple news ≡ true) where
+  module _ (hs : List Hole) (quiet : are_quiet olds ≡ true) (simple : are_simple news ≡ true) where
     pub same_calls : (g : List ℕ) → calls g olds ≡ calls g news
-    same_calls g = simple_calls g olds plain ∙ sym (simple_calls g news simple)
-
-    pub same_leaving : leaving olds ≡ leaving news
-    same_leaving = simple_leaving olds plain ∙ sym (simple_leaving news simple)
+    same_calls g = quiet_calls g olds quiet ∙ sym (simple_calls g news simple)
 
     -- The first fault: too many statements, or that of those that come.
     pub gap_fault : check_fault (O hs) ≡ None →
@@ -187,10 +199,10 @@ module _ (ps qs : List Procedure) (p : Procedure) (before olds news behind : Sta
         (simple_fault (scope_at p hs before olds news behind ps qs) (in_loop false hs) news simple ∙ simple_inside (lone (variables p)) (in_loop false hs) false news simple)
 
     pub gap_sites : sites_of (N hs) ≡ sites_of (O hs)
-    gap_sites = sites_stay p hs before olds news behind (λ es n. simple_sites (frame_at es p) n (context_at 0) None None olds plain ∙ sym (simple_sites (frame_at es p) n (context_at 0) None None news simple)) ps qs
+    gap_sites = sites_stay p hs before olds news behind (λ es n. quiet_sites (frame_at es p) n (context_at 0) None None olds quiet ∙ sym (simple_sites (frame_at es p) n (context_at 0) None None news simple)) ps qs
 
     pub gap_fits : FitsCode [] (layout_in p) (code_in (frame_at [] p) news) → IsChecked (routines_of (O hs)) → AreNumbered (N hs) → IsChecked (routines_of (N hs))
-    gap_fits w c d = program_fits p hs before olds news behind ps qs (λ rs es v. simple_fits (layout_in p) [] es [] rs news simple w) same_leaving c d
+    gap_fits w c d = program_fits p hs before olds news behind ps qs (λ rs es v. simple_fits (layout_in p) [] es [] rs news simple w) (none_leaves hs before olds news behind (simple_leaving news simple)) c d
 
   -- The statements around the place are statements of the program.
   module _ (hs : List Hole) (once : Distinct (program_numbers (O hs))) where
@@ -215,3 +227,10 @@ module _ (ps qs : List Procedure) (p : Procedure) (before olds news behind : Sta
           let q : Some (holder h) ≡ Some n = sym (ap holder_of (around_last (context_at (length ps)) gs h)) ∙ e in
           let s : holder h ≡ n = cc in
           subst (λ m. Has m (program_numbers (O (gs ++ h ∷ [])))) s (known_has (holder h) (O (gs ++ h ∷ [])) _ (shown ps qs p gs h before olds news behind (between before behind olds) once))
+
+  -- .. and so is the loop around it.
+  pub loop_has : (hs : List Hole) → Distinct (program_numbers (O hs)) → (n : ℕ) → (k hs).head ≡ Some n → Has n (program_numbers (O hs))
+  loop_has hs once n e =
+      let l = looped hs n (sym (context_head (context_at (length ps)) hs) ∙ e) in
+      let x = between before behind olds in
+      known_has n (O hs) (loop_with ps qs p hs n l x) (loop_found ps qs p hs n l x once)

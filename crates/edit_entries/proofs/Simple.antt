@@ -1,11 +1,11 @@
 -- Blocks of simple statements that are neither calls nor breaks.
-use Rattle.std.proofs.Common.{◌≡◌, ℕ, List, [], ◌∷◌, length, Option, Bool, true, refl, ap, arith}
-use Rattle.imp_syntax.specs.Plain.{Simple, Break, Call, If, While, Statements, Ends, Starts, Procedure, numbers}
+use Rattle.std.proofs.Common.{◌≡◌, ℕ, List, [], ◌∷◌, Option, Bool, true, refl, ap, arith}
+use Rattle.imp_syntax.specs.Plain.{Simple, Break, Call, If, While, Statements, Ends, Starts, Procedure}
 use Rattle.imp_slots.specs.Plain.{Layout, Routine}
 use Rattle.imp_slots.specs.Fits.{FitsCode}
 use Rattle.imp_check.specs.Chains.{calls}
 use Rattle.imp_check.specs.Faults.{first, at}
-use Rattle.imp_check.specs.Programs.{block_count, nesting}
+use Rattle.imp_check.specs.Programs.{nesting}
 use Rattle.imp_check.specs.Slots.{Frame, code_in}
 use Rattle.imp_check.specs.Statements.{Scope, action_fault, block_fault}
 use Rattle.imp_check.specs.Parts.{first_or, leaving}
@@ -46,15 +46,6 @@ simple_sites f k c a p (Starts (Break n) ss) h = cc
 simple_sites f k c a p (Starts (Call n x q es) ss) h = cc
 simple_sites f k c a p (Starts (If n d t e) ss) h = cc
 simple_sites f k c a p (Starts (While n d b) ss) h = cc
-
--- As many statements as numbers.
-pub simple_count : (b : Statements) → are_simple b ≡ true → length (numbers b) ≡ block_count b
-simple_count Ends h = refl
-simple_count (Starts (Simple n a) ss) h = omega (arith, simple_count ss h)
-simple_count (Starts (Break n) ss) h = absurd cc
-simple_count (Starts (Call n x q es) ss) h = absurd cc
-simple_count (Starts (If n c t e) ss) h = absurd cc
-simple_count (Starts (While n c b) ss) h = absurd cc
 
 -- Their faults hang on the variables alone, and what is known of them on the variables' slots.
 pub simple_fault : (s : Scope) (i : Bool) (b : Statements) → are_simple b ≡ true → block_fault s i b ≡ block_fault (lone s.variables) i b

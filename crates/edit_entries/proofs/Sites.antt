@@ -14,7 +14,7 @@ use Rattle.edit_entries.proofs.Heads.{as_many, entries_alike}
 use Rattle.edit_entries.proofs.Others.{entries_append}
 use Rattle.edit_entries.proofs.Programs.{old_one, new_one, old_program, new_program, bares_at}
 
-sites_both : (xs ys : List Entry) (k : ℕ) → sites_in (xs ++ ys) k ≡ sites_in xs k ++ sites_in ys k
+pub sites_both : (xs ys : List Entry) (k : ℕ) → sites_in (xs ++ ys) k ≡ sites_in xs k ++ sites_in ys k
 sites_both [] ys k = refl
 sites_both (x ∷ xs) ys k = go (calls_here x.form k) (sites_both xs ys k)
   where

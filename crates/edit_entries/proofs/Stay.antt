@@ -1,5 +1,5 @@
 -- What is known of the statements of a program, where statements of one procedure are exchanged for others: all stays but of
--- those that go or come, of their neighbours, and of the statement that has the block.
+-- those that go or come, of their neighbours, of the statement that has the block, and of the innermost loop around it.
 use Rattle.std.proofs.lemmas.Bool.Decides.{nat_tests}
 use Rattle.std.proofs.Common.{◌≡◌, ◌≢◌, ℕ, ◌==◌, List, [], ◌∷◌, ◌++◌, Option, Some, None, Bool, true, false, refl, sym, ap, ◌∙◌, arith}
 use Rattle.imp_syntax.specs.Plain.{Statement, Statements, Ends, Starts, Procedure, number_of, numbers_in, numbers}
@@ -60,19 +60,13 @@ module _ (f : Frame) (m : ℕ) where
         ∙ ap (λ o. first o (entry_of (block_entries f c (Some (number_of s)) p ss) m)) (statement_gone c a (first_or ss p) s (left_absent m (numbers_in s) (numbers ss) h))
         ∙ block_gone c (Some (number_of s)) p ss (right_absent m (numbers_in s) (numbers ss) h)
 
-  -- Outside the block all stays but of the statement that has it, where its breaks stay ..
-  plug_keep : (hs : List Hole) (x y : Statements) → is (last_holder hs) m ≡ false → leaving x ≡ leaving y → Alike f m x y → Alike f m (plug hs x) (plug hs y)
-  plug_keep [] x y e q a = a
-  plug_keep (h ∷ []) x y e q a = fill_other f m h x y e a
-  plug_keep (h ∷ g ∷ hs) x y e q a = fill_same f m h (plug (g ∷ hs) x) (plug (g ∷ hs) y) (ends_filled g (plug hs x) (plug hs y)) (plug_leaving f m (g ∷ hs) x y q) (plug_keep (g ∷ hs) x y e q a)
-
-  -- .. and of the innermost loop around it, where they do not.
-  plug_keep_loop : (hs : List Hole) (x y : Statements) → is (last_holder hs) m ≡ false → is (loop_of None hs) m ≡ false → Alike f m x y → Alike f m (plug hs x) (plug hs y)
-  plug_keep_loop [] x y e l a = a
-  plug_keep_loop (h ∷ []) x y e l a = fill_other f m h x y e a
-  plug_keep_loop (Then b n c u r ∷ g ∷ hs) x y e l a = fill_then f m b n c u r (plug (g ∷ hs) x) (plug (g ∷ hs) y) (ends_filled g (plug hs x) (plug hs y)) (plug_keep_loop (g ∷ hs) x y e l a)
-  plug_keep_loop (Else b n c t r ∷ g ∷ hs) x y e l a = fill_else f m b n c t r (plug (g ∷ hs) x) (plug (g ∷ hs) y) (ends_filled g (plug hs x) (plug hs y)) (plug_keep_loop (g ∷ hs) x y e l a)
-  plug_keep_loop (Body b n c r ∷ g ∷ hs) x y e l a = go (has_loop (g ∷ hs)) refl (λ i. plug_keep_loop (g ∷ hs) x y e i a)
+  -- Outside the block all stays but of the statement that has it, and of the innermost loop around it.
+  plug_keep : (hs : List Hole) (x y : Statements) → is (last_holder hs) m ≡ false → is (loop_of None hs) m ≡ false → Alike f m x y → Alike f m (plug hs x) (plug hs y)
+  plug_keep [] x y e l a = a
+  plug_keep (h ∷ []) x y e l a = fill_other f m h x y e a
+  plug_keep (Then b n c u r ∷ g ∷ hs) x y e l a = fill_then f m b n c u r (plug (g ∷ hs) x) (plug (g ∷ hs) y) (ends_filled g (plug hs x) (plug hs y)) (plug_keep (g ∷ hs) x y e l a)
+  plug_keep (Else b n c t r ∷ g ∷ hs) x y e l a = fill_else f m b n c t r (plug (g ∷ hs) x) (plug (g ∷ hs) y) (ends_filled g (plug hs x) (plug hs y)) (plug_keep (g ∷ hs) x y e l a)
+  plug_keep (Body b n c r ∷ g ∷ hs) x y e l a = go (has_loop (g ∷ hs)) refl (λ i. plug_keep (g ∷ hs) x y e i a)
     where
       go : (t : Bool) → has_loop (g ∷ hs) ≡ t → (is (loop_of None (g ∷ hs)) m ≡ false → Alike f m (plug (g ∷ hs) x) (plug (g ∷ hs) y)) → Alike f m (fill (Body b n c r) (plug (g ∷ hs) x)) (fill (Body b n c r) (plug (g ∷ hs) y))
       go true k rest = fill_same f m (Body b n c r) (plug (g ∷ hs) x) (plug (g ∷ hs) y) (ends_filled g (plug hs x) (plug hs y)) (cut (g ∷ hs) x y k) (rest (ap (λ o. is o m) (some_loop None (Some n) (g ∷ hs) k) ∙ l))
@@ -96,17 +90,8 @@ module _ (p : Procedure) (hs : List Hole) (before olds news behind : Statements)
   part_stays : (f : Frame) → Alike f m (between before behind olds) (between before behind news)
   part_stays f c = part_other f m c None None before olds news behind (λ a q. block_gone f m c a q olds away.not_gone) (λ a q. block_gone f m c a q news away.not_new) away.not_front away.not_next
 
-  leaving_stays : leaving olds ≡ leaving news → leaving (between before behind olds) ≡ leaving (between before behind news)
-  leaving_stays q =
-      leaving_append before (append olds behind)
-      ∙ ap (λ k. leaving before ++ k) (leaving_append olds behind ∙ ap (λ k. k ++ leaving behind) q ∙ sym (leaving_append news behind))
-      ∙ sym (leaving_append before (append news behind))
-
-  own_stays : (es : List Procedure) → leaving olds ≡ leaving news → entry_of (procedure_entries es O) m ≡ entry_of (procedure_entries es N) m
-  own_stays es q = let f = frame_at es p in plug_keep f m hs (between before behind olds) (between before behind news) away.not_holder (leaving_stays q) (part_stays f) (context_at _)
-
-  own_stays_loop : (es : List Procedure) → is (loop_of None hs) m ≡ false → entry_of (procedure_entries es O) m ≡ entry_of (procedure_entries es N) m
-  own_stays_loop es l = let f = frame_at es p in plug_keep_loop f m hs (between before behind olds) (between before behind news) away.not_holder l (part_stays f) (context_at _)
+  own_stays : (es : List Procedure) → is (loop_of None hs) m ≡ false → entry_of (procedure_entries es O) m ≡ entry_of (procedure_entries es N) m
+  own_stays es l = let f = frame_at es p in plug_keep f m hs (between before behind olds) (between before behind news) away.not_holder l (part_stays f) (context_at _)
 
   along : ((es : List Procedure) → entry_of (procedure_entries es O) m ≡ entry_of (procedure_entries es N) m) → (es ps qs : List Procedure) → entry_of (entries_from es (ps ++ O ∷ qs)) m ≡ entry_of (entries_from es (ps ++ N ∷ qs)) m
   along own es [] qs =
@@ -119,10 +104,6 @@ module _ (p : Procedure) (hs : List Hole) (before olds news behind : Statements)
       ∙ ap (first (entry_of (procedure_entries es x) m)) (along own (es ++ x ∷ []) ps qs)
       ∙ sym (entry_append (procedure_entries es x) (entries_from (es ++ x ∷ []) (ps ++ N ∷ qs)) m)
 
-  -- Where the breaks that leave the part are the same, an edit touches no other statement.
-  pub others_stay : (ps qs : List Procedure) → leaving olds ≡ leaving news → entry_of (entries_of (old_program p hs before olds news behind ps qs)) m ≡ entry_of (entries_of (new_program p hs before olds news behind ps qs)) m
-  others_stay ps qs q = along (λ es. own_stays es q) [] ps qs
-
-  -- Else it touches the innermost loop around it, too.
-  pub others_stay_loop : (ps qs : List Procedure) → is (loop_of None hs) m ≡ false → entry_of (entries_of (old_program p hs before olds news behind ps qs)) m ≡ entry_of (entries_of (new_program p hs before olds news behind ps qs)) m
-  others_stay_loop ps qs l = along (λ es. own_stays_loop es l) [] ps qs
+  -- An edit touches no other statement but the innermost loop around it.
+  pub others_stay : (ps qs : List Procedure) → is (loop_of None hs) m ≡ false → entry_of (entries_of (old_program p hs before olds news behind ps qs)) m ≡ entry_of (entries_of (new_program p hs before olds news behind ps qs)) m
+  others_stay ps qs l = along (λ es. own_stays es l) [] ps qs

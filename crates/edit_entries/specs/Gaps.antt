@@ -27,6 +27,19 @@ abbrev pub are_simple : Statements → Bool
 are_simple Ends = true
 are_simple (Starts s ss) = is_simple s && are_simple ss
 
+-- whether no call stands in a statement
+abbrev mutual
+  pub is_quiet : Statement → Bool
+  is_quiet (Simple n a) = true
+  is_quiet (Break n) = true
+  is_quiet (Call n x g es) = false
+  is_quiet (If n c t e) = are_quiet t && are_quiet e
+  is_quiet (While n c b) = are_quiet b
+
+  pub are_quiet : Statements → Bool
+  are_quiet Ends = true
+  are_quiet (Starts s ss) = is_quiet s && are_quiet ss
+
 -- these variables, and no procedure
 abbrev pub lone : List Declaration → Scope
 lone vs = record { earlier = []; others = []; variables = vs }
@@ -70,7 +83,7 @@ abbrev pub heads_in : Option Around → List Head → (place : ℕ) → (ends : 
 heads_in None hs place ends = head_with hs place ends
 heads_in (Some w) hs place ends = hs
 
--- These statements come between two of a block, and those of these numbers go.
+-- These statements come between two of a block, of which none leaves a loop, and those of these numbers go.
 abbrev pub gap_splice : Frame → Context → (front next : Option ℕ) → (gone : List ℕ) → Statements → Splice
 gap_splice f k front next gone news = record {
   gone = gone;
@@ -79,6 +92,7 @@ gap_splice f k front next gone news = record {
   front = front;
   next = next;
   holder = holder_of k.around;
+  loop = k.head;
   first = first_or news next;
   last = last_or news front;
 }

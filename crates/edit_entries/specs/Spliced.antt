@@ -1,5 +1,5 @@
 -- What is known of statements after an edit of a block, from what was known before.
-use Rattle.std.specs.Prelude.{ℕ, List, Option, Some, None, Bool, false, cond, ◌==◌}
+use Rattle.std.specs.Prelude.{ℕ, List, [], ◌∷◌, Option, Some, None, Bool, false, cond, ◌==◌}
 use Rattle.std.specs.Option.{option_map}
 use Rattle.imp_check.specs.Programs.{has}
 use Rattle.imp_check.specs.declared.entry.Entry.{Entry}
@@ -17,7 +17,19 @@ with_front o x = record x { front = o }
 abbrev pub with_next : Option ℕ → Entry → Entry
 with_next o x = record x { next = o }
 
--- An edit of a block: which statements go, what comes, between which two and in whose block they stand.
+-- the breaks that are left where the statements of these numbers go, and a loop with no others
+abbrev pub left_of : (gone : List ℕ) → List ℕ → List ℕ
+left_of gone [] = []
+left_of gone (n ∷ ns) = cond (has gone n) (left_of gone ns) (n ∷ left_of gone ns)
+
+abbrev pub without : (gone : List ℕ) → Entry → Entry
+without gone x = record x { breaks = left_of gone x.breaks }
+
+abbrev pub losing : (loop : Option ℕ) → (gone : List ℕ) → (ℕ → Option Entry) → ℕ → Option Entry
+losing loop gone at m = cond (is loop m) (option_map (without gone) (at m)) (at m)
+
+-- An edit of a block: which statements go, what comes, between which two and in whose block they stand. None that comes
+-- leaves a loop.
 pub record Splice : Type 0 where
   pub gone : List ℕ
   pub come : List Entry
@@ -25,6 +37,8 @@ pub record Splice : Type 0 where
   pub front : Option ℕ
   pub next : Option ℕ
   pub holder : Option ℕ
+  -- the innermost loop around them
+  pub loop : Option ℕ
   -- what is then behind the one in front, and in front of the one behind
   pub first : Option ℕ
   pub last : Option ℕ
@@ -35,5 +49,5 @@ spliced e held at m =
     (cond (has e.come_numbers m) (entry_of e.come m)
     (cond (is e.front m) (option_map (with_next e.first) (at m))
     (cond (is e.next m) (option_map (with_front e.last) (at m))
-    (cond (is e.holder m) (option_map held (at m))
-    (at m)))))
+    (cond (is e.holder m) (option_map held (losing e.loop e.gone at m))
+    (losing e.loop e.gone at m)))))

@@ -3,13 +3,14 @@
 //! A block stands in *holes*: each is one block of an if or a while, with what stands around it (`specs/Holes.antt`).
 //! A part stands in its block between the statements before and behind it. The lemmas say of the program with another part:
 //!
-//! - its entries are those of before, but of the statements that go and come, of their two neighbours, and of the statement
-//!   that has the block (`spliced` of `specs/Spliced.antt`; `proofs/Table.antt`, `Holders.antt`); another condition changes
-//!   one entry (`proofs/Guards.antt`);
+//! - its entries are those of before, but of the statements that go and come, of their two neighbours, of the statement
+//!   that has the block, and of the loop around it, which loses the breaks that go (`spliced` of `specs/Spliced.antt`;
+//!   `proofs/Table.antt`, `Holders.antt`, `Breaks.antt`); another condition changes one entry (`proofs/Guards.antt`);
 //! - its first fault is that of the part alone, where the parts have the same calls: the count of statements and the
 //!   depth of the place decide whether it is too large (`proofs/Programs.antt`, `Exchange.antt`);
-//! - where the statements that come and go are simple, all this is told by what is known at the place: its block, and
-//!   the statements in front and behind (`specs/Gaps.antt`, `proofs/Parts.antt`);
+//! - where the statements that come are simple and no call stands in those that go, all this is told by what is known at
+//!   the place: its block, the statements in front and behind, and the loop around it (`specs/Gaps.antt`,
+//!   `proofs/Parts.antt`);
 //! - its call statements stay, and so do its procedures but for the ends of a body (`proofs/Sites.antt`); it fits over slots
 //!   (`proofs/Fitting.antt`).
 //!

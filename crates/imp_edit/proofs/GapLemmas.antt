@@ -7,30 +7,35 @@ use Rattle.imp_syntax.specs.declared.edit.Edit.{Edit}
 use Rattle.imp_syntax.specs.declared.edit.Edit.TheVariants as edit
 use Rattle.imp_syntax.specs.declared.edit.Place.TheVariants as place
 use Rattle.imp_slots.specs.Fits.{Distinct}
-use Rattle.imp_check.specs.Entries.{inside, inside_loop, entry_at, entries_of, entry_of, frame_at, context_at, head_of, heads_of}
+use Rattle.imp_check.specs.Entries.{inside, inside_loop, entry_at, statement_entries, entries_of, entry_of, frame_at, context_at, head_of, heads_of}
 use Rattle.imp_check.specs.Names.{is_named, named_in, place_named}
 use Rattle.imp_check.specs.Parts.{part_of, first_ends, second_ends, first_or, last_or}
-use Rattle.imp_check.specs.Programs.{AreNumbered, check_fault}
+use Rattle.imp_check.specs.Programs.{AreNumbered, block_count, program_count, check_fault}
+use Rattle.imp_check.specs.Slots.{Frame}
 use Rattle.imp_check.specs.declared.entry.Context.{Context}
 use Rattle.imp_check.specs.declared.entry.Entry.{Entry}
 use Rattle.imp_check.specs.declared.entry.Which.TheVariants as which
-use Rattle.edit_entries.specs.Gaps.{is_simple, are_simple}
+use Rattle.edit_entries.specs.Gaps.{are_quiet}
 use Rattle.edit_entries.specs.Holes.{append, Hole, Then, Else, Body, fill, plug, with_body}
+use Rattle.imp_check.proofs.RebuildLemmas.{in_left, Known}
+use Rattle.edit_entries.proofs.Counts.{count_within}
 use Rattle.edit_entries.proofs.Exchange.{shallow_place}
 use Rattle.edit_entries.proofs.Filled.{context_in}
 use Rattle.edit_entries.proofs.Others.{last_append}
-use Rattle.edit_entries.proofs.Programs.{old_program, new_program}
+use Rattle.edit_entries.proofs.Programs.{old_one, old_program, new_program}
 use Rattle.edit_entries.proofs.Standing.{Stands, stands, old_is, known_is, known_has, own_head}
-use Rattle.edit_entries.proofs.Touched.{context_of, plug_last}
+use Rattle.edit_entries.proofs.Touched.{context_of, part_found, plug_last}
 use Rattle.imp_edit.specs.Changes.{in_program, deleted, exchanged, followed, then_started, else_started, body_started, at_named, started}
 use Rattle.imp_edit.specs.Edited.{edited, brought}
-use Rattle.imp_edit.specs.Gaps.{gone_gap, behind_gap, then_gap, else_gap, body_gap, start_gap, of_entry, of_place, gap_of, gone_in}
+use Rattle.imp_edit.specs.Gaps.{gone_gap, behind_gap, then_gap, else_gap, body_gap, start_gap, of_entry, of_place, gap_of}
+use Rattle.imp_edit.specs.Quiet.{part_numbers, part_quiet}
 use Rattle.imp_edit.specs.Refusals.{site_refusal, statement_refusal, entry_refusal, fits}
 use Rattle.imp_edit.specs.declared.gap.Gap.{Gap}
 use Rattle.imp_edit.specs.declared.refusals.Needed.{Needed}
 use Rattle.imp_edit.specs.declared.refusals.Needed.TheVariants as needed
 use Rattle.imp_edit.specs.declared.error.EditError.TheVariants.{NoProcedure, WrongStatement}
 use Rattle.imp_edit.proofs.Exchanged.{program_edited}
+use Rattle.imp_edit.proofs.QuietLemmas.{own_count, part_numbers_is, part_quiet_is}
 
 -- The place of an edit, between statements of a block in holes, and what the edit puts there.
 pub record GapPart (e : Edit) (P : List Procedure) (g : Gap) : Type 0 where
@@ -45,8 +50,8 @@ pub record GapPart (e : Edit) (P : List Procedure) (g : Gap) : Type 0 where
   pub context : g.context ≡ context_of (context_at (length front)) holes
   pub in_front : g.front ≡ last_or before None
   pub in_back : g.next ≡ first_or behind None
-  pub gone : gone_in g.gone ≡ numbers olds
-  pub simple : are_simple olds ≡ true
+  pub gone : g.gone ≡ numbers olds
+  pub quiet : are_quiet olds ≡ true
   pub becomes : edited e P ≡ new_program own holes before olds (brought e) behind front back
 
 -- What is known of a statement where it stands.
@@ -80,43 +85,72 @@ context_last : (k : Context) (gs : List Hole) (h : Hole) → context_of k (gs ++
 context_last k [] h = refl
 context_last k (g ∷ gs) h = context_last (context_in k g) gs h
 
--- In the place of a simple statement.
-simple_one : (s : Statement) → is_simple (part_of s) ≡ true → are_simple (Starts s Ends) ≡ true
-simple_one (Simple n a) h = refl
-simple_one (Break n) h = h
-simple_one (Call n x g es) h = cc
-simple_one (If n c t e) h = cc
-simple_one (While n c b) h = cc
+-- In the place of a statement in which no call stands.
+abbrev at : List Procedure → ℕ → Option Entry
+at P = entry_of (entries_of P)
 
-simple_number : (s : Statement) → is_simple (part_of s) ≡ true → number_of s ∷ [] ≡ numbers (Starts s Ends)
-simple_number (Simple n a) h = refl
-simple_number (Break n) h = refl
-simple_number (Call n x g es) h = refl
-simple_number (If n c t e) h = cc
-simple_number (While n c b) h = cc
+abbrev most : List Procedure → ℕ
+most P = suc (program_count P)
 
-gone_simple : (e : Entry) (g : Gap) → gone_gap e ≡ Some g → is_simple e.part ≡ true
-gone_simple e g h = go (is_simple e.part) refl h
+gone_quiet : (P : List Procedure) (e : Entry) (g : Gap) → gone_gap (at P) (most P) e ≡ Some g → part_quiet (at P) (most P) e ≡ true
+gone_quiet P e g h = go (part_quiet (at P) (most P) e) refl h
   where
-    go : (b : Bool) → is_simple e.part ≡ b → cond b (Some (record { context = e.context; front = e.front; next = e.next; gone = Some e.number })) None ≡ Some g → is_simple e.part ≡ true
+    go : (b : Bool) → part_quiet (at P) (most P) e ≡ b → cond b (Some (record { context = e.context; front = e.front; next = e.next; gone = part_numbers (at P) (most P) e })) None ≡ Some g → part_quiet (at P) (most P) e ≡ true
     go true q h = q
     go false q h = cc
 
-gone_is : (e : Entry) (g : Gap) → gone_gap e ≡ Some g → record { context = e.context; front = e.front; next = e.next; gone = Some e.number } ≡ g
-gone_is e g h =
-    let x : Gap = record { context = e.context; front = e.front; next = e.next; gone = Some e.number } in
-    let q : Some x ≡ Some g = ap (λ b. cond b (Some x) None) (sym (gone_simple e g h)) ∙ h in
+gone_is : (P : List Procedure) (e : Entry) (g : Gap) → gone_gap (at P) (most P) e ≡ Some g → record { context = e.context; front = e.front; next = e.next; gone = part_numbers (at P) (most P) e } ≡ g
+gone_is P e g h =
+    let x : Gap = record { context = e.context; front = e.front; next = e.next; gone = part_numbers (at P) (most P) e } in
+    let q : Some x ≡ Some g = ap (λ b. cond b (Some x) None) (sym (gone_quiet P e g h)) ∙ h in
     cc
+
+-- what is known of the statement and of those inside it
+module _ (n : ℕ) (P : List Procedure) (once : Distinct (program_numbers P)) (s : Stands n P) where
+  abbrev stmt : Statement
+  stmt = s.place.stmt
+
+  abbrev f : Frame
+  f = frame_at s.front s.own
+
+  abbrev k : Context
+  k = context_of (context_at (length s.front)) s.place.holes
+
+  abbrev a : Option ℕ
+  a = last_or s.place.before None
+
+  abbrev b : Option ℕ
+  b = first_or s.place.behind None
+
+  all_known : Known (at P) (statement_entries f k a b stmt)
+  all_known y i =
+      ap (λ os. entry_of (entries_of os) y.number) (old_is n P s)
+      ∙ part_found s.front s.back s.own s.place.holes s.place.before (Starts stmt Ends) s.place.behind (subst (λ (os : List Procedure). Distinct (program_numbers os)) (old_is n P s) once) y (in_left y (statement_entries f k a b stmt) [] i)
+
+  few : block_count (Starts stmt Ends) < most P
+  few =
+      let old = ap program_count (old_is n P s) in
+      omega (
+        arith,
+        old,
+        count_within s.place.holes s.place.before (Starts stmt Ends) s.place.behind,
+        own_count s.front (old_one s.own s.place.holes s.place.before (Starts stmt Ends) Ends s.place.behind) s.back,
+      )
+
+  numbers_there : part_numbers (at P) (most P) (entry_there s) ≡ numbers (Starts stmt Ends)
+  numbers_there = part_numbers_is (at P) f (most P) stmt k a b few all_known
+
+  quiet_there : part_quiet (at P) (most P) (entry_there s) ≡ are_quiet (Starts stmt Ends)
+  quiet_there = part_quiet_is (at P) f (most P) stmt k a b few all_known
 
 -- what an edit makes of the statement there, where only what it brings is left
 module _ (d : Edit) (n : ℕ) (made : Statement → Statements) (P : List Procedure) (once : Distinct (program_numbers P)) (same : edited d P ≡ in_program n made P) (alone : (s : Statement) → made s ≡ brought d) (e : Entry) (k : entry_of (entries_of P) n ≡ Some e) where
-  gone_part : (g : Gap) → gone_gap e ≡ Some g → GapPart d P g
+  gone_part : (g : Gap) → gone_gap (at P) (most P) e ≡ Some g → GapPart d P g
   gone_part g w =
       let t = there n P e once k in
       let s = t.place in
       let l = s.place in
-      let i : is_simple (part_of l.stmt) ≡ true = ap (λ (x : Entry). is_simple x.part) (sym t.entry) ∙ gone_simple e g w in
-      let q = gone_is e g w in
+      let q = gone_is P e g w in
       record {
         front = s.front;
         own = s.own;
@@ -129,14 +163,14 @@ module _ (d : Edit) (n : ℕ) (made : Statement → Statements) (P : List Proced
         context = ap (λ (x : Gap). x.context) (sym q) ∙ ap (λ (x : Entry). x.context) t.entry;
         in_front = ap (λ (x : Gap). x.front) (sym q) ∙ ap (λ (x : Entry). x.front) t.entry;
         in_back = ap (λ (x : Gap). x.next) (sym q) ∙ ap (λ (x : Entry). x.next) t.entry;
-        gone = ap (λ (x : Gap). gone_in x.gone) (sym q) ∙ ap (λ (x : Entry). x.number ∷ []) t.entry ∙ simple_number l.stmt i;
-        simple = simple_one l.stmt i;
+        gone = ap (λ (x : Gap). x.gone) (sym q) ∙ ap (part_numbers (at P) (most P)) t.entry ∙ numbers_there n P once s;
+        quiet = sym (quiet_there n P once s) ∙ ap (part_quiet (at P) (most P)) (sym t.entry) ∙ gone_quiet P e g w;
         becomes = same ∙ program_edited n made P once s ∙ ap (λ b. s.front ++ with_body s.own (plug l.holes (append l.before (append b l.behind))) ∷ s.back) (alone l.stmt);
       }
 
 module _ (more : Statements) (P : List Procedure) (once : Distinct (program_numbers P)) (n : ℕ) (e : Entry) (k : entry_of (entries_of P) n ≡ Some e) where
   -- Behind a statement.
-  behind_part : GapPart (edit.Insert (place.After n) more) P (record { context = e.context; front = Some e.number; next = e.next; gone = None })
+  behind_part : GapPart (edit.Insert (place.After n) more) P (record { context = e.context; front = Some e.number; next = e.next; gone = [] })
   behind_part =
       let t = there n P e once k in
       let s = t.place in
@@ -155,7 +189,7 @@ module _ (more : Statements) (P : List Procedure) (once : Distinct (program_numb
         in_front = ap (λ (x : Entry). Some x.number) t.entry ∙ sym (last_append l.before one None);
         in_back = ap (λ (x : Entry). x.next) t.entry;
         gone = refl;
-        simple = refl;
+        quiet = refl;
         becomes = program_edited n (followed more) P once s ∙ ap (λ b. s.front ++ with_body s.own (plug l.holes b) ∷ s.back) (sym (append_again l.before one (append more l.behind)));
       }
 
@@ -165,7 +199,7 @@ module _ (more : Statements) (P : List Procedure) (once : Distinct (program_numb
     s = t.place
 
     block_part : (h : Hole) (x : Statements) → append s.place.before (Starts s.place.stmt s.place.behind) ≡ fill h x → append s.place.before (append (made s.place.stmt) s.place.behind) ≡ fill h (append more x) →
-        c ≡ context_in (context_of (context_at (length s.front)) s.place.holes) h → o ≡ first_or x None → GapPart d P (record { context = c; front = None; next = o; gone = None })
+        c ≡ context_in (context_of (context_at (length s.front)) s.place.holes) h → o ≡ first_or x None → GapPart d P (record { context = c; front = None; next = o; gone = [] })
     block_part h x was becomes inner first =
         let l = s.place in
         let gs = l.holes in
@@ -182,7 +216,7 @@ module _ (more : Statements) (P : List Procedure) (once : Distinct (program_numb
           in_front = refl;
           in_back = first;
           gone = refl;
-          simple = refl;
+          quiet = refl;
           becomes =
               same ∙ program_edited n made P once s
               ∙ ap (λ b. s.front ++ with_body s.own b ∷ s.back) (ap (plug gs) becomes ∙ sym (plug_last gs h (append more x)))
@@ -200,10 +234,10 @@ module _ (more : Statements) (P : List Procedure) (once : Distinct (program_numb
   conditional : (w : Needed) (t : There n P e) → fits w e.part ≡ true → fits w (part_of t.place.place.stmt) ≡ true
   conditional w t f = ap (λ (x : Entry). fits w x.part) (sym t.entry) ∙ f
 
-  then_part : fits needed.If e.part ≡ true → GapPart (edit.Insert (place.ThenStart n) more) P (record { context = inside e.context e.number which.Then; front = None; next = e.inner.first; gone = None })
+  then_part : fits needed.If e.part ≡ true → GapPart (edit.Insert (place.ThenStart n) more) P (record { context = inside e.context e.number which.Then; front = None; next = e.inner.first; gone = [] })
   then_part f = let t = there n P e once k in go t t.place.place.stmt refl (conditional needed.If t f)
     where
-      go : (t : There n P e) (x : Statement) → t.place.place.stmt ≡ x → fits needed.If (part_of t.place.place.stmt) ≡ true → GapPart (edit.Insert (place.ThenStart n) more) P (record { context = inside e.context e.number which.Then; front = None; next = e.inner.first; gone = None })
+      go : (t : There n P e) (x : Statement) → t.place.place.stmt ≡ x → fits needed.If (part_of t.place.place.stmt) ≡ true → GapPart (edit.Insert (place.ThenStart n) more) P (record { context = inside e.context e.number which.Then; front = None; next = e.inner.first; gone = [] })
       go t (Simple m a) q f = let no : false ≡ true = ap (λ s. fits needed.If (part_of s)) (sym q) ∙ f in absurd cc
       go t (Break m) q f = let no : false ≡ true = ap (λ s. fits needed.If (part_of s)) (sym q) ∙ f in absurd cc
       go t (Call m x g es) q f = let no : false ≡ true = ap (λ s. fits needed.If (part_of s)) (sym q) ∙ f in absurd cc
@@ -217,10 +251,10 @@ module _ (more : Statements) (P : List Procedure) (once : Distinct (program_numb
           (ap (λ (x : Entry). inside x.context x.number which.Then) t.entry ∙ ap (λ s. inside (context_of (context_at (length t.place.front)) l.holes) (number_of s) which.Then) q)
           (ap (λ (x : Entry). x.inner.first) t.entry ∙ ap (λ s. (first_ends s).first) q)
 
-  else_part : fits needed.If e.part ≡ true → GapPart (edit.Insert (place.ElseStart n) more) P (record { context = inside e.context e.number which.Else; front = None; next = e.other.first; gone = None })
+  else_part : fits needed.If e.part ≡ true → GapPart (edit.Insert (place.ElseStart n) more) P (record { context = inside e.context e.number which.Else; front = None; next = e.other.first; gone = [] })
   else_part f = let t = there n P e once k in go t t.place.place.stmt refl (conditional needed.If t f)
     where
-      go : (t : There n P e) (x : Statement) → t.place.place.stmt ≡ x → fits needed.If (part_of t.place.place.stmt) ≡ true → GapPart (edit.Insert (place.ElseStart n) more) P (record { context = inside e.context e.number which.Else; front = None; next = e.other.first; gone = None })
+      go : (t : There n P e) (x : Statement) → t.place.place.stmt ≡ x → fits needed.If (part_of t.place.place.stmt) ≡ true → GapPart (edit.Insert (place.ElseStart n) more) P (record { context = inside e.context e.number which.Else; front = None; next = e.other.first; gone = [] })
       go t (Simple m a) q f = let no : false ≡ true = ap (λ s. fits needed.If (part_of s)) (sym q) ∙ f in absurd cc
       go t (Break m) q f = let no : false ≡ true = ap (λ s. fits needed.If (part_of s)) (sym q) ∙ f in absurd cc
       go t (Call m x g es) q f = let no : false ≡ true = ap (λ s. fits needed.If (part_of s)) (sym q) ∙ f in absurd cc
@@ -234,10 +268,10 @@ module _ (more : Statements) (P : List Procedure) (once : Distinct (program_numb
           (ap (λ (x : Entry). inside x.context x.number which.Else) t.entry ∙ ap (λ s. inside (context_of (context_at (length t.place.front)) l.holes) (number_of s) which.Else) q)
           (ap (λ (x : Entry). x.other.first) t.entry ∙ ap (λ s. (second_ends s).first) q)
 
-  body_part : fits needed.While e.part ≡ true → GapPart (edit.Insert (place.BodyStart n) more) P (record { context = inside_loop e.context e.number; front = None; next = e.inner.first; gone = None })
+  body_part : fits needed.While e.part ≡ true → GapPart (edit.Insert (place.BodyStart n) more) P (record { context = inside_loop e.context e.number; front = None; next = e.inner.first; gone = [] })
   body_part f = let t = there n P e once k in go t t.place.place.stmt refl (conditional needed.While t f)
     where
-      go : (t : There n P e) (x : Statement) → t.place.place.stmt ≡ x → fits needed.While (part_of t.place.place.stmt) ≡ true → GapPart (edit.Insert (place.BodyStart n) more) P (record { context = inside_loop e.context e.number; front = None; next = e.inner.first; gone = None })
+      go : (t : There n P e) (x : Statement) → t.place.place.stmt ≡ x → fits needed.While (part_of t.place.place.stmt) ≡ true → GapPart (edit.Insert (place.BodyStart n) more) P (record { context = inside_loop e.context e.number; front = None; next = e.inner.first; gone = [] })
       go t (Simple m a) q f = let no : false ≡ true = ap (λ s. fits needed.While (part_of s)) (sym q) ∙ f in absurd cc
       go t (Break m) q f = let no : false ≡ true = ap (λ s. fits needed.While (part_of s)) (sym q) ∙ f in absurd cc
       go t (Call m x g es) q f = let no : false ≡ true = ap (λ s. fits needed.While (part_of s)) (sym q) ∙ f in absurd cc
@@ -291,9 +325,9 @@ module _ (x : List ℕ) (more : Statements) (P : List Procedure) (g : Gap) (ther
   head_there : slice_get (heads_of P) (place_named P x) ≡ Some (head_of r.own)
   head_there = ap (slice_get (heads_of P)) r.place ∙ ap (λ (os : List Procedure). slice_get (heads_of os) (length r.front)) r.is ∙ own_head r.front r.own r.back
 
-  start_is : record { context = context_at (length r.front); front = None; next = first_or r.own.body None; gone = None } ≡ g
+  start_is : record { context = context_at (length r.front); front = None; next = first_or r.own.body None; gone = [] } ≡ g
   start_is =
-      let y : Gap = record { context = context_at (length r.front); front = None; next = first_or r.own.body None; gone = None } in
+      let y : Gap = record { context = context_at (length r.front); front = None; next = first_or r.own.body None; gone = [] } in
       let q : Some y ≡ Some g =
       ap (λ m. Some (start_gap m (head_of r.own))) (sym r.place)
       ∙ ap (option_map (start_gap (place_named P x))) (sym head_there)
@@ -316,8 +350,8 @@ module _ (x : List ℕ) (more : Statements) (P : List Procedure) (g : Gap) (ther
         context = ap (λ (y : Gap). y.context) (sym q);
         in_front = ap (λ (y : Gap). y.front) (sym q);
         in_back = ap (λ (y : Gap). y.next) (sym q);
-        gone = ap (λ (y : Gap). gone_in y.gone) (sym q);
-        simple = refl;
+        gone = ap (λ (y : Gap). y.gone) (sym q);
+        quiet = refl;
         becomes = r.becomes (started more);
       }
 
@@ -333,8 +367,8 @@ same_gap d P x g e p = let q : x ≡ g = cc in subst (GapPart d P) q p
 
 -- The place of each edit that has one.
 pub gap_part : (d : Edit) (P : List Procedure) (g : Gap) → Distinct (program_numbers P) → site_refusal d P ≡ None → gap_of d P ≡ Some g → GapPart d P g
-gap_part (edit.Replace n t) P g once z w = some_entry gone_gap P n g w (GapPart (edit.Replace n t) P g) (λ e k v. gone_part (edit.Replace n t) n (exchanged t) P once refl (λ s. refl) e k g v)
-gap_part (edit.Delete n) P g once z w = some_entry gone_gap P n g w (GapPart (edit.Delete n) P g) (λ e k v. gone_part (edit.Delete n) n deleted P once refl (λ s. refl) e k g v)
+gap_part (edit.Replace n t) P g once z w = some_entry (gone_gap (at P) (most P)) P n g w (GapPart (edit.Replace n t) P g) (λ e k v. gone_part (edit.Replace n t) n (exchanged t) P once refl (λ s. refl) e k g v)
+gap_part (edit.Delete n) P g once z w = some_entry (gone_gap (at P) (most P)) P n g w (GapPart (edit.Delete n) P g) (λ e k v. gone_part (edit.Delete n) n deleted P once refl (λ s. refl) e k g v)
 gap_part (edit.Insert (place.After n) more) P g once z w = some_entry behind_gap P n g w (GapPart (edit.Insert (place.After n) more) P g) (λ e k v. same_gap (edit.Insert (place.After n) more) P _ g v (behind_part more P once n e k))
 gap_part (edit.Insert (place.ThenStart n) more) P g once z w = some_entry then_gap P n g w (GapPart (edit.Insert (place.ThenStart n) more) P g) (λ e k v. same_gap (edit.Insert (place.ThenStart n) more) P _ g v (then_part more P once n e k (fits_there needed.If n P e k z)))
 gap_part (edit.Insert (place.ElseStart n) more) P g once z w = some_entry else_gap P n g w (GapPart (edit.Insert (place.ElseStart n) more) P g) (λ e k v. same_gap (edit.Insert (place.ElseStart n) more) P _ g v (else_part more P once n e k (fits_there needed.If n P e k z)))

@@ -28,7 +28,7 @@ use Rattle.edit_entries.proofs.Counts.{count_edited, count_program}
 use Rattle.edit_entries.proofs.Exchange.{faultless, exchanged_fault}
 use Rattle.edit_entries.proofs.Faults.{first_parts, first_none}
 use Rattle.edit_entries.proofs.Filled.{plug_ends}
-use Rattle.edit_entries.proofs.Fitting.{FitsThere, program_fits}
+use Rattle.edit_entries.proofs.Fitting.{FitsThere, program_fits, same_leave}
 use Rattle.edit_entries.proofs.Guards.{one, same_leaving, guard_ends, guard_other, guard_own}
 use Rattle.edit_entries.proofs.Programs.{old_program, new_program, scope_at}
 use Rattle.edit_entries.proofs.Sites.{sites, sites_stay, heads_stay}
@@ -207,7 +207,7 @@ guard_made n d P e y h next change fine k l f low numbered c g same puts no_head
       fine = record {
         faultless = guard_refusal n d P e h fine k l f ∙ ap (λ o. in_procedure h.bare.name (at n o)) c;
         numbered = numbered;
-        fit = subst (λ (os : List Procedure). IsChecked (routines_of os)) (sym is) (program_fits s.own v.holes v.before (one v.stmt) (one (with_condition v.stmt d)) v.behind s.front s.back (fits_there s.own v.holes v.before v.behind s.front s.back d v.stmt u fits_own) (same_leaving v.stmt d) (subst (λ (os : List Procedure). IsChecked (routines_of os)) was fine.fit) again);
+        fit = subst (λ (os : List Procedure). IsChecked (routines_of os)) (sym is) (program_fits s.own v.holes v.before (one v.stmt) (one (with_condition v.stmt d)) v.behind s.front s.back (fits_there s.own v.holes v.before v.behind s.front s.back d v.stmt u fits_own) (same_leave s.own v.holes v.before (one v.stmt) (one (with_condition v.stmt d)) v.behind (same_leaving v.stmt d)) (subst (λ (os : List Procedure). IsChecked (routines_of os)) was fine.fit) again);
       };
       within = subst (AreWithin next) (sym puts) (one_within next (record { number = n; entry = Some y }) (all_has (λ (m : ℕ). m < next) (program_numbers P) n low (known_has n P e k)));
     }

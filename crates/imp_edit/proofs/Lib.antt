@@ -11,6 +11,7 @@ pub mod Exchanged
 pub mod AloneLemmas
 pub mod GuardLemmas
 pub mod PutLemmas
+pub mod QuietLemmas
 pub mod GapLemmas
 pub mod SpliceLemmas
 pub mod SpliceMade

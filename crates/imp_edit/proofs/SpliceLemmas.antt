@@ -1,6 +1,6 @@
 -- The change that puts simple statements at a place.
 use Rattle.std.proofs.lemmas.Bool.Decides.{nat_tests}
-use Rattle.std.proofs.Common.{◌≡◌, ℕ, zero, suc, ◌+◌, ◌-◌, ◌^◌, ◌<◌, ◌≤◌, ◌==◌, ◌||◌, nat_lt, min, cond, Bool, true, false, List, [], ◌∷◌, ◌++◌, length, slice_get, slice_set, slice_index_or, Option, Some, None, refl, sym, ap, ◌∙◌, subst, arith, append_assoc}
+use Rattle.std.proofs.Common.{◌≡◌, ℕ, zero, suc, ◌+◌, ◌-◌, ◌^◌, ◌<◌, ◌≤◌, ◌==◌, ◌||◌, nat_lt, min, cond, Bool, true, false, List, [], ◌∷◌, ◌++◌, length, drop, slice_get, slice_set, slice_index_or, Option, Some, None, refl, sym, ap, ◌∙◌, subst, arith, add-one, drop-cons, append_assoc}
 use Rattle.std.proofs.lemmas.Bool.{lt-ltb}
 use Rattle.std.specs.List.{All}
 use Rattle.std.specs.Option.{option_map}
@@ -22,9 +22,10 @@ use Rattle.imp_check.specs.declared.entry.Head.{Head}
 use Rattle.imp_check.specs.declared.fault.Fault.TheVariants.{Statements as TooManyStatements}
 use Rattle.imp_check.specs.declared.fault.Found.{Found}
 use Rattle.imp_check.proofs.RebuildLemmas.{entry_numbers}
-use Rattle.edit_entries.specs.Gaps.{are_simple, is_simple, head_with, heads_in, lone}
+use Rattle.edit_entries.specs.Gaps.{are_simple, is_simple, head_with, heads_in, holder_of, lone}
 use Rattle.edit_entries.proofs.Others.{entry_append}
 use Rattle.imp_edit.specs.Alone.{FitsAlone, alone_fault}
+use Rattle.imp_edit.specs.Gaps.{IsBelow}
 use Rattle.imp_edit.specs.Refusals.{IsRefusal}
 use Rattle.imp_edit.specs.declared.error.EditError.{EditError}
 use Rattle.imp_edit.specs.declared.error.EditError.TheVariants.{NoProcedure, NoStatement, WrongStatement, IsMain, StillCalled, Numbers, Fault, Memory}
@@ -126,6 +127,25 @@ pub all_numbers_below : (b : ℕ) (xs : List Entry) → All (λ (n : ℕ). n < b
 all_numbers_below b [] a i d l = absurd (omega arith)
 all_numbers_below b (x ∷ xs) a zero d l = a 0 0 (omega arith)
 all_numbers_below b (x ∷ xs) a (suc i) d l = all_numbers_below b xs (λ j y k. a (suc j) y (omega arith)) i d (omega arith)
+
+-- One more statement goes.
+has_more : (ns : List ℕ) (i x m : ℕ) → i < length ns → x ≡ slice_index_or ns i x → has (drop i ns) m ≡ ((m == x) || has (drop (i + 1) ns) m)
+has_more ns i x m h e = rw (drop-cons ns i x, add-one, ← e) refl
+
+pub gone_step : (ns : List ℕ) (i x m : ℕ) (o : Option Entry) → i < length ns → x ≡ slice_index_or ns i x → cond (x == m) None (cond (has (drop (i + 1) ns) m) None o) ≡ cond (has (drop i ns) m) None o
+gone_step ns i x m o h e = go (x == m) (m == x) refl refl ∙ ap (λ b. cond b None o) (sym (has_more ns i x m h e))
+  where
+    go : (a b : Bool) → (x == m) ≡ a → (m == x) ≡ b → cond a None (cond (has (drop (i + 1) ns) m) None o) ≡ cond (b || has (drop (i + 1) ns) m) None o
+    go true true p q = refl
+    go false false p q = refl
+    go true false p q = absurd (grind (arith, nat_tests))
+    go false true p q = absurd (grind (arith, nat_tests))
+
+pub below_at : (b : ℕ) (ns : List ℕ) (i x : ℕ) → All (λ (n : ℕ). n < b) ns → i < length ns → x ≡ slice_index_or ns i x → x < b
+below_at b ns i x a h e = subst (λ n. n < b) (sym e) (a i x h)
+
+pub around_below : (b : ℕ) (o : Option Around) (w : Around) → o ≡ Some w → IsBelow b (holder_of o) → w.stmt < b
+around_below b o w e h = subst (λ (z : Option Around). IsBelow b (holder_of z)) e h
 
 -- One more simple statement.
 pub simple_head : (s : Statement) (r : Statements) → are_simple (Starts s r) ≡ true → is_simple s ≡ true

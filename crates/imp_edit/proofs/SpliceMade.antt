@@ -1,5 +1,5 @@
 -- A change at a place makes the new program, and the first fault of that program is told by what comes.
-use Rattle.std.proofs.Common.{◌≡◌, ℕ, ◌+◌, ◌-◌, ◌<◌, ◌≤◌, nat_lt, inl, List, [], length, slice_get, Option, Some, None, true, false, refl, sym, ap, ◌∙◌, subst, arith}
+use Rattle.std.proofs.Common.{◌≡◌, ℕ, zero, suc, ◌+◌, ◌-◌, ◌<◌, ◌≤◌, nat_lt, inl, inr, List, [], ◌∷◌, length, slice_get, Option, Some, None, true, false, refl, sym, ap, ◌∙◌, subst, arith}
 use Rattle.std.specs.Prelude.{unwrap_or}
 use Rattle.std.specs.List.{All}
 use Rattle.std.specs.Option.{option_map}
@@ -18,19 +18,20 @@ use Rattle.imp_check.specs.declared.change.Change.{Change}
 use Rattle.imp_check.specs.declared.entry.Entry.{Entry}
 use Rattle.imp_check.specs.declared.entry.Head.{Head}
 use Rattle.imp_check.specs.declared.fault.Fault.TheVariants.{Statements as TooManyStatements}
-use Rattle.edit_entries.specs.Gaps.{are_simple, ends_with, holder_of, held_in, heads_in, gap_splice, lone}
+use Rattle.edit_entries.specs.Gaps.{are_quiet, are_simple, ends_with, holder_of, held_in, heads_in, gap_splice, lone}
 use Rattle.edit_entries.specs.Holes.{Hole}
 use Rattle.edit_entries.specs.Spliced.{spliced}
 use Rattle.edit_entries.proofs.Exchange.{faultless}
 use Rattle.edit_entries.proofs.Located.{Has}
 use Rattle.edit_entries.proofs.Numbers.{Apart}
-use Rattle.edit_entries.proofs.Parts.{gap_table, gap_heads, gap_fault, gap_sites, gap_fits, same_leaving, front_has, next_has, old_has, holder_has}
+use Rattle.edit_entries.proofs.Parts.{gap_table, gap_heads, gap_fault, gap_sites, gap_fits, front_has, next_has, old_has, holder_has, loop_has}
 use Rattle.edit_entries.proofs.Programs.{old_one, old_program, new_program, news_count}
-use Rattle.edit_entries.proofs.Simple.{simple_count, simple_entries}
+use Rattle.edit_entries.proofs.Quiet.{numbers_count}
+use Rattle.edit_entries.proofs.Simple.{simple_entries, simple_leaving}
 use Rattle.edit_entries.proofs.Standing.{all_has, context_proc, own_head}
 use Rattle.edit_entries.proofs.Touched.{context_of}
 use Rattle.imp_edit.specs.Edited.{edited, brought, uses, next_after, counting, Continues}
-use Rattle.imp_edit.specs.Gaps.{AreBelow, IsBelow, IsSplice, count_with, entries_with, gap_of, gone_in, splice_fault}
+use Rattle.imp_edit.specs.Gaps.{AreBelow, IsBelow, IsSplice, count_with, entries_with, gap_of, splice_fault}
 use Rattle.imp_edit.specs.Refusals.{IsRefusal, site_refusal}
 use Rattle.imp_edit.specs.Short.{IsMade}
 use Rattle.imp_edit.specs.declared.error.EditError.{EditError}
@@ -40,7 +41,7 @@ use Rattle.imp_edit.proofs.GapLemmas.{GapPart, gap_part}
 use Rattle.imp_edit.proofs.Once.{never_absent, counting_low, counting_high, never_below}
 
 -- In holes.
-module _ (p : Procedure) (hs : List Hole) (before olds behind : Statements) (ps qs : List Procedure) (news : Statements) (plain : are_simple olds ≡ true) (simple : are_simple news ≡ true) where
+module _ (p : Procedure) (hs : List Hole) (before olds behind : Statements) (ps qs : List Procedure) (news : Statements) (quiet : are_quiet olds ≡ true) (simple : are_simple news ≡ true) where
   abbrev O : List Procedure
   O = old_program p hs before olds Ends behind ps qs
 
@@ -50,14 +51,14 @@ module _ (p : Procedure) (hs : List Hole) (before olds behind : Statements) (ps 
   abbrev h : Head
   h = head_of (old_one p hs before olds Ends behind)
 
-  module _ (g : Gap) (context : g.context ≡ context_of (context_at (length ps)) hs) (in_front : g.front ≡ last_or before None) (in_back : g.next ≡ first_or behind None) (gone : gone_in g.gone ≡ numbers olds) where
+  module _ (g : Gap) (context : g.context ≡ context_of (context_at (length ps)) hs) (in_front : g.front ≡ last_or before None) (in_back : g.next ≡ first_or behind None) (gone : g.gone ≡ numbers olds) where
     counts : count_with O g news ≡ (program_count O - block_count olds) + block_count news
-    counts = ap (λ n. (program_count O - n) + block_count news) (ap (λ (ns : List ℕ). length ns) gone ∙ simple_count olds plain)
+    counts = ap (λ n. (program_count O - n) + block_count news) (ap (λ (ns : List ℕ). length ns) gone ∙ numbers_count olds)
 
     -- The first fault.
     pub fault_is : check_fault O ≡ None → check_fault N ≡ splice_fault O h g news
     fault_is z =
-        gap_fault ps qs p before olds news behind hs plain simple z
+        gap_fault ps qs p before olds news behind hs quiet simple z
         ∙ ap (λ n. first (in_procedure (name_of (last_of O)) (at 0 (unless (nat_lt n 10001) TooManyStatements))) (in_procedure p.name (block_fault (lone (variables p)) false news))) (sym counts)
 
     -- What is known of the statements.
@@ -68,12 +69,12 @@ module _ (p : Procedure) (hs : List Hole) (before olds behind : Statements) (ps 
           let a = last_or before None in
           let b = first_or behind None in
           let at = entry_of (entries_of O) in
-          gap_table ps qs p before olds news behind apart (same_leaving ps qs p before olds news behind hs plain simple) hs old new m
+          gap_table ps qs p before olds news behind apart (simple_leaving news simple) hs old new m
           ∙ ap (λ (es : List Entry). spliced (record (gap_splice (frame_at ps p) k a b (numbers olds) news) { come = es }) (held_in k.around (ends_with a b news)) at m) (simple_entries (layout_in p) ps [] k a b news simple)
           ∙ ap (λ ns. spliced (gap_splice (frame_at [] p) k a b ns news) (held_in k.around (ends_with a b news)) at m) (sym gone)
-          ∙ ap (λ z. spliced (gap_splice (frame_at [] p) z a b (gone_in g.gone) news) (held_in z.around (ends_with a b news)) at m) (sym context)
-          ∙ ap (λ z. spliced (gap_splice (frame_at [] p) g.context z b (gone_in g.gone) news) (held_in g.context.around (ends_with z b news)) at m) (sym in_front)
-          ∙ ap (λ z. spliced (gap_splice (frame_at [] p) g.context g.front z (gone_in g.gone) news) (held_in g.context.around (ends_with g.front z news)) at m) (sym in_back)
+          ∙ ap (λ z. spliced (gap_splice (frame_at [] p) z a b g.gone news) (held_in z.around (ends_with a b news)) at m) (sym context)
+          ∙ ap (λ z. spliced (gap_splice (frame_at [] p) g.context z b g.gone news) (held_in g.context.around (ends_with z b news)) at m) (sym in_front)
+          ∙ ap (λ z. spliced (gap_splice (frame_at [] p) g.context g.front z g.gone news) (held_in g.context.around (ends_with g.front z news)) at m) (sym in_back)
 
     heads_are : heads_of N ≡ heads_in g.context.around (heads_of O) g.context.proc (ends_with g.front g.next news)
     heads_are =
@@ -93,15 +94,18 @@ module _ (p : Procedure) (hs : List Hole) (before olds behind : Statements) (ps 
       below_has : (n : ℕ) → Has n (program_numbers O) → n < b
       below_has n i = let l = all_has (λ (m : ℕ). m < next) (program_numbers O) n low i in omega (arith, l, more)
 
-      gone_has : (o : Option ℕ) → gone_in o ≡ numbers olds → (n : ℕ) → o ≡ Some n → Has n (numbers olds)
-      gone_has o e n q = subst (Has n) (ap gone_in (sym q) ∙ e) (inl refl)
+      all_below : (ns : List ℕ) → ((n : ℕ) → Has n ns → n < b) → All (λ (n : ℕ). n < b) ns
+      all_below [] f i d l = absurd (omega arith)
+      all_below (n ∷ ns) f zero d l = f n (inl refl)
+      all_below (n ∷ ns) f (suc i) d l = all_below ns (λ m h. f m (inr h)) i d (omega arith)
 
       below_all : AreBelow b g news
       below_all = record {
-        gone = below_some b g.gone (λ n e. below_has n (old_has ps qs p before olds news behind hs old n (gone_has g.gone gone n e)));
+        gone = subst (λ (ns : List ℕ). All (λ (n : ℕ). n < b) ns) (sym gone) (all_below (numbers olds) (λ n i. below_has n (old_has ps qs p before olds news behind hs old n i)));
         front = below_some b g.front (λ n e. below_has n (front_has ps qs p before olds news behind hs old n (sym in_front ∙ e)));
         next = below_some b g.next (λ n e. below_has n (next_has ps qs p before olds news behind hs old n (sym in_back ∙ e)));
         holder = below_some b (holder_of g.context.around) (λ n e. below_has n (holder_has ps qs p before olds news behind hs old n (ap (λ z. holder_of z.around) (sym context) ∙ e)));
+        loop = below_some b g.context.head (λ n e. below_has n (loop_has ps qs p before olds news behind hs old n (ap (λ z. z.head) (sym context) ∙ e)));
         come = come;
       }
 
@@ -113,12 +117,12 @@ module _ (p : Procedure) (hs : List Hole) (before olds behind : Statements) (ps 
         entries = λ m. entries_are fine.numbered.once numbered.once apart m ∙ sym (s.entries m);
         heads = heads_are ∙ sym s.heads;
         counted = s.counted ∙ counts ∙ sym (news_count p hs before olds news behind ps qs);
-        sites = gap_sites ps qs p before olds news behind hs plain simple ∙ ap (λ (o : Option (List (List ℕ))). unwrap_or o (sites_of O)) (sym s.sites);
+        sites = gap_sites ps qs p before olds news behind hs quiet simple ∙ ap (λ (o : Option (List (List ℕ))). unwrap_or o (sites_of O)) (sym s.sites);
       };
       fine = record {
         faultless = fault_is fine.faultless ∙ none;
         numbered = numbered;
-        fit = gap_fits ps qs p before olds news behind hs plain simple fits fine.fit numbered;
+        fit = gap_fits ps qs p before olds news behind hs quiet simple fits fine.fit numbered;
       };
       within = s.within b (below_all fine.numbered.once next b low more come);
     }
@@ -153,7 +157,7 @@ module _ (e : Edit) (P : List Procedure) (g : Gap) (h : Head) (fine : IsFine P) 
     edit_fault : check_fault (edited e P) ≡ splice_fault P h g (brought e)
     edit_fault =
         ap check_fault part.becomes
-        ∙ fault_is part.own part.holes part.before part.olds part.behind part.front part.back (brought e) part.simple simple g part.context part.in_front part.in_back part.gone fine_whole.faultless
+        ∙ fault_is part.own part.holes part.before part.olds part.behind part.front part.back (brought e) part.quiet simple g part.context part.in_front part.in_back part.gone fine_whole.faultless
         ∙ ap (λ (z : Head). splice_fault whole z g (brought e)) (sym head_is)
         ∙ ap (λ (os : List Procedure). splice_fault os h g (brought e)) (sym part.is)
 
@@ -180,6 +184,6 @@ module _ (e : Edit) (P : List Procedure) (g : Gap) (h : Head) (fine : IsFine P) 
           let fit : FitsCode [] (layout_in part.own) (code_in (frame_at [] part.own) (brought e)) = subst (λ (z : Head). FitsCode [] (layout_in z.bare) (code_in (frame_at [] z.bare) (brought e))) head_is fits in
           let no : splice_fault whole (head_of own) g (brought e) ≡ None = ap (λ (z : Head). splice_fault whole z g (brought e)) (sym head_is) ∙ ap (λ (os : List Procedure). splice_fault os h g (brought e)) (sym part.is) ∙ none in
           let made : IsMade whole new (next_after e next) change =
-          spliced_made part.own part.holes part.before part.olds part.behind part.front part.back (brought e) part.simple simple g part.context part.in_front part.in_back part.gone
+          spliced_made part.own part.holes part.before part.olds part.behind part.front part.back (brought e) part.quiet simple g part.context part.in_front part.in_back part.gone
           fine_whole (subst AreNumbered part.becomes numbered) apart next (next_after e next) low_whole (omega arith) come fit no change splice in
           subst (λ (os : List Procedure). IsMade P os (next_after e next) change) (sym part.becomes) (subst (λ (os : List Procedure). IsMade os new (next_after e next) change) (sym part.is) made)

@@ -1,5 +1,5 @@
--- Where an edit of simple statements changes a block, and what it changes there.
-use Rattle.std.specs.Prelude.{◌≡◌, ℕ, ◌+◌, ◌-◌, ◌<◌, List, [], ◌∷◌, length, Option, Some, None, false, cond, nat_lt, slice_get, unwrap_or}
+-- Where an edit that brings simple statements changes a block, and what it changes there.
+use Rattle.std.specs.Prelude.{◌≡◌, ℕ, suc, ◌+◌, ◌-◌, ◌<◌, List, [], ◌∷◌, length, Option, Some, None, false, cond, nat_lt, slice_get, unwrap_or}
 use Rattle.std.specs.List.{All}
 use Rattle.std.specs.Option.{option_map}
 use Rattle.imp_syntax.specs.Plain.{Statement, Simple, Break, Call, If, While, Statements, Procedure, numbers}
@@ -19,29 +19,31 @@ use Rattle.imp_check.specs.declared.entry.Head.{Head}
 use Rattle.imp_check.specs.declared.entry.Which.TheVariants as which
 use Rattle.imp_check.specs.declared.fault.Fault.TheVariants.{Statements as TooManyStatements}
 use Rattle.imp_check.specs.declared.fault.Found.{Found}
-use Rattle.edit_entries.specs.Gaps.{is_simple, ends_with, holder_of, held_in, heads_in, gap_splice, lone}
+use Rattle.edit_entries.specs.Gaps.{ends_with, holder_of, held_in, heads_in, gap_splice, lone}
 use Rattle.edit_entries.specs.Spliced.{spliced}
+use Rattle.imp_edit.specs.Quiet.{part_numbers, part_quiet}
 use Rattle.imp_edit.specs.declared.gap.Gap.{Gap}
 
--- in the place of a simple statement, behind a statement, and in front of one of its blocks
-abbrev pub gone_gap : Entry → Option Gap
-gone_gap e = cond (is_simple e.part) (Some (record { context = e.context; front = e.front; next = e.next; gone = Some e.number })) None
+-- in the place of a statement in which no call stands
+abbrev pub gone_gap : (at : ℕ → Option Entry) → (most : ℕ) → Entry → Option Gap
+gone_gap at most e = cond (part_quiet at most e) (Some (record { context = e.context; front = e.front; next = e.next; gone = part_numbers at most e })) None
 
+-- behind a statement, and in front of one of its blocks
 abbrev pub behind_gap : Entry → Option Gap
-behind_gap e = Some (record { context = e.context; front = Some e.number; next = e.next; gone = None })
+behind_gap e = Some (record { context = e.context; front = Some e.number; next = e.next; gone = [] })
 
 abbrev pub then_gap : Entry → Option Gap
-then_gap e = Some (record { context = inside e.context e.number which.Then; front = None; next = e.inner.first; gone = None })
+then_gap e = Some (record { context = inside e.context e.number which.Then; front = None; next = e.inner.first; gone = [] })
 
 abbrev pub else_gap : Entry → Option Gap
-else_gap e = Some (record { context = inside e.context e.number which.Else; front = None; next = e.other.first; gone = None })
+else_gap e = Some (record { context = inside e.context e.number which.Else; front = None; next = e.other.first; gone = [] })
 
 abbrev pub body_gap : Entry → Option Gap
-body_gap e = Some (record { context = inside_loop e.context e.number; front = None; next = e.inner.first; gone = None })
+body_gap e = Some (record { context = inside_loop e.context e.number; front = None; next = e.inner.first; gone = [] })
 
 -- in front of the body of the procedure at a place
 abbrev pub start_gap : (place : ℕ) → Head → Gap
-start_gap place h = record { context = context_at place; front = None; next = h.body.first; gone = None }
+start_gap place h = record { context = context_at place; front = None; next = h.body.first; gone = [] }
 
 abbrev pub of_entry : (Entry → Option Gap) → Option Entry → Option Gap
 of_entry gap None = None
@@ -51,6 +53,9 @@ abbrev pub of_place : List Head → Option ℕ → Option Gap
 of_place heads None = None
 of_place heads (Some p) = option_map (start_gap p) (slice_get heads p)
 
+abbrev pub part_gap : ℕ → List Procedure → Option Gap
+part_gap n ps = of_entry (gone_gap (entry_of (entries_of ps)) (suc (program_count ps))) (entry_of (entries_of ps) n)
+
 abbrev pub place_gap : Place → List Procedure → Option Gap
 place_gap (place.After n) ps = of_entry behind_gap (entry_of (entries_of ps) n)
 place_gap (place.ThenStart n) ps = of_entry then_gap (entry_of (entries_of ps) n)
@@ -58,24 +63,19 @@ place_gap (place.ElseStart n) ps = of_entry else_gap (entry_of (entries_of ps) n
 place_gap (place.BodyStart n) ps = of_entry body_gap (entry_of (entries_of ps) n)
 place_gap (place.ProcStart x) ps = of_place (heads_of ps) (named_in ps x)
 
--- Where an edit puts statements, or takes a simple one away.
+-- Where an edit puts statements, or takes one away in which no call stands.
 abbrev pub gap_of : Edit → List Procedure → Option Gap
-gap_of (edit.Replace n t) ps = of_entry gone_gap (entry_of (entries_of ps) n)
+gap_of (edit.Replace n t) ps = part_gap n ps
 gap_of (edit.Insert at more) ps = place_gap at ps
-gap_of (edit.Delete n) ps = of_entry gone_gap (entry_of (entries_of ps) n)
+gap_of (edit.Delete n) ps = part_gap n ps
 gap_of (edit.Guard n c) ps = None
 gap_of (edit.Declare x d) ps = None
 gap_of (edit.AddProc x p) ps = None
 gap_of (edit.DropProc x) ps = None
 
--- the number of the statement that goes, if one goes
-abbrev pub gone_in : Option ℕ → List ℕ
-gone_in None = []
-gone_in (Some n) = n ∷ []
-
 -- how many statements the program then has, and the fault of too many
 abbrev pub count_with : List Procedure → Gap → Statements → ℕ
-count_with ps g news = (program_count ps - length (gone_in g.gone)) + block_count news
+count_with ps g news = (program_count ps - length g.gone) + block_count news
 
 abbrev pub count_fault : List Procedure → Gap → Statements → Option Found
 count_fault ps g news = in_procedure (name_of (last_of ps)) (at 0 (unless (nat_lt (count_with ps g news) 10001) TooManyStatements))
@@ -94,7 +94,7 @@ with_number m (While n c b) = While n c b
 
 -- what is then known of the statements
 abbrev pub entries_with : List Procedure → Head → Gap → Statements → ℕ → Option Entry
-entries_with ps h g news = spliced (gap_splice (frame_at [] h.bare) g.context g.front g.next (gone_in g.gone) news) (held_in g.context.around (ends_with g.front g.next news)) (entry_of (entries_of ps))
+entries_with ps h g news = spliced (gap_splice (frame_at [] h.bare) g.context g.front g.next g.gone news) (held_in g.context.around (ends_with g.front g.next news)) (entry_of (entries_of ps))
 
 -- a number, if there is one, is below a bound
 abbrev pub IsBelow : ℕ → Option ℕ → Type 0
@@ -103,13 +103,14 @@ IsBelow b (Some n) = n < b
 
 -- So are those of the statements around a place, and of those that come and go.
 pub record AreBelow (b : ℕ) (g : Gap) (news : Statements) : Type 0 where
-  pub gone : IsBelow b g.gone
+  pub gone : All (λ (n : ℕ). n < b) g.gone
   pub front : IsBelow b g.front
   pub next : IsBelow b g.next
   pub holder : IsBelow b (holder_of g.context.around)
+  pub loop : IsBelow b g.context.head
   pub come : All (λ (n : ℕ). n < b) (numbers news)
 
--- The change puts simple statements at a place.
+-- The change puts simple statements at a place, and takes away what goes.
 pub record IsSplice (ps : List Procedure) (h : Head) (g : Gap) (news : Statements) (change : Change) : Type 0 where
   pub entries : (m : ℕ) → overlay change.entries.items (entry_of (entries_of ps)) m ≡ entries_with ps h g news m
   pub heads : unwrap_or change.heads (heads_of ps) ≡ heads_in g.context.around (heads_of ps) g.context.proc (ends_with g.front g.next news)

@@ -36,10 +36,10 @@ pub struct Edited {
 ///
 /// A refusal that speaks of the program as it is takes time linear in the procedures and in the edit. Another condition
 /// takes time in proportion to the condition, to the breaks of its statement and to the square of the variables of its
-/// procedure. Where the statements that come, and the one that goes, are simple and neither calls nor breaks, it takes
-/// time in proportion to those that come and, for each of them, to the square of the variables of its procedure; at the
-/// start or the end of a procedure's body, time linear in the procedures too. All else takes time linear in the program
-/// and in `next`.
+/// procedure. Where the statements that come are simple and neither calls nor breaks, and no call stands in the one that
+/// goes, it takes time in proportion to those that come and, for each of them, to the square of the variables of its
+/// procedure, and to those that go and, for each of them, to the breaks of the loop around it; at the start or the end of a
+/// procedure's body, time linear in the procedures too. All else takes time linear in the program and in `next`.
 ///
 /// # Errors
 ///

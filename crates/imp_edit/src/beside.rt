@@ -1,4 +1,4 @@
-//! The entries that change where simple statements come at a place of a block, or one goes.
+//! The entries that change where simple statements come at a place of a block, or others go.
 ghost use Rattle.std.specs.Prelude.{◌≡◌, ℕ, ◌<◌, [], Option, cond, IfOk, OnOk, None, Some, true};
 ghost use Rattle.std.specs.List.{All};
 ghost use Rattle.std.specs.Option.{option_map};
@@ -11,10 +11,11 @@ ghost use Rattle.imp_check.specs.Programs.{has};
 ghost use Rattle.imp_check.specs.declared.entry.BlockEnds.{BlockEnds};
 ghost use Rattle.imp_check.specs.declared.entry.Entry.{Entry};
 ghost use Rattle.edit_entries.specs.Gaps.{ends_in, ends_with, held_in, holder_of, with_ends};
-ghost use Rattle.edit_entries.specs.Spliced.{is, with_front, with_next};
-ghost use Rattle.imp_edit.specs.Gaps.{AreBelow, IsBelow, entries_with, gone_in};
+ghost use Rattle.edit_entries.specs.Spliced.{is, losing, with_front, with_next};
+ghost use Rattle.imp_edit.specs.Gaps.{AreBelow, IsBelow, entries_with};
 
 use crate::alone::form_again;
+use crate::breaks::{loop_puts, losing};
 use crate::gap::Gap;
 use crate::puts::put_at;
 use imp_check::{Around, BlockEnds, Entry, Head, Place, Put, Table, Which};
@@ -125,7 +126,8 @@ fn with_ends(entry: Entry, which: Which, gap: &Gap, news: &Block) -> Entry
     entry
 }
 
-/// What stands at the number of the statement that has the block, with the ends of the block as they then are.
+/// What stands at the number of the statement that has the block, with the ends of the block as they then are and
+/// without the breaks that go.
 fn holding(
     alloc: Global,
     table: &Table,
@@ -133,13 +135,10 @@ fn holding(
     gap: &Gap,
     news: &Block,
 ) -> Result<Place, Memory>
-    ensures is { IfOk result (λ place. place ≡ option_map (held_in (Some around) (ends_with gap.now.front gap.now.next news.now)) (entry_of (entries_of table.now.program) around.stmt)) }
+    ensures is { IfOk result (λ place. place ≡ option_map (held_in (Some around) (ends_with gap.now.front gap.now.next news.now)) (losing gap.now.context.head gap.now.gone (entry_of (entries_of table.now.program)) around.stmt)) }
 {
-    match table.entry(around.stmt) {
-        Some(entry) => {
-            let entry = entry_again(entry)?;
-            Place::of(alloc, with_ends(entry, around.which, gap, news))
-        }
+    match losing(alloc, table, gap, around.stmt)? {
+        Some(entry) => Place::of(alloc, with_ends(entry, around.which, gap, news)),
         None => Ok(Place::free()),
     }
 }
@@ -151,25 +150,24 @@ pub(crate) fn ends_stay(gap: &Gap) -> bool
     gap.front.is_some() && gap.next.is_some()
 }
 
-/// The change of the statement that has the block, if one has and the ends change.
-#[tactic(auto, using(crate::proofs::SpliceLemmas::none_fall, crate::proofs::SpliceLemmas::none_within))]
-fn holder_puts(alloc: Global, table: &Table, gap: &Gap, news: &Block) -> Result<Vec<Put>, Memory>
-    ensures are { IfOk result (λ puts. (m : ℕ) → overlay puts.items (entry_of (entries_of table.now.program)) m ≡ cond (is (holder_of gap.now.context.around) m) (option_map (held_in gap.now.context.around (ends_with gap.now.front gap.now.next news.now)) (entry_of (entries_of table.now.program) m)) (entry_of (entries_of table.now.program) m)) }
+/// The changes of the loop around the place and of the statement that has the block.
+fn around_puts(alloc: Global, table: &Table, gap: &Gap, news: &Block) -> Result<Vec<Put>, Memory>
+    ensures are { IfOk result (λ puts. (m : ℕ) → overlay puts.items (entry_of (entries_of table.now.program)) m ≡ cond (is (holder_of gap.now.context.around) m) (option_map (held_in gap.now.context.around (ends_with gap.now.front gap.now.next news.now)) (losing gap.now.context.head gap.now.gone (entry_of (entries_of table.now.program)) m)) (losing gap.now.context.head gap.now.gone (entry_of (entries_of table.now.program)) m)) }
     ensures falling { IfOk result (λ puts. AreFalling puts.items) }
-    ensures within { IfOk result (λ puts. (b : ℕ) → IsBelow b (holder_of gap.now.context.around) → AreWithin b puts.items) }
+    ensures within { IfOk result (λ puts. (b : ℕ) → IsBelow b gap.now.context.head → IsBelow b (holder_of gap.now.context.around) → AreWithin b puts.items) }
 {
+    let mut puts = loop_puts(alloc, table, gap)?;
     if ends_stay(gap) {
-        return Ok(Vec::new(alloc));
+        return Ok(puts);
     }
     match gap.context.around {
         Some(around) => {
             let stmt = around.stmt;
             let place = holding(alloc, table, around, gap, news)?;
-            let mut puts = Vec::new(alloc);
             put_at(&mut puts, stmt, place)?;
             Ok(puts)
         }
-        None => Ok(Vec::new(alloc)),
+        None => Ok(puts),
     }
 }
 
@@ -233,20 +231,21 @@ fn put_come(alloc: Global, entries: Vec<Entry>, puts: &mut Vec<Put>) -> Result<(
     Ok(())
 }
 
-/// Takes away the statement that goes.
-fn put_gone(gap: &Gap, puts: &mut Vec<Put>) -> Result<(), Memory>
+/// Takes away the statements that go, the last one first.
+fn put_gone(gone: &[StmtId], puts: &mut Vec<Put>) -> Result<(), Memory>
     requires falling { AreFalling puts.old.items }
-    ensures is { OnOk result ((at : ℕ → Option Entry) (m : ℕ) → overlay puts.new.items at m ≡ cond (has (gone_in gap.now.gone) m) None (overlay puts.old.items at m)) }
+    ensures is { OnOk result ((at : ℕ → Option Entry) (m : ℕ) → overlay puts.new.items at m ≡ cond (has gone.now m) None (overlay puts.old.items at m)) }
     ensures falling { OnOk result (AreFalling puts.new.items) }
-    ensures within { OnOk result ((b : ℕ) → IsBelow b gap.now.gone → AreWithin b puts.old.items → AreWithin b puts.new.items) }
+    ensures within { OnOk result ((b : ℕ) → All (λ (n : ℕ). n < b) gone.now → AreWithin b puts.old.items → AreWithin b puts.new.items) }
 {
-    match gap.gone {
-        Some(gone) => put_at(puts, gone, Place::free()),
-        None => Ok(()),
+    for i in (0..gone.len()).rev() {
+        put_at(puts, gone[i], Place::free())?;
     }
+    Ok(())
 }
 
-/// All entries that change, where these come. It takes time in proportion to those that come.
+/// All entries that change, where these come. It takes time in proportion to those that come and go, and to the breaks of
+/// the loop around them for each of those that go.
 pub(crate) fn puts_of(
     alloc: Global,
     table: &Table,
@@ -259,10 +258,10 @@ pub(crate) fn puts_of(
     ensures are { IfOk result (λ puts. (m : ℕ) → overlay puts.items (entry_of (entries_of table.now.program)) m ≡ entries_with table.now.program head.now gap.now news.now m) }
     ensures within { IfOk result (λ puts. (b : ℕ) → AreBelow b gap.now news.now → AreWithin b puts.items) }
 {
-    let mut puts = holder_puts(alloc, table, gap, news)?;
+    let mut puts = around_puts(alloc, table, gap, news)?;
     put_next(alloc, table, gap, news, &mut puts)?;
     put_front(alloc, table, gap, news, &mut puts)?;
     put_come(alloc, entries, &mut puts)?;
-    put_gone(gap, &mut puts)?;
+    put_gone(gap.gone.as_slice(), &mut puts)?;
     Ok(puts)
 }

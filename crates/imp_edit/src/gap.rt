@@ -1,14 +1,19 @@
-//! Places in blocks where simple statements come, or from which one goes.
-ghost use Rattle.std.specs.Prelude.{◌≡◌, ◌<◌, ◌+◌, ◌^◌, Some};
+//! Places in blocks where simple statements come, or from which a statement goes.
+ghost use Rattle.std.specs.Prelude.{◌≡◌, ◌<◌, ◌+◌, ◌^◌, ◌++◌, ◌&&◌, IfOk, Some, true};
 ghost use Rattle.imp_check.specs.Entries.{entries_of, entry_of, heads_of, inside};
+ghost use Rattle.imp_check.specs.Walks.{walk};
 ghost use Rattle.edit_entries.specs.Gaps.{are_simple, is_simple};
-ghost use Rattle.imp_edit.specs.Gaps.{gap_of, place_gap, gone_gap, behind_gap, then_gap, else_gap, body_gap, of_entry, of_place};
+ghost use Rattle.imp_edit.specs.Gaps.{gap_of, part_gap, place_gap, behind_gap, then_gap, else_gap, body_gap, of_entry, of_place};
+ghost use Rattle.imp_edit.specs.Quiet.{quiet_from};
 
+use crate::quiet::{add_quiet, is_call};
 use imp_check::{Around, Context, Entry, Table, Which};
 use imp_syntax::{Block, Edit, Place, ProcId, Stmt, StmtId, StmtNode};
+use plain_values::{Items, Memory};
+use std::alloc::Global;
 
 /// A place in a block where statements come: between two of it, where a statement may go.
-#[derive(Clone, Copy)]
+#[derive(Drop)]
 pub(crate) struct Gap {
     /// The block.
     pub(crate) context: Context,
@@ -16,23 +21,23 @@ pub(crate) struct Gap {
     pub(crate) front: Option<StmtId>,
     /// The statement behind.
     pub(crate) next: Option<StmtId>,
-    /// The simple statement that goes, between the two.
-    pub(crate) gone: Option<StmtId>,
+    /// The statement that goes, between the two, and those inside it; none is a call.
+    pub(crate) gone: Items<StmtId>,
 }
 
-/// Where an edit puts statements or takes a simple one away; `None` for other edits. It takes constant time, but for
-/// a procedure's name, which takes time linear in the procedures.
-pub(crate) fn gap_of(table: &Table, edit: &Edit) -> Option<Gap>
-    ensures is { result ≡ gap_of edit.now table.now.program }
+/// Where an edit puts statements or takes one away in which no call stands; `None` for other edits. It takes time in
+/// proportion to the statements that go, or, for the place of a procedure's name, to the procedures.
+pub(crate) fn gap_of(alloc: Global, table: &Table, edit: &Edit) -> Result<Option<Gap>, Memory>
+    ensures is { IfOk result (λ gap. gap ≡ gap_of edit.now table.now.program) }
 {
     match edit {
-        Edit::Replace(stmt, _) => gone_gap(table, *stmt),
-        Edit::Insert(place, _) => place_gap(table, place),
-        Edit::Delete(stmt) => gone_gap(table, *stmt),
-        Edit::Guard(_, _) => None,
-        Edit::Declare(_, _) => None,
-        Edit::AddProc { before: _, proc: _ } => None,
-        Edit::DropProc(_) => None,
+        Edit::Replace(stmt, _) => part_gap(alloc, table, *stmt),
+        Edit::Insert(place, _) => Ok(place_gap(alloc, table, place)),
+        Edit::Delete(stmt) => part_gap(alloc, table, *stmt),
+        Edit::Guard(_, _) => Ok(None),
+        Edit::Declare(_, _) => Ok(None),
+        Edit::AddProc { before: _, proc: _ } => Ok(None),
+        Edit::DropProc(_) => Ok(None),
     }
 }
 
@@ -60,37 +65,59 @@ pub(crate) fn are_simple(block: &Block) -> bool
     true
 }
 
-/// In the place of a simple statement.
-fn gone_gap(table: &Table, stmt: StmtId) -> Option<Gap>
-    ensures is { result ≡ of_entry gone_gap (entry_of (entries_of table.now.program) stmt) }
+/// In the place of a statement in which no call stands.
+#[tactic(auto, using(imp_check::proofs::FewLemmas::few_statements))]
+fn part_gap(alloc: Global, table: &Table, stmt: StmtId) -> Result<Option<Gap>, Memory>
+    ensures is { IfOk result (λ gap. gap ≡ part_gap stmt table.now.program) }
 {
-    let entry = table.entry(stmt)?;
-    if is_simple(&entry.part) {
-        Some(Gap {
-            context: entry.context,
-            front: entry.front,
-            next: entry.next,
-            gone: Some(entry.number),
-        })
-    } else {
-        None
+    table.procs();
+    let most = table.view().count() + 1;
+    let Some(entry) = table.entry(stmt) else {
+        return Ok(None);
+    };
+    let mut gone = Items::new(alloc);
+    gone.push(entry.number)?;
+    if is_call(&entry.part) || !add_blocks(table, most, entry, &mut gone)? {
+        return Ok(None);
     }
+    Ok(Some(Gap {
+        context: entry.context,
+        front: entry.front,
+        next: entry.next,
+        gone,
+    }))
 }
 
-fn place_gap(table: &Table, place: &Place) -> Option<Gap>
+/// Whether no call stands in the blocks of a statement. It adds their numbers, up to the first call.
+fn add_blocks(
+    table: &Table,
+    most: u32,
+    entry: &Entry,
+    found: &mut Items<StmtId>,
+) -> Result<bool, Memory>
+    ensures is { IfOk result (λ quiet. quiet ≡ (quiet_from (entry_of (entries_of table.now.program)) most entry.now.inner.first && quiet_from (entry_of (entries_of table.now.program)) most entry.now.other.first)) }
+    ensures added { IfOk result (λ quiet. quiet ≡ true → found.new ≡ found.old ++ (walk (entry_of (entries_of table.now.program)) most entry.now.inner.first ++ walk (entry_of (entries_of table.now.program)) most entry.now.other.first)) }
+{
+    if !add_quiet(table, most, entry.inner.first, found)? {
+        return Ok(false);
+    }
+    add_quiet(table, most, entry.other.first, found)
+}
+
+fn place_gap(alloc: Global, table: &Table, place: &Place) -> Option<Gap>
     ensures is { result ≡ place_gap place.now table.now.program }
 {
     match place {
-        Place::After(stmt) => behind_gap(table, *stmt),
-        Place::ThenStart(stmt) => then_gap(table, *stmt),
-        Place::ElseStart(stmt) => else_gap(table, *stmt),
-        Place::BodyStart(stmt) => body_gap(table, *stmt),
-        Place::ProcStart(name) => start_gap(table, table.proc_named(name)?),
+        Place::After(stmt) => behind_gap(alloc, table, *stmt),
+        Place::ThenStart(stmt) => then_gap(alloc, table, *stmt),
+        Place::ElseStart(stmt) => else_gap(alloc, table, *stmt),
+        Place::BodyStart(stmt) => body_gap(alloc, table, *stmt),
+        Place::ProcStart(name) => start_gap(alloc, table, table.proc_named(name)?),
     }
 }
 
 /// Behind a statement.
-fn behind_gap(table: &Table, stmt: StmtId) -> Option<Gap>
+fn behind_gap(alloc: Global, table: &Table, stmt: StmtId) -> Option<Gap>
     ensures is { result ≡ of_entry behind_gap (entry_of (entries_of table.now.program) stmt) }
 {
     let entry = table.entry(stmt)?;
@@ -98,13 +125,13 @@ fn behind_gap(table: &Table, stmt: StmtId) -> Option<Gap>
         context: entry.context,
         front: Some(entry.number),
         next: entry.next,
-        gone: None,
+        gone: Items::new(alloc),
     })
 }
 
 /// In front of the first block of an if.
 #[tactic(auto, using(crate::proofs::GapLemmas::shallow))]
-fn then_gap(table: &Table, stmt: StmtId) -> Option<Gap>
+fn then_gap(alloc: Global, table: &Table, stmt: StmtId) -> Option<Gap>
     ensures is { result ≡ of_entry then_gap (entry_of (entries_of table.now.program) stmt) }
 {
     table.procs();
@@ -115,13 +142,13 @@ fn then_gap(table: &Table, stmt: StmtId) -> Option<Gap>
         context,
         front: None,
         next,
-        gone: None,
+        gone: Items::new(alloc),
     })
 }
 
 /// In front of the second block of an if.
 #[tactic(auto, using(crate::proofs::GapLemmas::shallow))]
-fn else_gap(table: &Table, stmt: StmtId) -> Option<Gap>
+fn else_gap(alloc: Global, table: &Table, stmt: StmtId) -> Option<Gap>
     ensures is { result ≡ of_entry else_gap (entry_of (entries_of table.now.program) stmt) }
 {
     table.procs();
@@ -132,13 +159,13 @@ fn else_gap(table: &Table, stmt: StmtId) -> Option<Gap>
         context,
         front: None,
         next,
-        gone: None,
+        gone: Items::new(alloc),
     })
 }
 
 /// In front of the body of a while.
 #[tactic(auto, using(crate::proofs::GapLemmas::shallow))]
-fn body_gap(table: &Table, stmt: StmtId) -> Option<Gap>
+fn body_gap(alloc: Global, table: &Table, stmt: StmtId) -> Option<Gap>
     ensures is { result ≡ of_entry body_gap (entry_of (entries_of table.now.program) stmt) }
 {
     table.procs();
@@ -150,7 +177,7 @@ fn body_gap(table: &Table, stmt: StmtId) -> Option<Gap>
         context,
         front: None,
         next,
-        gone: None,
+        gone: Items::new(alloc),
     })
 }
 
@@ -169,7 +196,7 @@ fn inside(entry: &Entry, which: Which) -> Context
 }
 
 /// In front of the body of a procedure.
-fn start_gap(table: &Table, proc: ProcId) -> Option<Gap>
+fn start_gap(alloc: Global, table: &Table, proc: ProcId) -> Option<Gap>
     ensures is { result ≡ of_place (heads_of table.now.program) (Some proc) }
 {
     let head = table.view().head(proc)?;
@@ -183,6 +210,6 @@ fn start_gap(table: &Table, proc: ProcId) -> Option<Gap>
         context,
         front: None,
         next: head.body.first,
-        gone: None,
+        gone: Items::new(alloc),
     })
 }

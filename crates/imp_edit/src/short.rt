@@ -25,10 +25,12 @@ use plain_values::{Items, Memory};
 use std::alloc::Global;
 
 /// The change of an edit that gives a statement another condition, puts simple statements at a place that are neither
-/// calls nor breaks, or takes such a one away; `None` for other edits, whose change is found from the whole program.
+/// calls nor breaks, or takes a statement away in which no call stands; `None` for other edits, whose change is found from
+/// the whole program.
 /// Another condition takes time in proportion to the condition, the breaks of the statement and the square of the
-/// procedure's variables. Statements take time in proportion to the statements, to the square of the procedure's
-/// variables for each, and, at the start or the end of a procedure, to the number of procedures.
+/// procedure's variables. Statements take time in proportion to the statements that come and to the square of the
+/// procedure's variables for each, to those that go and to the breaks of the loop around them for each, and, at the
+/// start or the end of a procedure, to the number of procedures.
 ///
 /// # Errors
 ///
@@ -51,15 +53,15 @@ pub(crate) fn short_change(
             Some(entry) => guard_change(alloc, table, entry, *stmt, cond, next),
             None => Ok(None),
         },
-        _ => match gap_of(table, edit) {
+        _ => match gap_of(alloc, table, edit)? {
             Some(gap) => gap_change(alloc, table, edit, &gap, next),
             None => Ok(None),
         },
     }
 }
 
-/// The change of an edit that puts simple statements at this place, or takes one away; `None` where other statements
-/// come.
+/// The change of an edit that puts simple statements at this place, and takes away what goes; `None` where other
+/// statements come.
 fn gap_change(
     alloc: Global,
     table: &Table,

@@ -1,4 +1,4 @@
-//! The change that puts simple statements at a place of a block, or takes one away.
+//! The change that puts simple statements at a place of a block, and takes away what goes.
 ghost use Rattle.std.specs.Prelude.{◌≡◌, [], length, unwrap_or, IfOk, IfErr, None, true};
 ghost use Rattle.std.specs.Option.{option_map};
 ghost use Rattle.imp_slots.specs.Fits.{FitsCode};
@@ -8,7 +8,7 @@ ghost use Rattle.imp_check.specs.Programs.{last_of, name_of, variables_fault};
 ghost use Rattle.imp_check.specs.Slots.{code_in, layout_in};
 ghost use Rattle.edit_entries.specs.Gaps.{are_simple, ends_with, head_with, heads_in};
 ghost use Rattle.imp_edit.specs.declared.error.EditError.TheVariants.{Fault as refused_by};
-ghost use Rattle.imp_edit.specs.Gaps.{IsSplice, count_fault, count_with, gone_in, splice_fault};
+ghost use Rattle.imp_edit.specs.Gaps.{IsSplice, count_fault, count_with, splice_fault};
 ghost use Rattle.imp_edit.specs.Refusals.{IsRefusal};
 
 use crate::beside::{ends_stay, ends_with, puts_of};
@@ -23,9 +23,10 @@ use std::alloc::Global;
 /// The most statements that a program may have.
 const MOST_STATEMENTS: u32 = 10_000;
 
-/// The change that puts simple statements at a place, in the procedure of this head. It takes time in proportion to the
-/// statements, to the square of the procedure's variables for each, and, where the ends of a body change, to the number
-/// of procedures.
+/// The change that puts simple statements at a place, in the procedure of this head, and takes away what goes. It takes
+/// time in proportion to the statements that come and to the square of the procedure's variables for each, to those that
+/// go and to the breaks of the loop around them for each, and, where the ends of a body change, to the number of
+/// procedures.
 ///
 /// # Errors
 ///
@@ -67,7 +68,7 @@ fn count_with(alloc: Global, table: &Table, gap: &Gap, news: &Block) -> Result<u
     ensures few { IfOk result (λ _. count_fault table.now.program gap.now news.now ≡ None) }
     ensures refused { IfErr result (IsRefusal (option_map refused_by (count_fault table.now.program gap.now news.now))) }
 {
-    let left = table.view().count().saturating_sub(gone_count(gap));
+    let left = (table.view().count() as usize).saturating_sub(gap.gone.len()) as u32;
     let count = left.saturating_add(block_count(news));
     if count > MOST_STATEMENTS {
         let proc = last_name(alloc, table)?;
@@ -78,16 +79,6 @@ fn count_with(alloc: Global, table: &Table, gap: &Gap, news: &Block) -> Result<u
         }));
     }
     Ok(count)
-}
-
-/// How many statements go.
-fn gone_count(gap: &Gap) -> u32
-    ensures is { result ≡ length (gone_in gap.now.gone) }
-{
-    match gap.gone {
-        Some(_) => 1,
-        None => 0,
-    }
 }
 
 /// The name of the last procedure.

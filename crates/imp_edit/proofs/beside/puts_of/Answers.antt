@@ -9,7 +9,6 @@ use Rattle.imp_check.specs.Programs.{has}
 use Rattle.imp_check.specs.declared.entry.Entry.{Entry}
 use Rattle.imp_check.proofs.RebuildLemmas.{entry_numbers, block_numbers}
 use Rattle.edit_entries.specs.Spliced.{is, with_front, with_next}
-use Rattle.imp_edit.specs.Gaps.{gone_in}
 use Rattle.imp_edit.proofs.SpliceLemmas.{come_is, all_numbers_below}
 use Rattle.imp_edit.proofs.beside.puts_of.Goals as goal
 
@@ -24,7 +23,8 @@ returns-clause-are c m =
     let e : entry_numbers es ≡ numbers news = ap entry_numbers c.requires.come ∙ block_numbers f g.context g.front g.next news in
     let x = overlay c.put_front.new.puts.items at m in
     c.in_ok-put_gone.ensures.is at m
-    ∙ ap (λ (o : Option Entry). cond (has (gone_in g.gone) m) None o)
+    ∙ ap (λ (ns : List ℕ). cond (has ns m) None (overlay c.put_come.new.puts.items at m)) c.as_slice.ensures.same
+    ∙ ap (λ (o : Option Entry). cond (has g.gone m) None o)
     (c.in_ok-put_come.ensures.is at m
     ∙ come_is es (numbers news) m x e
     ∙ ap (λ (zs : List Entry). cond (has (numbers news) m) (entry_of zs m) x) c.requires.come
@@ -41,7 +41,7 @@ returns-clause-within c b w =
     let f = frame_at [] c.args.head.now.bare in
     let es = c.args.entries.items in
     let e : entry_numbers es ≡ numbers news = ap entry_numbers c.requires.come ∙ block_numbers f g.context g.front g.next news in
-    c.in_ok-put_gone.ensures.within b w.gone
+    c.in_ok-put_gone.ensures.within b (subst (λ (ns : List ℕ). All (λ (n : ℕ). n < b) ns) (sym c.as_slice.ensures.same) w.gone)
     (c.in_ok-put_come.ensures.within b (all_numbers_below b es (subst (λ (ns : List ℕ). All (λ (n : ℕ). n < b) ns) (sym e) w.come))
     (c.in_ok-put_front.ensures.within b w.front
-    (c.in_ok-put_next.ensures.within b w.next (c.in_ok-puts.ensures.within b w.holder))))
+    (c.in_ok-put_next.ensures.within b w.next (c.in_ok-puts.ensures.within b w.loop w.holder))))
