@@ -67,14 +67,15 @@ module _ (engine : Engine) (program : List Routine) where
 
   abbrev pub rows_of_text : RowsAt (Place engine bare → Mark (Unit {0}) → Code → Option Row)
   rows_of_text = record {
-      enter = λ w n b. enter_row engine bare w b n;
-      branch = branch_row engine bare;
-      turn = λ w n k b. turn_row engine bare w b n k;
-      next = next_row engine bare;
-      fix = fix_row engine bare;
-      exit = exit_row engine bare;
-      leap = leap_row engine bare;
-      post = post_row engine bare }
+    enter = λ w n b. enter_row engine bare w b n;
+    branch = branch_row engine bare;
+    turn = λ w n k b. turn_row engine bare w b n k;
+    next = next_row engine bare;
+    fix = fix_row engine bare;
+    exit = exit_row engine bare;
+    leap = leap_row engine bare;
+    post = post_row engine bare;
+  }
 
   -- The row of a name: by its last frame and the text of the statement of its point.
   abbrev pub flat_row : List Frame → Point → Option Row

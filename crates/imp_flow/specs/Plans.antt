@@ -51,14 +51,15 @@ module _ (plan : Plan) where
 
   abbrev pub rows_of_node : RowsAt (Node → Option Row)
   rows_of_node = record {
-      enter = λ w n. enter_at w;
-      branch = branch_at;
-      turn = λ w n. turn_at w plan.engine;
-      next = next_of;
-      fix = fix_at;
-      exit = exit_at;
-      leap = leap_at;
-      post = post_at }
+    enter = λ w n. enter_at w;
+    branch = branch_at;
+    turn = λ w n. turn_at w plan.engine;
+    next = next_of;
+    fix = fix_at;
+    exit = exit_at;
+    leap = leap_at;
+    post = post_at;
+  }
 
   -- The row of a name: by its last frame and the node of the statement of its point.
   abbrev pub node_row : List Frame → Point → Option Row
