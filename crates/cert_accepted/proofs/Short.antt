@@ -1,21 +1,18 @@
 -- A program without faults has short chains.
-use Rattle.std.specs.Prelude.{◌≡◌, ◌<◌, ◌≤◌, ◌+◌, ◌⊎◌, ℕ, zero, suc, nat_lt, List, [], ◌∷◌, ◌++◌, length, map, reverse, slice_get, Option, Some, None, Bool, true, false, cond, if◌then◌else◌}
+use Rattle.std.specs.Prelude.{◌≡◌, ◌<◌, ◌≤◌, ◌+◌, ◌⊎◌, ℕ, zero, suc, nat_lt, List, [], ◌∷◌, ◌++◌, length, map, reverse, slice_get, Option, Some, None, Bool, true, false, cond, codes, if◌then◌else◌}
 use Rattle.std.specs.Str.{bytes_eq}
 use Rattle.std.proofs.Common.{refl, sym, ap, ◌∙◌, subst, arith, inl, inr, append_assoc, append-nil}
 use Rattle.std.proofs.lemmas.List.{reverse-append, length-reverse, length-append}
+use Rattle.std.proofs.lemmas.Option.{slice_get_within}
 use Rattle.std.proofs.lemmas.Slice.Eq.{bytes_eq-Decides}
 use Rattle.plain_values.proofs.Cases.{by_test, some_inj}
 use Rattle.plain_values.proofs.Members.{Member, here, there, in_left, in_right, either}
 use Rattle.imp_syntax.specs.Plain as tree
 use Rattle.imp_syntax.specs.Plain.{Statement, Statements, Starts, Ends, Procedure}
-use Rattle.imp_slots.specs.Plain.{Layout, Code, Stop, Simple, If, While, Call, Break, Routine}
+use Rattle.imp_slots.specs.Plain.{Layout, Invoke, Code, Stop, Simple, If, While, Call, Break, Routine}
 use Rattle.imp_slots.specs.Fits.{FitsCall, FitsCode, FitInTurn, IsChecked}
 use Rattle.program_chains.specs.Chains.{calls_to, through, chains_within, chains}
 use Rattle.imp_check.specs.Names.{place_named}
-use Rattle.cert_accepted.specs.Accepted.{CheckedHaveLines}
-use Rattle.cert_accepted.proofs.Lists.{in_map}
-use Rattle.cert_accepted.proofs.Chains.{goes}
-use Rattle.cert_accepted.proofs.Standing.{member}
 use Rattle.imp_check.specs.Chains.{calls_in, calls, chains_to, chains_through, all_chains}
 use Rattle.imp_check.specs.Chains as told
 use Rattle.imp_check.specs.Faults.{unless, first, at, in_procedure}
@@ -23,7 +20,10 @@ use Rattle.imp_check.specs.declared.fault.Fault.TheVariants.{NoMain, MainHasPara
 use Rattle.imp_check.specs.Programs.{longest, last_of, name_of, takes_nothing, size_fault, procedures_fault, chains_fault, ending_fault, check_fault}
 use Rattle.imp_check.specs.Slots.{Frame, layout_in, statement_in, code_in, routine_of, routines_from, routines_of}
 use Rattle.imp_check.proofs.FewLemmas.{first_none, unless_lt, at_none, in_none}
-use Rattle.std.specs.Prelude.{codes}
+use Rattle.cert_accepted.specs.Accepted.{CheckedHaveLines}
+use Rattle.cert_accepted.proofs.Lists.{in_map}
+use Rattle.cert_accepted.proofs.Chains.{goes}
+use Rattle.cert_accepted.proofs.Standing.{member}
 
 -- ---- calls by place are calls by name
 
@@ -63,11 +63,9 @@ module _ (f : Frame) (p : ℕ) (q : Procedure) (at_p : slice_get f.earlier p ≡
 
 -- ---- a procedure calls earlier ones
 
-before_some : (before : List Routine) (l : Layout) (i : _) (q : ℕ) (o : Option Routine) → slice_get before q ≡ o → FitsCall l i o → q < length before
+before_some : (before : List Routine) (l : Layout) (i : Invoke) (q : ℕ) (o : Option Routine) → slice_get before q ≡ o → FitsCall l i o → q < length before
 before_some before l i q None e f = absurd f
-before_some [] l i q (Some c) e f = cc
-before_some (b ∷ before) l i zero (Some c) e f = omega arith
-before_some (b ∷ before) l i (suc q) (Some c) e f = omega (arith, before_some before l i q (Some c) e f)
+before_some before l i q (Some c) e f = slice_get_within before q c e
 
 calls_before : (before : List Routine) (l : Layout) (p n : ℕ) (c : Code) → FitsCode before l c → Member n (calls_to p c) → p < length before
 calls_before before l p n Stop f k = elim k [ ]
@@ -100,10 +98,6 @@ comes earlier (p ∷ ps) zero r e = record { front = []; own = p; rest = ps; are
 comes earlier (p ∷ ps) (suc j) r e =
     let c = comes (earlier ++ p ∷ []) ps j r e in
     record { front = p ∷ c.front; own = c.own; rest = c.rest; are = ap (λ ps. p ∷ ps) c.are; place = ap suc c.place; is = c.is ∙ ap (λ es. routine_of es c.own) (append_assoc earlier (p ∷ []) c.front) }
-
-at_place : (xs : List Procedure) (x : Procedure) (ys : List Procedure) → slice_get (xs ++ x ∷ ys) (length xs) ≡ Some x
-at_place [] x ys = refl
-at_place (y ∷ xs) x ys = at_place xs x ys
 
 -- what fits in turn fits those in front of it
 fits_there : (before rs : List Routine) (j : ℕ) (r : Routine) → FitInTurn before rs → slice_get rs j ≡ Some r → (front : List Routine) × (length front ≡ length before + j) × FitsCode front r.layout r.code
@@ -213,11 +207,6 @@ module _ (ps : List Procedure) (checked : IsChecked (routines_of ps)) where
       split (x ∷ ps) (suc p) h = let c = split ps p (omega arith) in (x ∷ c.0, c.1, c.2, ap (λ ps. x ∷ ps) c.3, ap suc c.4)
 
   -- a place that has a chain is one of a procedure
-  within : (xs : List Routine) (k : ℕ) (r : Routine) → slice_get xs k ≡ Some r → k < length xs
-  within [] k r e = cc
-  within (x ∷ xs) zero r e = omega arith
-  within (x ∷ xs) (suc k) r e = omega (arith, within xs k r e)
-
   chain_place : (most p : ℕ) (z : List ℕ) → Member z (chains_within most (routines_of ps) p) → p < length ps
   chain_place zero p z m = elim m [ ]
   chain_place (suc most) p z m =
@@ -226,7 +215,7 @@ module _ (ps : List Procedure) (checked : IsChecked (routines_of ps)) where
       (λ e k.
       let x = goes (chains_within most (routines_of ps)) 0 (routines_of ps) p z k in
       let t = fits_there [] (routines_of ps) x.place x.routine checked.fit x.at in
-      omega (arith, calls_before t.0 x.routine.layout p x.last x.routine.code t.2 x.call, t.1, within (routines_of ps) x.place x.routine x.at, as_many [] ps))) m
+      omega (arith, calls_before t.0 x.routine.layout p x.last x.routine.code t.2 x.call, t.1, slice_get_within (routines_of ps) x.place x.routine x.at, as_many [] ps))) m
 
   short_chains : check_fault ps ≡ None → (p : ℕ) (z : List ℕ) → Member z (chains (routines_of ps) p) → length z ≤ 8
   short_chains faultless p z m = short_at p z (chain_place (length (routines_of ps)) p z m) m faultless
