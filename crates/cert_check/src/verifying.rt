@@ -1,7 +1,9 @@
 //! Checking a certificate.
-ghost use Rattle.std.specs.Prelude.{◌≡◌, IfOk};
+ghost use Rattle.std.specs.Prelude.{◌≡◌, length, IfOk};
 ghost use Rattle.imp_check.specs.Slots.{routines_of};
 ghost use Rattle.cert_meaning.specs.Followed.{followed_program};
+ghost use Rattle.cert_meaning.specs.Portable.{HasUpperBounds};
+ghost use Rattle.cert_accepted.specs.Accepted.{HasSmallNumbers, IsCertificate, PutsUtf8};
 ghost use Rattle.cert_lines.specs.Verify.{of_followed, verify, verified_line, Yes};
 ghost use Rattle.cert_check.specs.Table.{state_at};
 ghost use Rattle.cert_check.specs.Verified.{verified_of, CoversRuns};
@@ -13,6 +15,7 @@ use crate::reading::{Lines, read_lines};
 use crate::verified::{Verified, verified_line};
 use crate::written::Written;
 use call_contexts::main_place;
+use cert_accepted::{certificates_are_accepted, checked_programs_have_lines};
 use cert_lines::a_yes_is_sound;
 use imp_check::Checked;
 use plain_values::Memory;
@@ -56,6 +59,13 @@ fn verified<D: Portable, L: Ledger>(
     }
 }
 
+/// How many bytes a certificate has, which are fewer than 2^64.
+fn byte_count(cert: &[u8]) -> usize
+    ensures is { result ≡ length cert.now }
+{
+    cert.len()
+}
+
 /// The line that says whether a certificate of a program holds: `{"verify":"yes"}`; or the first bad line, counted
 /// from 1, as `{"line":i,"verify":"no"}`; or the first loop, as main's body is followed, of which what is written
 /// does not do, as `{"at":n,"chain":[..],"verify":"no","why":W}`, with W `missing` where no state is written,
@@ -63,7 +73,9 @@ fn verified<D: Portable, L: Ledger>(
 /// of it is not.
 ///
 /// Where the answer is yes, each configuration of a run that stands at the test of a loop, under any inputs, is
-/// described by the state of the line of that loop under the configuration's call sites, whoever wrote the lines.
+/// described by the state of the line of that loop under the configuration's call sites, whoever wrote the lines. And the
+/// answer is yes for the lines that `certificate` of `cert_write` writes of the program, with whatever budget and widening,
+/// where joins and widenings of the domain are above both sides.
 ///
 /// Nothing is widened, and no loop is gone through more than once under a chain. Its only error is want of memory.
 pub fn verify<D: Portable, L: Ledger>(
@@ -75,9 +87,15 @@ pub fn verify<D: Portable, L: Ledger>(
 ) -> Result<Vec<u8>, Memory>
     ensures line { IfOk result (λ v. v.items ≡ verified_line (verify (D.operations dom.now) (D.port dom.now) (routines_of prog.now) cert.now)) }
     ensures sound { IfOk result (λ v. v.items ≡ verified_line Yes → CoversRuns (D.covers dom.now) (D.port dom.now) (routines_of prog.now) cert.now) }
+    ensures accepts { HasUpperBounds (D.operations dom.now) (D.port dom.now).leq → PutsUtf8 (D.operations dom.now) (D.port dom.now) → HasSmallNumbers (routines_of prog.now)
+        → IsCertificate (D.operations dom.now) (D.port dom.now) (routines_of prog.now) cert.now → IfOk result (λ v. v.items ≡ verified_line Yes) }
 {
     let verified = verified(alloc, dom, prog, cert, steps)?;
     a_yes_is_sound::<D>();
+    certificates_are_accepted::<D>();
+    checked_programs_have_lines();
     prog.routines();
+    prog.program();
+    byte_count(cert);
     verified_line(alloc, &verified)
 }

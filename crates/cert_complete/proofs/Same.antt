@@ -1,8 +1,8 @@
 -- Following a block gives the states of batch interpretation.
-use Rattle.std.specs.Prelude.{◌≡◌, ◌<◌, ◌+◌, ℕ, zero, suc, List, [], ◌∷◌, ◌++◌, length, map, reverse, slice_get, Option, Some, None, Bool, true, false, Contains, if◌then◌else◌}
+use Rattle.std.specs.Prelude.{◌≡◌, ◌<◌, ◌+◌, ℕ, zero, suc, List, [], ◌∷◌, ◌++◌, length, map, reverse, slice_get, Option, Some, None, Bool, true, false, Contains, MatchOption, if◌then◌else◌}
 use Rattle.std.proofs.Common.{refl, sym, ap, ◌∙◌, arith, subst}
 use Rattle.imp_syntax.specs.declared.edit.Location.TheVariants.{Head}
-use Rattle.imp_slots.specs.Plain.{Layout, Guard, DoBreak, Does, Invoke, Code, Stop, Simple, If, While, Call, Break, Routine, code_numbers}
+use Rattle.imp_slots.specs.Plain.{Layout, Guard, DoBreak, Does, Invoke, Code, Stop, Simple, If, While, Call, Break, Routine}
 use Rattle.imp_slots.specs.Fits.{FitsCode, Distinct, IsChecked}
 use Rattle.concrete_sem.specs.Values.{Variables, Heap}
 use Rattle.program_chains.specs.Chains.{chains}
@@ -11,31 +11,27 @@ use Rattle.program_chains.specs.Claims.{MarksRise, ChainsAreThroughCallers, Plac
 use Rattle.domain_laws.specs.Operations.{Operations}
 use Rattle.domain_laws.specs.Laws.{Laws}
 use Rattle.plain_values.proofs.Cases.{by_test}
-use Rattle.plain_values.proofs.Members.{Member, here, there, in_left, in_right, key_member}
+use Rattle.plain_values.proofs.Members.{Member, here, there, in_left, in_right}
 use Rattle.batch_meaning.specs.Values.{Value, State, Over, lift, lift2}
 use Rattle.batch_meaning.specs.Batch.{Engine, Passed, Fixed, joined as joined_values, head_of, behind, batch, procedure, calls_of}
 use Rattle.batch_meaning.specs.Places.{Spot, spot, spots, find, from, if_some, head_value, value_in, entered, entry, value_at}
 use Rattle.batch_meaning.proofs.Procedures.{look, look_get, look_below, from_look, from_place, FitBack}
 use Rattle.batch_meaning.proofs.Places.{found, keys_numbers, are_calls}
 use Rattle.batch_sound.proofs.Values.{Fit, fit_assume, fit_joined}
-use Rattle.batch_sound.proofs.Chains.{in_extended, in_through, has_member, once_in}
+use Rattle.batch_sound.proofs.Chains.{in_extended, in_through, once_in}
 use Rattle.batch_sound.proofs.Fitting.{callee, FitPassed, block_fit, procedure_fit}
 use Rattle.cert_meaning.specs.Portable.{HasUpperBounds}
 use Rattle.cert_meaning.specs.Followed.{Missing, Entry, Step, Followed, Passes, Fails, passing, after, unless, where_written, joined, followed, followed_procedure}
-use Rattle.cert_meaning.specs.Written.{state_in, heads}
+use Rattle.cert_meaning.specs.Written.{loops, state_in}
 use Rattle.cert_sound.proofs.Fitting.{InProgram, earlier_in, last_at}
-use Rattle.cert_complete.specs.Theorem.{HasNoOver}
+use Rattle.cert_complete.specs.Theorem.{IsLoopUnder, HasNoOver, AreHeads}
 use Rattle.cert_complete.proofs.Heads.{head_is_up}
+use Rattle.cert_complete.proofs.Loops.{are_loops, contains}
 
 get_below : {A : Type 0} (xs : List A) (k : ℕ) (x : A) → slice_get xs k ≡ Some x → k < length xs
 get_below [] k x e = absurd cc
 get_below (y ∷ xs) zero x e = omega arith
 get_below (y ∷ xs) (suc k) x e = omega (arith, get_below xs k x e)
-
-contains : {A : Type 0} (x : A) (xs : List A) → Member x xs → Contains xs x
-contains x [] m = elim m [ ]
-contains x (y ∷ xs) here = (0, omega arith, refl)
-contains x (y ∷ xs) (there m) = let c = contains x xs m in (suc c.0, omega (arith, c.1), c.2)
 
 maps_both : {A B : Type 0} (f : A → B) (xs ys : List A) → map f xs ++ map f ys ≡ map f (xs ++ ys)
 maps_both f [] ys = refl
@@ -56,10 +52,7 @@ pub record SameCall {S : Type 0} (v : Value S) (f : Followed S) : Type 0 where
   pub value : v ≡ State ahead
   pub follows : f ≡ Passes ahead leaving
 
-module _ {S : Type 0} (dom : Operations S) (engine : Engine) (covers : S → Heap → List Variables → Type 0) (laws : Laws dom covers) (leq : S → S → Bool) (bounds : HasUpperBounds dom leq) (rises : MarksRise) (places : PlacesAreFound) (callers : ChainsAreThroughCallers) (program : List Routine) (checked : IsChecked program) (no_over : HasNoOver dom engine program) where
-  abbrev written : List ℕ → ℕ → Option S
-  written = heads dom engine program
-
+module _ {S : Type 0} (dom : Operations S) (engine : Engine) (covers : S → Heap → List Variables → Type 0) (laws : Laws dom covers) (leq : S → S → Bool) (bounds : HasUpperBounds dom leq) (rises : MarksRise) (places : PlacesAreFound) (callers : ChainsAreThroughCallers) (program : List Routine) (checked : IsChecked program) (no_over : HasNoOver dom engine program) (written : List ℕ → ℕ → Option S) (are_heads : AreHeads dom engine program written) where
   abbrev Good : Value S → List Layout → Type 0
   Good = Fit dom engine covers laws
 
@@ -113,9 +106,6 @@ module _ {S : Type 0} (dom : Operations S) (engine : Engine) (covers : S → Hea
     place_get : slice_get program (length f.earlier) ≡ Some f.routine
     place_get = met.inp (length f.earlier) f.routine (last_at f.routine f.earlier)
 
-    numbers_of : (n : ℕ) (x : Spot S) → At n x → Member n (code_numbers f.routine.code)
-    numbers_of n x at = subst (Member n) (keys_numbers dom engine (marks engine.widening f.routine) f.z (calls_of dom engine f.earlier f.z) f.routine.code (State f.first)) (key_member (n, x) _ at)
-
     at_number : (n : ℕ) (x : Spot S) → At n x → find n (Spots f.routine.code (State f.first)) ≡ Some x
     at_number n x at =
         found (n, x) _
@@ -132,10 +122,17 @@ module _ {S : Type 0} (dom : Operations S) (engine : Engine) (covers : S → Hea
       is : v ≡ State state
       at : written f.z n ≡ Some state
 
-    head_is : (n : ℕ) (x : Spot S) (v : Value S) → At n x → value_at dom engine program (Head n) f.z ≡ Some v → HeadIs n v
-    head_is n x (State s) at e = record { state = s; is = refl; at = ap state_in e }
-    head_is n x (Over m y) at e =
-        absurd (no_over (length f.earlier) f.z n m y (contains f.z _ met.chain) ((places program checked (length f.earlier) f.routine place_get).statement n (has_member n (code_numbers f.routine.code) (numbers_of n x at))) e)
+    loop_here : (n : ℕ) (x : Spot S) (h : Fixed S) → At n x → x.head ≡ Some h → IsLoopUnder program (length f.earlier) n f.z
+    loop_here n x h at e = record {
+      loop =
+          let among = contains n (loops f.routine.code) ((are_loops dom engine (marks engine.widening f.routine) f.z (calls_of dom engine f.earlier f.z) f.routine.code (State f.first)).at (n, x) at h e) in
+          subst (λ o. MatchOption o ⊥ (λ (r : Routine). Contains (loops r.code) n)) (sym place_get) among;
+      chain = contains f.z _ met.chain;
+    }
+
+    head_is : (n : ℕ) (v : Value S) → IsLoopUnder program (length f.earlier) n f.z → value_at dom engine program (Head n) f.z ≡ Some v → HeadIs n v
+    head_is n (State s) stands e = record { state = s; is = refl; at = are_heads (length f.earlier) n f.z stands ∙ ap state_in e }
+    head_is n (Over m y) stands e = absurd (no_over (length f.earlier) n f.z m y stands e)
 
     keep : (n q : ℕ) (c : Routine) (v : Value S) → slice_get (reverse f.earlier) q ≡ Some c → Good v (c.layout ∷ layouts) → Good (calls_of dom engine f.earlier f.z n q v) (c.layout ∷ layouts)
     keep n q c v g h = procedure_fit dom engine covers laws rises f.earlier (n ∷ f.z) q c layouts v (look_get f.earlier q ∙ g) met.back.1 h
@@ -169,7 +166,7 @@ module _ {S : Type 0} (dom : Operations S) (engine : Engine) (covers : S → Hea
         let rising = rises engine.widening (reverse f.earlier) f.routine met.back.0 in
         let top = (head_of dom engine m f.z n g (B b) (State v)).value in
         let out = behind dom engine g (B b) top in
-        let h = head_is n (spot (State v) (Some (head_of dom engine m f.z n g (B b) (State v))) out None) top (sub.at _ here) (head_at n _ _ (sub.at _ here) refl) in
+        let h = head_is n top (loop_here n _ _ (sub.at _ here) refl) (head_at n _ _ (sub.at _ here) refl) in
         let x = h.state in
         let fit_in = λ (u : Value S) (k : Good u layouts). fit_block b (lift (dom.assume g true) u) suits.1 (fit_assume dom engine covers laws g true f.routine.layout f.lower u suits.0 k) in
         let up = head_is_up dom engine covers laws leq bounds layouts m rising (λ u. (B b (lift (dom.assume g true) u)).value) (λ u k. (fit_in u k).value) n f.z v x fv h.is in

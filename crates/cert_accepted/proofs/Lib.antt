@@ -1,0 +1,11 @@
+pub mod OneLine
+pub mod Texts
+pub mod Lists
+pub mod Numbers
+pub mod Chains
+pub mod Once
+pub mod Standing
+pub mod Short
+pub mod Entries
+pub mod Words
+pub mod Whole

@@ -1,0 +1,63 @@
+-- Lists in which each item stands once, maps of them, and lists without some of their items.
+use Rattle.std.specs.Prelude.{◌≡◌, List, [], ◌∷◌, ◌++◌, map}
+use Rattle.std.proofs.Common.{refl, subst, inl, inr}
+use Rattle.plain_values.proofs.Members.{Member, here, there, in_right, either}
+use Rattle.imp_slots.specs.Fits.{Absent, Distinct}
+use Rattle.imp_slots.proofs.Distinct.{not_in}
+
+pub absent_if : {A : Type 0} (x : A) (xs : List A) → (Member x xs → ⊥) → Absent x xs
+absent_if x [] h = tt
+absent_if x (y ∷ xs) h = (λ e. h (subst (λ y. Member x (y ∷ xs)) e here), absent_if x xs (λ m. h (there m)))
+
+pub once_both : {A : Type 0} (xs ys : List A) → Distinct xs → Distinct ys → ((x : A) → Member x xs → Member x ys → ⊥) → Distinct (xs ++ ys)
+once_both [] ys d e apart = e
+once_both (x ∷ xs) ys d e apart =
+    (absent_if x (xs ++ ys) (λ m. elim (either x xs ys m) [ inl a ↦ not_in x xs d.0 a | inr b ↦ apart x here b ]), once_both xs ys d.1 e (λ y a b. apart y (there a) b))
+
+pub apart_in : {A : Type 0} (xs ys : List A) → Distinct (xs ++ ys) → (x : A) → Member x xs → Member x ys → ⊥
+apart_in [] ys d x a b = elim a [ ]
+apart_in (y ∷ xs) ys d x here b = not_in x (xs ++ ys) d.0 (in_right xs b)
+apart_in (y ∷ xs) ys d x (there a) b = apart_in xs ys d.1 x a b
+
+-- an item of a map, and what it is made of
+pub record Made {A B : Type 0} (f : A → B) (xs : List A) (y : B) : Type 0 where
+  pub item : A
+  pub member : Member item xs
+  pub is : f item ≡ y
+
+pub made : {A B : Type 0} (f : A → B) (xs : List A) (y : B) → Member y (map f xs) → Made f xs y
+made f [] y m = elim m [ ]
+made f (x ∷ xs) y here = record { item = x; member = here; is = refl }
+made f (x ∷ xs) y (there m) = let k = made f xs y m in record { item = k.item; member = there k.member; is = k.is }
+
+pub in_map : {A B : Type 0} (f : A → B) (x : A) (xs : List A) → Member x xs → Member (f x) (map f xs)
+in_map f x [] m = elim m [ ]
+in_map f x (y ∷ xs) here = here
+in_map f x (y ∷ xs) (there m) = there (in_map f x xs m)
+
+pub map_once : {A B : Type 0} (f : A → B) → ((x y : A) → f x ≡ f y → x ≡ y) → (xs : List A) → Distinct xs → Distinct (map f xs)
+map_once f inj [] d = tt
+map_once f inj (x ∷ xs) d =
+    (absent_if (f x) (map f xs) (λ m. let k = made f xs (f x) m in not_in x xs d.0 (subst (λ y. Member y xs) (inj k.item x k.is) k.member)), map_once f inj xs d.1)
+
+-- a list without some of its items
+pub data Thins {A : Type 0} : List A → List A → Type 0 where
+  ends : Thins [] []
+  keeps : {x : A} {xs ys : List A} → Thins xs ys → Thins (x ∷ xs) (x ∷ ys)
+  drops : {y : A} {xs ys : List A} → Thins xs ys → Thins xs (y ∷ ys)
+
+pub thins_both : {A : Type 0} {xs ys us vs : List A} → Thins xs ys → Thins us vs → Thins (xs ++ us) (ys ++ vs)
+thins_both ends u = u
+thins_both (keeps t) u = keeps (thins_both t u)
+thins_both (drops t) u = drops (thins_both t u)
+
+pub thins_in : {A : Type 0} {xs ys : List A} (x : A) → Thins xs ys → Member x xs → Member x ys
+thins_in x ends m = m
+thins_in x (keeps t) here = here
+thins_in x (keeps t) (there m) = there (thins_in x t m)
+thins_in x (drops t) m = there (thins_in x t m)
+
+pub thins_once : {A : Type 0} {xs ys : List A} → Thins xs ys → Distinct ys → Distinct xs
+thins_once ends d = tt
+thins_once (keeps {x} {xs} {ys} t) d = (absent_if x xs (λ m. not_in x ys d.0 (thins_in x t m)), thins_once t d.1)
+thins_once (drops t) d = thins_once t d.1
