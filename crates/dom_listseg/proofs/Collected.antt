@@ -29,10 +29,6 @@ put_next f gs xs all after i x h m a e =
     e ∙ ap (put (f x)) a ∙ sym (union-push gs (map f (take i xs)) (f x))
     ∙ ap (union gs) (sym (map-append f (take i xs) (x ∷ [])) ∙ ap (map f) (sym (take_item xs i x h m)))
 
-pub insert_next : (gs xs all after : List Shape) (i : ℕ) (x : Shape) → i < length xs → x ≡ get_or xs i x → all ≡ union gs (take i xs) → after ≡ put x all → after ≡ union gs (take (i + 1) xs)
-insert_next gs xs all after i x h m a e =
-    e ∙ ap (put x) a ∙ sym (union-push gs (take i xs) x) ∙ ap (union gs) (sym (take_item xs i x h m))
-
 -- the graphs that one more graph makes, folded
 pub step_next : (f : Shape → List Shape) (xs all after : List Shape) (i : ℕ) (x : Shape) → i < length xs → x ≡ get_or xs i x → all ≡ union [] (map fold_of (flat_map f (take i xs))) → after ≡ union all (map fold_of (f x))
     → after ≡ union [] (map fold_of (flat_map f (take (i + 1) xs)))

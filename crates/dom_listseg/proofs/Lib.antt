@@ -4,3 +4,4 @@ pub mod Findings
 pub mod Left
 pub mod Written
 pub mod Started
+pub mod Stays

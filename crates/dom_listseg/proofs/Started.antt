@@ -4,8 +4,11 @@ use Rattle.std.proofs.lemmas.List.{append_assoc, append-nil, drop_all}
 use Rattle.imp_slots.specs.Plain.{Layout}
 use Rattle.concrete_sem.specs.Passing.{first_link, over}
 use Rattle.shape_graph.specs.declared.graph.Atom.{Atom}
-use Rattle.shape_graph.specs.Shape.{IsGraph, shape_of}
+use Rattle.shape_graph.specs.Shape.{Shape, IsGraph, shape_of}
+use Rattle.shape_graph.proofs.Function.{fold_of, fold_of-self}
 use Rattle.shape_steps.proofs.Graphs.{moved}
+use Rattle.listseg_meaning.specs.State.{Graphs}
+use Rattle.listseg_meaning.specs.Sets.{put}
 use Rattle.listseg_meaning.specs.Operations.{init}
 use Rattle.listseg_meaning.proofs.CallLaws.{init-fits}
 
@@ -17,6 +20,14 @@ nils_are (n ∷ names) = ap (λ v. None ∷ v) (nils_are names)
 pub started-graph : (l : Layout) (frames : List (List (Option ℕ))) (atoms : List Atom) → frames ≡ map first_link l.links ∷ [] → atoms ≡ [] → IsGraph (shape_of frames atoms)
 unfolding init
 started-graph l frames atoms f a = moved (shape_of (map first_link l.links ∷ []) []) frames atoms ((init-fits l).each_fits (shape_of (map first_link l.links ∷ []) []) (inl refl)).framed.graph f a
+
+-- and main's first state
+pub started_state : (l : Layout) (g : Shape) (gs : List Shape) → g ≡ shape_of (map first_link l.links ∷ []) [] → gs ≡ put (fold_of g) [] → Graphs gs ≡ init l
+unfolding init
+started_state l g gs e p =
+    let first : Shape = shape_of (map first_link l.links ∷ []) [] in
+    let fits = (init-fits l).each_fits first (inl refl) in
+    ap Graphs (p ∙ ap (λ x. fold_of x ∷ []) e ∙ ap (λ x. x ∷ []) (fold_of-self first fits.framed.graph fits.folded))
 
 nil-next : (names : List (List ℕ)) (i : ℕ) → i < length names → map first_link (drop i names) ≡ None ∷ map first_link (drop (suc i) names)
 nil-next [] i h = absurd (omega arith)

@@ -6,4 +6,4 @@ use Rattle.dom_listseg.specs.declared.state.Kept.TheVariants as kept
 -- Top, or the graphs
 abbrev pub segments_of : Kept → Segments
 segments_of kept.Top = Top
-segments_of (kept.Graphs v) = Graphs v.value.items
+segments_of (kept.Graphs v) = Graphs v.value

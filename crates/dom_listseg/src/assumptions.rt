@@ -6,19 +6,19 @@ ghost use Rattle.listseg_meaning.specs.Operations as operations;
 
 use crate::SegmentState;
 use crate::sets::joined;
-use crate::state::{Kept, copy_of, listed, top, within};
+use crate::state::{Kept, copy_of, top, within};
 use crate::targets::agrees;
+use graph_sets::{FoldedGraph, GraphSet};
 use imp_slots::{SlotCond, SlotCondNode};
 use plain_values::Memory;
-use shape_graph::Graph;
 use std::alloc::Global;
 
 // Whether the sides of a comparison are as it says in each graph, as far as is seen.
-fn all_agree(equal: bool, left: Option<u32>, right: Option<u32>, graphs: &[Graph]) -> bool
+fn all_agree(equal: bool, left: Option<u32>, right: Option<u32>, graphs: &[FoldedGraph]) -> bool
     ensures kept { IsTrue result → filter (operations.agrees equal left right) graphs.now ≡ graphs.now }
 {
     for graph in graphs {
-        if !agrees(graph, equal, left, right) {
+        if !agrees(graph.as_graph(), equal, left, right) {
             return false;
         }
     }
@@ -31,36 +31,37 @@ fn agreeing(
     equal: bool,
     left: Option<u32>,
     right: Option<u32>,
-    graphs: &[Graph],
-) -> Result<Vec<Graph>, Memory>
+    graphs: &[FoldedGraph],
+) -> Result<Vec<FoldedGraph>, Memory>
     ensures exact { IfOk result (λ v. v.items ≡ filter (operations.agrees equal left right) graphs.now) }
 {
     let mut kept = Vec::new(alloc);
     for graph in graphs {
-        if agrees(graph, equal, left, right) {
-            kept.push(graph.copy(alloc)?)?;
+        if agrees(graph.as_graph(), equal, left, right) {
+            kept.push(graph.copy()?)?;
         }
     }
     Ok(kept)
 }
 
 // The state of the graphs in which the sides are as the comparison says: the state itself, where all are.
+#[tactic(auto, using(crate::proofs::Assumed::kept_rise))]
 fn kept_where(
     alloc: Global,
     equal: bool,
     left: Option<u32>,
     right: Option<u32>,
     s: &SegmentState,
-    graphs: &[Graph],
+    graphs: &GraphSet,
 ) -> Result<SegmentState, Memory>
     requires graphs { s.now ≡ Graphs graphs.now }
     ensures exact { IfOk result (λ t. t ≡ Graphs (filter (operations.agrees equal left right) graphs.now)) }
 {
-    if all_agree(equal, left, right, graphs) {
-        copy_of(s)
-    } else {
-        within(alloc, agreeing(alloc, equal, left, right, graphs)?)
+    if all_agree(equal, left, right, graphs.as_slice()) {
+        return copy_of(s);
     }
+    let kept = agreeing(alloc, equal, left, right, graphs.as_slice())?;
+    within(alloc, GraphSet::from_rising(kept))
 }
 
 /// The state where the sides of a comparison are as it says.
@@ -75,7 +76,7 @@ pub fn compared(
 {
     match &s.kept {
         Kept::Top => Ok(top()),
-        Kept::Graphs(shared) => kept_where(alloc, equal, left, right, s, listed(shared)),
+        Kept::Graphs(shared) => kept_where(alloc, equal, left, right, s, shared.as_ref()),
     }
 }
 

@@ -2,14 +2,17 @@
 ghost use Rattle.std.specs.Prelude.{◌≡◌, ◌-◌, [], ◌∷◌, length, IfOk, map, None, slice_index_or};
 ghost use Rattle.concrete_sem.specs.Passing.{first_link, over};
 ghost use Rattle.imp_slots.specs.CallViews.{argument_of, taken_of};
+ghost use Rattle.shape_graph.proofs.Function.{fold_of};
 ghost use Rattle.shape_steps.specs.Steps as steps;
 ghost use Rattle.listseg_meaning.specs.State.{Graphs};
+ghost use Rattle.listseg_meaning.specs.Sets as sets;
 ghost use Rattle.listseg_meaning.specs.Operations as operations;
 
 use crate::SegmentState;
-use crate::sets::{capped, put_folded};
+use crate::sets::{capped, put_folded, put_kept};
 use crate::state::{Kept, empty, is_empty, listed, top, within};
 use crate::targets::{side, target};
+use graph_sets::{FoldedGraph, GraphSet};
 use imp_slots::{Argument, Entering, Layout, Returning};
 use plain_values::{Memory, Text};
 use shape_graph::{Graph, Row};
@@ -25,14 +28,15 @@ fn nils(alloc: Global, names: &[Text]) -> Result<Vec<Option<usize>>, Memory>
 }
 
 /// The state in front of main's body.
-#[tactic(auto, unfolding(listseg_meaning::specs::Operations::init))]
+#[tactic(auto, using(crate::proofs::Started::started_state))]
 pub fn initial(alloc: Global, main: &Layout) -> Result<SegmentState, Memory>
     ensures exact { IfOk result (λ s. s ≡ operations.init main.now) }
 {
     let mut frames = Vec::with_capacity(alloc, 1)?;
     frames.push(Row::from_slots(nils(alloc, main.links())?))?;
-    let mut graphs = Vec::with_capacity(alloc, 1)?;
-    graphs.push(Graph::from_parts(frames, Vec::new(alloc)))?;
+    let graph = Graph::from_parts(frames, Vec::new(alloc));
+    let mut graphs = GraphSet::new(alloc);
+    put_folded(alloc, &mut graphs, &graph)?;
     within(alloc, graphs)
 }
 
@@ -112,14 +116,14 @@ fn entered_graph(alloc: Global, sides: &[Option<u32>], graph: &Graph) -> Result<
 fn entered_graphs(
     alloc: Global,
     entering: &Entering,
-    graphs: &[Graph],
+    graphs: &[FoldedGraph],
 ) -> Result<SegmentState, Memory>
     ensures exact { IfOk result (λ t. t ≡ operations.enter entering.now (Graphs graphs.now)) }
 {
     let sides = entered_sides(alloc, entering)?;
-    let mut all = Vec::new(alloc);
+    let mut all = GraphSet::new(alloc);
     for graph in graphs {
-        let next = entered_graph(alloc, &sides, graph)?;
+        let next = entered_graph(alloc, &sides, graph.as_graph())?;
         put_folded(alloc, &mut all, &next)?;
     }
     capped(alloc, all)
@@ -166,13 +170,13 @@ fn returned_graph(
 fn returned_graphs(
     alloc: Global,
     returning: Option<Returning>,
-    graphs: &[Graph],
+    graphs: &[FoldedGraph],
 ) -> Result<SegmentState, Memory>
     ensures exact { IfOk result (λ t. t ≡ operations.each (λ g. operations.returned (taken_of returning) g ∷ []) (Graphs graphs.now)) }
 {
-    let mut all = Vec::new(alloc);
+    let mut all = GraphSet::new(alloc);
     for graph in graphs {
-        let below = returned_graph(alloc, returning, graph)?;
+        let below = returned_graph(alloc, returning, graph.as_graph())?;
         put_folded(alloc, &mut all, &below)?;
     }
     capped(alloc, all)
@@ -200,15 +204,26 @@ pub fn left(
     }
 }
 
+// Puts the last frame of a graph alone: the graph itself, where it has no other.
+#[tactic(auto, using(crate::proofs::Stays::last_stays))]
+fn put_last(alloc: Global, graphs: &mut GraphSet, graph: &FoldedGraph) -> Result<(), Memory>
+    ensures put { IfOk result (λ _. graphs.new ≡ sets.put (fold_of (steps.last_frame_of graph.now)) graphs.old) }
+{
+    if graph.as_graph().frames().len() == 1 {
+        return put_kept(graphs, graph);
+    }
+    let next = last_frame(alloc, graph.as_graph())?;
+    put_folded(alloc, graphs, &next)
+}
+
 // The last frames of graphs alone.
 #[tactic(auto, unfolding(listseg_meaning::specs::Operations::shed))]
-fn last_frames(alloc: Global, graphs: &[Graph]) -> Result<SegmentState, Memory>
+fn last_frames(alloc: Global, graphs: &[FoldedGraph]) -> Result<SegmentState, Memory>
     ensures exact { IfOk result (λ t. t ≡ operations.shed (Graphs graphs.now)) }
 {
-    let mut all = Vec::new(alloc);
+    let mut all = GraphSet::new(alloc);
     for graph in graphs {
-        let next = last_frame(alloc, graph)?;
-        put_folded(alloc, &mut all, &next)?;
+        put_last(alloc, &mut all, graph)?;
     }
     capped(alloc, all)
 }

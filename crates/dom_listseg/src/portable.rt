@@ -8,14 +8,14 @@ ghost use Rattle.listseg_words.proofs.Portable.{segment_portable};
 use crate::SegmentState;
 use crate::domain::ListSeg;
 use crate::state::{Kept, listed, top, within};
+use graph_sets::{FoldedGraph, GraphSet};
 use imp_slots::Layout;
 use plain_values::{Memory, Text};
 use portable_states::Portable;
-use shape_graph::Graph;
 use std::alloc::{AllocError, Global};
 
 /// The graphs of a state, none where it is Top.
-fn graphs(s: &SegmentState) -> Option<&[Graph]>
+fn graphs(s: &SegmentState) -> Option<&[FoldedGraph]>
     ensures exact { state_in (option_map (λ g. g.now) result) ≡ s.now }
 {
     match &s.kept {
@@ -25,8 +25,8 @@ fn graphs(s: &SegmentState) -> Option<&[Graph]>
 }
 
 /// The state of these graphs, Top where there are none.
-fn state(alloc: Global, graphs: Option<Vec<Graph>>) -> Result<SegmentState, Memory>
-    ensures exact { IfOk result (λ s. s ≡ state_in (option_map (λ v. v.items) graphs)) }
+fn state(alloc: Global, graphs: Option<GraphSet>) -> Result<SegmentState, Memory>
+    ensures exact { IfOk result (λ s. s ≡ state_in graphs) }
 {
     match graphs {
         None => Ok(top()),

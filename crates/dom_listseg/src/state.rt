@@ -4,14 +4,14 @@ ghost use Rattle.listseg_meaning.specs.State.{Segments, Top, Graphs, segments_sa
 ghost use Rattle.listseg_meaning.proofs.StateLaws.{segments_equiv, segments_per, segments_fed-same};
 ghost use Rattle.listseg_meaning.specs.Operations as operations;
 
+use graph_sets::{FoldedGraph, GraphSet};
 use plain_values::Memory;
-use shape_graph::Graph;
 use std::alloc::Global;
 use std::hash::{Hash, Hasher};
 use std::marker::Model;
 use std::rc::Rc;
 
-/// A state of list segments: all, or what one of its graphs covers. Copies share the graphs.
+/// A state of list segments: all, or what one of its graphs covers. Copies share the set of graphs.
 #[derive(Drop)]
 pub struct SegmentState {
     pub(crate) kept: Kept,
@@ -20,7 +20,7 @@ pub struct SegmentState {
 #[derive(Drop)]
 pub(crate) enum Kept {
     Top,
-    Graphs(Rc<Vec<Graph>>),
+    Graphs(Rc<GraphSet>),
 }
 
 impl Model for SegmentState {
@@ -77,8 +77,8 @@ pub fn top() -> SegmentState
 }
 
 /// What one of these graphs covers.
-pub fn within(alloc: Global, graphs: Vec<Graph>) -> Result<SegmentState, Memory>
-    ensures graphs { IfOk result (λ s. s ≡ Graphs graphs.items) }
+pub fn within(alloc: Global, graphs: GraphSet) -> Result<SegmentState, Memory>
+    ensures graphs { IfOk result (λ s. s ≡ Graphs graphs) }
 {
     let shared = Rc::new(alloc, graphs)?;
     Ok(SegmentState {
@@ -90,12 +90,12 @@ pub fn within(alloc: Global, graphs: Vec<Graph>) -> Result<SegmentState, Memory>
 pub fn empty(alloc: Global) -> Result<SegmentState, Memory>
     ensures empty { IfOk result (λ s. s ≡ Graphs []) }
 {
-    within(alloc, Vec::new(alloc))
+    within(alloc, GraphSet::new(alloc))
 }
 
 /// The graphs that a state shares.
-pub fn listed(shared: &Rc<Vec<Graph>>) -> &[Graph]
-    ensures listed { result.now ≡ shared.now.value.items }
+pub fn listed(shared: &Rc<GraphSet>) -> &[FoldedGraph]
+    ensures listed { result.now ≡ shared.now.value }
 {
     shared.as_ref().as_slice()
 }
@@ -109,17 +109,6 @@ pub fn is_empty(s: &SegmentState) -> bool
         Kept::Top => false,
         Kept::Graphs(shared) => listed(shared).is_empty(),
     }
-}
-
-/// The graphs once more.
-pub fn copied(alloc: Global, graphs: &[Graph]) -> Result<Vec<Graph>, Memory>
-    ensures same { IfOk result (λ v. v.items ≡ graphs.now) }
-{
-    let mut copies = Vec::with_capacity(alloc, graphs.len())?;
-    for graph in graphs {
-        copies.push(graph.copy(alloc)?)?;
-    }
-    Ok(copies)
 }
 
 /// The state once more, which shares its graphs.

@@ -1,33 +1,50 @@
 //! Simple statements and their checks.
-ghost use Rattle.std.specs.Prelude.{◌≡◌, IfOk};
+ghost use Rattle.std.specs.Prelude.{◌≡◌, IfOk, map};
 ghost use Rattle.imp_slots.specs.ActionViews.{effect_of, act_of};
 ghost use Rattle.domain_laws.specs.Checks as checks;
 ghost use Rattle.domain_laws.specs.Guards.{past_check};
+ghost use Rattle.shape_graph.proofs.Function.{fold_of};
 ghost use Rattle.listseg_meaning.specs.State.{Graphs};
+ghost use Rattle.listseg_meaning.specs.Sets as sets;
 ghost use Rattle.listseg_meaning.specs.Operations as operations;
 
 use crate::SegmentState;
 use crate::assumptions::{assumed, compared};
-use crate::sets::{capped, put_all};
+use crate::sets::{capped, put_all, put_kept};
 use crate::state::{Kept, copy_of, empty, listed, top};
-use crate::steps::stepped;
+use crate::steps::{stays, stepped};
+use graph_sets::{FoldedGraph, GraphSet};
 use imp_slots::{SlotAction, SlotStmt};
 use plain_values::Memory;
-use shape_graph::Graph;
 use std::alloc::Global;
+
+// Puts what a statement makes of a graph: the graph itself, where the statement leaves it as it is.
+fn put_moved(
+    alloc: Global,
+    graphs: &mut GraphSet,
+    action: &SlotAction,
+    graph: &FoldedGraph,
+) -> Result<(), Memory>
+    ensures put { IfOk result (λ _. graphs.new ≡ sets.union graphs.old (map fold_of (operations.stepped (effect_of action.now) graph.now))) }
+{
+    if stays(action, graph.as_graph()) {
+        return put_kept(graphs, graph);
+    }
+    let next = stepped(alloc, action, graph.as_graph())?;
+    put_all(alloc, graphs, &next)
+}
 
 // What a statement that changes a link makes of graphs.
 fn moved_graphs(
     alloc: Global,
     action: &SlotAction,
-    graphs: &[Graph],
+    graphs: &[FoldedGraph],
 ) -> Result<SegmentState, Memory>
     ensures exact { IfOk result (λ t. t ≡ operations.each (operations.stepped (effect_of action.now)) (Graphs graphs.now)) }
 {
-    let mut all = Vec::new(alloc);
+    let mut all = GraphSet::new(alloc);
     for graph in graphs {
-        let next = stepped(alloc, action, graph)?;
-        put_all(alloc, &mut all, &next)?;
+        put_moved(alloc, &mut all, action, graph)?;
     }
     capped(alloc, all)
 }

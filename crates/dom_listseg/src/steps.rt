@@ -1,10 +1,11 @@
 //! What a statement makes of one graph.
-ghost use Rattle.std.specs.Prelude.{◌≡◌, [], ◌∷◌, IfOk};
+ghost use Rattle.std.specs.Prelude.{◌≡◌, ◌<◌, [], ◌∷◌, false, Some, IfOk, IsTrue};
+ghost use Rattle.shape_graph.specs.Shape.{nodes, atom_at};
 ghost use Rattle.imp_slots.specs.ActionViews.{effect_of};
-ghost use Rattle.shape_steps.specs.Steps.{slot_of};
+ghost use Rattle.shape_steps.specs.Steps.{slot_of, forget_of};
 ghost use Rattle.listseg_meaning.specs.Operations as operations;
 
-use crate::targets::{behind, target};
+use crate::targets::{behind, same, target};
 use imp_slots::SlotAction;
 use plain_values::Memory;
 use shape_graph::Graph;
@@ -74,5 +75,63 @@ pub fn stepped(alloc: Global, action: &SlotAction, graph: &Graph) -> Result<Vec<
         SlotAction::CopyArray(_, _) => single(alloc, graph.copy(alloc)?),
         SlotAction::WriteElement(_, _, _) => single(alloc, graph.copy(alloc)?),
         SlotAction::WriteItem(_, _) => single(alloc, graph.copy(alloc)?),
+    }
+}
+
+// Whether a node is one cell with this target behind it.
+#[tactic(auto, using(crate::proofs::Stays::behind_is))]
+fn has_behind(graph: &Graph, node: usize, target: Option<usize>) -> bool
+    requires node { node < nodes graph.now }
+    ensures one { IsTrue result → atom_at graph.now.atoms node ≡ record { many = false; target = target } }
+{
+    let atom = graph.atom(node);
+    if atom.many {
+        return false;
+    }
+    same(atom.target, target)
+}
+
+// Whether `p = q.next` gives p the target that it has, of a q that is one cell.
+#[tactic(auto, using(crate::proofs::Stays::read_stays))]
+fn read_stays(graph: &Graph, to: usize, from: usize) -> bool
+    ensures same { IsTrue result → operations.read_at graph.now to (slot_of graph.now.frames from) ≡ graph.now ∷ [] }
+{
+    match target(graph, from) {
+        None => false,
+        Some(node) => has_behind(graph, node, target(graph, to)),
+    }
+}
+
+// Whether `p.next = q` puts behind p's node, one cell, what is there.
+#[tactic(auto, using(crate::proofs::Stays::write_stays))]
+fn write_stays(graph: &Graph, to: usize, from: usize) -> bool
+    ensures same { IsTrue result → operations.write_at graph.now (slot_of graph.now.frames to) from ≡ graph.now ∷ [] }
+{
+    match target(graph, to) {
+        None => false,
+        Some(node) => has_behind(graph, node, target(graph, from)),
+    }
+}
+
+// Whether `p = q`, or `p = null`, gives p the target that it has.
+#[tactic(auto, using(crate::proofs::Stays::slot_stays))]
+fn slot_stays(graph: &Graph, to: usize, given: Option<usize>) -> bool
+    ensures same { IsTrue result → forget_of graph.now to given ≡ graph.now }
+{
+    same(target(graph, to), given)
+}
+
+/// Whether a statement leaves a graph as it is, as far as is seen: it gives a slot, or a cell's next, the target that is
+/// there.
+#[tactic(auto, unfolding(listseg_meaning::specs::Operations::stepped))]
+pub fn stays(action: &SlotAction, graph: &Graph) -> bool
+    ensures same { IsTrue result → operations.stepped (effect_of action.now) graph.now ≡ graph.now ∷ [] }
+{
+    match action {
+        SlotAction::SetNull(p) => slot_stays(graph, *p as usize, None),
+        SlotAction::CopyLink(p, q) => slot_stays(graph, *p as usize, target(graph, *q as usize)),
+        SlotAction::ReadNext(p, q) => read_stays(graph, *p as usize, *q as usize),
+        SlotAction::WriteNext(p, q) => write_stays(graph, *p as usize, *q as usize),
+        _ => false,
     }
 }

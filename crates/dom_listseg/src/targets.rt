@@ -54,8 +54,8 @@ pub fn side(graph: &Graph, side: Option<u32>) -> Option<usize>
     }
 }
 
-// Whether two targets are the same.
-fn same(left: Option<usize>, right: Option<usize>) -> bool
+/// Whether two targets are the same.
+pub fn same(left: Option<usize>, right: Option<usize>) -> bool
     ensures same { result ≡ same_link left right }
 {
     match (left, right) {

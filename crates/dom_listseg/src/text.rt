@@ -7,6 +7,7 @@ ghost use Rattle.listseg_meaning.specs.Text as texts;
 use crate::SegmentState;
 use crate::state::{Kept, listed};
 use crate::targets::last_slots;
+use graph_sets::FoldedGraph;
 use imp_slots::Layout;
 use itoa::Buffer;
 use plain_values::{Memory, Text};
@@ -112,26 +113,26 @@ fn put_graph(text: &mut Text, names: &[Text], graph: &Graph) -> Result<(), Memor
 }
 
 // The graphs, with ` | ` in front of each.
-fn put_more(text: &mut Text, names: &[Text], graphs: &[Graph]) -> Result<(), Memory>
+fn put_more(text: &mut Text, names: &[Text], graphs: &[FoldedGraph]) -> Result<(), Memory>
     ensures value { OnOk result (text.new ≡ text.old ++ texts.more_text names.now graphs.now) }
 {
     for graph in graphs {
         text.append(b" | ")?;
-        put_graph(text, names, graph)?;
+        put_graph(text, names, graph.as_graph())?;
     }
     Ok(())
 }
 
 // The graphs, with ` | ` between; `none` where there is none.
 #[tactic(auto, unfolding(listseg_meaning::specs::Text::text))]
-fn graphs_text(alloc: Global, layout: &Layout, graphs: &[Graph]) -> Result<Text, Memory>
+fn graphs_text(alloc: Global, layout: &Layout, graphs: &[FoldedGraph]) -> Result<Text, Memory>
     ensures value { IfOk result (λ v. v ≡ texts.text layout.now (Graphs graphs.now)) }
 {
     match graphs {
         [] => Text::from_slice(alloc, b"none"),
         [first, more @ ..] => {
             let mut text = Text::new(alloc);
-            put_graph(&mut text, layout.links(), first)?;
+            put_graph(&mut text, layout.links(), first.as_graph())?;
             put_more(&mut text, layout.links(), more)?;
             Ok(text)
         }

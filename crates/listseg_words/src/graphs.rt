@@ -1,5 +1,5 @@
 //! Graphs that words tell.
-ghost use Rattle.std.specs.Prelude.{◌≡◌, ◌++◌, nat_eq, IfOk, map, length};
+ghost use Rattle.std.specs.Prelude.{◌≡◌, ◌++◌, nat_eq, IfOk, None, Some, if◌then◌else◌, map, length};
 ghost use Rattle.std.specs.Option.{option_map};
 ghost use lib.Pointwise.{pointwise};
 ghost use Rattle.shape_graph.proofs.Function as folding;
@@ -8,8 +8,9 @@ ghost use Rattle.listseg_meaning.specs.Sets as sets;
 ghost use Rattle.listseg_words.specs.Words as meant;
 
 use crate::parts::{after_atoms, after_frames, atoms_of, frames_of};
+use graph_sets::FoldedGraph;
 use plain_values::Memory;
-use shape_graph::{Atom, Graph, Row, fold};
+use shape_graph::{Atom, Graph, Row};
 use std::alloc::Global;
 
 /// Whether the frames have so many slots.
@@ -25,22 +26,26 @@ fn has_counts(frames: &[Row], counts: &[usize]) -> bool
     }
 }
 
-/// Whether a graph is folded.
-fn is_folded(alloc: Global, graph: &Graph) -> Result<bool, Memory>
-    ensures exact { IfOk result (λ b. b ≡ folding.is_folded graph.now) }
+/// The graph, if it is folded.
+fn if_folded(alloc: Global, graph: &Graph) -> Result<Option<FoldedGraph>, Memory>
+    ensures exact { IfOk result (λ found. found ≡ (if folding.is_folded graph.now then Some graph.now else None)) }
 {
-    let _count = graph.node_count();
-    let folded = fold(alloc, graph)?;
-    Ok(folded == *graph)
+    let folded = FoldedGraph::from_graph(alloc, graph)?;
+    if *folded.as_graph() == *graph {
+        Ok(Some(folded))
+    } else {
+        Ok(None)
+    }
 }
 
 /// The graph of these frames and atoms, if it fits.
+#[tactic(auto, using(crate::proofs::Folded::counted))]
 fn graph_if(
     alloc: Global,
     counts: &[usize],
     frames: Vec<Row>,
     atoms: Vec<Atom>,
-) -> Result<Option<Graph>, Memory>
+) -> Result<Option<FoldedGraph>, Memory>
     ensures exact { IfOk result (λ found. found ≡ meant.graph_if counts.now (shape_of frames.items atoms.items)) }
 {
     if !has_counts(&frames, counts) {
@@ -49,11 +54,7 @@ fn graph_if(
     let Some(graph) = Graph::try_from_parts(frames, atoms) else {
         return Ok(None);
     };
-    if is_folded(alloc, &graph)? {
-        Ok(Some(graph))
-    } else {
-        Ok(None)
-    }
+    if_folded(alloc, &graph)
 }
 
 /// The first graph that words tell, if it fits.
@@ -61,7 +62,7 @@ fn graph_of(
     alloc: Global,
     counts: &[usize],
     words: &[Option<i128>],
-) -> Result<Option<Graph>, Memory>
+) -> Result<Option<FoldedGraph>, Memory>
     ensures exact { IfOk result (λ found. found ≡ meant.graph_if counts.now (meant.graph_of counts.now words.now)) }
 {
     let frames = frames_of(alloc, counts, words)?;
@@ -75,8 +76,8 @@ pub fn graphs_of(
     counts: &[usize],
     many: usize,
     words: &[Option<i128>],
-    graphs: Vec<Graph>,
-) -> Result<Option<Vec<Graph>>, Memory>
+    graphs: Vec<FoldedGraph>,
+) -> Result<Option<Vec<FoldedGraph>>, Memory>
     ensures exact { IfOk result (λ found. option_map (λ v. v.items) found ≡ option_map (λ more. graphs.items ++ more) (meant.graphs_of counts.now many words.now)) }
 {
     if many == 0 {
@@ -92,7 +93,7 @@ pub fn graphs_of(
 }
 
 /// Whether graphs rise.
-pub fn rises(graphs: &[Graph]) -> bool
+pub fn rises(graphs: &[FoldedGraph]) -> bool
     ensures exact { result ≡ sets.rises graphs.now }
 {
     match graphs {

@@ -4,10 +4,10 @@ ghost use Rattle.std.specs.Option.{option_map};
 ghost use Rattle.listseg_words.specs.Words as meant;
 ghost use Rattle.listseg_words.specs.Words.{state_in};
 
-use shape_graph::Graph;
+use graph_sets::FoldedGraph;
 
 /// Whether a graph is among these.
-fn has(graphs: &[Graph], graph: &Graph) -> bool
+fn has(graphs: &[FoldedGraph], graph: &FoldedGraph) -> bool
     ensures exact { result ≡ meant.has graphs.now graph.now }
 {
     match graphs {
@@ -17,7 +17,7 @@ fn has(graphs: &[Graph], graph: &Graph) -> bool
 }
 
 /// Whether all others are among these.
-fn have_all(graphs: &[Graph], others: &[Graph]) -> bool
+fn have_all(graphs: &[FoldedGraph], others: &[FoldedGraph]) -> bool
     ensures exact { result ≡ meant.have_all graphs.now others.now }
 {
     match others {
@@ -27,7 +27,7 @@ fn have_all(graphs: &[Graph], others: &[Graph]) -> bool
 }
 
 /// Whether the left state, given by its graphs, none for Top, is found below the right one.
-pub fn leq(left: Option<&[Graph]>, right: Option<&[Graph]>) -> bool
+pub fn leq(left: Option<&[FoldedGraph]>, right: Option<&[FoldedGraph]>) -> bool
     ensures exact { result ≡ meant.leq (state_in (option_map (λ g. g.now) left.entry)) (state_in (option_map (λ g. g.now) right.entry)) }
 {
     match (left, right) {

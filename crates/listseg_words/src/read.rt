@@ -12,8 +12,8 @@ use crate::graphs::{graphs_of, rises};
 use crate::parts::{behind, number_of, word_at};
 use crate::write::graphs_told;
 use cert_words::{is_number, words_of};
+use graph_sets::GraphSet;
 use plain_values::Memory;
-use shape_graph::Graph;
 use std::alloc::Global;
 
 /// How many graphs a state keeps at most.
@@ -23,11 +23,11 @@ const MOST: u128 = 64;
 fn if_told(
     alloc: Global,
     words: &[Option<i128>],
-    graphs: Vec<Graph>,
-) -> Result<Option<Vec<Graph>>, Memory>
-    ensures exact { IfOk result (λ found. option_map (λ v. state_in (Some v.items)) found ≡ meant.if_told words.now (state_in (Some graphs.items))) }
+    graphs: GraphSet,
+) -> Result<Option<GraphSet>, Memory>
+    ensures exact { IfOk result (λ found. option_map (λ v. state_in (Some v)) found ≡ meant.if_told words.now (state_in (Some graphs))) }
 {
-    let told = graphs_told(alloc, &graphs)?;
+    let told = graphs_told(alloc, graphs.as_slice())?;
     if told.as_slice() == words {
         Ok(Some(graphs))
     } else {
@@ -40,8 +40,8 @@ fn graphs_if(
     alloc: Global,
     counts: &[usize],
     words: &[Option<i128>],
-) -> Result<Option<Vec<Graph>>, Memory>
-    ensures exact { IfOk result (λ found. option_map (λ v. state_in (Some v.items)) found ≡ meant.if_rises words.now (meant.graphs_of counts.now (meant.number_of most (meant.word_at words.now 1)) (drop 2 words.now))) }
+) -> Result<Option<GraphSet>, Memory>
+    ensures exact { IfOk result (λ found. option_map (λ v. state_in (Some v)) found ≡ meant.if_rises words.now (meant.graphs_of counts.now (meant.number_of most (meant.word_at words.now 1)) (drop 2 words.now))) }
 {
     let many = number_of(MOST, word_at(words, 1)) as usize;
     let rest = behind(words, 2);
@@ -51,7 +51,7 @@ fn graphs_if(
     if !rises(&graphs) {
         return Ok(None);
     }
-    if_told(alloc, words, graphs)
+    if_told(alloc, words, GraphSet::from_rising(graphs))
 }
 
 /// Whether these words are told of Top.
@@ -66,15 +66,15 @@ fn state_with(
     alloc: Global,
     counts: &[usize],
     words: &[Option<i128>],
-) -> Result<Option<Option<Vec<Graph>>>, Memory>
-    ensures exact { IfOk result (λ found. option_map (λ o. state_in (option_map (λ v. v.items) o)) found ≡ meant.state_with counts.now words.now) }
+) -> Result<Option<Option<GraphSet>>, Memory>
+    ensures exact { IfOk result (λ found. option_map state_in found ≡ meant.state_with counts.now words.now) }
 {
     let first = word_at(words, 0);
     if is_number(2, first) {
         return Ok(if is_top(words) { Some(None) } else { None });
     }
     let graphs = if is_number(0, first) {
-        if_told(alloc, words, Vec::new(alloc))?
+        if_told(alloc, words, GraphSet::new(alloc))?
     } else {
         graphs_if(alloc, counts, words)?
     };
@@ -87,8 +87,8 @@ pub fn take(
     alloc: Global,
     counts: &[usize],
     text: &[u8],
-) -> Result<Option<Option<Vec<Graph>>>, Memory>
-    ensures exact { IfOk result (λ found. option_map (λ o. state_in (option_map (λ v. v.items) o)) found ≡ meant.taken counts.now text.now) }
+) -> Result<Option<Option<GraphSet>>, Memory>
+    ensures exact { IfOk result (λ found. option_map state_in found ≡ meant.taken counts.now text.now) }
 {
     let Some(words) = words_of(alloc, text)? else {
         return Ok(None);

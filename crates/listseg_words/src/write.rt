@@ -8,6 +8,7 @@ ghost use Rattle.listseg_words.specs.Words as meant;
 ghost use Rattle.listseg_words.specs.Words.{atom_told, graph_told, state_in};
 
 use cert_words::words_text;
+use graph_sets::FoldedGraph;
 use plain_values::{Memory, Text};
 use shape_graph::{Atom, Graph, Row};
 use std::alloc::{AllocError, Global};
@@ -71,17 +72,17 @@ fn put_graph(words: &mut Vec<Option<i128>>, graph: &Graph) -> Result<(), AllocEr
 }
 
 #[tactic(auto, using(crate::proofs::Texts::graph_step))]
-fn put_graphs(words: &mut Vec<Option<i128>>, graphs: &[Graph]) -> Result<(), AllocError>
+fn put_graphs(words: &mut Vec<Option<i128>>, graphs: &[FoldedGraph]) -> Result<(), AllocError>
     ensures added { OnOk result (words.new.items ≡ words.old.items ++ flat_map graph_told graphs.now) }
 {
     for graph in graphs {
-        put_graph(words, graph)?;
+        put_graph(words, graph.as_graph())?;
     }
     Ok(())
 }
 
 /// The words of the state with these graphs.
-pub fn graphs_told(alloc: Global, graphs: &[Graph]) -> Result<Vec<Option<i128>>, AllocError>
+pub fn graphs_told(alloc: Global, graphs: &[FoldedGraph]) -> Result<Vec<Option<i128>>, AllocError>
     ensures exact { IfOk result (λ v. v.items ≡ meant.told (state_in (Some graphs.now))) }
 {
     let mut words = Vec::new(alloc);
@@ -96,7 +97,7 @@ pub fn graphs_told(alloc: Global, graphs: &[Graph]) -> Result<Vec<Option<i128>>,
 }
 
 /// The text of the state with these graphs, of Top where there are none. It fails for want of memory alone.
-pub fn put(alloc: Global, graphs: Option<&[Graph]>) -> Result<Text, Memory>
+pub fn put(alloc: Global, graphs: Option<&[FoldedGraph]>) -> Result<Text, Memory>
     ensures exact { IfOk result (λ text. text ≡ words.words_text (meant.told (state_in (option_map (λ g. g.now) graphs.entry)))) }
 {
     match graphs {

@@ -7,4 +7,4 @@ use Rattle.listseg_meaning.specs.Sets.{union}
 use Rattle.dom_listseg.proofs.calls.entered_graphs.Given as goal
 
 abbrev pub invariant-loop-graph : goal.invariant-loop-graph
-invariant-loop-graph l = l.all.items ≡ union [] (map fold_of (flat_map (λ (g : Shape). push_frame_of g (map (argument_of g.frames) l.sides.items) ∷ []) (take l.graph-index l.graphs)))
+invariant-loop-graph l = l.all ≡ union [] (map fold_of (flat_map (λ (g : Shape). push_frame_of g (map (argument_of g.frames) l.sides.items) ∷ []) (take l.graph-index l.graphs)))

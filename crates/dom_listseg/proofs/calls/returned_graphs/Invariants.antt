@@ -8,4 +8,4 @@ use Rattle.listseg_meaning.specs.Operations.{returned}
 use Rattle.dom_listseg.proofs.calls.returned_graphs.Given as goal
 
 abbrev pub invariant-loop-graph : goal.invariant-loop-graph
-invariant-loop-graph l = l.all.items ≡ union [] (map fold_of (flat_map (λ (g : Shape). returned (taken_of l.returning) g ∷ []) (take l.graph-index l.graphs)))
+invariant-loop-graph l = l.all ≡ union [] (map fold_of (flat_map (λ (g : Shape). returned (taken_of l.returning) g ∷ []) (take l.graph-index l.graphs)))

@@ -5,5 +5,5 @@ use Rattle.dom_listseg.proofs.sets.put_all.Goals as goal
 
 pub loop-other-preserved : goal.loop-other-preserved
 loop-other-preserved c =
-    put_next fold_of c.args.graphs.now.items c.args.others.now c.loop-other.graphs.items c.put_folded.new.graphs.items c.loop-other.other-index c.other-item.result
+    put_next fold_of c.args.graphs.now c.args.others.now c.loop-other.graphs c.put_folded.new.graphs c.loop-other.other-index c.other-item.result
     (omega arith) c.other-item.is c.loop-other.invariant c.in_ok-put_folded.ensures.put

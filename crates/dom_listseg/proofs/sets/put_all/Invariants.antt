@@ -4,4 +4,4 @@ use Rattle.listseg_meaning.specs.Sets.{union}
 use Rattle.dom_listseg.proofs.sets.put_all.Given as goal
 
 abbrev pub invariant-loop-other : goal.invariant-loop-other
-invariant-loop-other l = l.graphs.items ≡ union l.fn.graphs.items (map fold_of (take l.other-index l.others))
+invariant-loop-other l = l.graphs ≡ union l.fn.graphs (map fold_of (take l.other-index l.others))

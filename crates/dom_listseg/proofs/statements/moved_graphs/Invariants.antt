@@ -7,4 +7,4 @@ use Rattle.listseg_meaning.specs.Operations.{stepped}
 use Rattle.dom_listseg.proofs.statements.moved_graphs.Given as goal
 
 abbrev pub invariant-loop-graph : goal.invariant-loop-graph
-invariant-loop-graph l = l.all.items ≡ union [] (map fold_of (flat_map (stepped (effect_of l.action)) (take l.graph-index l.graphs)))
+invariant-loop-graph l = l.all ≡ union [] (map fold_of (flat_map (stepped (effect_of l.action)) (take l.graph-index l.graphs)))

@@ -1,6 +1,6 @@
 use Rattle.std.proofs.Common.{◌≡◌, ◌≤◌, ◌++◌, ◌-◌, take, drop, length}
 use Rattle.listseg_meaning.specs.Sets as sets
-use Rattle.dom_listseg.proofs.sets.place_of.Given as goal
+use Rattle.graph_sets.proofs.set.place_of.Given as goal
 
 -- the graph goes at this place or behind it
 abbrev pub invariant-loop-place : goal.invariant-loop-place
