@@ -14,7 +14,7 @@ use Rattle.cert_check.specs.Verified.{CoversRuns}
 use Rattle.daig_server.specs.Domains.{carried_of, Meaning}
 
 -- At the moment after these lines the line is answered soundly: a state, to a question or to a step of a ticket, describes the
--- runs of the program that is then present, and a report is sound.
+-- runs of the program that is then present, a report is sound, and the statements that an answer depends on are all.
 abbrev pub IsSoundAfter : Meaning → Readings → Engine → List Procedure → (before : List (List ℕ)) → (line : List ℕ) → Type 0
 IsSoundAfter domain readings engine program before line =
     IsSoundAt domain.operations domain.covers (after (server domain.operations) (opening readings engine program) before) line

@@ -72,7 +72,8 @@ pub fn serve<F: Files, I: Source, O: Sink, L: Ledger>(
     ensures nothing_written { (result ≡ 7) ⊎ (result ≡ 9) → O.told out.new ≡ O.told out.old }
     // At each moment of each script: a line that is answered by a state, as a question or as a step of a ticket, describes
     // every configuration that a run of the program present then reaches there; in a report no run fails a check that is
-    // safe, none comes to a statement that is dead.
+    // safe, none comes to a statement that is dead; a statement that is not told where a line asks what an answer depends
+    // on does not matter to it.
     ensures sound { (readings : Readings) (folder : List ℕ → Option (List ℕ)) (program : List Procedure) (before : List (List ℕ)) (line : List ℕ) → IsAccepted readings (asked words.now) folder program
         → IsSoundAfter (meaning_of (domain_in (asked words.now))) readings (engine_in (asked words.now)) program before line }
     ensures reports_sound { (readings : Readings) (folder : List ℕ → Option (List ℕ)) (program : List Procedure) → IsAccepted readings (asked words.now) folder program

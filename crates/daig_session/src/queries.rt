@@ -6,6 +6,7 @@ ghost use Rattle.cell_rows.specs.Targets.{Target as PlainTarget};
 ghost use Rattle.imp_flow.specs.Reached.{target_of};
 ghost use Rattle.daig_query.specs.Answered.{AreFilled, Covers};
 ghost use Rattle.daig_query.specs.Filled.{added, missing, Fills};
+ghost use Rattle.why_slice.specs.Claims.{Suffices};
 ghost use Rattle.session_machine.specs.Machine.{Machine};
 ghost use Rattle.session_machine.specs.Turns.{missing_at, targets_of};
 ghost use Rattle.daig_session.specs.Books.{flow_in};
@@ -27,6 +28,7 @@ use session_machine::questions_keep_cells;
 use std::alloc::Global;
 use std::sync::ledger::Ledger;
 use why_cells::upstream;
+use why_slice::answers_stay;
 
 /// Fills what is missing for a question.
 fn fill_all<D: Domain, L: Ledger>(
@@ -100,7 +102,8 @@ impl<D: Domain> Session<D> {
     /// The statements that the answer of [`Session::query`] depends on, an Over too, rising, each once: the one that the
     /// location names, the call sites of the selected chains, and those of all that the answer is computed from, but for
     /// simple statements of which it needs only what is behind an Over or a dead state. Another simple statement in the
-    /// place of one that is not listed gives the same answer, where the marks of all procedures stay.
+    /// place of one that is not listed, neither of them a call or a break, gives the same answer, where the marks of all
+    /// procedures stay.
     ///
     /// It fills what the question fills, and costs what it costs; then it takes time in proportion to the cells that the
     /// answer needs and their inputs. It ticks at most once an operation of the domain for each cell that it fills. Where
@@ -122,6 +125,7 @@ impl<D: Domain> Session<D> {
         ensures next_ticket { self.new.book.tickets.next ≡ self.old.book.tickets.next }
         ensures explains { (m : Machine) → Holds (D.operations self.old.engine.domain) self.old.engine.store self.old.book m →
             Explains (D.operations self.old.engine.domain) m (Holds (D.operations self.new.engine.domain) self.new.engine.store self.new.book) at.now string.now result }
+        ensures stays { IfOk result (Suffices (D.operations self.old.engine.domain) self.old.book.setting.engine self.old.book.history.now at.now string.now) }
         ensures least { steps.old ≤ steps.new }
         ensures unticked { IfErr result (IsUnticked steps.old steps.new) }
         ensures ticked { (m : Machine) → Holds (D.operations self.old.engine.domain) self.old.engine.store self.old.book m →
@@ -129,6 +133,7 @@ impl<D: Domain> Session<D> {
         ensures most { steps.new ≤ steps.old + D.counted self.old.engine.domain * suc (added self.old.engine.store self.new.engine.store) }
     {
         questions_keep_cells::<D>();
+        answers_stay::<D>();
         let before = self.book.flow();
         let mut going = begun(alloc, &self.engine, &before, at, string)?;
         let filled = fill_all(alloc, &mut self.engine, &self.book, &mut going, steps)?;

@@ -1,4 +1,4 @@
--- Replies of states and reports are sound.
+-- Replies of states, reports and lists of statements are sound.
 use Rattle.std.proofs.Common.{◌≡◌, inl, inr, ℕ, ℤ, nat_le, nat_lt, Bool, true, false, List, [], ◌∷◌, length, Option, Some, None, Result, Ok, Err, if◌then◌else◌, refl, sym, subst}
 use Rattle.std.specs.Prelude.{Contains}
 use Rattle.imp_syntax.specs.Plain.{Procedure}
@@ -8,16 +8,23 @@ use Rattle.imp_slots.specs.Plain.{Routine}
 use Rattle.imp_check.specs.Slots.{routines_of}
 use Rattle.concrete_sem.specs.Values.{Variables, Heap}
 use Rattle.analysis_words.specs.declared.findings.Finding.{Finding}
+use Rattle.analysis_words.specs.declared.refusal.Refusal as words
+use Rattle.analysis_words.specs.declared.refusal.Refusal.TheVariants.{LongString}
 use Rattle.domain_laws.specs.Operations.{Operations}
 use Rattle.batch_meaning.specs.Values.{Value, State, Over}
-use Rattle.batch_meaning.specs.Answers.{Answer, Refuses, Answers, Found, In, Misses, procedure_of}
+use Rattle.batch_meaning.specs.Answers.{Answer, Refuses, Answers, Found, In, Misses, answer_in, procedure_of}
 use Rattle.batch_meaning.specs.Report.{report}
 use Rattle.batch_sound.specs.Theorem.{AreAnswersSound, AreReportsSound}
 use Rattle.imp_edit.specs.Refusals.{edit_refusal}
 use Rattle.imp_edit.specs.declared.error.EditError.{EditError}
+use Rattle.cell_rows.proofs.Ways.{targets_some}
+use Rattle.named_cells.specs.Same.{same_name}
+use Rattle.named_cells.proofs.Same.{same_is}
+use Rattle.why_slice.specs.Upstream.{upstream}
+use Rattle.why_slice.specs.Claims.{Suffices, UpstreamSuffices}
 use Rattle.script_loop.specs.Replies.{after}
 use Rattle.session_machine.specs.Machine.{Machine, Ticket, ticket_of}
-use Rattle.session_machine.specs.Turns.{answer_at, missing_at, redone, undone}
+use Rattle.session_machine.specs.Turns.{answer_at, missing_at, or_none, redone, undone, upstream_at, upstream_in}
 use Rattle.request_json.specs.declared.error.ReadError.{ReadError}
 use Rattle.request_json.specs.declared.request.Query.{Query}
 use Rattle.request_json.specs.declared.request.Request.{Request}
@@ -38,11 +45,12 @@ use Rattle.line_answers.specs.Sound.{IsAsked, IsReplySound, TurnsAreSound, Momen
 use Rattle.line_answers.proofs.FineTurns.{after_fine}
 use Rattle.line_answers.proofs.Sources.{sources_fine}
 
--- ---- replies that are neither a state nor a report
+-- ---- replies that are neither a state nor a report nor a list of statements
 
 abbrev IsOther : Reply → Type 0
 IsOther (r.State text) = ⊥
 IsOther (r.Report report) = ⊥
+IsOther (r.Why stmts) = ⊥
 IsOther reply = Unit {0}
 
 ran_other : (program : List Routine) (inputs : List ℤ) (fuel : ℕ) (at : Option Location) → IsOther (run_reply program inputs fuel at)
@@ -73,10 +81,6 @@ ask_by_other : {S : Type 0} (dom : Operations S) (query : Query) (a : Answer S) 
 ask_by_other dom query (Refuses why) m = tt
 ask_by_other dom query (Answers v) m = tt
 
-why_by_other : {S : Type 0} (dom : Operations S) (query : Query) (a : Answer S) (m : Machine) → IsOther (why_by dom query a m).reply
-why_by_other dom query (Refuses why) m = tt
-why_by_other dom query (Answers v) m = tt
-
 either_other : (b : Bool) (one other : Turn) → IsOther one.reply → IsOther other.reply → IsOther (if b then one else other).reply
 either_other true one other first second = first
 either_other false one other first second = second
@@ -89,9 +93,9 @@ edit_other : {S : Type 0} (dom : Operations S) (made : Result Edit Refusal) (m :
 edit_other dom (Err why) m = tt
 edit_other dom (Ok e) m = edit_by_other dom e (edit_refusal e m.program m.next) m
 
--- ---- states and reports
+-- ---- states, reports and lists of statements
 
-module _ {S : Type 0} (dom : Operations S) (covers : S → Heap → List Variables → Type 0) (answers : AreAnswersSound dom covers) (reports : AreReportsSound dom) (m : Machine) (line : List ℕ) (h : HasFinePrograms m) where
+module _ {S : Type 0} (dom : Operations S) (covers : S → Heap → List Variables → Type 0) (answers : AreAnswersSound dom covers) (reports : AreReportsSound dom) (suffices : UpstreamSuffices dom) (m : Machine) (line : List ℕ) (h : HasFinePrograms m) where
   abbrev Sound : Reply → Type 0
   Sound reply = IsReplySound dom covers m line reply
 
@@ -99,6 +103,7 @@ module _ {S : Type 0} (dom : Operations S) (covers : S → Heap → List Variabl
   other_sound reply other = record {
     state = λ text is. absurd (subst (λ (x : Reply). IsOther x) is other);
     report = λ report is. absurd (subst (λ (x : Reply). IsOther x) is other);
+    why = λ stmts is. absurd (subst (λ (x : Reply). IsOther x) is other);
   }
 
   told_sound : (l : Location) (string : List ℕ) (v : Value S) → IsAsked m line l string → answer_at dom l string m ≡ Answers v → Sound (told dom l v m)
@@ -113,6 +118,7 @@ module _ {S : Type 0} (dom : Operations S) (covers : S → Heap → List Variabl
       describes = λ c reached. answers m.engine (routines_of m.program) l string s c h.present.fine.fit is reached;
     };
     report = λ report same. absurd cc;
+    why = λ stmts same. absurd cc;
   }
   told_sound l string (Over n z) asked is = other_sound (told dom l (Over n z) m) tt
 
@@ -140,6 +146,34 @@ module _ {S : Type 0} (dom : Operations S) (covers : S → Heap → List Variabl
     report = λ findings is f within.
         let same : report dom m.engine (routines_of m.program) ≡ findings = cc in
         reports m.engine (routines_of m.program) f h.present.fine.fit (subst (λ (fs : List Finding). Contains fs f) (sym same) within);
+    why = λ stmts is. absurd cc;
+  }
+
+  -- an answer that is no refusal is that of a procedure
+  not_missed : (l : Location) (string : List ℕ) (b : Bool) (why : words.Refusal) (v : Value S) → (if b then Refuses LongString else Refuses why) ≡ Answers v → ⊥
+  not_missed l string true why v is = cc
+  not_missed l string false why v is = cc
+
+  upstream_suffices : (l : Location) (string : List ℕ) (found : Found) (v : Value S) → procedure_of (routines_of m.program) l ≡ found → answer_at dom l string m ≡ Answers v → Suffices dom m.engine m.program l string (upstream_in dom m l string found)
+  upstream_suffices l string (Misses why) v there is =
+      absurd (not_missed l string (nat_lt 2 (length string)) why v (subst (λ (f : Found). (if nat_lt 2 (length string) then Refuses LongString else answer_in dom m.engine (routines_of m.program) l string f) ≡ Answers v) there is))
+  upstream_suffices l string (In p) v there is =
+      let ts = targets_some (routines_of m.program) h.present.fine.fit l p string there in
+      subst (λ o. Suffices dom m.engine m.program l string (upstream dom m.engine (routines_of m.program) same_name l string p (or_none o))) (sym ts.1) (
+      suffices m.engine same_name m.program l string p ts.0 same_is there ts.1)
+
+  why_sound : (query : Query) (a : Answer S) → request_of line ≡ Ok (q.Why query) → answer_at dom query.at query.string m ≡ a → Sound (why_by dom query a m).reply
+  why_sound query (Refuses why) reads is = other_sound (r.Refused (refusal.Query why)) tt
+  why_sound query (Answers v) reads is = record {
+    state = λ text same. absurd cc;
+    report = λ report same. absurd cc;
+    why = λ stmts same.
+        let e : upstream_at dom query.at query.string m ≡ stmts = cc in record {
+          at = query.at;
+          string = query.string;
+          asks = reads;
+          suffice = subst (Suffices dom m.engine m.program query.at query.string) e (upstream_suffices query.at query.string (procedure_of (routines_of m.program) query.at) v refl is);
+        };
   }
 
   request_sound : (readings : Readings) (request : Request) → request_of line ≡ Ok request → Sound (request_turn readings dom request m).reply
@@ -157,7 +191,7 @@ module _ {S : Type 0} (dom : Operations S) (covers : S → Heap → List Variabl
   request_sound readings (q.Declare proc name kind) reads = other_sound _ (edit_other dom (declare_of proc name kind) m)
   request_sound readings (q.Add before text) reads = other_sound _ (edit_other dom (add_of readings m.next before text) m)
   request_sound readings (q.Drop proc) reads = other_sound _ (edit_other dom (drop_of proc) m)
-  request_sound readings (q.Why query) reads = other_sound _ (why_by_other dom query (answer_at dom query.at query.string m) m)
+  request_sound readings (q.Why query) reads = why_sound query (answer_at dom query.at query.string m) reads refl
   request_sound readings q.Undo reads = other_sound _ (move_other m.past refusal.NothingToUndo (undone dom m) m)
   request_sound readings q.Redo reads = other_sound _ (move_other m.future refusal.NothingToRedo (redone dom m) m)
   request_sound readings (q.Ask query) reads =
@@ -169,10 +203,10 @@ module _ {S : Type 0} (dom : Operations S) (covers : S → Heap → List Variabl
   read_sound readings (Err error) reads = other_sound _ tt
   read_sound readings (Ok request) reads = request_sound readings request reads
 
-pub turns_sound : {S : Type 0} (dom : Operations S) (covers : S → Heap → List Variables → Type 0) → AreAnswersSound dom covers → AreReportsSound dom → TurnsAreSound dom covers
-turns_sound dom covers answers reports = λ s line h. read_sound dom covers answers reports s.machine line h s.readings (request_of line) refl
+pub turns_sound : {S : Type 0} (dom : Operations S) (covers : S → Heap → List Variables → Type 0) → AreAnswersSound dom covers → AreReportsSound dom → UpstreamSuffices dom → TurnsAreSound dom covers
+turns_sound dom covers answers reports suffices = λ s line h. read_sound dom covers answers reports suffices s.machine line h s.readings (request_of line) refl
 
-pub moments_sound : {S : Type 0} (dom : Operations S) (covers : S → Heap → List Variables → Type 0) → AreAnswersSound dom covers → AreReportsSound dom → MomentsAreSound dom covers
-moments_sound dom covers answers reports = λ readings engine source program is before line.
-    turns_sound dom covers answers reports (after (server dom) (opening readings engine program) before) line
+pub moments_sound : {S : Type 0} (dom : Operations S) (covers : S → Heap → List Variables → Type 0) → AreAnswersSound dom covers → AreReportsSound dom → UpstreamSuffices dom → MomentsAreSound dom covers
+moments_sound dom covers answers reports suffices = λ readings engine source program is before line.
+    turns_sound dom covers answers reports suffices (after (server dom) (opening readings engine program) before) line
     (after_fine dom (opening readings engine program) before (sources_fine readings engine source program is))

@@ -1,4 +1,4 @@
--- What is claimed of states and reports that lines are replied.
+-- What is claimed of states, reports and lists of statements that lines are replied.
 use Rattle.std.specs.Prelude.{◌≡◌, ◌⊎◌, ℕ, List, Some, Ok, Contains}
 use Rattle.imp_syntax.specs.Plain.{Procedure}
 use Rattle.imp_syntax.specs.declared.edit.Location.{Location}
@@ -13,6 +13,7 @@ use Rattle.batch_meaning.specs.Values.{State}
 use Rattle.batch_meaning.specs.Batch.{Engine}
 use Rattle.batch_meaning.specs.Answers.{Answers}
 use Rattle.batch_sound.specs.Theorem.{IsFindingSound}
+use Rattle.why_slice.specs.Claims.{Suffices}
 use Rattle.script_loop.specs.Replies.{after}
 use Rattle.session_machine.specs.Machine.{Machine, Ticket, ticket_of}
 use Rattle.session_machine.specs.Turns.{answer_at}
@@ -55,10 +56,20 @@ pub record IsDescribed {S : Type 0} (dom : Operations S) (covers : S → Heap �
 abbrev pub IsReportSound : (program : List Procedure) → (report : List Finding) → Type 0
 IsReportSound program report = (f : Finding) → Contains report f → IsFindingSound (routines_of program) f
 
--- A reply that is a state describes the runs of the present program, and one that is a report is sound.
+-- The line asks what an answer depends on, and these statements are all: another simple statement in the place of one that is
+-- not among them leaves the answer of the present program as it is, where the marks of all procedures stay.
+pub record AreCauses {S : Type 0} (dom : Operations S) (m : Machine) (line stmts : List ℕ) : Type 0 where
+  pub at : Location
+  pub string : List ℕ
+  pub asks : request_of line ≡ Ok (q.Why (record { at = at; string = string }))
+  pub suffice : Suffices dom m.engine m.program at string stmts
+
+-- A reply that is a state describes the runs of the present program, one that is a report is sound, and one that is a list of
+-- statements has all that the answer depends on.
 pub record IsReplySound {S : Type 0} (dom : Operations S) (covers : S → Heap → List Variables → Type 0) (m : Machine) (line : List ℕ) (reply : Reply) : Type 0 where
   pub state : (text : List ℕ) → reply ≡ r.State text → IsDescribed dom covers m line text
   pub report : (report : List Finding) → reply ≡ r.Report report → IsReportSound m.program report
+  pub why : (stmts : List ℕ) → reply ≡ r.Why stmts → AreCauses dom m line stmts
 
 -- so is the reply to the line
 abbrev pub IsSoundAt : {S : Type 0} → Operations S → (S → Heap → List Variables → Type 0) → Served → (line : List ℕ) → Type 0

@@ -9,9 +9,10 @@ use Rattle.domain_laws.specs.Operations.{Operations}
 use Rattle.domain_laws.specs.Laws.{Laws, KeepsDead}
 use Rattle.batch_meaning.specs.Answers.{answer}
 use Rattle.cell_rows.specs.Claims.{InputsAreNames}
-use Rattle.why_slice.specs.Claims.{AnswersStay}
+use Rattle.why_slice.specs.Claims.{AnswersStay, UpstreamSuffices}
 use Rattle.why_slice.proofs.ShiftedRows.{swap_all}
 use Rattle.why_slice.proofs.Edited.{edited_is, marks_back}
+use Rattle.why_slice.proofs.Told.{told}
 use Rattle.why_slice.proofs.Staying.{answer_stays}
 
 module _ {S : Type 0} (dom : Operations S) (covers : S → Heap → List Variables → Type 0) (laws : Laws dom covers) (rises : MarksRise) (dead : KeepsDead dom) (names : InputsAreNames dom) where
@@ -22,3 +23,7 @@ module _ {S : Type 0} (dom : Operations S) (covers : S → Heap → List Variabl
       ap (λ ps. answer dom engine ps l string) j
       ∙ answer_stays dom covers laws rises dead names engine s x.number i.0 (routines_of old) same is x.fine.fit (subst IsChecked j x.after.fit) x.simple
       (marks_back s x.number i.0 engine.widening (routines_of old) (ap (map (marks engine.widening)) (sym j) ∙ marked)) x.fresh l string p ts there unused e
+
+  pub upstream_suffices : UpstreamSuffices dom
+  upstream_suffices engine same program l string p ts is e there = λ new s x marked other.
+      answers_stay engine same program new s l string p ts is x marked e there (λ u. other ((told dom engine (routines_of program) same is x.fine.fit l string p ts s).1 u))

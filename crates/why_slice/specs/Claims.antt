@@ -29,6 +29,20 @@ AnswersStay dom =
     (IsUpstream dom engine (routines_of old) same l string p ts s → ⊥) →
     answer dom engine (routines_of new) l string ≡ answer dom engine (routines_of old) l string
 
+-- These statements are all that an answer depends on: where another simple statement is replaced, and the marks of all
+-- procedures stay, the answer is the same, an Over too.
+abbrev pub Suffices : {S : Type 0} → Operations S → Engine → (program : List Procedure) → Location → (string stmts : List ℕ) → Type 0
+Suffices dom engine program l string stmts =
+    (new : List Procedure) (s : ℕ) → Exchanges s program new → SameMarks engine program new → (Contains stmts s → ⊥) →
+    answer dom engine (routines_of new) l string ≡ answer dom engine (routines_of program) l string
+
+-- The list of the statements that an answer depends on is.
+abbrev pub UpstreamSuffices : {S : Type 0} → Operations S → Type 0
+UpstreamSuffices dom =
+    (engine : Engine) (same : CellName → CellName → Bool) (program : List Procedure) (l : Location) (string : List ℕ) (p : ℕ) (ts : List Target) → IsSame same →
+    procedure_of (routines_of program) l ≡ In p → targets (routines_of program) p l string ≡ Some ts →
+    Suffices dom engine program l string (upstream dom engine (routines_of program) same l string p ts)
+
 -- The list has exactly the statements that the answer depends on, ..
 abbrev pub UpstreamIsTold : {S : Type 0} → Operations S → Type 0
 UpstreamIsTold dom =

@@ -9,6 +9,9 @@ use Rattle.cell_rows.specs.Targets.{Target, targets}
 use Rattle.daig_query.specs.Answered.{AreFilled}
 use Rattle.daig_query.specs.Filled.{added}
 use Rattle.daig_query.specs.Right.{IsRight}
+use Rattle.named_cells.specs.Same.{same_name}
+use Rattle.named_cells.proofs.Same.{same_is}
+use Rattle.why_slice.specs.Claims.{Suffices}
 use Rattle.session_machine.specs.Turns.{asked, missing_at, IsBetween}
 use Rattle.daig_session.specs.Books.{flow_in}
 use Rattle.daig_session.specs.Going.{IsGoing, IsRefused}
@@ -144,6 +147,22 @@ returns-clause-explains g c = λ m h.
       subst (λ d. Holds (ops d) new (record s.book { cost = n }) (asked dom l string m)) (sym c.fill_all.ensures.domain) (
           asked_holds dom s.book s.engine.store new l string ts (added s.engine.store new) c.requires.ready.right.checked going.asked c.fill_all.ensures.fills (c.questions_keep_cells.ensures.question s.engine.domain) m n h e (sym c.in_ok-filled.ensures.counted ∙ e)),
     )
+
+pub returns-clause-stays : goal.returns-clause-stays
+returns-clause-stays g c =
+    let s = c.args.self.now in
+    let ops = g.D.Domain.operations in
+    let dom = ops s.engine.domain in
+    let new = c.fill_all.new.engine.store in
+    let walk = c.fill_all.new.going.walk in
+    let l = c.args.at.now in
+    let string = c.args.string.now in
+    let ts = map target_of c.in_ok-going.going.targets in
+    let going = subst (λ (p : Plan). IsGoing dom p s.engine.store l string c.in_ok-going.going) c.flow-before.ensures.is c.in_ok-going.ensures.going in
+    let listed = subst (λ d. IsListed (ops d) new walk (flow_in s.book) l string c.in_ok-stmts.stmts) c.fill_all.ensures.domain (subst (λ (p : Plan). IsListed (ops c.fill_all.new.engine.domain) new walk p l string c.in_ok-stmts.stmts) c.flow-now.ensures.is c.in_ok-stmts.ensures.is) in
+    let stmts = listed going.asked.place ts going.asked.there going.asked.are c.in_ok-filled.ensures.filled in
+    subst (Suffices dom s.book.setting.engine s.book.history.now l string) (sym stmts) (
+    c.answers_stay.ensures.listed s.engine.domain s.book.setting.engine same_name s.book.history.now l string going.asked.place ts same_is going.asked.there going.asked.are)
 
 pub returns-clause-ticked : goal.returns-clause-ticked
 returns-clause-ticked g c = λ m h.
