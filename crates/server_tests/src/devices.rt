@@ -1,6 +1,6 @@
-//! Devices that move few bytes a call, devices that fail, and a file that is too long.
+//! Devices that move few bytes a call, devices that fail, and files that are too long.
 use crate::table::{failing, folder, served, status, words_of};
-use io_edge::{FaultPlan, MemSink, MemSource};
+use io_edge::{FaultPlan, MemFiles, MemSink, MemSource, NamedFile};
 use std::test::Fail;
 
 const SERVE: &str = "daig serve --widening plain f";
@@ -133,6 +133,27 @@ fn certificates(rt: HostRuntime) -> Result<(), Fail> {
         let given = status(alloc, words.as_slice(), &mut files, &mut script, &mut out);
         assert_eq!(rt; given, code, "{call}");
         assert_eq!(rt; out.bytes(), wanted, "{call}");
+    }
+    Ok(())
+}
+
+/// A certificate of the most bytes, whose first line is empty and so a bad one, and one of a byte more.
+#[test]
+fn long_certificates(rt: HostRuntime) -> Result<(), Fail> {
+    let alloc = rt.alloc();
+    let words = words_of(alloc, "daig verify f c")?;
+    let line = b"{\"line\":1,\"verify\":\"no\"}\n".as_slice();
+    for (length, code, wanted) in [(67_108_864, 0, line), (67_108_865, 9, b"".as_slice())] {
+        let source = NamedFile::new(String::from_str(alloc, "f")?, SOURCE.to_vec(alloc)?);
+        let lines = vec![in alloc; b'\n'; length]?;
+        let certificate = NamedFile::new(String::from_str(alloc, "c")?, lines);
+        let files = vec![in alloc; source, certificate]?;
+        let mut files = MemFiles::new(files, FaultPlan::none(alloc));
+        let mut script = MemSource::new(Vec::new(alloc), 1, FaultPlan::none(alloc));
+        let mut out = MemSink::new(alloc, 1, FaultPlan::none(alloc));
+        let given = status(alloc, words.as_slice(), &mut files, &mut script, &mut out);
+        assert_eq!(rt; given, code, "{length}");
+        assert_eq!(rt; out.bytes(), wanted, "{length}");
     }
     Ok(())
 }
