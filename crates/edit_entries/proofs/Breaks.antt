@@ -1,6 +1,5 @@
 -- The breaks of the loop around a block, where a part of the block goes and none of what comes leaves a loop.
 use Rattle.std.proofs.Common.{◌≡◌, ℕ, ◌⊎◌, inl, inr, cond, Bool, true, false, List, [], ◌∷◌, ◌++◌, length, Option, Some, None, refl, sym, ap, ◌∙◌, subst}
-use Rattle.std.specs.Option.{option_map}
 use Rattle.imp_syntax.specs.Plain.{Condition, Statement, Simple, Break, Call, If, While, Statements, Ends, Starts, Procedure, numbers_in, numbers, program_numbers}
 use Rattle.imp_slots.specs.Fits.{Absent, Distinct}
 use Rattle.imp_check.specs.Programs.{has}
@@ -15,7 +14,7 @@ use Rattle.edit_entries.proofs.Others.{leaving_append}
 use Rattle.edit_entries.proofs.Filled.{context_in, ends_filled, has_loop, no_loop, some_loop}
 use Rattle.edit_entries.proofs.Stay.{last_holder, left_absent, right_absent}
 use Rattle.edit_entries.proofs.Located.{Has, has_parts}
-use Rattle.edit_entries.proofs.Numbers.{Apart, numbers_append, filled, both_absent, absent_not, has_true, has_false, has_is, middle_alone}
+use Rattle.edit_entries.proofs.Numbers.{Apart, numbers_append, filled, both_absent, absent_not, has_true, has_false, middle_alone}
 use Rattle.edit_entries.proofs.Standing.{has_left, has_right, has_plugged, inner_once, deep_once, own_distinct}
 use Rattle.edit_entries.proofs.Touched.{context_of, holder_found}
 

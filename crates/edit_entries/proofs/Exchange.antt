@@ -94,7 +94,8 @@ module _ (p : Procedure) (hs : List Hole) (before olds news behind : Statements)
             within [] = omega (arith, count_within hs before olds behind)
             within (x ∷ os) = omega (arith, within os)
 
-context_depth : (k : Context) (hs : List Hole) → (context_of k hs).depth ≡ k.depth + length hs
+-- how deep a block in holes is
+pub context_depth : (k : Context) (hs : List Hole) → (context_of k hs).depth ≡ k.depth + length hs
 context_depth k [] = omega arith
 context_depth k (Then b n c e r ∷ hs) = omega (arith, context_depth (context_in k (Then b n c e r)) hs)
 context_depth k (Else b n c t r ∷ hs) = omega (arith, context_depth (context_in k (Else b n c t r)) hs)

@@ -16,6 +16,6 @@ pub mod Sites
 pub mod Standing
 pub mod Breaks
 pub mod Exchange
-pub mod Simple
+pub mod Closed
 pub mod Quiet
 pub mod Parts

@@ -1,4 +1,5 @@
--- What is known of a program in which simple statements come at a place of a block, and others that do not call go from it.
+-- What is known of a program in which statements come at a place of a block, and others go from it, where none of them calls
+-- and no break leaves those that come.
 use Rattle.std.proofs.Common.{◌≡◌, ℕ, ◌-◌, ◌+◌, nat_lt, ◌⊎◌, inl, inr, List, [], ◌∷◌, ◌++◌, length, cond, Option, Some, None, Bool, true, false, refl, sym, ap, ◌∙◌, subst, arith}
 use Rattle.std.specs.Option.{option_map}
 use Rattle.imp_syntax.specs.Plain.{Statements, Ends, Starts, Procedure, number_of, numbers, program_numbers}
@@ -6,7 +7,7 @@ use Rattle.imp_slots.specs.Fits.{Distinct, FitsCode, IsChecked}
 use Rattle.imp_check.specs.Chains.{calls}
 use Rattle.imp_check.specs.Faults.{first, unless, at, in_procedure}
 use Rattle.imp_check.specs.Names.{variables}
-use Rattle.imp_check.specs.Programs.{AreNumbered, block_count, program_count, name_of, last_of, check_fault}
+use Rattle.imp_check.specs.Programs.{AreNumbered, block_count, program_count, nesting, name_of, last_of, check_fault}
 use Rattle.imp_check.specs.Slots.{layout_in, code_in, routines_of}
 use Rattle.imp_check.specs.Statements.{block_fault}
 use Rattle.imp_check.specs.Parts.{ends_of, first_or, last_or, leaving}
@@ -18,20 +19,20 @@ use Rattle.imp_check.specs.declared.entry.Entry.{Entry}
 use Rattle.imp_check.specs.declared.entry.Head.{Head}
 use Rattle.imp_check.specs.declared.entry.Which.{Which}
 use Rattle.imp_check.specs.declared.entry.Which.TheVariants as of
-use Rattle.imp_check.specs.declared.fault.Fault.TheVariants.{Statements as TooManyStatements}
-use Rattle.edit_entries.specs.Gaps.{are_quiet, are_simple, lone, or_new, ends_with, ends_in, holder_of, held_in, head_with, heads_in, gap_splice}
+use Rattle.imp_check.specs.declared.fault.Fault.TheVariants.{Statements as TooManyStatements, Nesting}
+use Rattle.edit_entries.specs.Gaps.{are_quiet, are_closed, lone, or_new, ends_with, ends_in, holder_of, held_in, head_with, heads_in, gap_splice}
 use Rattle.edit_entries.specs.Holes.{Hole, Then, Else, Body, plug, holder, in_loop, loop_of, between, with_body}
 use Rattle.edit_entries.specs.Spliced.{is, losing, spliced, without}
-use Rattle.edit_entries.proofs.Breaks.{Looped, looped, loop_found, loop_with, context_head, holder_last, none_leaves}
-use Rattle.edit_entries.proofs.Exchange.{spliced_fault}
+use Rattle.edit_entries.proofs.Breaks.{looped, loop_found, loop_with, context_head, holder_last, none_leaves}
+use Rattle.edit_entries.proofs.Closed.{closed_quiet, closed_leaving, closed_fault}
+use Rattle.edit_entries.proofs.Exchange.{context_depth}
 use Rattle.edit_entries.proofs.Filled.{before as around_before, behind as around_behind, holding, ends_filled}
 use Rattle.edit_entries.proofs.Fitting.{program_fits}
 use Rattle.edit_entries.proofs.Holders.{ends_between, held, holds, shown, some_is, edit_body_table}
 use Rattle.edit_entries.proofs.Located.{Has}
 use Rattle.edit_entries.proofs.Numbers.{Apart, around_edit}
-use Rattle.edit_entries.proofs.Programs.{old_program, new_program, scope_at}
-use Rattle.edit_entries.proofs.Quiet.{quiet_calls, quiet_sites}
-use Rattle.edit_entries.proofs.Simple.{simple_calls, simple_leaving, simple_nesting, simple_sites, simple_fault, simple_inside, simple_fits}
+use Rattle.edit_entries.proofs.Programs.{old_program, new_program, scope_at, news_fault, program_fault}
+use Rattle.edit_entries.proofs.Quiet.{quiet_calls, quiet_sites, quiet_fault, quiet_fits}
 use Rattle.edit_entries.proofs.Sites.{sites_stay, heads_stay}
 use Rattle.edit_entries.proofs.Standing.{has_left, has_right, known_has}
 use Rattle.edit_entries.proofs.Stay.{last_holder}
@@ -186,23 +187,36 @@ module _ (ps qs : List Procedure) (p : Procedure) (before olds news behind : Sta
   pub gap_heads : (hs : List Hole) → Headed hs
   gap_heads hs = by_inmost Headed (body_headed (between before behind olds) (between before behind news) ps (ends_changed before behind olds news)) headed_in hs
 
-  module _ (hs : List Hole) (quiet : are_quiet olds ≡ true) (simple : are_simple news ≡ true) where
-    pub same_calls : (g : List ℕ) → calls g olds ≡ calls g news
-    same_calls g = quiet_calls g olds quiet ∙ sym (simple_calls g news simple)
+  module _ (hs : List Hole) (quiet : are_quiet olds ≡ true) (closed : are_closed false news ≡ true) where
+    silent : are_quiet news ≡ true
+    silent = closed_quiet false news closed
 
-    -- The first fault: too many statements, or that of those that come.
+    pub same_calls : (g : List ℕ) → calls g olds ≡ calls g news
+    same_calls g = quiet_calls g olds quiet ∙ sym (quiet_calls g news silent)
+
+    abbrev counted : ℕ
+    counted = (program_count (O hs) - block_count olds) + block_count news
+
+    -- The first fault: too many statements, or a block that is too deep, or that of those that come.
     pub gap_fault : check_fault (O hs) ≡ None →
-        check_fault (N hs) ≡ first (in_procedure (name_of (last_of (O hs))) (at 0 (unless (nat_lt ((program_count (O hs) - block_count olds) + block_count news) 10001) TooManyStatements))) (in_procedure p.name (block_fault (lone (variables p)) false news))
+        check_fault (N hs) ≡ first (in_procedure (name_of (last_of (O hs))) (at 0 (first (unless (nat_lt counted 10001) TooManyStatements) (unless (nat_lt ((k hs).depth + nesting news) 33) Nesting)))) (in_procedure p.name (block_fault (lone (variables p)) true news))
     gap_fault z =
-        spliced_fault p hs before olds news behind ps qs z (omega (arith, simple_nesting news simple)) same_calls
-        ∙ ap (λ o. first (in_procedure (name_of (last_of (O hs))) (at 0 (unless (nat_lt ((program_count (O hs) - block_count olds) + block_count news) 10001) TooManyStatements))) (in_procedure p.name o))
-        (simple_fault (scope_at p hs before olds news behind ps qs) (in_loop false hs) news simple ∙ simple_inside (lone (variables p)) (in_loop false hs) false news simple)
+        let deep : length hs ≡ (k hs).depth = omega (arith, context_depth (context_at (length ps)) hs) in
+        let sc = scope_at p hs before olds news behind ps qs in
+        program_fault p hs before olds news behind ps qs z same_calls
+        ∙ ap (λ n. first (in_procedure (name_of (last_of (O hs))) (at 0 (first (unless (nat_lt counted 10001) TooManyStatements) (unless (nat_lt (n + nesting news) 33) Nesting)))) (news_fault p hs before olds news behind ps qs)) deep
+        ∙ ap (λ o. first (in_procedure (name_of (last_of (O hs))) (at 0 (first (unless (nat_lt counted 10001) TooManyStatements) (unless (nat_lt ((k hs).depth + nesting news) 33) Nesting)))) (in_procedure p.name o))
+        (quiet_fault sc (in_loop false hs) news silent ∙ own_fault (in_loop false hs))
+      where
+        own_fault : (i : Bool) → block_fault (lone (variables p)) i news ≡ block_fault (lone (variables p)) true news
+        own_fault true = refl
+        own_fault false = closed_fault (lone (variables p)) false news closed
 
     pub gap_sites : sites_of (N hs) ≡ sites_of (O hs)
-    gap_sites = sites_stay p hs before olds news behind (λ es n. quiet_sites (frame_at es p) n (context_at 0) None None olds quiet ∙ sym (simple_sites (frame_at es p) n (context_at 0) None None news simple)) ps qs
+    gap_sites = sites_stay p hs before olds news behind (λ es n. quiet_sites (frame_at es p) n (context_at 0) None None olds quiet ∙ sym (quiet_sites (frame_at es p) n (context_at 0) None None news silent)) ps qs
 
     pub gap_fits : FitsCode [] (layout_in p) (code_in (frame_at [] p) news) → IsChecked (routines_of (O hs)) → AreNumbered (N hs) → IsChecked (routines_of (N hs))
-    gap_fits w c d = program_fits p hs before olds news behind ps qs (λ rs es v. simple_fits (layout_in p) [] es [] rs news simple w) (none_leaves hs before olds news behind (simple_leaving news simple)) c d
+    gap_fits w c d = program_fits p hs before olds news behind ps qs (λ rs es v. quiet_fits (layout_in p) [] es [] rs news silent w) (none_leaves hs before olds news behind (closed_leaving news closed)) c d
 
   -- The statements around the place are statements of the program.
   module _ (hs : List Hole) (once : Distinct (program_numbers (O hs))) where

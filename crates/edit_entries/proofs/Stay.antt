@@ -9,12 +9,12 @@ use Rattle.imp_check.specs.Faults.{first}
 use Rattle.imp_check.specs.Slots.{Frame}
 use Rattle.imp_check.specs.declared.entry.Which.TheVariants as which
 use Rattle.imp_check.specs.declared.entry.Context.{Context}
-use Rattle.imp_check.specs.Parts.{first_or, last_or, leaving}
+use Rattle.imp_check.specs.Parts.{first_or, last_or}
 use Rattle.imp_check.specs.Entries.{inside, inside_loop, statement_entries, block_entries, procedure_entries, entries_from, entries_of, entry_of, frame_at, context_at}
 use Rattle.edit_entries.specs.Spliced.{is}
-use Rattle.edit_entries.specs.Holes.{append, Hole, Then, Else, Body, fill, plug, holder, loop_of, between}
-use Rattle.edit_entries.proofs.Others.{entry_append, part_other, leaving_append, Alike}
-use Rattle.edit_entries.proofs.Filled.{fill_same, fill_other, fill_then, fill_else, ends_filled, plug_leaving, cut, has_loop, no_loop, some_loop}
+use Rattle.edit_entries.specs.Holes.{Hole, Then, Else, Body, fill, plug, holder, loop_of, between}
+use Rattle.edit_entries.proofs.Others.{entry_append, part_other, Alike}
+use Rattle.edit_entries.proofs.Filled.{fill_same, fill_other, fill_then, fill_else, ends_filled, cut, has_loop, no_loop, some_loop}
 use Rattle.edit_entries.proofs.Heads.{entries_alike}
 use Rattle.edit_entries.proofs.Programs.{old_one, new_one, old_program, new_program, bares_at}
 

@@ -1,7 +1,7 @@
 -- The table of a program after an edit of a block is that of before, changed at the statements that go and come, at their two
 -- neighbours, at the statement that has the block, and at the loop around it whose breaks go.
 use Rattle.std.proofs.lemmas.Bool.Decides.{nat_tests}
-use Rattle.std.proofs.Common.{◌≡◌, ℕ, ◌==◌, inl, inr, ◌||◌, cond, List, [], ◌∷◌, ◌++◌, length, Option, Some, None, Bool, true, false, refl, sym, ap, ◌∙◌, subst, arith}
+use Rattle.std.proofs.Common.{◌≡◌, ℕ, ◌==◌, inl, inr, cond, List, [], ◌∷◌, ◌++◌, length, Option, Some, None, Bool, true, false, refl, sym, ap, ◌∙◌, subst, arith}
 use Rattle.std.specs.Option.{option_map}
 use Rattle.imp_syntax.specs.Plain.{Statement, Statements, Ends, Starts, Procedure, number_of, numbers, program_numbers}
 use Rattle.imp_slots.specs.Fits.{Absent, Distinct}

@@ -15,18 +15,6 @@ use Rattle.imp_check.specs.declared.entry.Which.{Which}
 use Rattle.imp_check.specs.declared.entry.Which.TheVariants as which
 use Rattle.edit_entries.specs.Spliced.{Splice}
 
--- whether a statement is simple, and neither a call nor a break
-abbrev pub is_simple : Statement → Bool
-is_simple (Simple n a) = true
-is_simple (Break n) = false
-is_simple (Call n x g es) = false
-is_simple (If n c t e) = false
-is_simple (While n c b) = false
-
-abbrev pub are_simple : Statements → Bool
-are_simple Ends = true
-are_simple (Starts s ss) = is_simple s && are_simple ss
-
 -- whether no call stands in a statement
 abbrev mutual
   pub is_quiet : Statement → Bool
@@ -39,6 +27,19 @@ abbrev mutual
   pub are_quiet : Statements → Bool
   are_quiet Ends = true
   are_quiet (Starts s ss) = is_quiet s && are_quiet ss
+
+-- Whether moreover each break stands in a loop: one of its own, or one around it if one is.
+abbrev mutual
+  pub is_closed : (inside : Bool) → Statement → Bool
+  is_closed inside (Simple n a) = true
+  is_closed inside (Break n) = inside
+  is_closed inside (Call n x g es) = false
+  is_closed inside (If n c t e) = are_closed inside t && are_closed inside e
+  is_closed inside (While n c b) = are_closed true b
+
+  pub are_closed : (inside : Bool) → Statements → Bool
+  are_closed inside Ends = true
+  are_closed inside (Starts s ss) = is_closed inside s && are_closed inside ss
 
 -- these variables, and no procedure
 abbrev pub lone : List Declaration → Scope

@@ -8,9 +8,9 @@
 //!   `proofs/Table.antt`, `Holders.antt`, `Breaks.antt`); another condition changes one entry (`proofs/Guards.antt`);
 //! - its first fault is that of the part alone, where the parts have the same calls: the count of statements and the
 //!   depth of the place decide whether it is too large (`proofs/Programs.antt`, `Exchange.antt`);
-//! - where the statements that come are simple and no call stands in those that go, all this is told by what is known at
-//!   the place: its block, the statements in front and behind, and the loop around it (`specs/Gaps.antt`,
-//!   `proofs/Parts.antt`);
+//! - where no call stands in the statements that come and go, and no break leaves those that come, all this is told by
+//!   what is known at the place: its block, the statements in front and behind, and the loop around it
+//!   (`specs/Gaps.antt`, `proofs/Closed.antt`, `Parts.antt`);
 //! - its call statements stay, and so do its procedures but for the ends of a body (`proofs/Sites.antt`); it fits over slots
 //!   (`proofs/Fitting.antt`).
 //!
