@@ -14,4 +14,5 @@ pub mod PutLemmas
 pub mod QuietLemmas
 pub mod GapLemmas
 pub mod SpliceLemmas
+pub mod ComingLemmas
 pub mod SpliceMade

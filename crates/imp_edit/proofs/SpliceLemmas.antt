@@ -1,30 +1,25 @@
--- The change that puts simple statements at a place.
+-- The change that puts statements at a place.
 use Rattle.std.proofs.lemmas.Bool.Decides.{nat_tests}
 use Rattle.std.proofs.Common.{◌≡◌, ℕ, zero, suc, ◌+◌, ◌-◌, ◌^◌, ◌<◌, ◌≤◌, ◌==◌, ◌||◌, nat_lt, min, cond, Bool, true, false, List, [], ◌∷◌, ◌++◌, length, drop, slice_get, slice_set, slice_index_or, Option, Some, None, refl, sym, ap, ◌∙◌, subst, arith, add-one, drop-cons, append_assoc}
 use Rattle.std.proofs.lemmas.Bool.{lt-ltb}
 use Rattle.std.specs.List.{All}
 use Rattle.std.specs.Option.{option_map}
-use Rattle.imp_syntax.specs.Plain.{Statement, Simple, Break, Call, If, While, Statements, Ends, Starts, Procedure, number_of, statements_of}
-use Rattle.imp_syntax.specs.declared.words.Declaration.{Declaration}
-use Rattle.imp_slots.specs.Fits.{FitsCode}
+use Rattle.imp_syntax.specs.Plain.{Statement, Statements, Ends, Starts, Procedure, number_of, statements_of}
 use Rattle.imp_check.specs.Changes.{AreFalling, AreWithin}
-use Rattle.imp_check.specs.Entries.{block_entries, entry_at, entry_of, frame_at, head_of, heads_of}
+use Rattle.imp_check.specs.Entries.{entry_of, head_of, heads_of}
 use Rattle.imp_check.specs.Faults.{first, unless, at, in_procedure}
-use Rattle.imp_check.specs.Parts.{first_or, last_or}
+use Rattle.imp_check.specs.Parts.{last_or}
 use Rattle.imp_check.specs.Programs.{has, last_of, name_of}
-use Rattle.imp_check.specs.Slots.{Frame, code_in, layout_in}
-use Rattle.imp_check.specs.Statements.{block_fault}
 use Rattle.imp_check.specs.declared.entry.Around.{Around}
 use Rattle.imp_check.specs.declared.entry.BlockEnds.{BlockEnds}
-use Rattle.imp_check.specs.declared.entry.Context.{Context}
 use Rattle.imp_check.specs.declared.entry.Entry.{Entry}
 use Rattle.imp_check.specs.declared.entry.Head.{Head}
-use Rattle.imp_check.specs.declared.fault.Fault.TheVariants.{Statements as TooManyStatements}
+use Rattle.imp_check.specs.declared.fault.Fault.{Fault as SizeFault}
+use Rattle.imp_check.specs.declared.fault.Fault.TheVariants.{Statements as TooManyStatements, Nesting}
 use Rattle.imp_check.specs.declared.fault.Found.{Found}
 use Rattle.imp_check.proofs.RebuildLemmas.{entry_numbers}
-use Rattle.edit_entries.specs.Gaps.{are_simple, is_simple, head_with, heads_in, holder_of, lone}
+use Rattle.edit_entries.specs.Gaps.{head_with, heads_in, holder_of}
 use Rattle.edit_entries.proofs.Others.{entry_append}
-use Rattle.imp_edit.specs.Alone.{FitsAlone, alone_fault}
 use Rattle.imp_edit.specs.Gaps.{IsBelow}
 use Rattle.imp_edit.specs.Refusals.{IsRefusal}
 use Rattle.imp_edit.specs.declared.error.EditError.{EditError}
@@ -147,46 +142,6 @@ below_at b ns i x a h e = subst (λ n. n < b) (sym e) (a i x h)
 pub around_below : (b : ℕ) (o : Option Around) (w : Around) → o ≡ Some w → IsBelow b (holder_of o) → w.stmt < b
 around_below b o w e h = subst (λ (z : Option Around). IsBelow b (holder_of z)) e h
 
--- One more simple statement.
-pub simple_head : (s : Statement) (r : Statements) → are_simple (Starts s r) ≡ true → is_simple s ≡ true
-simple_head (Simple n a) r h = refl
-simple_head (Break n) r h = h
-simple_head (Call n x g es) r h = h
-simple_head (If n c t e) r h = h
-simple_head (While n c b) r h = h
-
-pub simple_rest : (s : Statement) (r : Statements) → are_simple (Starts s r) ≡ true → are_simple r ≡ true
-simple_rest (Simple n a) r h = h
-simple_rest (Break n) r h = cc
-simple_rest (Call n x g es) r h = cc
-simple_rest (If n c t e) r h = cc
-simple_rest (While n c b) r h = cc
-
-pub entries_step : (f : Frame) (c : Context) (front next : Option ℕ) (es : List Entry) (s : Statement) (r : Statements) → is_simple s ≡ true →
-    (es ++ entry_at f c front (first_or r next) s ∷ []) ++ block_entries f c (Some (number_of s)) next r ≡ es ++ block_entries f c front next (Starts s r)
-entries_step f c front next es (Simple n a) r h = append_assoc es (entry_at f c front (first_or r next) (Simple n a) ∷ []) (block_entries f c (Some n) next r)
-entries_step f c front next es (Break n) r h = cc
-entries_step f c front next es (Call n x g as') r h = cc
-entries_step f c front next es (If n d t e) r h = cc
-entries_step f c front next es (While n d b) r h = cc
-
-pub fit_step : (p : Procedure) (s : Statement) (r : Statements) → is_simple s ≡ true → FitsAlone p s → FitsCode [] (layout_in p) (code_in (frame_at [] p) r) → FitsCode [] (layout_in p) (code_in (frame_at [] p) (Starts s r))
-fit_step p (Simple n a) r h w v = (w, v)
-fit_step p (Break n) r h w v = cc
-fit_step p (Call n x g as') r h w v = absurd cc
-fit_step p (If n d t e) r h w v = absurd cc
-fit_step p (While n d b) r h w v = absurd cc
-
-pub fault_step : (vs : List Declaration) (s : Statement) (r : Statements) → is_simple s ≡ true → block_fault (lone vs) false (Starts s r) ≡ first (at (number_of s) (alone_fault vs s)) (block_fault (lone vs) false r)
-fault_step vs (Simple n a) r h = refl
-fault_step vs (Break n) r h = cc
-fault_step vs (Call n x g as') r h = cc
-fault_step vs (If n d t e) r h = cc
-fault_step vs (While n d b) r h = cc
-
-pub none_step : (vs : List Declaration) (s : Statement) (r : Statements) → is_simple s ≡ true → alone_fault vs s ≡ None → block_fault (lone vs) false (Starts s r) ≡ block_fault (lone vs) false r
-none_step vs s r h e = fault_step vs s r h ∙ ap (λ o. first (at (number_of s) o) (block_fault (lone vs) false r)) e
-
 -- A refusal by the first of two faults, or by the second where the first is none.
 only_memory : (o : Option Found) (r : EditError) → IsRefusal None r → IsRefusal (option_map Fault o) r
 only_memory o NoProcedure h = absurd cc
@@ -216,17 +171,40 @@ refused_step x o p q r e h = subst (λ z. IsRefusal (option_map Fault z) r) (sym
 pub few_then : (pc g bc left count : ℕ) → left ≡ pc - g → count ≡ min (left + min bc (2 ^ 32 - 1)) (2 ^ 32 - 1) → count ≤ 10000 → count ≡ (pc - g) + bc
 few_then pc g bc left count e f h = let k : count ≡ left + bc = grind arith in k ∙ ap (λ z. z + bc) e
 
-pub few_fault : (x : List ℕ) (n count : ℕ) → count ≡ n → count ≤ 10000 → in_procedure x (at 0 (unless (nat_lt n 10001) TooManyStatements)) ≡ None
-few_fault x n count e h = ap (λ t. in_procedure x (at 0 (unless t TooManyStatements))) (lt-ltb n 10001 (omega (arith, e, h)))
+-- .. and the fault of the size of the program
+abbrev many : ℕ → Option SizeFault
+many n = unless (nat_lt n 10001) TooManyStatements
 
-pub many_fault : (x : List ℕ) (pc g bc left count : ℕ) → left ≡ pc - g → count ≡ min (left + min bc (2 ^ 32 - 1)) (2 ^ 32 - 1) → 10000 < count → in_procedure x (at 0 (unless (nat_lt ((pc - g) + bc) 10001) TooManyStatements)) ≡ Some (record { fault = TooManyStatements; proc = x; at = 0 })
-many_fault x pc g bc left count e f h =
-    let k : 10001 ≤ left + bc = grind arith in
-    ap (λ z. in_procedure x (at 0 (unless (nat_lt (z + bc) 10001) TooManyStatements))) (sym e)
-    ∙ ap (λ t. in_procedure x (at 0 (unless t TooManyStatements))) (not_less (left + bc) k)
+abbrev deep : ℕ → Option SizeFault
+deep n = unless (nat_lt n 33) Nesting
+
+below : (n k : ℕ) → n < k → (f : SizeFault) → unless (nat_lt n k) f ≡ None
+below n k h f = ap (λ t. unless t f) (lt-ltb n k h)
+
+past : (n k : ℕ) → k ≤ n → (f : SizeFault) → unless (nat_lt n k) f ≡ Some f
+past n k h f = ap (λ t. unless t f) (not_less n k h)
   where
-    not_less : (n : ℕ) → 10001 ≤ n → nat_lt n 10001 ≡ false
-    not_less n h = grind (arith, nat_tests)
+    not_less : (n k : ℕ) → k ≤ n → nat_lt n k ≡ false
+    not_less n k h = grind (arith, nat_tests)
+
+pub small_fault : (x : List ℕ) (n count d : ℕ) → count ≡ n → count ≤ 10000 → d < 33 → in_procedure x (at 0 (first (many n) (deep d))) ≡ None
+small_fault x n count d e h k = ap (λ o. in_procedure x (at 0 (first o (deep d)))) (below n 10001 (omega (arith, e, h)) TooManyStatements) ∙ ap (λ o. in_procedure x (at 0 o)) (below d 33 k Nesting)
+
+pub many_fault : (x : List ℕ) (pc g bc left count d : ℕ) → left ≡ pc - g → count ≡ min (left + min bc (2 ^ 32 - 1)) (2 ^ 32 - 1) → 10000 < count → in_procedure x (at 0 (first (many ((pc - g) + bc)) (deep d))) ≡ Some (record { fault = TooManyStatements; proc = x; at = 0 })
+many_fault x pc g bc left count d e f h =
+    let k : 10001 ≤ left + bc = grind arith in
+    ap (λ z. in_procedure x (at 0 (first (many (z + bc)) (deep d)))) (sym e)
+    ∙ ap (λ o. in_procedure x (at 0 (first o (deep d)))) (past (left + bc) 10001 k TooManyStatements)
+
+pub deep_fault : (x : List ℕ) (n count d : ℕ) → count ≡ n → count ≤ 10000 → 32 < d → in_procedure x (at 0 (first (many n) (deep d))) ≡ Some (record { fault = Nesting; proc = x; at = 0 })
+deep_fault x n count d e h k = ap (λ o. in_procedure x (at 0 (first o (deep d)))) (below n 10001 (omega (arith, e, h)) TooManyStatements) ∙ ap (λ o. in_procedure x (at 0 o)) (past d 33 k Nesting)
+
+-- how deep the blocks that come are, counted up to a limit
+pub not_deep : (d n m sum : ℕ) → m ≡ min n (2 ^ 32 - 1) → sum ≡ min (d + m) (2 ^ 32 - 1) → sum ≤ 32 → d + n < 33
+not_deep d n m sum e f h = grind arith
+
+pub too_deep : (d n m sum : ℕ) → m ≡ min n (2 ^ 32 - 1) → sum ≡ min (d + m) (2 ^ 32 - 1) → 32 < sum → 32 < d + n
+too_deep d n m sum e f h = grind arith
 
 -- The procedures, with other ends of one body.
 pub head_set : (hs : List Head) (n : ℕ) (h : Head) (ends : BlockEnds → BlockEnds) → n < length hs → h ≡ slice_index_or hs n h → slice_set hs n (record h { body = ends h.body }) ≡ head_with hs n ends

@@ -11,23 +11,23 @@ use Rattle.imp_check.specs.Faults.{first, unless, at, in_procedure}
 use Rattle.imp_check.specs.Fine.{IsFine}
 use Rattle.imp_check.specs.Names.{variables}
 use Rattle.imp_check.specs.Parts.{first_or, last_or}
-use Rattle.imp_check.specs.Programs.{AreNumbered, block_count, program_count, name_of, last_of, variables_fault, check_fault}
+use Rattle.imp_check.specs.Programs.{AreNumbered, block_count, program_count, nesting, name_of, last_of, variables_fault, check_fault}
 use Rattle.imp_check.specs.Slots.{code_in, layout_in}
 use Rattle.imp_check.specs.Statements.{block_fault}
 use Rattle.imp_check.specs.declared.change.Change.{Change}
 use Rattle.imp_check.specs.declared.entry.Entry.{Entry}
 use Rattle.imp_check.specs.declared.entry.Head.{Head}
-use Rattle.imp_check.specs.declared.fault.Fault.TheVariants.{Statements as TooManyStatements}
-use Rattle.edit_entries.specs.Gaps.{are_quiet, are_simple, ends_with, holder_of, held_in, heads_in, gap_splice, lone}
+use Rattle.imp_check.specs.declared.fault.Fault.TheVariants.{Statements as TooManyStatements, Nesting}
+use Rattle.edit_entries.specs.Gaps.{are_quiet, are_closed, ends_with, holder_of, held_in, heads_in, gap_splice, lone}
 use Rattle.edit_entries.specs.Holes.{Hole}
 use Rattle.edit_entries.specs.Spliced.{spliced}
+use Rattle.edit_entries.proofs.Closed.{closed_quiet, closed_leaving}
 use Rattle.edit_entries.proofs.Exchange.{faultless}
 use Rattle.edit_entries.proofs.Located.{Has}
 use Rattle.edit_entries.proofs.Numbers.{Apart}
 use Rattle.edit_entries.proofs.Parts.{gap_table, gap_heads, gap_fault, gap_sites, gap_fits, front_has, next_has, old_has, holder_has, loop_has}
 use Rattle.edit_entries.proofs.Programs.{old_one, old_program, new_program, news_count}
-use Rattle.edit_entries.proofs.Quiet.{numbers_count}
-use Rattle.edit_entries.proofs.Simple.{simple_entries, simple_leaving}
+use Rattle.edit_entries.proofs.Quiet.{numbers_count, quiet_entries}
 use Rattle.edit_entries.proofs.Standing.{all_has, context_proc, own_head}
 use Rattle.edit_entries.proofs.Touched.{context_of}
 use Rattle.imp_edit.specs.Edited.{edited, brought, uses, next_after, counting, Continues}
@@ -41,7 +41,7 @@ use Rattle.imp_edit.proofs.GapLemmas.{GapPart, gap_part}
 use Rattle.imp_edit.proofs.Once.{never_absent, counting_low, counting_high, never_below}
 
 -- In holes.
-module _ (p : Procedure) (hs : List Hole) (before olds behind : Statements) (ps qs : List Procedure) (news : Statements) (quiet : are_quiet olds ≡ true) (simple : are_simple news ≡ true) where
+module _ (p : Procedure) (hs : List Hole) (before olds behind : Statements) (ps qs : List Procedure) (news : Statements) (quiet : are_quiet olds ≡ true) (closed : are_closed false news ≡ true) where
   abbrev O : List Procedure
   O = old_program p hs before olds Ends behind ps qs
 
@@ -58,8 +58,10 @@ module _ (p : Procedure) (hs : List Hole) (before olds behind : Statements) (ps 
     -- The first fault.
     pub fault_is : check_fault O ≡ None → check_fault N ≡ splice_fault O h g news
     fault_is z =
-        gap_fault ps qs p before olds news behind hs quiet simple z
-        ∙ ap (λ n. first (in_procedure (name_of (last_of O)) (at 0 (unless (nat_lt n 10001) TooManyStatements))) (in_procedure p.name (block_fault (lone (variables p)) false news))) (sym counts)
+        let k = context_of (context_at (length ps)) hs in
+        gap_fault ps qs p before olds news behind hs quiet closed z
+        ∙ ap (λ n. first (in_procedure (name_of (last_of O)) (at 0 (first (unless (nat_lt n 10001) TooManyStatements) (unless (nat_lt (k.depth + nesting news) 33) Nesting)))) (in_procedure p.name (block_fault (lone (variables p)) true news))) (sym counts)
+        ∙ ap (λ c. first (in_procedure (name_of (last_of O)) (at 0 (first (unless (nat_lt (count_with O g news) 10001) TooManyStatements) (unless (nat_lt (c.depth + nesting news) 33) Nesting)))) (in_procedure p.name (block_fault (lone (variables p)) true news))) (sym context)
 
     -- What is known of the statements.
     module _ (old : Distinct (program_numbers O)) (new : Distinct (program_numbers N)) (apart : Apart (numbers olds) (numbers news)) where
@@ -69,8 +71,8 @@ module _ (p : Procedure) (hs : List Hole) (before olds behind : Statements) (ps 
           let a = last_or before None in
           let b = first_or behind None in
           let at = entry_of (entries_of O) in
-          gap_table ps qs p before olds news behind apart (simple_leaving news simple) hs old new m
-          ∙ ap (λ (es : List Entry). spliced (record (gap_splice (frame_at ps p) k a b (numbers olds) news) { come = es }) (held_in k.around (ends_with a b news)) at m) (simple_entries (layout_in p) ps [] k a b news simple)
+          gap_table ps qs p before olds news behind apart (closed_leaving news closed) hs old new m
+          ∙ ap (λ (es : List Entry). spliced (record (gap_splice (frame_at ps p) k a b (numbers olds) news) { come = es }) (held_in k.around (ends_with a b news)) at m) (quiet_entries (layout_in p) ps [] k a b news (closed_quiet false news closed))
           ∙ ap (λ ns. spliced (gap_splice (frame_at [] p) k a b ns news) (held_in k.around (ends_with a b news)) at m) (sym gone)
           ∙ ap (λ z. spliced (gap_splice (frame_at [] p) z a b g.gone news) (held_in z.around (ends_with a b news)) at m) (sym context)
           ∙ ap (λ z. spliced (gap_splice (frame_at [] p) g.context z b g.gone news) (held_in g.context.around (ends_with z b news)) at m) (sym in_front)
@@ -117,12 +119,12 @@ module _ (p : Procedure) (hs : List Hole) (before olds behind : Statements) (ps 
         entries = λ m. entries_are fine.numbered.once numbered.once apart m ∙ sym (s.entries m);
         heads = heads_are ∙ sym s.heads;
         counted = s.counted ∙ counts ∙ sym (news_count p hs before olds news behind ps qs);
-        sites = gap_sites ps qs p before olds news behind hs quiet simple ∙ ap (λ (o : Option (List (List ℕ))). unwrap_or o (sites_of O)) (sym s.sites);
+        sites = gap_sites ps qs p before olds news behind hs quiet closed ∙ ap (λ (o : Option (List (List ℕ))). unwrap_or o (sites_of O)) (sym s.sites);
       };
       fine = record {
         faultless = fault_is fine.faultless ∙ none;
         numbered = numbered;
-        fit = gap_fits ps qs p before olds news behind hs quiet simple fits fine.fit numbered;
+        fit = gap_fits ps qs p before olds news behind hs quiet closed fits fine.fit numbered;
       };
       within = s.within b (below_all fine.numbered.once next b low more come);
     }
@@ -153,11 +155,11 @@ module _ (e : Edit) (P : List Procedure) (g : Gap) (h : Head) (fine : IsFine P) 
   pub gap_variables : variables_fault [] (variables h.bare) ≡ None
   gap_variables = ap (λ (z : Head). variables_fault [] (variables z.bare)) head_is ∙ (faultless part.own part.holes part.before part.olds Ends part.behind part.front part.back fine_whole.faultless).vars
 
-  module _ (simple : are_simple (brought e) ≡ true) where
+  module _ (closed : are_closed false (brought e) ≡ true) where
     edit_fault : check_fault (edited e P) ≡ splice_fault P h g (brought e)
     edit_fault =
         ap check_fault part.becomes
-        ∙ fault_is part.own part.holes part.before part.olds part.behind part.front part.back (brought e) part.quiet simple g part.context part.in_front part.in_back part.gone fine_whole.faultless
+        ∙ fault_is part.own part.holes part.before part.olds part.behind part.front part.back (brought e) part.quiet closed g part.context part.in_front part.in_back part.gone fine_whole.faultless
         ∙ ap (λ (z : Head). splice_fault whole z g (brought e)) (sym head_is)
         ∙ ap (λ (os : List Procedure). splice_fault os h g (brought e)) (sym part.is)
 
@@ -184,6 +186,6 @@ module _ (e : Edit) (P : List Procedure) (g : Gap) (h : Head) (fine : IsFine P) 
           let fit : FitsCode [] (layout_in part.own) (code_in (frame_at [] part.own) (brought e)) = subst (λ (z : Head). FitsCode [] (layout_in z.bare) (code_in (frame_at [] z.bare) (brought e))) head_is fits in
           let no : splice_fault whole (head_of own) g (brought e) ≡ None = ap (λ (z : Head). splice_fault whole z g (brought e)) (sym head_is) ∙ ap (λ (os : List Procedure). splice_fault os h g (brought e)) (sym part.is) ∙ none in
           let made : IsMade whole new (next_after e next) change =
-          spliced_made part.own part.holes part.before part.olds part.behind part.front part.back (brought e) part.quiet simple g part.context part.in_front part.in_back part.gone
+          spliced_made part.own part.holes part.before part.olds part.behind part.front part.back (brought e) part.quiet closed g part.context part.in_front part.in_back part.gone
           fine_whole (subst AreNumbered part.becomes numbered) apart next (next_after e next) low_whole (omega arith) come fit no change splice in
           subst (λ (os : List Procedure). IsMade P os (next_after e next) change) (sym part.becomes) (subst (λ (os : List Procedure). IsMade os new (next_after e next) change) (sym part.is) made)

@@ -1,8 +1,8 @@
--- Where an edit that brings simple statements changes a block, and what it changes there.
-use Rattle.std.specs.Prelude.{◌≡◌, ℕ, suc, ◌+◌, ◌-◌, ◌<◌, List, [], ◌∷◌, length, Option, Some, None, false, cond, nat_lt, slice_get, unwrap_or}
+-- Where an edit that brings statements changes a block, and what it changes there.
+use Rattle.std.specs.Prelude.{◌≡◌, ℕ, suc, ◌+◌, ◌-◌, ◌<◌, List, [], ◌∷◌, length, Option, Some, None, true, cond, nat_lt, slice_get, unwrap_or}
 use Rattle.std.specs.List.{All}
 use Rattle.std.specs.Option.{option_map}
-use Rattle.imp_syntax.specs.Plain.{Statement, Simple, Break, Call, If, While, Statements, Procedure, numbers}
+use Rattle.imp_syntax.specs.Plain.{Statements, Procedure, numbers}
 use Rattle.imp_syntax.specs.declared.edit.Edit.{Edit}
 use Rattle.imp_syntax.specs.declared.edit.Edit.TheVariants as edit
 use Rattle.imp_syntax.specs.declared.edit.Place.{Place}
@@ -11,13 +11,13 @@ use Rattle.imp_check.specs.Changes.{AreWithin, overlay}
 use Rattle.imp_check.specs.Entries.{inside, inside_loop, context_at, entries_of, entry_of, frame_at, heads_of}
 use Rattle.imp_check.specs.Faults.{first, unless, at, in_procedure}
 use Rattle.imp_check.specs.Names.{named_in, variables}
-use Rattle.imp_check.specs.Programs.{block_count, program_count, name_of, last_of}
+use Rattle.imp_check.specs.Programs.{block_count, program_count, nesting, name_of, last_of}
 use Rattle.imp_check.specs.Statements.{block_fault}
 use Rattle.imp_check.specs.declared.change.Change.{Change}
 use Rattle.imp_check.specs.declared.entry.Entry.{Entry}
 use Rattle.imp_check.specs.declared.entry.Head.{Head}
 use Rattle.imp_check.specs.declared.entry.Which.TheVariants as which
-use Rattle.imp_check.specs.declared.fault.Fault.TheVariants.{Statements as TooManyStatements}
+use Rattle.imp_check.specs.declared.fault.Fault.TheVariants.{Statements as TooManyStatements, Nesting}
 use Rattle.imp_check.specs.declared.fault.Found.{Found}
 use Rattle.edit_entries.specs.Gaps.{ends_with, holder_of, held_in, heads_in, gap_splice, lone}
 use Rattle.edit_entries.specs.Spliced.{spliced}
@@ -73,24 +73,17 @@ gap_of (edit.Declare x d) ps = None
 gap_of (edit.AddProc x p) ps = None
 gap_of (edit.DropProc x) ps = None
 
--- how many statements the program then has, and the fault of too many
+-- how many statements the program then has
 abbrev pub count_with : List Procedure → Gap → Statements → ℕ
 count_with ps g news = (program_count ps - length g.gone) + block_count news
 
-abbrev pub count_fault : List Procedure → Gap → Statements → Option Found
-count_fault ps g news = in_procedure (name_of (last_of ps)) (at 0 (unless (nat_lt (count_with ps g news) 10001) TooManyStatements))
+-- The first fault of all: too many statements, or a block that is too deep.
+abbrev pub size_fault : List Procedure → Gap → Statements → Option Found
+size_fault ps g news = in_procedure (name_of (last_of ps)) (at 0 (first (unless (nat_lt (count_with ps g news) 10001) TooManyStatements) (unless (nat_lt (g.context.depth + nesting news) 33) Nesting)))
 
--- The first fault: too many statements, or that of those that come.
+-- The first fault: that, or the first one of the statements that come, whose breaks stand in loops.
 abbrev pub splice_fault : List Procedure → Head → Gap → Statements → Option Found
-splice_fault ps h g news = first (count_fault ps g news) (in_procedure h.bare.name (block_fault (lone (variables h.bare)) false news))
-
--- a simple statement with another number
-abbrev pub with_number : ℕ → Statement → Statement
-with_number m (Simple n a) = Simple m a
-with_number m (Break n) = Break n
-with_number m (Call n x g es) = Call n x g es
-with_number m (If n c t e) = If n c t e
-with_number m (While n c b) = While n c b
+splice_fault ps h g news = first (size_fault ps g news) (in_procedure h.bare.name (block_fault (lone (variables h.bare)) true news))
 
 -- what is then known of the statements
 abbrev pub entries_with : List Procedure → Head → Gap → Statements → ℕ → Option Entry
@@ -110,7 +103,7 @@ pub record AreBelow (b : ℕ) (g : Gap) (news : Statements) : Type 0 where
   pub loop : IsBelow b g.context.head
   pub come : All (λ (n : ℕ). n < b) (numbers news)
 
--- The change puts simple statements at a place, and takes away what goes.
+-- The change puts statements at a place, and takes away what goes.
 pub record IsSplice (ps : List Procedure) (h : Head) (g : Gap) (news : Statements) (change : Change) : Type 0 where
   pub entries : (m : ℕ) → overlay change.entries.items (entry_of (entries_of ps)) m ≡ entries_with ps h g news m
   pub heads : unwrap_or change.heads (heads_of ps) ≡ heads_in g.context.around (heads_of ps) g.context.proc (ends_with g.front g.next news)

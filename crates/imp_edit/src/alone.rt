@@ -1,6 +1,8 @@
 //! Statements checked by themselves.
 ghost use Rattle.std.specs.Prelude.{◌≡◌, ◌++◌, [], IfOk, IfErr, OnOk, None};
 ghost use Rattle.std.specs.Option.{option_map};
+ghost use Rattle.imp_syntax.specs.Plain.{Ends, If, Simple};
+ghost use Rattle.imp_syntax.specs.ActionViews.{action_of};
 ghost use Rattle.imp_check.specs.Names.{variables};
 ghost use Rattle.imp_check.specs.Programs.{variables_fault};
 ghost use Rattle.imp_check.specs.Faults.{at, in_procedure};
@@ -8,12 +10,11 @@ ghost use Rattle.imp_check.specs.Entries.{entries_of, entry_of, form_in, frame_a
 ghost use Rattle.imp_check.specs.declared.entry.Entry.{Entry};
 ghost use Rattle.imp_edit.specs.declared.error.EditError.TheVariants.{Fault as refused_by};
 ghost use Rattle.imp_edit.specs.Alone.{IsAlone, alone, alone_fault, FitsAlone};
-ghost use Rattle.imp_edit.specs.Gaps.{with_number};
 ghost use Rattle.imp_edit.specs.Refusals.{IsRefusal};
 
 use crate::error::EditError;
 use imp_check::{CheckError, Fault, Found, SlotForm, Table, check_table};
-use imp_syntax::{Action, Block, Declaration, Proc, Program, Stmt, StmtId, StmtNode};
+use imp_syntax::{Action, Block, Cond, Declaration, Proc, Program, Stmt, StmtId, StmtNode};
 use plain_values::{Items, Memory, Text};
 use std::alloc::Global;
 
@@ -126,17 +127,20 @@ pub(crate) fn form_again(form: &SlotForm) -> Result<SlotForm, Memory>
     }
 }
 
-/// A simple statement with the number 1; any other statement as it is.
-pub(crate) fn with_first_number(alloc: Global, stmt: &Stmt) -> Result<Stmt, Memory>
-    ensures is { IfOk result (λ s. s ≡ with_number 1 stmt.now) }
+/// A simple statement by itself.
+pub(crate) fn simple_alone(alloc: Global, action: &Action) -> Result<Stmt, Memory>
+    ensures is { IfOk result (λ stmt. stmt ≡ Simple 1 (action_of action.now)) }
 {
-    match stmt.node() {
-        StmtNode::Simple(action) => {
-            let node = StmtNode::Simple(action_again(action)?);
-            Stmt::new(alloc, StmtId::new(1), node)
-        }
-        _ => Ok(stmt.clone()?),
-    }
+    let node = StmtNode::Simple(action_again(action)?);
+    Stmt::new(alloc, StmtId::new(1), node)
+}
+
+/// An if with this condition and of nothing, by itself.
+pub(crate) fn condition_alone(alloc: Global, cond: &Cond) -> Result<Stmt, Memory>
+    ensures is { IfOk result (λ stmt. stmt ≡ If 1 cond.now Ends Ends) }
+{
+    let node = StmtNode::If(cond.clone()?, Block::empty(), Block::empty());
+    Stmt::new(alloc, StmtId::new(1), node)
 }
 
 /// A copy of what a simple statement does.

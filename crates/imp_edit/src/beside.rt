@@ -1,4 +1,4 @@
-//! The entries that change where simple statements come at a place of a block, or others go.
+//! The entries that change where statements come at a place of a block, or others go.
 ghost use Rattle.std.specs.Prelude.{◌≡◌, ℕ, ◌<◌, [], Option, cond, IfOk, OnOk, None, Some, true};
 ghost use Rattle.std.specs.List.{All};
 ghost use Rattle.std.specs.Option.{option_map};
@@ -15,6 +15,7 @@ ghost use Rattle.edit_entries.specs.Spliced.{is, losing, with_front, with_next};
 ghost use Rattle.imp_edit.specs.Gaps.{AreBelow, IsBelow, entries_with};
 
 use crate::alone::form_again;
+use crate::blocks::{first_or, last_or};
 use crate::breaks::{loop_puts, losing};
 use crate::gap::Gap;
 use crate::puts::put_at;
@@ -22,26 +23,6 @@ use imp_check::{Around, BlockEnds, Entry, Head, Place, Put, Table, Which};
 use imp_syntax::{Block, StmtId};
 use plain_values::Memory;
 use std::alloc::Global;
-
-/// The first statement of a block, or else what stands behind it.
-fn first_or(block: &Block, next: Option<StmtId>) -> Option<StmtId>
-    ensures is { result ≡ first_or block.now next }
-{
-    match block.get(0) {
-        Some(stmt) => Some(stmt.id()),
-        None => next,
-    }
-}
-
-/// The last statement of a block, or else what stands in front of it.
-fn last_or(block: &Block, front: Option<StmtId>) -> Option<StmtId>
-    ensures is { result ≡ last_or block.now front }
-{
-    match block.get(block.len().saturating_sub(1)) {
-        Some(stmt) => Some(stmt.id()),
-        None => front,
-    }
-}
 
 /// The ends of a block, once these statements stand at a place of it.
 pub(crate) fn ends_with(gap: &Gap, news: &Block, ends: BlockEnds) -> BlockEnds

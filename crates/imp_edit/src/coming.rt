@@ -1,30 +1,32 @@
-//! What is known of simple statements that come at a place of a block.
-ghost use Rattle.std.specs.Prelude.{◌≡◌, [], ◌∷◌, ◌++◌, drop, IfOk, IfErr, OnOk, None, true, false};
+//! What is known of statements that come at a place of a block, and of those inside them.
+ghost use Rattle.std.specs.Prelude.{◌≡◌, ◌+◌, ◌<◌, ◌^◌, [], ◌∷◌, ◌++◌, drop, IfOk, IfErr, OnOk, None, true};
 ghost use Rattle.std.specs.Option.{option_map};
-ghost use Rattle.imp_syntax.specs.Plain.{block_of, number_of};
+ghost use Rattle.imp_syntax.specs.Plain.{Ends, Starts, block_of, number_of};
 ghost use Rattle.imp_slots.specs.Fits.{FitsCode};
-ghost use Rattle.imp_check.specs.Entries.{block_entries, entry_at, frame_at};
+ghost use Rattle.imp_check.specs.Entries.{block_entries, entry_at, form_in, frame_at, statement_entries};
 ghost use Rattle.imp_check.specs.Faults.{at, in_procedure};
 ghost use Rattle.imp_check.specs.Names.{variables};
 ghost use Rattle.imp_check.specs.Parts.{first_or};
-ghost use Rattle.imp_check.specs.Programs.{variables_fault};
+ghost use Rattle.imp_check.specs.Programs.{nesting, statement_nesting, variables_fault};
 ghost use Rattle.imp_check.specs.Slots.{code_in, layout_in};
-ghost use Rattle.imp_check.specs.Statements.{block_fault};
-ghost use Rattle.edit_entries.specs.Gaps.{are_simple, is_simple, lone};
+ghost use Rattle.imp_check.specs.Statements.{block_fault, statement_fault};
+ghost use Rattle.edit_entries.specs.Gaps.{are_quiet, is_quiet, lone};
 ghost use Rattle.imp_edit.specs.declared.error.EditError.TheVariants.{Fault as refused_by};
 ghost use Rattle.imp_edit.specs.Alone.{FitsAlone, alone_fault};
 ghost use Rattle.imp_edit.specs.Refusals.{IsRefusal};
 
-use crate::alone::{form_alone, with_first_number};
+use crate::alone::{condition_alone, form_alone, simple_alone};
+use crate::blocks::{breaks_of, first_ends, inside, inside_loop, part_of, second_ends};
 use crate::error::EditError;
 use crate::gap::Gap;
-use imp_check::{BlockEnds, Entry, Head};
-use imp_syntax::{Block, Stmt, StmtId};
+use imp_check::{Context, Entry, Head, SlotForm, Which};
+use imp_slots::SlotStmt;
+use imp_syntax::{Block, Stmt, StmtId, StmtNode};
 use plain_values::{Items, Memory};
 use std::alloc::Global;
 
-/// What is known of simple statements at a place. It takes time in proportion to the statements and to the square of
-/// the procedure's variables for each.
+/// What is known of the statements of a block that comes at a place, each followed by those inside it. It takes time in
+/// proportion to the statements and to the square of the procedure's variables for each.
 ///
 /// # Errors
 ///
@@ -36,63 +38,168 @@ pub(crate) fn entries_of(
     news: &Block,
 ) -> Result<Vec<Entry>, EditError>
     requires fine { variables_fault [] (variables head.now.bare) ≡ None }
-    requires simple { are_simple news.now ≡ true }
+    requires quiet { are_quiet news.now ≡ true }
+    requires shallow { gap.now.context.depth + nesting news.now < 2 ^ 32 }
     ensures are { IfOk result (λ entries. entries.items ≡ block_entries (frame_at [] head.now.bare) gap.now.context gap.now.front gap.now.next news.now) }
     ensures fit { IfOk result (λ _. FitsCode [] (layout_in head.now.bare) (code_in (frame_at [] head.now.bare) news.now)) }
-    ensures faultless { IfOk result (λ _. block_fault (lone (variables head.now.bare)) false news.now ≡ None) }
-    ensures refused { IfErr result (IsRefusal (option_map refused_by (in_procedure head.now.bare.name (block_fault (lone (variables head.now.bare)) false news.now)))) }
+    ensures faultless { IfOk result (λ _. block_fault (lone (variables head.now.bare)) true news.now ≡ None) }
+    ensures refused { IfErr result (IsRefusal (option_map refused_by (in_procedure head.now.bare.name (block_fault (lone (variables head.now.bare)) true news.now)))) }
 {
-    let stmts = news.as_slice();
-    let mut front = gap.front;
+    let site = Site {
+        context: gap.context,
+        front: gap.front,
+        next: gap.next,
+    };
     let mut entries = Vec::new(alloc);
-    for (i, stmt) in stmts.iter().enumerate() {
-        let next = next_at(stmts, i + 1, gap.next);
-        let entry = simple_entry(alloc, head, gap, front, next, stmt)?;
-        add(&mut entries, entry)?;
-        front = Some(stmt.id());
-    }
+    add_block(alloc, head, &site, news, &mut entries)?;
     Ok(entries)
 }
 
-/// What is known of a simple statement between two of a block.
+/// Where statements come: a block, and two statements of it.
+#[derive(Clone, Copy)]
+struct Site {
+    context: Context,
+    front: Option<StmtId>,
+    next: Option<StmtId>,
+}
+
+/// A whole block.
+fn alone_in(context: Context) -> Site
+    ensures is { result ≡ record { context = context; front = None; next = None } }
+{
+    Site {
+        context,
+        front: None,
+        next: None,
+    }
+}
+
+/// Adds what is known of the statements of a block, between two of the block that they come to, and of those inside them.
 ///
 /// # Errors
 ///
-/// [`EditError::Fault`] with its fault.
-fn simple_entry(
+/// [`EditError::Fault`] with their first fault.
+#[cycle(come)]
+#[tactic(auto, using(imp_syntax::specs::Blocks::member_smaller, imp_syntax::specs::Blocks::block_rest, imp_check::proofs::PartLemmas::member_nesting))]
+fn add_block(
     alloc: Global,
     head: &Head,
-    gap: &Gap,
-    front: Option<StmtId>,
-    next: Option<StmtId>,
-    stmt: &Stmt,
-) -> Result<Entry, EditError>
+    site: &Site,
+    block: &Block,
+    entries: &mut Vec<Entry>,
+) -> Result<(), EditError>
     requires fine { variables_fault [] (variables head.now.bare) ≡ None }
-    requires simple { is_simple stmt.now ≡ true }
-    ensures is { IfOk result (λ entry. entry ≡ entry_at (frame_at [] head.now.bare) gap.now.context front next stmt.now) }
+    requires quiet { are_quiet block.now ≡ true }
+    requires shallow { site.now.context.depth + nesting block.now < 2 ^ 32 }
+    ensures added { OnOk result (entries.new.items ≡ entries.old.items ++ block_entries (frame_at [] head.now.bare) site.now.context site.now.front site.now.next block.now) }
+    ensures fit { OnOk result (FitsCode [] (layout_in head.now.bare) (code_in (frame_at [] head.now.bare) block.now)) }
+    ensures faultless { OnOk result (block_fault (lone (variables head.now.bare)) true block.now ≡ None) }
+    ensures refused { IfErr result (IsRefusal (option_map refused_by (in_procedure head.now.bare.name (block_fault (lone (variables head.now.bare)) true block.now)))) }
+{
+    let stmts = block.as_slice();
+    let mut front = site.front;
+    for (i, stmt) in stmts.iter().enumerate() {
+        let place = Site {
+            context: site.context,
+            front,
+            next: next_at(stmts, i + 1, site.next),
+        };
+        add_statement(alloc, head, &place, stmt, entries)?;
+        front = Some(stmt.id());
+    }
+    Ok(())
+}
+
+/// Adds what is known of a statement between two of its block, and of those inside it.
+///
+/// # Errors
+///
+/// [`EditError::Fault`] with their first fault.
+#[cycle(come)]
+fn add_statement(
+    alloc: Global,
+    head: &Head,
+    site: &Site,
+    stmt: &Stmt,
+    entries: &mut Vec<Entry>,
+) -> Result<(), EditError>
+    requires fine { variables_fault [] (variables head.now.bare) ≡ None }
+    requires quiet { is_quiet stmt.now ≡ true }
+    requires shallow { site.now.context.depth + statement_nesting stmt.now < 2 ^ 32 }
+    ensures added { OnOk result (entries.new.items ≡ entries.old.items ++ statement_entries (frame_at [] head.now.bare) site.now.context site.now.front site.now.next stmt.now) }
+    ensures fit { OnOk result (FitsCode [] (layout_in head.now.bare) (code_in (frame_at [] head.now.bare) (Starts stmt.now Ends))) }
+    ensures faultless { OnOk result (statement_fault (lone (variables head.now.bare)) true stmt.now ≡ None) }
+    ensures refused { IfErr result (IsRefusal (option_map refused_by (in_procedure head.now.bare.name (statement_fault (lone (variables head.now.bare)) true stmt.now)))) }
+{
+    let entry = entry_at(alloc, head, site, stmt)?;
+    add(entries, entry)?;
+    let id = stmt.id();
+    match stmt.node() {
+        StmtNode::If(_, then, els) => {
+            let first = alone_in(inside(&site.context, id, Which::Then));
+            let second = alone_in(inside(&site.context, id, Which::Else));
+            add_block(alloc, head, &first, then, entries)?;
+            add_block(alloc, head, &second, els, entries)
+        }
+        StmtNode::While(_, body) => {
+            let whole = alone_in(inside_loop(&site.context, id));
+            add_block(alloc, head, &whole, body, entries)
+        }
+        _ => Ok(()),
+    }
+}
+
+/// What is known of a statement between two of its block.
+///
+/// # Errors
+///
+/// [`EditError::Fault`] with its own fault.
+fn entry_at(alloc: Global, head: &Head, site: &Site, stmt: &Stmt) -> Result<Entry, EditError>
+    requires fine { variables_fault [] (variables head.now.bare) ≡ None }
+    requires quiet { is_quiet stmt.now ≡ true }
+    ensures is { IfOk result (λ entry. entry ≡ entry_at (frame_at [] head.now.bare) site.now.context site.now.front site.now.next stmt.now) }
     ensures fits { IfOk result (λ _. FitsAlone head.now.bare stmt.now) }
     ensures faultless { IfOk result (λ _. alone_fault (variables head.now.bare) stmt.now ≡ None) }
     ensures refused { IfErr result (IsRefusal (option_map refused_by (in_procedure head.now.bare.name (at (number_of stmt.now) (alone_fault (variables head.now.bare) stmt.now))))) }
 {
-    let alone = with_first_number(alloc, stmt)?;
-    let form = form_alone(alloc, &head.bare, stmt.id(), alone)?;
+    let form = form_in(alloc, head, stmt)?;
+    let part = part_of(alloc, stmt)?;
+    let breaks = breaks_of(alloc, stmt)?;
     Ok(Entry {
         number: stmt.id(),
-        part: stmt.clone()?,
+        part,
         form,
-        context: gap.context,
-        front,
-        next,
-        inner: NO_ENDS,
-        other: NO_ENDS,
-        breaks: Items::new(alloc),
+        context: site.context,
+        front: site.front,
+        next: site.next,
+        inner: first_ends(stmt),
+        other: second_ends(stmt),
+        breaks,
     })
 }
 
-const NO_ENDS: BlockEnds = BlockEnds {
-    first: None,
-    last: None,
-};
+/// What a statement that is no call does over slots: of an if or while, its condition.
+///
+/// # Errors
+///
+/// [`EditError::Fault`] with its own fault.
+fn form_in(alloc: Global, head: &Head, stmt: &Stmt) -> Result<SlotForm, EditError>
+    requires fine { variables_fault [] (variables head.now.bare) ≡ None }
+    requires quiet { is_quiet stmt.now ≡ true }
+    ensures is { IfOk result (λ form. form ≡ form_in (frame_at [] head.now.bare) stmt.now) }
+    ensures fits { IfOk result (λ _. FitsAlone head.now.bare stmt.now) }
+    ensures faultless { IfOk result (λ _. alone_fault (variables head.now.bare) stmt.now ≡ None) }
+    ensures refused { IfErr result (IsRefusal (option_map refused_by (in_procedure head.now.bare.name (at (number_of stmt.now) (alone_fault (variables head.now.bare) stmt.now))))) }
+{
+    let alone = match stmt.node() {
+        StmtNode::Simple(action) => simple_alone(alloc, action)?,
+        StmtNode::If(cond, _, _) => condition_alone(alloc, cond)?,
+        StmtNode::While(cond, _) => condition_alone(alloc, cond)?,
+        StmtNode::Break => return Ok(SlotForm::Stmt(SlotStmt::Break)),
+        StmtNode::Call(_) => unreachable!(),
+    };
+    form_alone(alloc, &head.bare, stmt.id(), alone)
+}
 
 /// Adds an entry.
 fn add(entries: &mut Vec<Entry>, entry: Entry) -> Result<(), Memory>

@@ -1,14 +1,14 @@
-//! Places in blocks where simple statements come, or from which a statement goes.
-ghost use Rattle.std.specs.Prelude.{◌≡◌, ◌<◌, ◌+◌, ◌^◌, ◌++◌, ◌&&◌, IfOk, Some, true};
-ghost use Rattle.imp_check.specs.Entries.{entries_of, entry_of, heads_of, inside};
+//! Places in blocks where statements come, or from which a statement goes.
+ghost use Rattle.std.specs.Prelude.{◌≡◌, ◌++◌, ◌&&◌, IfOk, Some, true};
+ghost use Rattle.imp_check.specs.Entries.{entries_of, entry_of, heads_of};
 ghost use Rattle.imp_check.specs.Walks.{walk};
-ghost use Rattle.edit_entries.specs.Gaps.{are_simple, is_simple};
 ghost use Rattle.imp_edit.specs.Gaps.{gap_of, part_gap, place_gap, behind_gap, then_gap, else_gap, body_gap, of_entry, of_place};
 ghost use Rattle.imp_edit.specs.Quiet.{quiet_from};
 
+use crate::blocks::{inside, inside_loop};
 use crate::quiet::{add_quiet, is_call};
-use imp_check::{Around, Context, Entry, Table, Which};
-use imp_syntax::{Block, Edit, Place, ProcId, Stmt, StmtId, StmtNode};
+use imp_check::{Context, Entry, Table, Which};
+use imp_syntax::{Edit, Place, ProcId, StmtId};
 use plain_values::{Items, Memory};
 use std::alloc::Global;
 
@@ -39,30 +39,6 @@ pub(crate) fn gap_of(alloc: Global, table: &Table, edit: &Edit) -> Result<Option
         Edit::AddProc { before: _, proc: _ } => Ok(None),
         Edit::DropProc(_) => Ok(None),
     }
-}
-
-fn is_simple(stmt: &Stmt) -> bool
-    ensures is { result ≡ is_simple stmt.now }
-{
-    match stmt.node() {
-        StmtNode::Simple(_) => true,
-        StmtNode::Break | StmtNode::Call(_) | StmtNode::If(_, _, _) | StmtNode::While(_, _) => {
-            false
-        }
-    }
-}
-
-/// Whether all statements of a block are simple, and none is a call or a break.
-#[tactic(auto, using(imp_syntax::specs::Blocks::block_rest))]
-pub(crate) fn are_simple(block: &Block) -> bool
-    ensures is { result ≡ are_simple block.now }
-{
-    for stmt in block.as_slice() {
-        if !is_simple(stmt) {
-            return false;
-        }
-    }
-    true
 }
 
 /// In the place of a statement in which no call stands.
@@ -136,7 +112,7 @@ fn then_gap(alloc: Global, table: &Table, stmt: StmtId) -> Option<Gap>
 {
     table.procs();
     let entry = table.entry(stmt)?;
-    let context = inside(entry, Which::Then);
+    let context = inside(&entry.context, entry.number, Which::Then);
     let next = entry.inner.first;
     Some(Gap {
         context,
@@ -153,7 +129,7 @@ fn else_gap(alloc: Global, table: &Table, stmt: StmtId) -> Option<Gap>
 {
     table.procs();
     let entry = table.entry(stmt)?;
-    let context = inside(entry, Which::Else);
+    let context = inside(&entry.context, entry.number, Which::Else);
     let next = entry.other.first;
     Some(Gap {
         context,
@@ -170,8 +146,7 @@ fn body_gap(alloc: Global, table: &Table, stmt: StmtId) -> Option<Gap>
 {
     table.procs();
     let entry = table.entry(stmt)?;
-    let mut context = inside(entry, Which::Body);
-    context.head = Some(entry.number);
+    let context = inside_loop(&entry.context, entry.number);
     let next = entry.inner.first;
     Some(Gap {
         context,
@@ -179,20 +154,6 @@ fn body_gap(alloc: Global, table: &Table, stmt: StmtId) -> Option<Gap>
         next,
         gone: Items::new(alloc),
     })
-}
-
-/// A block of a statement.
-fn inside(entry: &Entry, which: Which) -> Context
-    requires shallow { entry.now.context.depth + 1 < 2 ^ 32 }
-    ensures is { result ≡ inside entry.now.context entry.now.number which }
-{
-    let stmt = entry.number;
-    Context {
-        proc: entry.context.proc,
-        around: Some(Around { stmt, which }),
-        head: entry.context.head,
-        depth: entry.context.depth + 1,
-    }
 }
 
 /// In front of the body of a procedure.

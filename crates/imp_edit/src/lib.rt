@@ -10,9 +10,9 @@
 //!   it. The numbers of the others stay.
 //! - An edit at a procedure changes the first one of a name: `at_named x made`.
 //!
-//! The change is found from the tree of the program, or, for another condition, for simple statements that come and for
-//! statements that go and have no call in them, from what is known of the statements beside them and in them, in time that
-//! the size of the program does not enter.
+//! The change is found from the tree of the program, or, for another condition and for statements that come and go, from
+//! what is known of the statements beside them and in them, in time that the size of the program does not enter: where no
+//! call stands in them and no break leaves those that come.
 //!
 //! An edit's own statements carry the numbers from `next` on, so a number is never used again, and numbers of the new
 //! program stand once.
@@ -21,6 +21,7 @@
 mod alone;
 mod applying;
 mod beside;
+mod blocks;
 mod breaks;
 mod coming;
 mod error;

@@ -2,7 +2,7 @@
 ghost use Rattle.std.specs.Prelude.{ℕ, ◌≡◌, ◌<◌, ◌∷◌, [], IfOk, IfErr, MatchOption, None, Some, true, ⊤};
 ghost use Rattle.std.specs.List.{All};
 ghost use Rattle.std.specs.Option.{option_map};
-ghost use Rattle.imp_syntax.specs.Plain.{Ends, If, Starts, program_numbers};
+ghost use Rattle.imp_syntax.specs.Plain.{Ends, Starts, program_numbers};
 ghost use Rattle.imp_syntax.specs.Changes.{with_condition};
 ghost use Rattle.imp_check.specs.Programs.{AreNumbered, check_fault};
 ghost use Rattle.imp_check.specs.Entries.{entries_of, entry_of};
@@ -14,23 +14,25 @@ ghost use Rattle.imp_edit.specs.Gaps.{gap_of};
 ghost use Rattle.imp_edit.specs.Refusals.{IsRefusal, fits, site_refusal};
 ghost use Rattle.imp_edit.specs.Short.{IsMade};
 
-use crate::alone::form_alone;
+use crate::alone::{condition_alone, form_alone};
 use crate::beside::entry_again;
+use crate::blocks::are_closed;
 use crate::error::EditError;
-use crate::gap::{Gap, are_simple, gap_of};
+use crate::gap::{Gap, gap_of};
 use crate::splicing::splice;
 use imp_check::{Change, Entry, Place, Put, SlotForm, Table};
-use imp_syntax::{Block, Cond, Edit, Stmt, StmtId, StmtNode};
+use imp_syntax::{Block, Cond, Edit, Stmt, StmtId};
 use plain_values::{Items, Memory};
 use std::alloc::Global;
 
-/// The change of an edit that gives a statement another condition, puts simple statements at a place that are neither
-/// calls nor breaks, or takes a statement away in which no call stands; `None` for other edits, whose change is found from
-/// the whole program.
+/// The change of an edit that gives a statement another condition, puts statements at a place in which no call stands and
+/// whose breaks leave loops of their own, or takes a statement away in which no call stands; `None` for other edits, whose
+/// change is found from the whole program.
+///
 /// Another condition takes time in proportion to the condition, the breaks of the statement and the square of the
-/// procedure's variables. Statements take time in proportion to the statements that come and to the square of the
-/// procedure's variables for each, to those that go and to the breaks of the loop around them for each, and, at the
-/// start or the end of a procedure, to the number of procedures.
+/// procedure's variables. Statements take time in proportion to the statements that come, with those inside them, and to
+/// the square of the procedure's variables for each, to those that go and to the breaks of the loop around them for each,
+/// and, at the start or the end of a procedure, to the number of procedures.
 ///
 /// # Errors
 ///
@@ -60,8 +62,8 @@ pub(crate) fn short_change(
     }
 }
 
-/// The change of an edit that puts simple statements at this place, and takes away what goes; `None` where other
-/// statements come.
+/// The change of an edit that puts statements at this place, and takes away what goes; `None` where a call stands in what
+/// comes, or a break leaves it.
 fn gap_change(
     alloc: Global,
     table: &Table,
@@ -79,7 +81,7 @@ fn gap_change(
 {
     table.procs();
     let news = brought(alloc, edit)?;
-    if !are_simple(&news) {
+    if !are_closed(false, &news) {
         return Ok(None);
     }
     let Some(head) = table.view().head(gap.context.proc) else {
@@ -155,14 +157,6 @@ fn one_put(alloc: Global, number: StmtId, entry: Entry) -> Result<Vec<Put>, Memo
     let mut puts = Vec::new(alloc);
     puts.push(Put { number, entry })?;
     Ok(puts)
-}
-
-/// An if with this condition and of nothing, by itself.
-fn condition_alone(alloc: Global, cond: &Cond) -> Result<Stmt, Memory>
-    ensures is { IfOk result (λ stmt. stmt ≡ If 1 cond.now Ends Ends) }
-{
-    let node = StmtNode::If(cond.clone()?, Block::empty(), Block::empty());
-    Stmt::new(alloc, StmtId::new(1), node)
 }
 
 /// What is known of a statement, with this condition and what it does over slots.

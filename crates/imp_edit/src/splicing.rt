@@ -1,17 +1,18 @@
-//! The change that puts simple statements at a place of a block, and takes away what goes.
-ghost use Rattle.std.specs.Prelude.{◌≡◌, [], length, unwrap_or, IfOk, IfErr, None, true};
+//! The change that puts statements at a place of a block, and takes away what goes.
+ghost use Rattle.std.specs.Prelude.{◌≡◌, ◌+◌, ◌<◌, [], length, unwrap_or, IfOk, IfErr, None, true};
 ghost use Rattle.std.specs.Option.{option_map};
 ghost use Rattle.imp_slots.specs.Fits.{FitsCode};
 ghost use Rattle.imp_check.specs.Entries.{frame_at, heads_of};
 ghost use Rattle.imp_check.specs.Names.{variables};
-ghost use Rattle.imp_check.specs.Programs.{last_of, name_of, variables_fault};
+ghost use Rattle.imp_check.specs.Programs.{last_of, name_of, nesting, variables_fault};
 ghost use Rattle.imp_check.specs.Slots.{code_in, layout_in};
-ghost use Rattle.edit_entries.specs.Gaps.{are_simple, ends_with, head_with, heads_in};
+ghost use Rattle.edit_entries.specs.Gaps.{are_quiet, ends_with, head_with, heads_in};
 ghost use Rattle.imp_edit.specs.declared.error.EditError.TheVariants.{Fault as refused_by};
-ghost use Rattle.imp_edit.specs.Gaps.{IsSplice, count_fault, count_with, splice_fault};
+ghost use Rattle.imp_edit.specs.Gaps.{IsSplice, count_with, size_fault, splice_fault};
 ghost use Rattle.imp_edit.specs.Refusals.{IsRefusal};
 
 use crate::beside::{ends_stay, ends_with, puts_of};
+use crate::blocks::nesting;
 use crate::coming::entries_of;
 use crate::error::EditError;
 use crate::gap::Gap;
@@ -23,15 +24,18 @@ use std::alloc::Global;
 /// The most statements that a program may have.
 const MOST_STATEMENTS: u32 = 10_000;
 
-/// The change that puts simple statements at a place, in the procedure of this head, and takes away what goes. It takes
-/// time in proportion to the statements that come and to the square of the procedure's variables for each, to those that
-/// go and to the breaks of the loop around them for each, and, where the ends of a body change, to the number of
-/// procedures.
+/// The most blocks of a procedure around a statement, but its own.
+const MOST_NESTING: u32 = 32;
+
+/// The change that puts statements at a place, in the procedure of this head, and takes away what goes. It takes time in
+/// proportion to the statements that come, with those inside them, and to the square of the procedure's variables for
+/// each, to those that go and to the breaks of the loop around them for each, and, where the ends of a body change, to the
+/// number of procedures.
 ///
 /// # Errors
 ///
-/// [`EditError::Fault`] where the program then has too many statements, or else with the first fault of those that
-/// come.
+/// [`EditError::Fault`] where the program then has too many statements, or else where a block is then too deep, or else
+/// with the first fault of those that come.
 pub(crate) fn splice(
     alloc: Global,
     table: &Table,
@@ -40,7 +44,7 @@ pub(crate) fn splice(
     news: &Block,
 ) -> Result<Change, EditError>
     requires fine { variables_fault [] (variables head.now.bare) ≡ None }
-    requires simple { are_simple news.now ≡ true }
+    requires quiet { are_quiet news.now ≡ true }
     ensures is { IfOk result (IsSplice table.now.program head.now gap.now news.now) }
     ensures fit { IfOk result (λ _. FitsCode [] (layout_in head.now.bare) (code_in (frame_at [] head.now.bare) news.now)) }
     ensures faultless { IfOk result (λ _. splice_fault table.now.program head.now gap.now news.now ≡ None) }
@@ -62,23 +66,30 @@ pub(crate) fn splice(
 ///
 /// # Errors
 ///
-/// [`Fault::Statements`] where there are too many.
+/// [`Fault::Statements`] where there are too many, or else [`Fault::Nesting`] where a block that comes is too deep.
 fn count_with(alloc: Global, table: &Table, gap: &Gap, news: &Block) -> Result<u32, EditError>
     ensures is { IfOk result (λ count. count ≡ count_with table.now.program gap.now news.now) }
-    ensures few { IfOk result (λ _. count_fault table.now.program gap.now news.now ≡ None) }
-    ensures refused { IfErr result (IsRefusal (option_map refused_by (count_fault table.now.program gap.now news.now))) }
+    ensures small { IfOk result (λ _. size_fault table.now.program gap.now news.now ≡ None) }
+    ensures shallow { IfOk result (λ _. gap.now.context.depth + nesting news.now < 33) }
+    ensures refused { IfErr result (IsRefusal (option_map refused_by (size_fault table.now.program gap.now news.now))) }
 {
     let left = (table.view().count() as usize).saturating_sub(gap.gone.len()) as u32;
     let count = left.saturating_add(block_count(news));
     if count > MOST_STATEMENTS {
-        let proc = last_name(alloc, table)?;
-        return Err(EditError::Fault(Found {
-            fault: Fault::Statements,
-            proc,
-            at: 0,
-        }));
+        return Err(found_last(alloc, table, Fault::Statements)?);
+    }
+    if gap.context.depth.saturating_add(nesting(news)) > MOST_NESTING {
+        return Err(found_last(alloc, table, Fault::Nesting)?);
     }
     Ok(count)
+}
+
+/// A fault of the whole program, which stands at the last procedure.
+fn found_last(alloc: Global, table: &Table, fault: Fault) -> Result<EditError, Memory>
+    ensures is { IfOk result (λ error. error ≡ refused_by (record { fault = fault; proc = name_of (last_of table.now.program); at = 0 })) }
+{
+    let proc = last_name(alloc, table)?;
+    Ok(EditError::Fault(Found { fault, proc, at: 0 }))
 }
 
 /// The name of the last procedure.

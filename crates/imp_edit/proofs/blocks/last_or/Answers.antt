@@ -1,6 +1,6 @@
 use Rattle.std.proofs.Common.{ℕ, Some, ap, ◌∙◌, arith}
 use Rattle.imp_edit.proofs.SpliceLemmas.{last_there, last_gone}
-use Rattle.imp_edit.proofs.beside.last_or.Goals as goal
+use Rattle.imp_edit.proofs.blocks.last_or.Goals as goal
 
 pub returns-in-Some : goal.returns-in-Some
 returns-in-Some c = record { is = ap (λ (n : ℕ). Some n) c.id.ensures.is ∙ last_there c.args.block.now c.args.front c.saturating_sub.result c.in-Some.stmt.now (omega (arith, c.saturating_sub.ensures, c.len.ensures.count)) c.in-Some.ensures.item }

@@ -4,7 +4,7 @@ use Rattle.imp_syntax.specs.Plain.{Procedure, Statements}
 use Rattle.imp_slots.specs.Fits.{FitsCode}
 use Rattle.imp_check.specs.Slots.{code_in, layout_in}
 use Rattle.imp_check.specs.Entries.{frame_at, heads_of}
-use Rattle.edit_entries.specs.Gaps.{are_simple}
+use Rattle.edit_entries.specs.Gaps.{are_closed}
 use Rattle.imp_edit.specs.Edited.{brought}
 use Rattle.imp_edit.specs.Gaps.{IsSplice, splice_fault}
 use Rattle.imp_edit.specs.Refusals.{IsRefusal}
@@ -27,10 +27,10 @@ returns-clause-refused c =
     let g = c.args.gap.now in
     let h = c.in-Some.head.now in
     let is = c.in_ok-news.ensures.is in
-    let simple : are_simple (brought d) ≡ true = ap are_simple (sym is) ∙ sym c.are_simple.ensures.is ∙ c.if-not-are_simple.false in
+    let closed : are_closed false (brought d) ≡ true = ap (are_closed false) (sym is) ∙ sym c.are_closed.ensures.is ∙ c.if-not-are_closed.false in
     gap_refused d P g h (fine_of P c.procs.ensures.faultless c.procs.ensures.numbered c.procs.ensures.fit) c.requires.site c.requires.here
     (ap (λ (os : List Procedure). slice_get (heads_of os) g.context.proc) (sym c.view.ensures.is) ∙ sym c.in-Some.ensures.is)
-    simple c.in-Err.error
+    closed c.in-Err.error
     (subst (λ (b : Statements). IsRefusal (option_map Fault (splice_fault P h g b)) c.in-Err.error) is c.in-Err.ensures.refused)
 
 pub returns-in-Ok-clause-made : goal.returns-in-Ok-clause-made
@@ -40,10 +40,10 @@ returns-in-Ok-clause-made c =
     let g = c.args.gap.now in
     let h = c.in-Some.head.now in
     let is = c.in_ok-news.ensures.is in
-    let simple : are_simple (brought d) ≡ true = ap are_simple (sym is) ∙ sym c.are_simple.ensures.is ∙ c.if-not-are_simple.false in
+    let closed : are_closed false (brought d) ≡ true = ap (are_closed false) (sym is) ∙ sym c.are_closed.ensures.is ∙ c.if-not-are_closed.false in
     gap_made d P g h (fine_of P c.procs.ensures.faultless c.procs.ensures.numbered c.procs.ensures.fit) c.requires.site c.requires.here
     (ap (λ (os : List Procedure). slice_get (heads_of os) g.context.proc) (sym c.view.ensures.is) ∙ sym c.in-Some.ensures.is)
-    simple c.args.next c.requires.below c.requires.continues c.requires.numbered
+    closed c.args.next c.requires.below c.requires.continues c.requires.numbered
     (subst (λ (b : Statements). FitsCode [] (layout_in h.bare) (code_in (frame_at [] h.bare) b)) is c.in-Ok.ensures.fit)
     (ap (splice_fault P h g) (sym is) ∙ c.in-Ok.ensures.faultless)
     c.in-Ok.change
