@@ -22,7 +22,7 @@ use crate::gap::Gap;
 use imp_check::{Context, Entry, Head, SlotForm, Which};
 use imp_slots::SlotStmt;
 use imp_syntax::{Block, Stmt, StmtId, StmtNode};
-use plain_values::{Items, Memory};
+use plain_values::Memory;
 use std::alloc::Global;
 
 /// What is known of the statements of a block that comes at a place, each followed by those inside it. It takes time in
