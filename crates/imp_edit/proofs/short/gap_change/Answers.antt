@@ -1,10 +1,11 @@
-use Rattle.std.proofs.Common.{◌∙◌, ◌≡◌, [], true, List, sym, ap, subst, slice_get}
+use Rattle.std.proofs.Common.{◌∙◌, ◌≡◌, [], true, false, List, sym, ap, subst, slice_get}
 use Rattle.std.specs.Option.{option_map}
 use Rattle.imp_syntax.specs.Plain.{Procedure, Statements}
 use Rattle.imp_slots.specs.Fits.{FitsCode}
 use Rattle.imp_check.specs.Slots.{code_in, layout_in}
 use Rattle.imp_check.specs.Entries.{frame_at, heads_of}
 use Rattle.edit_entries.specs.Gaps.{are_closed}
+use Rattle.edit_entries.proofs.Closed.{closed_quiet}
 use Rattle.imp_edit.specs.Edited.{brought}
 use Rattle.imp_edit.specs.Gaps.{IsSplice, splice_fault}
 use Rattle.imp_edit.specs.Refusals.{IsRefusal}
@@ -19,6 +20,9 @@ splice-requires-clause-fine c =
     let g = c.args.gap.now in
     gap_variables c.args.edit.now P g c.in-Some.head.now (fine_of P c.procs.ensures.faultless c.procs.ensures.numbered c.procs.ensures.fit) c.requires.site c.requires.here
     (ap (λ (os : List Procedure). slice_get (heads_of os) g.context.proc) (sym c.view.ensures.is) ∙ sym c.in-Some.ensures.is)
+
+pub splice-requires-clause-quiet : goal.splice-requires-clause-quiet
+splice-requires-clause-quiet c = closed_quiet false c.in_ok-news.news (sym c.are_closed.ensures.is ∙ c.if-not-are_closed.false)
 
 pub returns-clause-refused : goal.returns-clause-refused
 returns-clause-refused c =
