@@ -49,6 +49,12 @@ module _ {V : Type 0} (slots : List (Option (Cell V))) (keys : ℕ → Option �
       by None e = let same = sym (ap is_some (get-absent n e)) ∙ there in absurd (cc)
       by (Some k) e = (k, e)
 
+  -- cells have keys
+  pub cells-keyed : (v : FinMap nat_cmp (Filled V)) → cell_map slots ≡ v → (inputs : List ℕ) → AreCells v inputs → (i x : ℕ) → slice_get inputs i ≡ Some x → (k : ℕ) × (keys x ≡ Some k)
+  cells-keyed v v_is inputs cells i x s =
+      let P : FinMap nat_cmp (Filled V) → Type 0 = λ m. IsSome (get m x) in
+      key-get x (subst P (sym v_is) (cells i x s))
+
   -- the uses of a cell's inputs stand under its keys
   pub use-at : (k i u : ℕ) (c : Cell V) → get_or slots k None ≡ Some c → slice_get c.uses.items i ≡ Some u → (x : ℕ) × (slice_get c.inputs.items i ≡ Some x) × (held uses u ≡ Some (x, record { cell = c.number; place = i }))
   use-at k i u c e at =

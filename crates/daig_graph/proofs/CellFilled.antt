@@ -1,5 +1,5 @@
 -- A cell is filled.
-use Rattle.std.proofs.Common.{◌≡◌, ◌≢◌, ℕ, List, length, Option, Some, None, slice_get, get_or, refl, sym, ap, ◌∙◌, ◌⊎◌, inl, inr}
+use Rattle.std.proofs.Common.{◌≡◌, ◌≢◌, ℕ, ◌<◌, List, length, Option, Some, None, slice_get, get_or, refl, sym, ap, ◌∙◌, ◌⊎◌, inl, inr, arith}
 use Rattle.daig_graph.specs.declared.graph.Cell.{Cell}
 use Rattle.daig_graph.specs.declared.graph.Use.{Use}
 use Rattle.daig_graph.specs.Held.{Held, held, Puts}
@@ -22,6 +22,8 @@ module _ {V : Type 0} (cells new_cells : ℕ → Option (Cell V)) (keys new_keys
     pub links : Links uses new_uses n.number n.inputs.items n.uses.items (length n.inputs.items)
     pub many : length n.uses.items ≡ length n.inputs.items
     pub inputs_there : (i x : ℕ) → slice_get n.inputs.items i ≡ Some x → (j : ℕ) × (keys x ≡ Some j)
+    pub place : n.number < uses.places
+    pub places : new_uses.places ≡ uses.places
 
   module _ (agrees : Agrees cells keys owned uses) (f : Fills) where
     -- the cells that were there
@@ -112,8 +114,14 @@ module _ {V : Type 0} (cells new_cells : ℕ → Option (Cell V)) (keys new_keys
         keyed_still : (j : ℕ) × (keys x ≡ Some j) → (j : ℕ) × (new_keys x ≡ Some j)
         keyed_still h = (h.0, f.keys_same x (other_number x h.0 h.1) ∙ h.1)
 
+    placed : (q k : ℕ) → new_keys q ≡ Some k → q < new_uses.places
+    placed q k e = elim (same_number q n.number) [
+      | inl same ↦ omega (arith, same, f.place, f.places)
+      | inr ne ↦ omega (arith, f.places, agrees.placed q k (sym (f.keys_same q ne) ∙ e))
+    ]
+
     pub agrees-fill : Agrees new_cells new_keys new_owned new_uses
-    agrees-fill = record { key_there = key_there; key_back = key_back; own_there = own_there; own_back = own_back; as_many = as_many; use_there = use_there; use_back = use_back; closed = closed }
+    agrees-fill = record { key_there = key_there; key_back = key_back; own_there = own_there; own_back = own_back; as_many = as_many; use_there = use_there; use_back = use_back; closed = closed; placed = placed }
 
 -- the map has the new cell, and the others as before
 pub map-fill : {V : Type 0} (slots new_slots : List (Option (Cell V))) (keys new_keys : ℕ → Option ℕ) (owned new_owned : Held ℕ) (uses new_uses : Held Use) (key : ℕ) (n : Cell V)

@@ -20,6 +20,7 @@ module _ {V : Type 0} (cells new_cells : ℕ → Option (Cell V)) (keys new_keys
     pub owns : Takes owned new_owned r.own
     pub unlinks : Unlinks uses new_uses r.uses.items (length r.uses.items)
     pub unused : (k i : ℕ) (c : Cell V) → cells k ≡ Some c → slice_get c.inputs.items i ≢ Some r.number
+    pub places : new_uses.places ≡ uses.places
 
   module _ (agrees : Agrees cells keys owned uses) (m : Empties) where
     -- a cell that is left has another key, and another number
@@ -96,8 +97,13 @@ module _ {V : Type 0} (cells new_cells : ℕ → Option (Cell V)) (keys new_keys
         let j = agrees.closed k i x c h s in
         (j.0, m.keys_same x (λ same. m.unused k i c h (s ∙ ap Some same)) ∙ j.1)
 
+    placed : (q k : ℕ) → new_keys q ≡ Some k → q < new_uses.places
+    placed q k e =
+        let ne : q ≢ r.number = λ same. none-some (sym m.keys_gone ∙ ap new_keys (sym same) ∙ e) in
+        omega (arith, m.places, agrees.placed q k (sym (m.keys_same q ne) ∙ e))
+
     pub agrees-remove : Agrees new_cells new_keys new_owned new_uses
-    agrees-remove = record { key_there = key_there; key_back = key_back; own_there = own_there; own_back = own_back; as_many = as_many; use_there = use_there; use_back = use_back; closed = closed }
+    agrees-remove = record { key_there = key_there; key_back = key_back; own_there = own_there; own_back = own_back; as_many = as_many; use_there = use_there; use_back = use_back; closed = closed; placed = placed }
 
 -- the map lacks the cell, and has the others as before
 pub map-remove : {V : Type 0} (slots new_slots : List (Option (Cell V))) (keys new_keys : ℕ → Option ℕ) (owned new_owned : Held ℕ) (uses new_uses : Held Use) (key : ℕ) (r : Cell V)

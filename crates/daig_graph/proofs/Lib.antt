@@ -8,6 +8,8 @@ pub mod Listing
 pub mod UseLemmas
 pub mod Maps
 pub mod Agreeing
+pub mod KeySet
+pub mod AgreeingAlong
 pub mod CellFilled
 pub mod CellGone
 pub mod Owning

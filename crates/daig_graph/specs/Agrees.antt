@@ -1,5 +1,5 @@
 -- The parts of a graph agree.
-use Rattle.std.specs.Prelude.{◌≡◌, ℕ, List, [], ◌∷◌, length, Option, Some, None, slice_get}
+use Rattle.std.specs.Prelude.{◌≡◌, ℕ, ◌<◌, List, [], ◌∷◌, length, Option, Some, None, slice_get}
 use Rattle.daig_graph.specs.declared.graph.Use.{Use}
 use Rattle.daig_graph.specs.declared.graph.Cell.{Cell}
 use Rattle.daig_graph.specs.Held.{Held, held}
@@ -16,7 +16,7 @@ module _ {V : Type 0} where
   filled_cells (Some c ∷ rest) = (c.number, filled c) ∷ filled_cells rest
 
 -- The cells at their keys, their keys by their numbers, their numbers by their owners, and their uses of other cells:
--- x is an input of y exactly where y is a dependent of x, at each place once.
+-- x is an input of y exactly where y is a dependent of x, at each place once. The dependents of a cell have a place.
 pub record Agrees {V : Type 0} (cells : ℕ → Option (Cell V)) (keys : ℕ → Option ℕ) (owned : Held ℕ) (uses : Held Use) : Type 0 where
   pub key_there : (n k : ℕ) → keys n ≡ Some k → (c : Cell V) × (cells k ≡ Some c) × (c.number ≡ n)
   pub key_back : (k : ℕ) (c : Cell V) → cells k ≡ Some c → keys c.number ≡ Some k
@@ -26,3 +26,4 @@ pub record Agrees {V : Type 0} (cells : ℕ → Option (Cell V)) (keys : ℕ →
   pub use_there : (k i x : ℕ) (c : Cell V) → cells k ≡ Some c → slice_get c.inputs.items i ≡ Some x → (u : ℕ) × (slice_get c.uses.items i ≡ Some u) × (held uses u ≡ Some (x, record { cell = c.number; place = i }))
   pub use_back : (u x : ℕ) (y : Use) → held uses u ≡ Some (x, y) → (k : ℕ) × (c : Cell V) × (cells k ≡ Some c) × (c.number ≡ y.cell) × (slice_get c.uses.items y.place ≡ Some u) × (slice_get c.inputs.items y.place ≡ Some x)
   pub closed : (k i x : ℕ) (c : Cell V) → cells k ≡ Some c → slice_get c.inputs.items i ≡ Some x → (j : ℕ) × (keys x ≡ Some j)
+  pub placed : (n k : ℕ) → keys n ≡ Some k → n < uses.places

@@ -11,11 +11,9 @@ pub record Filled (V : Type 0) : Type 0 where
   pub value : Value V
   pub inputs : List ℕ
 
--- the cells by their numbers, and how many cells and inputs more can be filled without memory
+-- the cells by their numbers
 pub record Cells (V : Type 0) : Type 0 where
   pub cells : FinMap nat_cmp (Filled V)
-  pub cell_room : ℕ
-  pub edge_room : ℕ
 
 module _ {V : Type 0} (cells : FinMap nat_cmp (Filled V)) where
   -- x is the input of a cell at a place

@@ -1,10 +1,12 @@
 -- What lists hold.
 use Rattle.std.specs.Prelude.{◌≡◌, ◌≢◌, ℕ, ◌↔◌, List, map, Option, Some, None, slice_get, slice_index_or}
 
--- The number of the list and the item at each key, and how many items more need no memory.
+-- The number of the list and the item at each key, how many items more need no memory, and the number below which
+-- lists take none.
 pub record Held (T : Type 0) : Type 0 where
   pub slots : List (Option (ℕ × T))
   pub room : ℕ
+  pub places : ℕ
 
 -- an item stands in a list
 abbrev pub IsIn : {A : Type 0} → List A → A → Type 0

@@ -1,3 +1,4 @@
+pub mod Keys
 pub mod Linked
 pub mod Held
 pub mod Walks

@@ -1,20 +1,19 @@
 //! Filling cells and taking them away.
-ghost use Rattle.std.specs.Prelude.{◌≡◌, ◌≢◌, ℕ, ◌+◌, ◌≤◌, ◌<◌, None, Some, IsSome, IsOk, OnOk, OnErr, length, slice_get};
+ghost use Rattle.std.specs.Prelude.{◌≡◌, ℕ, ◌≤◌, ◌<◌, None, Some, IsSome, OnOk, OnErr, length, slice_get};
 ghost use Rattle.std.specs.FinMap as map;
 ghost use Rattle.daig_graph.specs.Held.{held, IsOnce};
 ghost use Rattle.daig_graph.specs.Uses.{Links, Unlinks};
 ghost use Rattle.daig_graph.specs.Cells.{AreCells, IsUnused};
 
 use crate::graph::{Cell, Graph, Use};
+use crate::index::{Index, Link};
 use crate::inputs::Inputs;
 use crate::pool::Lists;
 use crate::value::Value;
-use number_hash::NumberHashing;
 use plain_values::Memory;
 use slab::Slab;
 use smallvec::SmallVec;
 use std::alloc::Global;
-use std::collections::HashMap;
 
 impl<V> Graph<V> {
     /// No cells. It takes no memory yet.
@@ -23,31 +22,19 @@ impl<V> Graph<V> {
     {
         Graph {
             cells: Slab::new(alloc),
-            keys: HashMap::with_hasher(alloc, NumberHashing::new()),
+            keys: Index::new(alloc),
             owned: Lists::new(alloc),
             uses: Lists::new(alloc),
         }
     }
 
-    /// Room for so many cells more, with so many inputs in all.
-    pub fn reserve(&mut self, cells: usize, edges: usize) -> Result<(), Memory>
-        ensures cells { self.new.cells ≡ self.old.cells }
-        ensures cell_room { OnOk result (cells ≤ self.new.cell_room) }
-        ensures edge_room { OnOk result (edges ≤ self.new.edge_room) }
-        ensures cells_kept { self.old.cell_room ≤ self.new.cell_room }
-        ensures edges_kept { self.old.edge_room ≤ self.new.edge_room }
-        ensures succeeds { cells ≤ self.old.cell_room → edges ≤ self.old.edge_room → IsOk result }
-    {
-        let _capacity = self.cells.capacity();
-        self.cells.reserve(cells)?;
-        self.keys.reserve(cells)?;
-        self.owned.reserve(cells)?;
-        self.uses.reserve(edges)?;
-        Ok(())
-    }
-
     /// Fills a cell that is not there: its number, the statement that it belongs to, its value and its inputs. It takes
-    /// as many steps as the cell has inputs.
+    /// as many steps as the cell has inputs, and as many more as its number, or that of the statement, lies beyond all
+    /// before it.
+    ///
+    /// # Errors
+    ///
+    /// [`Memory`] for want of memory. The cells are what they were then.
     pub fn fill(
         &mut self,
         cell: usize,
@@ -61,11 +48,11 @@ impl<V> Graph<V> {
         requires inputs { AreCells self.old.cells inputs }
         ensures fills { OnOk result (self.new.cells ≡ map.insert self.old.cells cell (record { owner = owner; value = value; inputs = inputs })) }
         ensures err { OnErr result (self.new.cells ≡ self.old.cells) }
-        ensures succeeds { 0 < self.old.cell_room → length inputs ≤ self.old.edge_room → IsOk result }
-        ensures cell_room { self.old.cell_room ≤ self.new.cell_room + 1 }
-        ensures edge_room { self.old.edge_room ≤ self.new.edge_room + length inputs }
     {
-        self.reserve(1, inputs.len())?;
+        self.cells.reserve(1)?;
+        self.keys.reserve(cell)?;
+        self.owned.reserve(1, owner as usize)?;
+        self.uses.reserve(inputs.len(), cell)?;
         let Inputs {
             cells: inputs,
             mut uses,
@@ -80,7 +67,7 @@ impl<V> Graph<V> {
             inputs,
             uses,
         });
-        let _ = self.keys.insert(cell, key);
+        self.keys.set(cell, Link::to(&self.cells, key));
         Ok(())
     }
 
@@ -91,13 +78,12 @@ impl<V> Graph<V> {
         requires there { IsSome (map.get self.old.cells cell) }
         requires unused { IsUnused self.old.cells cell }
         ensures removes { self.new.cells ≡ map.remove self.old.cells cell }
-        ensures cells_kept { self.old.cell_room ≤ self.new.cell_room }
-        ensures edges_kept { self.old.edge_room ≤ self.new.edge_room }
     {
-        let Some(key) = self.keys.remove(&cell) else {
+        let Some(key) = self.keys.get(cell).key() else {
             return;
         };
         let removed = self.cells.remove(key);
+        self.keys.set(cell, Link::none());
         self.owned.remove(removed.own);
         unlink(&mut self.uses, removed.uses.as_slice());
     }
@@ -107,9 +93,10 @@ impl<V> Graph<V> {
 fn link_inputs(uses: &mut Lists<Use>, cell: usize, inputs: &[usize], keys: &mut SmallVec<usize, 4>)
     requires as_many { length keys.old.items ≡ length inputs.now }
     requires room { length inputs.now ≤ uses.old.room }
+    requires placed { (i x : ℕ) → slice_get inputs.now i ≡ Some x → x < uses.old.places }
     ensures links { Links uses.old uses.new cell inputs.now keys.new.items (length inputs.now) }
     ensures as_many { length keys.new.items ≡ length inputs.now }
-    ensures room { uses.old.room ≤ uses.new.room + length inputs.now }
+    ensures places { uses.new.places ≡ uses.old.places }
 {
     link(uses, cell, inputs, keys.as_mut_slice());
 }
@@ -118,8 +105,9 @@ fn link_inputs(uses: &mut Lists<Use>, cell: usize, inputs: &[usize], keys: &mut 
 fn link(uses: &mut Lists<Use>, cell: usize, inputs: &[usize], keys: &mut [usize])
     requires as_many { length keys.old ≡ length inputs.now }
     requires room { length inputs.now ≤ uses.old.room }
+    requires placed { (i x : ℕ) → slice_get inputs.now i ≡ Some x → x < uses.old.places }
     ensures links { Links uses.old uses.new cell inputs.now keys.new (length inputs.now) }
-    ensures room { uses.old.room ≤ uses.new.room + length inputs.now }
+    ensures places { uses.new.places ≡ uses.old.places }
 {
     for (place, input) in inputs.iter().enumerate() {
         keys[place] = uses.push(*input, Use { cell, place });
@@ -131,7 +119,7 @@ fn unlink(uses: &mut Lists<Use>, keys: &[usize])
     requires there { (i u : ℕ) → slice_get keys.now i ≡ Some u → IsSome (held uses.old u) }
     requires once { IsOnce keys.now }
     ensures unlinks { Unlinks uses.old uses.new keys.now (length keys.now) }
-    ensures room { uses.old.room ≤ uses.new.room }
+    ensures places { uses.new.places ≡ uses.old.places }
 {
     for key in keys {
         uses.remove(*key);

@@ -1,10 +1,9 @@
 //! The graph.
+use crate::index::Index;
 use crate::pool::Lists;
 use crate::value::Value;
-use number_hash::NumberHashing;
 use slab::Slab;
 use smallvec::SmallVec;
-use std::collections::HashMap;
 use std::marker::Model;
 
 /// One cell stands at a place among another cell's inputs, counted from 0.
@@ -31,7 +30,7 @@ pub(crate) struct Cell<V> {
 pub struct Graph<V> {
     pub(crate) cells: Slab<Cell<V>>,
     // the key of a cell, by its number
-    pub(crate) keys: HashMap<usize, usize, NumberHashing>,
+    pub(crate) keys: Index,
     // the cells by their owners
     pub(crate) owned: Lists<usize>,
     // the uses by the cells that are used
@@ -39,9 +38,7 @@ pub struct Graph<V> {
 }
 
 impl<V> Model for Graph<V> {
-    ghost use Rattle.std.specs.Prelude.{◌-◌, min, nat_eq};
-    ghost use Rattle.std.specs.HashMap.{get as map_get, spare};
-    ghost use Rattle.slab.specs.Slab.{get, slab_len};
+    ghost use Rattle.slab.specs.Slab.{get};
     ghost use Rattle.std.specs.FinMap as map;
     ghost use Rattle.daig_graph.specs.Cells.{Cells};
 
@@ -52,12 +49,9 @@ impl<V> Model for Graph<V> {
     ghost coded = { Prim.hlevel (codes, map.code) };
 
     ghost use Rattle.daig_graph.specs.Agrees.{filled_cells, Agrees};
+    ghost use Rattle.daig_graph.specs.Keys.{key_at};
 
-    ghost view = { λ a. record {
-      cells = map.from_entries (filled_cells a.cells.slots);
-      cell_room = min (a.cells.capacity - slab_len a.cells) (min (spare a.keys) a.owned.room);
-      edge_room = a.uses.room;
-    } };
+    ghost view = { λ a. record { cells = map.from_entries (filled_cells a.cells.slots) } };
 
-    ghost invariant = { λ a. Agrees (get a.cells) (map_get nat_eq a.keys) a.owned a.uses };
+    ghost invariant = { λ a. Agrees (get a.cells) (key_at a.keys) a.owned a.uses };
 }

@@ -4,18 +4,23 @@
 //! its inputs from left to right; contracts see it as that map. A cell is filled when all its inputs are there, and
 //! taken away when no other has it as an input, so inputs are always cells.
 //!
-//! Cells stand in a slab and are found by hash. What uses a cell, and what belongs to a statement, are lists that are
-//! threaded through two pools of members (`specs/Linked.antt`), so that an item goes in and out in constant time,
-//! however long its list is. Filling and removing take as many steps as the cell has inputs; reading takes constant
-//! time, and a list of dependents or of the cells of a statement is walked, not copied. Removing and reading take no
-//! memory. Filling takes none after [`Graph::reserve`] but what is handed in: a list of inputs comes as [`Inputs`],
-//! which keep the memory that the cell needs for them.
+//! Cells stand in a slab and are found by an index, a list of keys with a place for each number (`specs/Keys.antt`). What
+//! uses a cell, and what belongs to a statement, are lists that are threaded through two pools of members
+//! (`specs/Linked.antt`), so that an item goes in and out in constant time, however long its list is; their first members
+//! are found by an index too. Filling and removing take as many steps as the cell has inputs, and filling as many more as
+//! the indexes get places; reading takes constant time, and a list of dependents or of the cells of a statement is
+//! walked, not copied. Removing and reading take no memory. A list of inputs comes as [`Inputs`], which keep the memory
+//! that the cell needs for them.
+//!
+//! The memory of the indexes is in proportion to the greatest number of a cell and of a statement, so numbers are to be
+//! given from 0 on.
 //!
 //! The crate knows neither names nor programs nor domains.
 #![tactic(auto)]
 
 mod filling;
 mod graph;
+mod index;
 mod inputs;
 mod lists;
 mod pool;

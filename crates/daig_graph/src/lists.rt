@@ -1,15 +1,14 @@
 //! Putting items into lists and taking them out.
-ghost use Rattle.std.specs.Prelude.{◌≡◌, ◌≢◌, ℕ, ◌+◌, ◌≤◌, ◌<◌, None, Some, IsOk, IsSome, OnOk, nat_eq, option_map};
-ghost use Rattle.std.specs.HashMap.{get as map_get, Updates as UpdatesMap, spare};
-ghost use Rattle.slab.specs.Slab.{get, slab_len, HasRoomFor, ContainsKey, SameValues, Updates};
+ghost use Rattle.std.specs.Prelude.{◌≡◌, ◌≢◌, ℕ, ◌+◌, ◌≤◌, ◌<◌, None, Some, IsSome, OnOk, length};
+ghost use Rattle.slab.specs.Slab.{get, slab_len};
 ghost use Rattle.daig_graph.specs.Held.{held, Puts, Takes, AreItems};
+ghost use Rattle.daig_graph.specs.Keys.{key_at};
 
+use crate::index::{Index, Link};
 use crate::pool::{Lists, Member};
 use crate::walk::Walk;
-use number_hash::NumberHashing;
 use slab::Slab;
 use std::alloc::{AllocError, Global};
-use std::collections::HashMap;
 
 impl<T: Copy> Lists<T> {
     /// Lists without items. It takes no memory yet.
@@ -18,38 +17,39 @@ impl<T: Copy> Lists<T> {
     {
         Lists {
             members: Slab::new(alloc),
-            firsts: HashMap::with_hasher(alloc, NumberHashing::new()),
+            firsts: Index::new(alloc),
         }
     }
 
-    /// Room for so many items more.
-    pub(crate) fn reserve(&mut self, items: usize) -> Result<(), AllocError>
+    /// Room for so many items more, and a place for a list.
+    pub(crate) fn reserve(&mut self, items: usize, list: usize) -> Result<(), AllocError>
         ensures room { OnOk result (items ≤ self.new.room) }
+        ensures place { OnOk result (list < self.new.places) }
         ensures same { self.new.slots ≡ self.old.slots }
-        ensures succeeds { items ≤ self.old.room → IsOk result }
-        ensures kept { self.old.room ≤ self.new.room }
+        ensures kept { self.old.places ≤ self.new.places }
     {
-        let _capacity = self.members.capacity();
         self.members.reserve(items)?;
-        self.firsts.reserve(items)
+        self.firsts.reserve(list)
     }
 
     /// Puts an item in front of a list, and gives its key.
     pub(crate) fn push(&mut self, list: usize, item: T) -> usize
         requires room { 0 < self.old.room }
+        requires place { list < self.old.places }
         ensures puts { Puts self.old self.new list item result }
         ensures room { self.old.room ≤ self.new.room + 1 }
+        ensures places { self.new.places ≡ self.old.places }
     {
-        let vacant = self.members.vacant_key();
-        let replaced: Result<_, _> = self.firsts.insert(list, vacant);
-        let next = replaced.unwrap_or(None);
+        let next = self.firsts.get(list);
         let key = self.members.insert_reserved(Member {
             list,
             item,
-            before: None,
+            before: Link::none(),
             next,
         });
-        set_before(&mut self.members, next, Some(key));
+        let link = Link::to(&self.members, key);
+        self.firsts.set(list, link);
+        set_before(&mut self.members, next, link);
         key
     }
 
@@ -59,7 +59,7 @@ impl<T: Copy> Lists<T> {
     {
         Walk {
             members: &self.members,
-            next: self.firsts.get(&list).copied(),
+            next: self.firsts.get(list),
         }
     }
 
@@ -67,7 +67,7 @@ impl<T: Copy> Lists<T> {
     pub(crate) fn remove(&mut self, key: usize)
         requires there { IsSome (held self.old key) }
         ensures takes { Takes self.old self.new key }
-        ensures room { self.old.room ≤ self.new.room }
+        ensures places { self.new.places ≡ self.old.places }
     {
         let Member {
             list,
@@ -82,54 +82,39 @@ impl<T: Copy> Lists<T> {
 }
 
 /// Another member, or none, comes in front of the one at a key.
-fn set_before<T: Copy>(members: &mut Slab<Member<T>>, key: Option<usize>, before: Option<usize>)
+fn set_before<T: Copy>(members: &mut Slab<Member<T>>, key: Link, before: Link)
     ensures set { (k : ℕ) (m : _) → key ≡ Some k → get members.old k ≡ Some m → get members.new k ≡ Some (record m { before = before }) }
     ensures others { (k : ℕ) → key ≢ Some k → get members.new k ≡ get members.old k }
     ensures len { slab_len members.new ≡ slab_len members.old }
     ensures capacity { members.new.capacity ≡ members.old.capacity }
 {
-    let Some(key) = key else { return };
+    let Some(key) = key.key() else { return };
     if let Some(member) = members.get_mut(key) {
         member.before = before;
     }
 }
 
 /// Another member, or none, comes behind the one at a key.
-fn set_next<T: Copy>(members: &mut Slab<Member<T>>, key: Option<usize>, next: Option<usize>)
+fn set_next<T: Copy>(members: &mut Slab<Member<T>>, key: Link, next: Link)
     ensures set { (k : ℕ) (m : _) → key ≡ Some k → get members.old k ≡ Some m → get members.new k ≡ Some (record m { next = next }) }
     ensures others { (k : ℕ) → key ≢ Some k → get members.new k ≡ get members.old k }
     ensures len { slab_len members.new ≡ slab_len members.old }
     ensures capacity { members.new.capacity ≡ members.old.capacity }
 {
-    let Some(key) = key else { return };
+    let Some(key) = key.key() else { return };
     if let Some(member) = members.get_mut(key) {
         member.next = next;
     }
 }
 
 /// Another member, or none, is the first of a list, where nothing comes in front of it.
-fn set_first(
-    firsts: &mut HashMap<usize, usize, NumberHashing>,
-    list: usize,
-    before: Option<usize>,
-    first: Option<usize>,
-)
-    requires there { before ≡ None → IsSome (map_get nat_eq firsts.old list) }
-    ensures first { before ≡ None → map_get nat_eq firsts.new list ≡ first }
-    ensures others { (q : ℕ) → (before ≡ None → q ≢ list) → map_get nat_eq firsts.new q ≡ map_get nat_eq firsts.old q }
-    ensures spare { spare firsts.old ≤ spare firsts.new }
+fn set_first(firsts: &mut Index, list: usize, before: Link, first: Link)
+    requires place { before ≡ None → list < length firsts.old }
+    ensures first { before ≡ None → key_at firsts.new list ≡ first }
+    ensures others { (q : ℕ) → (before ≡ None → q ≢ list) → key_at firsts.new q ≡ key_at firsts.old q }
+    ensures places { length firsts.new ≡ length firsts.old }
 {
-    if before.is_some() {
-        return;
-    }
-    match first {
-        None => {
-            let _ = firsts.remove(&list);
-        }
-        Some(key) => {
-            if let Some(first) = firsts.get_mut(&list) {
-                *first = key;
-            }
-        }
+    if before.key().is_none() {
+        firsts.set(list, first);
     }
 }

@@ -59,8 +59,8 @@ impl<V> Graph<V> {
         ensures filled { option_map filled (option_copied result) ≡ map.get self.now.cells number }
         ensures cells { IfSome result (λ c. AreCells self.now.cells c.now.inputs.items) }
     {
-        match self.keys.get(&number) {
-            Some(key) => self.cells.get(*key),
+        match self.keys.get(number).key() {
+            Some(key) => self.cells.get(key),
             None => None,
         }
     }

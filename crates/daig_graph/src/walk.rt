@@ -1,6 +1,7 @@
 //! The items of a list, one after another.
 ghost use Rattle.std.specs.Iterator.{YieldsFirst, item_count};
 
+use crate::index::Link;
 use crate::pool::Member;
 use slab::Slab;
 use std::marker::Model;
@@ -9,7 +10,7 @@ use std::marker::Model;
 #[derive(Drop)]
 pub struct Walk<'a, T> {
     pub(crate) members: &'a Slab<Member<T>>,
-    pub(crate) next: Option<usize>,
+    pub(crate) next: Link,
 }
 
 impl<'a, T> Model for Walk<'a, T> {
@@ -33,7 +34,7 @@ impl<'a, T: Copy> Iterator for Walk<'a, T> {
     ghost remaining = { item_count (λ rest. rest) };
 
     fn next(&mut self) -> Option<T> {
-        let member = self.members.get(self.next?)?;
+        let member = self.members.get(self.next.key()?)?;
         self.next = member.next;
         Some(member.item)
     }

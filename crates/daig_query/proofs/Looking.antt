@@ -118,6 +118,28 @@ module _ {S : Type 0} (dom : Operations S) (plan : Plan) where
       let e = total_inputs dom engine (reverse program) (all_fine program right.checked) (flat_once program right.checked) same_name same_is x k in
       unvalued dom engine program right.checked y (inputs_have dom engine (reverse program) (all_fine program right.checked) same_name same_is x y k (subst (λ xs. member same_name xs y ≡ true) e m))
 
+  -- one more of the inputs of a name is found, the next one
+  pub open_longer : (store : Store S) (o : Open) (y : CellName) (cell : ℕ) → IsOpen dom plan store o → next_of dom plan store o ≡ Some y → slice_get store.names.names cell ≡ Some y → IsSome (get store.graph.cells cell) →
+      IsOpen dom plan store (record { cell = o.cell; name = o.name; inputs = o.inputs ++ cell ∷ [] })
+  open_longer store o y cell opened next number s = record {
+    path = opened.path;
+    number = opened.number;
+    named = opened.named;
+    within = subst (λ k. k ≤ length all) (sym long) (let w : length o.inputs < length all = slice_get_within all (length o.inputs) y next in omega arith);
+    numbers = subst (λ k. AreNumbers store.names.names (o.inputs ++ cell ∷ []) (take k all)) (sym long) (
+        subst (λ zs. AreNumbers store.names.names (o.inputs ++ cell ∷ []) zs) (sym (take_next all (length o.inputs) y next)) (
+        numbers_push store.names.names o.inputs (take (length o.inputs) all) cell y opened.numbers number
+        )
+        );
+    cells = pushed_there dom plan [] store o.inputs cell opened.cells s;
+  }
+    where
+      all : List CellName
+      all = inputs dom plan (name_of store o)
+
+      long : length (o.inputs ++ cell ∷ []) ≡ suc (length o.inputs)
+      long = length-append o.inputs (cell ∷ []) ∙ (let e : length o.inputs + 1 ≡ suc (length o.inputs) = omega arith in e)
+
   module _ (old new : Store S) (right : IsRight dom plan old) (y : CellName) (x : Name) (cell : ℕ) (named : Named old new y x cell) where
     pub later : IsRight dom plan new
     later = right_named dom plan old new right named.names named.once
@@ -174,25 +196,8 @@ module _ {S : Type 0} (dom : Operations S) (plan : Plan) where
               let make : ℕ → Name → List ℕ → Open = λ a b d. record { cell = a; name = b; inputs = d } in
               ap (λ a. make a m.name m.inputs) c ∙ ap (λ b. make o.cell b m.inputs) n ∙ ap (λ d. make o.cell o.name d) i
 
-          all : List CellName
-          all = inputs dom plan (name_of new o)
-
-          long : length (o.inputs ++ cell ∷ []) ≡ suc (length o.inputs)
-          long = length-append o.inputs (cell ∷ []) ∙ (let e : length o.inputs + 1 ≡ suc (length o.inputs) = omega arith in e)
-
           longer : IsOpen dom plan new (record { cell = o.cell; name = o.name; inputs = o.inputs ++ cell ∷ [] })
-          longer = record {
-            path = at_later.entry.path;
-            number = at_later.entry.number;
-            named = at_later.entry.named;
-            within = subst (λ k. k ≤ length all) (sym long) (let w : length o.inputs < length all = slice_get_within all (length o.inputs) y next_later in omega arith);
-            numbers = subst (λ k. AreNumbers new.names.names (o.inputs ++ cell ∷ []) (take k all)) (sym long) (
-                subst (λ zs. AreNumbers new.names.names (o.inputs ++ cell ∷ []) zs) (sym (take_next all (length o.inputs) y next_later)) (
-                numbers_push new.names.names o.inputs (take (length o.inputs) all) cell y at_later.entry.numbers named.number
-                )
-                );
-            cells = pushed_there dom plan [] new o.inputs cell at_later.entry.cells s;
-          }
+          longer = open_longer new o y cell at_later.entry next_later named.number s
 
       -- so fewer are left to be found
       pub fewer : (m : Open) → m.name ≡ o.name → m.inputs ≡ o.inputs ++ cell ∷ [] → length (inputs dom plan (name_of new m)) - length m.inputs < length (inputs dom plan (name_of old o)) - length o.inputs

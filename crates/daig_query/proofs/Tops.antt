@@ -1,6 +1,6 @@
 -- A turn at the name on top of a stack.
-use Rattle.std.proofs.Common.{◌≡◌, ℕ, suc, ◌+◌, ◌<◌, ◌⊎◌, ◌||◌, false, List, [], ◌∷◌, ◌++◌, length, Option, Some, None, slice_get, sym, ap, subst, ◌∙◌, inl, inr, arith, length-append}
-use Rattle.std.specs.FinMap.{len}
+use Rattle.std.proofs.Common.{◌≡◌, ℕ, suc, ◌+◌, ◌<◌, ◌⊎◌, ◌||◌, Bool, true, false, List, [], ◌∷◌, ◌++◌, length, Option, Some, None, IsSome, is_some, slice_get, refl, sym, ap, subst, ◌∙◌, inl, inr, arith, length-append}
+use Rattle.std.specs.FinMap.{get, len}
 use Rattle.std.proofs.lemmas.List.{map-append}
 use Rattle.std.proofs.lemmas.Option.{slice_get_within}
 use Rattle.plain_values.proofs.Lists.{get_last}
@@ -13,20 +13,26 @@ use Rattle.imp_flow.specs.Plans.{Plan}
 use Rattle.imp_flow.specs.declared.row.Row.{Row}
 use Rattle.named_cells.specs.Same.{same_name}
 use Rattle.named_cells.specs.Asked.{inputs}
-use Rattle.named_cells.proofs.Numbers.{within_more}
+use Rattle.named_cells.proofs.Numbers.{filled_number, within_more}
+use Rattle.named_cells.proofs.Same.{same_is}
 use Rattle.daig_query.specs.declared.opening.Open.{Open}
 use Rattle.daig_query.specs.declared.store.Store.{Store}
 use Rattle.daig_query.specs.declared.walk.Walk.{Walk}
 use Rattle.daig_query.specs.Kept.{kept, Grows, Names}
 use Rattle.daig_query.specs.Right.{IsRight}
 use Rattle.daig_query.specs.Opened.{name_of, next_of, row_at, IsOpen, Looks, Puts}
-use Rattle.daig_query.specs.Turned.{stacked_names, AreKept, Pushes, FillsTop, Waits}
+use Rattle.daig_query.specs.Turned.{stacked_names, AreKept, HandsDown, Pushes, FillsTop, Waits}
 use Rattle.daig_query.specs.Walked.{AreStacked, IsPlaced, IsGood, place_of}
 use Rattle.daig_query.proofs.Growing.{names_grow, grows_trans, kept_same, name_stays, open_grows, next_grows}
 use Rattle.daig_query.proofs.Walks.{placed_grows, place_stays}
+use Rattle.daig_query.proofs.Looking.{open_longer}
 use Rattle.daig_query.proofs.Stepping.{place_same, placed_same}
 use Rattle.daig_query.proofs.Stacked.{names_stay, get_front, open_ready, take_front}
 use Rattle.daig_query.proofs.Starting.{stacked_front}
+
+or_true : (b : Bool) → (b || true) ≡ true
+or_true true = refl
+or_true false = refl
 
 module _ {S : Type 0} (dom : Operations S) (plan : Plan) where
   -- the top is open
@@ -117,6 +123,14 @@ module _ {S : Type 0} (dom : Operations S) (plan : Plan) where
     chained = λ i o u e f. next_grows dom plan old new grows o (h.opens i o e) ∙ h.chained i o u e f ∙ ap Some (sym (name_stays old new grows.paths u (h.opens (suc i) u f).path));
   }
 
+  -- a name that has one input more found is the same name
+  handed_names : (store : Store S) (cell : ℕ) (os us : List Open) → HandsDown cell os us → stacked_names store us ≡ stacked_names store os
+  handed_names store cell os us (inl same) = ap (stacked_names store) same
+  handed_names store cell os us (inr h) =
+      ap (stacked_names store) h.3
+      ∙ (map-append (name_of store) h.0 (record h.1 { inputs = h.1.inputs ++ cell ∷ [] } ∷ [])
+      ∙ (sym (map-append (name_of store) h.0 (h.1 ∷ [])) ∙ ap (stacked_names store) (sym h.2)))
+
   module _ (ts : List Target) where
     -- a walk with another stack
     pub good_with : (store : Store S) (w new : Walk) → new.target ≡ w.target → new.step ≡ w.step → new.path ≡ w.path → new.found.items ≡ w.found.items → IsPlaced dom plan ts store w → AreStacked dom plan store (place_of ts store w) new.stack.items → IsGood dom plan ts store new
@@ -192,11 +206,42 @@ module _ {S : Type 0} (dom : Operations S) (plan : Plan) where
           only = names;
         }
 
-        -- it is filled
-        pub fills_top : (new : Store S) (after : Walk) → next_of dom plan mid entry ≡ None → after.stack.items ≡ os → Puts dom plan mid new (name_of mid entry) → FillsTop dom plan ts old new (stacked_names old (os ++ top ∷ [])) after
-        fills_top new after none stack puts = record {
+        -- it is filled and handed down
+        pub good_handed : (new : Store S) (after : Walk) → after.target ≡ w.target → after.step ≡ w.step → after.path ≡ w.path → after.found.items ≡ w.found.items → Puts dom plan mid new (name_of mid entry) → HandsDown entry.cell os after.stack.items → IsGood dom plan ts new after
+        good_handed new after target step path found puts hands = good_with new w after target step path found (placed_grows dom plan ts mid new w puts.right puts.grows placed_mid) (by hands)
+          where
+            stacked_new : AreStacked dom plan new (place_of ts new w) os
+            stacked_new = stacked_with_names ts mid new w os puts.grows placed_mid stacked_rest
+
+            number : slice_get new.names.names entry.cell ≡ Some (name_of mid entry)
+            number = puts.grows.names entry.cell (name_of mid entry) looks.at.entry.number
+
+            there : IsSome (get new.graph.cells entry.cell)
+            there =
+                ap is_some (sym (filled_number new.graph.cells new.names.names puts.right.once (name_of mid entry) entry.cell number))
+                ∙ (puts.adds (name_of mid entry) ∙ (ap (λ b. kept mid (name_of mid entry) || b) (same_is.same_refl (name_of mid entry)) ∙ or_true (kept mid (name_of mid entry))))
+
+            longer : (rest : List Open) (o : Open) → os ≡ rest ++ o ∷ [] → AreStacked dom plan new (place_of ts new w) (rest ++ record o { inputs = o.inputs ++ entry.cell ∷ [] } ∷ [])
+            longer rest o os_is =
+                let below : AreStacked dom plan new (place_of ts new w) (rest ++ o ∷ []) = subst (AreStacked dom plan new (place_of ts new w)) os_is stacked_new in
+                let opened = open_at_end new (place_of ts new w) rest o below in
+                let all : os ++ top ∷ [] ≡ (rest ++ o ∷ []) ++ top ∷ [] = ap (λ xs. xs ++ top ∷ []) os_is in
+                let here : slice_get (os ++ top ∷ []) (length rest) ≡ Some o = ap (λ xs. slice_get xs (length rest)) all ∙ (get_front (rest ++ o ∷ []) (top ∷ []) (length rest) (slice_get_within (rest ++ o ∷ []) (length rest) o (get_last rest o)) ∙ get_last rest o) in
+                let long : length (rest ++ o ∷ []) ≡ suc (length rest) = length-append rest (o ∷ []) ∙ (let e : length rest + 1 ≡ suc (length rest) = omega arith in e) in
+                let last : slice_get (os ++ top ∷ []) (suc (length rest)) ≡ Some top = ap (slice_get (os ++ top ∷ [])) (sym long) ∙ (ap (λ xs. slice_get xs (length (rest ++ o ∷ []))) all ∙ get_last (rest ++ o ∷ []) top) in
+                let next : next_of dom plan new o ≡ Some (name_of mid entry) =
+                next_grows dom plan mid new puts.grows o (stacked_mid.opens (length rest) o here)
+                ∙ (stacked_mid.chained (length rest) o top here last ∙ ap Some (sym same_top)) in
+                stacked_again new (place_of ts new w) rest o (record o { inputs = o.inputs ++ entry.cell ∷ [] }) refl (open_longer dom plan new o (name_of mid entry) entry.cell opened next number there) below
+
+            by : HandsDown entry.cell os after.stack.items → AreStacked dom plan new (place_of ts new w) after.stack.items
+            by (inl same) = subst (AreStacked dom plan new (place_of ts new w)) (sym same) stacked_new
+            by (inr h) = subst (AreStacked dom plan new (place_of ts new w)) (sym h.3) (longer h.0 h.1 h.2)
+
+        pub fills_top : (new : Store S) (after : Walk) → next_of dom plan mid entry ≡ None → HandsDown entry.cell os after.stack.items → Puts dom plan mid new (name_of mid entry) → FillsTop dom plan ts old new (stacked_names old (os ++ top ∷ [])) after
+        fills_top new after none hands puts = record {
           top = name_of old top;
-          names = split ∙ ap (λ xs. xs ++ name_of old top ∷ []) (sym (ap (stacked_names new) stack ∙ rest_names new (grows_trans old mid new grows puts.grows)));
+          names = split ∙ ap (λ xs. xs ++ name_of old top ∷ []) (sym (handed_names new entry.cell os after.stack.items hands ∙ rest_names new (grows_trans old mid new grows puts.grows)));
           ready = λ x m. sym (same x) ∙ ready_mid none x m;
           puts = record {
             right = puts.right;

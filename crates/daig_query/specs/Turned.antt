@@ -1,5 +1,5 @@
 -- What a turn of the machine does to the names that are being filled.
-use Rattle.std.specs.Prelude.{◌≡◌, ℕ, Bool, true, false, List, [], ◌∷◌, ◌++◌, map}
+use Rattle.std.specs.Prelude.{◌≡◌, ℕ, ◌⊎◌, Bool, true, false, List, [], ◌∷◌, ◌++◌, map}
 use Rattle.domain_laws.specs.Operations.{Operations}
 use Rattle.demand_order.specs.Order.{member}
 use Rattle.cell_names.specs.Paths.{CellName}
@@ -23,6 +23,10 @@ stacked_names store stack = map (name_of store) stack
 -- the name on top has no cell
 abbrev pub IsTopAbsent : {S : Type 0} → Store S → List Open → Type 0
 IsTopAbsent store stack = (rest : List Open) (o : Open) → stack ≡ rest ++ o ∷ [] → kept store (name_of store o) ≡ false
+
+-- The name on top has a cell more among its inputs; or it is what it was, as where there is none.
+abbrev pub HandsDown : (cell : ℕ) → (old new : List Open) → Type 0
+HandsDown cell old new = (new ≡ old) ⊎ ((rest : List Open) × (o : Open) × (old ≡ rest ++ o ∷ []) × (new ≡ rest ++ record o { inputs = o.inputs ++ cell ∷ [] } ∷ []))
 
 -- each of these has a cell
 abbrev pub AreKept : {S : Type 0} → Store S → List CellName → Type 0

@@ -7,7 +7,7 @@ ghost use Rattle.daig_query.specs.Right.{IsRight};
 ghost use Rattle.daig_query.specs.Opened.{name_of};
 ghost use Rattle.daig_query.specs.Walked.{AreStacked, AreTargets, IsDone, IsGood, IsPlaced, place_of};
 ghost use Rattle.daig_query.specs.Filled.{added, missing, Fills};
-ghost use Rattle.daig_query.specs.Turned.{fills_of, stacked_names, IsTopAbsent, Obeys, Turns};
+ghost use Rattle.daig_query.specs.Turned.{fills_of, stacked_names, HandsDown, IsTopAbsent, Obeys, Turns};
 
 use crate::engine::Engine;
 use crate::opening::{Open, fill, next_absent, row_of};
@@ -67,7 +67,18 @@ fn turn_walk<D: Domain>(
     }
 }
 
-/// With a name on top of the stack, which is taken off: its first missing input is pushed on it, or it is filled.
+/// The name on top gets the cell of the name that was filled for it: its next input. For want of memory it does not, and
+/// finds it again by its name.
+fn hand_down(stack: &mut Vec<Open>, cell: usize)
+    ensures hands { HandsDown cell stack.old.items stack.new.items }
+{
+    if let Some(below) = stack.last_mut() {
+        let _ = below.inputs.push(cell);
+    }
+}
+
+/// With a name on top of the stack, which is taken off: its first missing input is pushed on it, or it is filled, and
+/// handed down.
 fn turn_open<D: Domain, L: Ledger>(
     alloc: Global,
     dom: &D,
@@ -106,7 +117,9 @@ fn turn_open<D: Domain, L: Ledger>(
         walk.stack.push(entry)?;
         return Ok(Turn::Spent);
     }
+    let cell = entry.cell;
     fill(alloc, dom, flow, store, &row, entry, steps)?;
+    hand_down(&mut walk.stack, cell);
     Ok(Turn::Filled)
 }
 

@@ -1,4 +1,4 @@
-use Rattle.std.proofs.Common.{◌+◌, ◌≤◌}
+use Rattle.std.proofs.Common.{◌≡◌, ◌+◌, ◌≤◌}
 use Rattle.daig_graph.specs.Uses.{Links}
 use Rattle.daig_graph.proofs.filling.link.Given as goal
 
@@ -6,4 +6,5 @@ abbrev pub invariant-loop-place : goal.invariant-loop-place
 invariant-loop-place l = record {
   links : Links l.initial.uses l.uses l.cell l.inputs l.keys l.place;
   room : l.initial.uses.room ≤ l.uses.room + l.place;
+  places : l.uses.places ≡ l.initial.uses.places;
 }

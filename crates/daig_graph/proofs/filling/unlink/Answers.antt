@@ -1,4 +1,4 @@
-use Rattle.std.proofs.Common.{arith}
+use Rattle.std.proofs.Common.{◌∙◌}
 use Rattle.daig_graph.proofs.UseLemmas.{at_index, still_there, unlinks-more}
 use Rattle.daig_graph.proofs.filling.unlink.Goals as goal
 
@@ -12,5 +12,5 @@ loop-key-preserved c =
     let at = at_index c.args.keys.now c.loop-key.key-index 0 c.loop-key-test.true in
     record {
       unlinks = unlinks-more c.args.uses.now c.loop-key.uses c.remove.new.self c.args.keys.now c.loop-key.key-index _ c.loop-key.invariant.unlinks at c.remove.ensures.takes;
-      room = omega (arith, c.loop-key.invariant.room, c.remove.ensures.room);
+      places = c.remove.ensures.places ∙ c.loop-key.invariant.places;
     }

@@ -5,7 +5,7 @@ use Rattle.daig_query.specs.Opened.{name_of, Looks}
 use Rattle.daig_query.proofs.Growing.{names_grow, grows_trans}
 use Rattle.daig_query.proofs.Filling.{computes_grow}
 use Rattle.daig_query.proofs.Walks.{good_grows}
-use Rattle.daig_query.proofs.Tops.{open_at_end, lacks_row, good_rest, good_entry, good_pushed, pushes_top, waits_top, fills_top, absent_mid}
+use Rattle.daig_query.proofs.Tops.{open_at_end, lacks_row, good_rest, good_entry, good_pushed, good_handed, pushes_top, waits_top, fills_top, absent_mid}
 use Rattle.daig_query.proofs.advance.turn_open.Goals as goal
 
 pub row_of-requires : goal.row_of-requires
@@ -181,9 +181,8 @@ returns-clause-walk g c =
     let mid = c.next_absent.new.store in
     let w = c.args.walk.now in
     let top = c.args.top in
-    good_grows dom plan ts mid c.fill.new.store w c.in_ok-fill.ensures.puts.right c.in_ok-fill.ensures.puts.grows (
-    good_rest dom plan ts old mid w top c.requires.right c.next_absent.ensures.right c.next_absent.ensures.names c.requires.placed c.requires.stacked w refl refl refl refl refl
-    )
+    let looks = (subst (Looks dom plan mid c.in-Some.row top c.next_absent.new.entry) c.in_default-2.is c.in_ok-input.ensures.looks) in
+    good_handed dom plan ts old mid w top c.requires.right c.next_absent.ensures.right c.next_absent.ensures.names c.requires.placed c.requires.stacked c.in-Some.row c.next_absent.new.entry None looks c.fill.new.store _ refl refl refl refl c.in_ok-fill.ensures.puts c.hand_down.ensures.hands
 
 pub returns-clause-turns : goal.returns-clause-turns
 returns-clause-turns g c =
@@ -195,4 +194,4 @@ returns-clause-turns g c =
     let w = c.args.walk.now in
     let top = c.args.top in
     let looks = (subst (Looks dom plan mid c.in-Some.row top c.next_absent.new.entry) c.in_default-2.is c.in_ok-input.ensures.looks) in
-    fills_top dom plan ts old mid w top c.requires.right c.next_absent.ensures.right c.next_absent.ensures.names c.requires.placed c.requires.stacked c.in-Some.row c.next_absent.new.entry None looks c.fill.new.store w looks.next refl c.in_ok-fill.ensures.puts
+    fills_top dom plan ts old mid w top c.requires.right c.next_absent.ensures.right c.next_absent.ensures.names c.requires.placed c.requires.stacked c.in-Some.row c.next_absent.new.entry None looks c.fill.new.store _ looks.next c.hand_down.ensures.hands c.in_ok-fill.ensures.puts

@@ -1,60 +1,59 @@
-use Rattle.std.proofs.Common.{◌≡◌, ℕ, List, length, None, Some, IsSome, slice_get, nat_eq, sym, ap, ◌∙◌, subst, arith}
-use Rattle.std.specs.HashMap.{get as map_get, Updates as UpdatesMap}
-use Rattle.std.specs.Ordering.{nat_cmp}
-use Rattle.std.specs.FinMap.{FinMap, insert, get as cell_at}
+use Rattle.std.proofs.Common.{◌≡◌, ℕ, List, length, slice_get, sym, ap, ◌∙◌, subst}
+use Rattle.std.specs.FinMap.{insert, get as cell_at}
 use Rattle.slab.specs.Slab.{get}
 use Rattle.daig_graph.specs.Uses.{Links}
-use Rattle.daig_graph.specs.Cells.{Filled}
-use Rattle.daig_graph.proofs.Cases.{from_ok, nat_eq-false}
-use Rattle.daig_graph.proofs.Agreeing.{keys-none, key-get}
+use Rattle.daig_graph.specs.Agrees.{Agrees}
+use Rattle.daig_graph.specs.Keys.{key_at}
+use Rattle.daig_graph.proofs.Agreeing.{keys-none, cells-keyed}
+use Rattle.daig_graph.proofs.AgreeingAlong.{agrees-reserved}
 use Rattle.daig_graph.proofs.CellFilled.{Fills, agrees-fill, map-fill}
+use Rattle.daig_graph.proofs.KeySet.{set-here, set-others}
 use Rattle.daig_graph.proofs.Maps.{cell_map}
 use Rattle.daig_graph.proofs.graph.Graph.fill.Goals as goal
 
+pub link_inputs-requires-clause-placed : goal.link_inputs-requires-clause-placed
+link_inputs-requires-clause-placed g c i x s =
+    let reserved = agrees-reserved c.self.inside.cells c.reserve.new.self c.self.inside.keys c.reserve-2.new.self c.self.inside.owned c.reserve-3.new.self c.self.inside.uses c.reserve-4.new.self c.reserve.ensures.rest_kept c.reserve-2.ensures.same c.reserve-3.ensures.same c.reserve-4.ensures.same c.reserve-4.ensures.kept c.self.invariant in
+    let cells_are = ap (λ s. cell_map s.slots) c.reserve.ensures.rest_kept ∙ ap (λ v. v.cells) c.self.view_is in
+    let k = cells-keyed _ _ _ _ reserved _ cells_are c.args.inputs c.requires.inputs i x (ap (λ l. slice_get l i) (sym (c.as_slice.ensures ∙ c.inputs.view_is)) ∙ s) in
+    reserved.placed x k.0 k.1
+
+-- the parts, with room for the cell
+reserved : (g : _) (c : goal.After-set g) → Agrees (get c.reserve.new.self) (key_at c.reserve-2.new.self) c.reserve-3.new.self c.reserve-4.new.self
+reserved g c = agrees-reserved c.self.inside.cells c.reserve.new.self c.self.inside.keys c.reserve-2.new.self c.self.inside.owned c.reserve-3.new.self c.self.inside.uses c.reserve-4.new.self c.reserve.ensures.rest_kept c.reserve-2.ensures.same c.reserve-3.ensures.same c.reserve-4.ensures.same c.reserve-4.ensures.kept c.self.invariant
+
 -- the cells before
-cells-is : (g : _) (c : goal.After-insert g) → cell_map c.self.inside.cells.slots ≡ c.args.self.now.cells
-cells-is g c = ap (λ v. v.cells) c.self.view_is ∙ c.reserve.ensures.cells
+cells-are : (g : _) (c : goal.After-set g) → cell_map c.reserve.new.self.slots ≡ c.args.self.now.cells
+cells-are g c = ap (λ s. cell_map s.slots) c.reserve.ensures.rest_kept ∙ ap (λ v. v.cells) c.self.view_is
 
-absent : (g : _) (c : goal.After-insert g) → map_get nat_eq c.self.inside.keys c.args.cell ≡ None
-absent g c = keys-none _ _ _ _ c.self.invariant c.args.cell (ap (λ m. cell_at m c.args.cell) (cells-is g c) ∙ c.requires.absent)
-
-inserted : (g : _) (c : goal.After-insert g) → UpdatesMap nat_eq c.self.inside.keys c.insert.new.self c.args.cell (Some c.insert_reserved-key.result)
-inserted g c = from_ok c.insert.result _ (c.insert.ensures.succeeds (omega (arith, ap (λ v. v.cell_room) c.self.view_is, c.in_ok-reserve.ensures.cell_room))) c.insert.ensures.updates
-
-input_there : (g : _) (c : goal.After-insert g) (i x : ℕ) → slice_get c.inputs.inside.cells.items i ≡ Some x → (j : ℕ) × (map_get nat_eq c.self.inside.keys x ≡ Some j)
-input_there g c i x s =
-    let there = c.requires.inputs i x (ap (λ l. slice_get l i) (sym c.inputs.view_is) ∙ s) in
-    let P : FinMap nat_cmp (Filled g.row.V.Denot) → Type 0 = λ m. IsSome (cell_at m x) in
-    key-get _ _ _ _ c.self.invariant x (subst P (sym (cells-is g c)) there)
-
-linked : (g : _) (c : goal.After-insert g) → Links c.self.inside.uses c.link_inputs.new.uses c.args.cell c.inputs.inside.cells.items c.link_inputs.new.keys.items (length c.inputs.inside.cells.items)
+linked : (g : _) (c : goal.After-set g) → Links c.reserve-4.new.self c.link_inputs.new.uses c.args.cell c.inputs.inside.cells.items c.link_inputs.new.keys.items (length c.inputs.inside.cells.items)
 linked g c =
-    let P : List ℕ → Type 0 = λ l. Links c.self.inside.uses c.link_inputs.new.uses c.args.cell l c.link_inputs.new.keys.items (length l) in
+    let P : List ℕ → Type 0 = λ l. Links c.reserve-4.new.self c.link_inputs.new.uses c.args.cell l c.link_inputs.new.keys.items (length l) in
     subst P c.as_slice.ensures c.link_inputs.ensures.links
 
-fills : (g : _) (c : goal.After-insert g) → Fills (get c.self.inside.cells) (get c.insert_reserved-key.new.self) (map_get nat_eq c.self.inside.keys) (map_get nat_eq c.insert.new.self)
-    c.self.inside.owned c.push-own.new.self c.self.inside.uses c.link_inputs.new.uses c.insert_reserved-key.result
+fills : (g : _) (c : goal.After-set g) → Fills (get c.reserve.new.self) (get c.insert_reserved-key.new.self) (key_at c.reserve-2.new.self) (key_at c.set.new.self)
+    c.reserve-3.new.self c.push-own.new.self c.reserve-4.new.self c.link_inputs.new.uses c.insert_reserved-key.result
     (record { number = c.args.cell; owner = c.args.owner; value = c.args.value; own = c.push-own.result; inputs = c.inputs.inside.cells; uses = c.link_inputs.new.keys })
-fills g c =
-    let u = inserted g c in
-    record {
-      vacant = c.insert_reserved-key.ensures.was_vacant;
-      here = c.insert_reserved-key.ensures.updates.changed;
-      others = c.insert_reserved-key.ensures.updates.others;
-      absent = absent g c;
-      keyed = u.1;
-      keys_same = λ q ne. u.2 q (nat_eq-false c.args.cell q (λ e. ne (sym e)));
-      owns = c.push-own.ensures.puts;
-      links = linked g c;
-      many = c.link_inputs.ensures.as_many ∙ ap length c.as_slice.ensures;
-      inputs_there = input_there g c;
-    }
+fills g c = record {
+  vacant = c.insert_reserved-key.ensures.was_vacant;
+  here = c.insert_reserved-key.ensures.updates.changed;
+  others = c.insert_reserved-key.ensures.updates.others;
+  absent = keys-none _ _ _ _ (reserved g c) c.args.cell (ap (λ m. cell_at m c.args.cell) (cells-are g c) ∙ c.requires.absent);
+  keyed = ap (λ l. key_at l c.args.cell) c.set.ensures.set ∙ set-here c.reserve-2.new.self c.args.cell _ c.in_ok-reserve-2.ensures.place ∙ c.to.ensures.key;
+  keys_same = λ q ne. ap (λ l. key_at l q) c.set.ensures.set ∙ set-others c.reserve-2.new.self c.args.cell q _ ne;
+  owns = c.push-own.ensures.puts;
+  links = linked g c;
+  many = c.link_inputs.ensures.as_many ∙ ap length c.as_slice.ensures;
+  inputs_there = λ i x s. cells-keyed _ _ _ _ (reserved g c) _ (cells-are g c) c.args.inputs c.requires.inputs i x (ap (λ l. slice_get l i) (sym c.inputs.view_is) ∙ s);
+  place = c.in_ok-reserve-4.ensures.place;
+  places = c.link_inputs.ensures.places;
+}
 
-pub invariant_of-self : goal.invariant_of-self
-invariant_of-self g c = agrees-fill _ _ _ _ _ _ _ _ _ _ c.self.invariant (fills g c)
+pub invariant_of-self-2 : goal.invariant_of-self-2
+invariant_of-self-2 g c = agrees-fill _ _ _ _ _ _ _ _ _ _ (reserved g c) (fills g c)
 
 pub returns-clause-fills : goal.returns-clause-fills
 returns-clause-fills g c =
-    map-fill c.self.inside.cells.slots c.insert_reserved-key.new.self.slots _ _ _ _ _ _ _ _ c.self.invariant (fills g c)
-    ∙ ap (λ m. insert m c.args.cell (record { owner = c.args.owner; value = c.args.value; inputs = c.inputs.inside.cells.items })) (cells-is g c)
+    map-fill c.reserve.new.self.slots c.insert_reserved-key.new.self.slots _ _ _ _ _ _ _ _ (reserved g c) (fills g c)
+    ∙ ap (λ m. insert m c.args.cell (record { owner = c.args.owner; value = c.args.value; inputs = c.inputs.inside.cells.items })) (cells-are g c)
     ∙ ap (λ l. insert c.args.self.now.cells c.args.cell (record { owner = c.args.owner; value = c.args.value; inputs = l })) c.inputs.view_is

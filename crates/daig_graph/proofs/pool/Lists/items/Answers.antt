@@ -1,20 +1,17 @@
-use Rattle.std.proofs.Common.{◌≡◌, ℕ, map, length, Option, nat_eq, sym, ap, subst, rules}
-use Rattle.std.specs.HashMap.{get as map_get}
+use Rattle.std.proofs.Common.{ℕ, map, length, Option, sym, ap, subst}
 use Rattle.slab.specs.Slab.{get}
 use Rattle.daig_graph.specs.Walks.{IsWalk, walk}
+use Rattle.daig_graph.specs.Keys.{key_at}
 use Rattle.daig_graph.proofs.Listing.{whole, listed}
 use Rattle.daig_graph.proofs.pool.Lists.items.Goals as goal
-
-first_is : (g : _) (c : goal.After-copied g) → c.copied.result ≡ map_get nat_eq c.self.inside.firsts c.args.list
-first_is g c = search rules
 
 pub invariant_of-result : goal.invariant_of-result
 invariant_of-result g c =
     let P : Option ℕ → Type 0 = λ o. IsWalk (get c.self.inside.members) o (walk (length c.self.inside.members.slots) (get c.self.inside.members) o) in
-    subst P (sym (first_is g c)) (whole c.self.inside.members.slots (map_get nat_eq c.self.inside.firsts) c.self.invariant c.args.self.now (sym (ap (λ v. v.slots) c.self.view_is)) c.args.list)
+    subst P (sym (c.get.ensures.key)) (whole c.self.inside.members.slots (key_at c.self.inside.firsts) c.self.invariant c.args.self.now (sym (ap (λ v. v.slots) c.self.view_is)) c.args.list)
 
 pub returns : goal.returns
 returns g c = record {
-  items = listed c.self.inside.members.slots (map_get nat_eq c.self.inside.firsts) c.self.invariant c.args.self.now (sym (ap (λ v. v.slots) c.self.view_is)) c.args.list _
-      (ap (λ o. map (λ e. e.1) (walk (length c.self.inside.members.slots) (get c.self.inside.members) o)) (first_is g c));
+  items = listed c.self.inside.members.slots (key_at c.self.inside.firsts) c.self.invariant c.args.self.now (sym (ap (λ v. v.slots) c.self.view_is)) c.args.list _
+      (ap (λ o. map (λ e. e.1) (walk (length c.self.inside.members.slots) (get c.self.inside.members) o)) (c.get.ensures.key));
 }

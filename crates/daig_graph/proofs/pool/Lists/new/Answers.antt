@@ -1,14 +1,13 @@
-use Rattle.std.proofs.Common.{◌≡◌, ℕ, None, nat_eq, get_or, sym, ◌∙◌, ap}
-use Rattle.std.specs.HashMap.{get as map_get}
-use Rattle.std.specs.Map.{lookup}
+use Rattle.std.proofs.Common.{◌≡◌, ℕ, None, get_or, sym, ◌∙◌, ap}
 use Rattle.slab.specs.Slab.{get}
+use Rattle.daig_graph.specs.Keys.{key_at}
 use Rattle.daig_graph.proofs.Cases.{none-some}
 use Rattle.daig_graph.proofs.pool.Lists.new.Goals as goal
 
 pub invariant_of-result : goal.invariant_of-result
 invariant_of-result g c =
     let members : (k : ℕ) → get c.new.result k ≡ None = λ k. ap (λ s. get_or s k None) c.new.ensures.empty in
-    let firsts : (l : ℕ) → map_get nat_eq c.with_hasher.result l ≡ None = λ l. ap (lookup (nat_eq l)) c.with_hasher.ensures.empty in
+    let firsts : (l : ℕ) → key_at c.new-2.result l ≡ None = λ l. ap (λ s. key_at s l) c.new-2.ensures.empty in
     record {
       first = λ l k e. none-some (sym (firsts l) ∙ e);
       front = λ k m e n. none-some (sym (members k) ∙ e);

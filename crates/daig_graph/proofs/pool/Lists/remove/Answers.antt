@@ -1,15 +1,19 @@
-use Rattle.std.proofs.Common.{nat_eq, refl, sym, ◌∙◌, ap}
-use Rattle.std.specs.HashMap.{get as map_get}
+use Rattle.std.proofs.Common.{refl, sym, ◌∙◌, ap}
 use Rattle.slab.specs.Slab.{get}
+use Rattle.daig_graph.specs.Keys.{key_at}
 use Rattle.daig_graph.proofs.Views.{Takes-views}
+use Rattle.daig_graph.proofs.KeySet.{key-below}
 use Rattle.daig_graph.proofs.Removing.{Removed, linked-remove, held_same, sides_apart, before_apart, next_apart}
 use Rattle.daig_graph.proofs.pool.Lists.remove.Goals as goal
 
-removed : (g : _) (c : goal.After-set_first g) → Removed (get c.self.inside.members) (get c.set_before.new.members) (map_get nat_eq c.self.inside.firsts) (map_get nat_eq c.set_first.new.firsts) c.args.key c.remove-list.result
+pub set_first-requires : goal.set_first-requires
+set_first-requires g c = record { place = λ e. key-below c.self.inside.firsts _ _ (c.self.invariant.front c.args.key c.remove-list.result c.remove-list.ensures.value e) }
+
+removed : (g : _) (c : goal.After-set_first g) → Removed (get c.self.inside.members) (get c.set_before.new.members) (key_at c.self.inside.firsts) (key_at c.set_first.new.firsts) c.args.key c.remove-list.result
 removed g c =
     let r = c.remove-list.result in
     let old = get c.self.inside.members in
-    let firsts = map_get nat_eq c.self.inside.firsts in
+    let firsts = key_at c.self.inside.firsts in
     let there = c.remove-list.ensures.value in
     let linked = c.self.invariant in
     let gone = c.remove-list.ensures.updates in
