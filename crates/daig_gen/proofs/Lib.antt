@@ -1,4 +1,6 @@
 pub mod Joined
 pub mod Lines
 pub mod Counted
+pub mod Lengths
 pub mod Short
+pub mod ShortSource

@@ -1,5 +1,5 @@
 -- That a script has at most 128 bytes a turn.
-use Rattle.std.proofs.Common.{◌≡◌, ℕ, zero, suc, ◌+◌, ◌*◌, ◌/◌, ◌%◌, ◌^◌, ◌<◌, ◌≤◌, List, ◌++◌, length, length-append, codes, refl, arith}
+use Rattle.std.proofs.Common.{◌≡◌, ℕ, zero, suc, ◌+◌, ◌*◌, ◌/◌, ◌%◌, ◌^◌, ◌<◌, ◌≤◌, length, codes, refl, arith}
 use Rattle.std.specs.Fmt.{decimal}
 use Rattle.std.proofs.lemmas.Fmt.{length-decimal-le}
 use Rattle.std.proofs.lemmas.Nat.{div_below, mod_below}
@@ -7,9 +7,10 @@ use Rattle.std.proofs.Math.Nat.{mod-le}
 use Rattle.daig_gen.specs.declared.turns.Turn.{Turn}
 use Rattle.daig_gen.specs.declared.turns.Turn.TheVariants.{Ask, Replace, Insert}
 use Rattle.daig_gen.specs.Draws.{next, pick, variable, constant}
-use Rattle.daig_gen.specs.Pieces.{variable_text, constant_text}
+use Rattle.daig_gen.specs.Pieces.{constant_text}
 use Rattle.daig_gen.specs.Source.{pieces}
 use Rattle.daig_gen.specs.Script.{turn_of, ask_text, replace_text, insert_text, lines_of, turn_lines, turn_state, turns, script_of}
+use Rattle.daig_gen.proofs.Lengths.{pick_below, two, three, five, constant_short}
 
 rest_le : (n m : ℕ) → n % m ≤ n
 rest_le n m = mod-le n m
@@ -24,38 +25,8 @@ pick_small m s =
     let rest = rest_le (drawn / 2 ^ 33) m in
     omega (arith, upper, rest)
 
-pick_below : (m s : ℕ) → 0 < m → pick m s < m
-unfolding pick next
-pick_below m s some = mod_below ((s * 6364136223846793005 + 1442695040888963407) % 2 ^ 64 / 2 ^ 33) m some
-
--- a text of two, of three, of four, of five parts
-two : (a b : List ℕ) → length (a ++ b) ≡ length a + length b
-two a b = length-append a b
-
-three : (a b c : List ℕ) → length (a ++ b ++ c) ≡ length a + length b + length c
-three a b c = rw (length-append (a ++ b) c, length-append a b) refl
-
-four : (a b c d : List ℕ) → length (a ++ b ++ c ++ d) ≡ length a + length b + length c + length d
-four a b c d = rw (length-append (a ++ b ++ c) d, three a b c) refl
-
-five : (a b c d e : List ℕ) → length (a ++ b ++ c ++ d ++ e) ≡ length a + length b + length c + length d + length e
-five a b c d e = rw (length-append (a ++ b ++ c ++ d) e, four a b c d) refl
-
 statement_short : (n : ℕ) → n ≤ 2 ^ 31 → length (decimal n) ≤ 10
 statement_short n small = length-decimal-le 10 n (omega arith) (omega (arith, small)) (omega (arith, small))
-
-constant_short : (n : ℕ) → n < 100 → length (decimal n) ≤ 2
-constant_short n small = length-decimal-le 2 n (omega arith) (omega (arith, small)) (omega (arith, small))
-
-assign_short : (x c : ℕ) → x < 4 → c < 100 → length (constant_text x c) ≤ 10
-unfolding constant_text variable_text
-assign_short x c low small =
-    let v = two (codes "v") (decimal x) in
-    let all = four (codes "v" ++ decimal x) (codes " = ") (decimal c) (codes ";") in
-    let a : length (codes "v") ≡ 1 = refl in
-    let b : length (codes " = ") ≡ 3 = refl in
-    let d : length (codes ";") ≡ 1 = refl in
-    omega (arith, v, all, a, b, d, constant_short x (omega (arith, low)), constant_short c small)
 
 ask_short : (n : ℕ) → n ≤ 2 ^ 31 → length (ask_text n) ≤ 128
 unfolding ask_text
@@ -72,7 +43,7 @@ replace_short n x c small low few =
     let a : length (codes "{\"do\":\"replace\",\"id\":") ≡ 21 = refl in
     let b : length (codes ",\"text\":\"") ≡ 9 = refl in
     let d : length (codes "\"}\n") ≡ 3 = refl in
-    omega (arith, all, a, b, d, statement_short n small, assign_short x c low few)
+    omega (arith, all, a, b, d, statement_short n small, constant_short x c low few)
 
 insert_short : (n : ℕ) → n ≤ 2 ^ 31 → length (insert_text n) ≤ 128
 unfolding insert_text

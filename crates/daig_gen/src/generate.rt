@@ -1,5 +1,5 @@
 //! The source and the script.
-ghost use Rattle.std.specs.Prelude.{◌≡◌, ◌++◌, ◌*◌, IfOk, OnOk, ◌≤◌, length};
+ghost use Rattle.std.specs.Prelude.{◌≡◌, ◌+◌, ◌++◌, ◌*◌, IfOk, OnOk, ◌≤◌, length};
 ghost use Rattle.daig_gen.specs.Source.{text_of, state_after, piece, pieces, source_of};
 ghost use Rattle.daig_gen.specs.Script.{turns, script_of};
 
@@ -15,11 +15,20 @@ use std::alloc::{AllocError, Global};
 const HEAD: &[u8] =
     b"proc main() { var v0: int; var v1: int; var v2: int; var v3: int; var a: array; var p: list; var q: list; ";
 
-/// The source of this seed, of `size` pieces.
+/// The source of this seed, of `size` pieces. It has at most 64 bytes a piece, and 108 around them.
 ///
 /// Fails only for want of memory.
-#[tactic(auto, unfolding(crate::specs::Source::source_of, crate::specs::Source::head))]
+#[tactic(auto, using(crate::proofs::ShortSource::source_short))]
 pub fn source(alloc: Global, seed: u64, size: u32) -> Result<Vec<u8>, Memory>
+    ensures text { IfOk result (λ v. v.items ≡ source_of seed size) }
+    ensures short { length (source_of seed size) ≤ 64 * size + 108 }
+{
+    source_text(alloc, seed, size)
+}
+
+/// Puts the source together.
+#[tactic(auto, unfolding(crate::specs::Source::source_of, crate::specs::Source::head))]
+fn source_text(alloc: Global, seed: u64, size: u32) -> Result<Vec<u8>, Memory>
     ensures text { IfOk result (λ v. v.items ≡ source_of seed size) }
 {
     let mut draws = Draws::new(seed);

@@ -5,7 +5,7 @@ use Rattle.std.specs.Str.{bytes_eq}
 use Rattle.std.specs.Cmp.Lexicographic.{bytes_decides}
 use Rattle.std.specs.Prelude.{codes}
 use Rattle.std.proofs.Common.{◌≡◌, ℕ, zero, suc, ◌<◌, ◌≤◌, ◌-◌, ◌==◌, ◌⊎◌, inl, inr, List, [], ◌∷◌, ◌++◌, reverse, length, slice_get, option_map, Option, Some, None, Bool, true, false, cond, refl, sym, ap, ◌∙◌, subst, append_assoc, append-nil, arith}
-use Rattle.imp_syntax.specs.Plain.{Condition, Statement, Statements, Procedure, number_of, numbers_in, numbers, program_numbers}
+use Rattle.imp_syntax.specs.Plain.{Condition, Statement, Statements, Procedure, number_of, numbers, program_numbers}
 use Rattle.imp_syntax.specs.Plain as tree
 use Rattle.imp_syntax.specs.declared.words.Declaration.{Declaration}
 use Rattle.imp_syntax.specs.declared.edit.Edit.{Edit}

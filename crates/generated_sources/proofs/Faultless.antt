@@ -6,7 +6,7 @@ use Rattle.imp_syntax.specs.declared.words.Kind.TheVariants.{Int}
 use Rattle.imp_syntax.specs.declared.words.Operator.TheVariants.{Add, Subtract}
 use Rattle.imp_syntax.specs.declared.words.Declaration.{Declaration}
 use Rattle.imp_syntax.specs.Plain as plain
-use Rattle.imp_syntax.specs.Plain.{Expression, Literal, Variable, Binary, Value, Statements, Ends, Starts, Procedure}
+use Rattle.imp_syntax.specs.Plain.{Literal, Variable, Binary, Statements, Ends, Starts}
 use Rattle.imp_check.specs.Faults.{first, at}
 use Rattle.imp_check.specs.Names.{kind_of}
 use Rattle.imp_check.specs.Statements.{Scope, action_fault, condition_fault, block_fault}

@@ -19,7 +19,7 @@ use Rattle.daig_gen.specs.Pieces.{kind_of, variable_text, constant_text, copy_te
 use Rattle.daig_gen.specs.Source.{text_of, piece, pieces, head, source_of}
 use Rattle.print_round_trip.specs.Printable.{IsNamed}
 use Rattle.print_round_trip.proofs.Tokens.{block_tokens, program_tokens}
-use Rattle.print_round_trip.proofs.Lexed.{Lexes, lexes_nothing, Closed, Open, nothing, retold, closed_closed, closed_open, open_closed, space, line_feed, equals, less, minus, plus, colon, semicolon, dot, open_parenthesis, close_parenthesis, open_brace, close_brace}
+use Rattle.print_round_trip.proofs.Lexed.{Lexes, lexes_nothing, Closed, Open, nothing, retold, closed_closed, closed_open, open_closed, space, line_feed, less, minus, plus, colon, semicolon, dot, open_parenthesis, close_parenthesis, open_brace, close_brace}
 use Rattle.print_round_trip.proofs.Words.{names, numbers_open, proc_word, var_word, int_word, array_word, list_word, input_word, new_word, next_word, if_word, else_word, while_word}
 use Rattle.print_round_trip.proofs.Budgets.{program_fits}
 use Rattle.print_round_trip.proofs.SpelledPrograms.{program_is}

@@ -6,7 +6,7 @@ use Rattle.imp_syntax.specs.declared.words.Declaration.{Declaration}
 use Rattle.imp_syntax.specs.declared.words.Operator.TheVariants.{Add, Subtract}
 use Rattle.imp_syntax.specs.declared.words.Relation.TheVariants.{Less}
 use Rattle.imp_syntax.specs.Plain as plain
-use Rattle.imp_syntax.specs.Plain.{Expression, Literal, Variable, Binary, Value, Condition, Compare, Statement, Statements, Ends, Starts, Procedure}
+use Rattle.imp_syntax.specs.Plain.{Expression, Literal, Variable, Binary, Value, Condition, Compare, Statements, Ends, Starts, Procedure}
 use Rattle.imp_parse.specs.Answer.{HasTree}
 use Rattle.imp_parse.specs.Languages.{ProgramText}
 use Rattle.imp_parse.specs.Limits.{outside}

@@ -1,3 +1,5 @@
+pub mod Added
 pub mod Folds
+pub mod Halves
 pub mod Merged
 pub mod Placed

@@ -1,10 +1,10 @@
 -- The union with a rising list, by the first graphs of both.
-use Rattle.std.proofs.Common.{◌≡◌, true, ◌-◌, ◌≤◌, ◌<◌, List, [], ◌∷◌, ◌++◌, length, take, drop, get_or, append_assoc, refl, sym, ◌∙◌, ap, subst, arith}
+use Rattle.std.proofs.Common.{◌≡◌, ℕ, zero, suc, true, ◌+◌, ◌≤◌, ◌<◌, ◌⊎◌, inl, inr, ◌-◌, List, [], ◌∷◌, ◌++◌, length, take, drop, drop-cons, get_or, append_assoc, refl, sym, ◌∙◌, ap, subst, arith}
 use Rattle.std.specs.Ordering.{match_ordering, ordering_reverse, is_lt}
 use Rattle.std.specs.declared.cmp.Ordering.{Ordering}
 use Rattle.std.specs.declared.cmp.Ordering.TheVariants.{Less, Equal, Greater}
 use Rattle.std.proofs.lemmas.Bool.{and_parts}
-use Rattle.std.proofs.lemmas.List.{take_all}
+use Rattle.std.proofs.lemmas.List.{append-nil, drop_all, length-drop, take_all}
 use Rattle.shape_graph.specs.Shape.{Shape}
 use Rattle.shape_graph.specs.Order.{shape_cmp, shape_total, shape_cmp-same}
 use Rattle.listseg_meaning.specs.Sets.{put, union, rises}
@@ -15,7 +15,7 @@ less-is Equal h = cc
 less-is Greater h = cc
 
 -- each of the graphs comes behind the first
-abbrev IsBelow : Shape → List Shape → Type 0
+abbrev pub IsBelow : Shape → List Shape → Type 0
 IsBelow g [] = Unit {0}
 IsBelow g (h ∷ hs) = (shape_cmp g h ≡ Less) × IsBelow g hs
 
@@ -33,9 +33,9 @@ union-behind : (g : Shape) (gs hs : List Shape) → IsBelow g hs → union (g �
 union-behind g gs [] b = refl
 union-behind g gs (h ∷ hs) b = ap (λ v. union v hs) (put-behind g h gs b.0) ∙ union-behind g (put h gs) hs b.1
 
-tail-below : (h : Shape) (hs : List Shape) → rises (h ∷ hs) ≡ true → IsBelow h hs
-tail-below h [] r = tt
-tail-below h (i ∷ is) r =
+pub tail_below : (h : Shape) (hs : List Shape) → rises (h ∷ hs) ≡ true → IsBelow h hs
+tail_below h [] r = tt
+tail_below h (i ∷ is) r =
     let p = and_parts (is_lt (shape_cmp h i)) (rises (i ∷ is)) r in
     rises-below h i is (less-is (shape_cmp h i) p.0) p.1
 
@@ -53,70 +53,67 @@ same_first g h gs hs r e =
     let o : shape_cmp h g ≡ Equal = shape_total.antisymm h g ∙ ap ordering_reverse e in
     let same : h ≡ g = sym (shape_cmp-same g h e) in
     ap (λ o. union (match_ordering o (h ∷ g ∷ gs) (g ∷ gs) (g ∷ put h gs)) hs) o ∙
-    union-behind g gs hs (subst (λ x. IsBelow x hs) same (tail-below h hs r))
+    union-behind g gs hs (subst (λ x. IsBelow x hs) same (tail_below h hs r))
 
 -- the right one's first graph comes first
 pub right_first : (g h : Shape) (gs hs : List Shape) → rises (h ∷ hs) ≡ true → shape_cmp g h ≡ Greater → union (g ∷ gs) (h ∷ hs) ≡ h ∷ union (g ∷ gs) hs
 right_first g h gs hs r e =
     let o : shape_cmp h g ≡ Less = shape_total.antisymm h g ∙ ap ordering_reverse e in
     ap (λ o. union (match_ordering o (h ∷ g ∷ gs) (g ∷ gs) (g ∷ put h gs)) hs) o ∙
-    union-behind h (g ∷ gs) hs (tail-below h hs r)
+    union-behind h (g ∷ gs) hs (tail_below h hs r)
 
 -- the union of nothing with a rising list is that
 pub none_left : (hs : List Shape) → rises hs ≡ true → union [] hs ≡ hs
 none_left [] r = refl
-none_left (h ∷ hs) r = union-behind h [] hs (tail-below h hs r) ∙ ap (λ v. h ∷ v) (none_left hs (rest_rises h hs r))
+none_left (h ∷ hs) r = union-behind h [] hs (tail_below h hs r) ∙ ap (λ v. h ∷ v) (none_left hs (rest_rises h hs r))
 
--- the same by what is read of two lists: the first graph, and a list without it
-rest-is : (g : Shape) (gs : List Shape) → take (length (g ∷ gs) - 1) gs ≡ gs
-rest-is g gs = take_all (length (g ∷ gs) - 1) gs (omega arith)
+-- a list that rises does so from any place on
+pub drop_rises : (p : ℕ) (hs : List Shape) → rises hs ≡ true → rises (drop p hs) ≡ true
+drop_rises zero hs r = r
+drop_rises (suc p) [] r = r
+drop_rises (suc p) (h ∷ hs) r = drop_rises p hs (rest_rises h hs r)
 
-first-is : (gs : List Shape) (g : Shape) → 1 ≤ length gs → g ≡ get_or gs 0 g → gs ≡ g ∷ take (length gs - 1) (drop 1 gs)
-first-is [] g a x = absurd (omega arith)
-first-is (i ∷ is) g a x = λ k. sym x k ∷ sym (rest-is i is) k
+-- a list from a place on, by the graph there
+pub place_first : (gs : List Shape) (p : ℕ) (g : Shape) → p < length gs → g ≡ get_or gs p g → drop p gs ≡ g ∷ drop (p + 1) gs
+place_first gs p g a x =
+    let next : suc p ≡ p + 1 = omega arith in
+    drop-cons gs p g a ∙ (λ k. sym x k ∷ drop (next k) gs)
 
-pub without_first : (hs : List Shape) → rises hs ≡ true → rises (take (length hs - 1) (drop 1 hs)) ≡ true
-without_first [] r = refl
-without_first (h ∷ hs) r = subst (λ v. rises v ≡ true) (sym (rest-is h hs)) (rest_rises h hs r)
+-- two lists, of which the right one rises, from a place of each on, by the graphs there
+module _ (gs hs : List Shape) (p q : ℕ) (g h : Shape) (a : p < length gs) (b : q < length hs) (x : g ≡ get_or gs p g) (y : h ≡ get_or hs q h) (r : rises hs ≡ true) where
+  right-rises : rises (h ∷ drop (q + 1) hs) ≡ true
+  right-rises = subst (λ v. rises v ≡ true) (place_first hs q h b y) (drop_rises q hs r)
 
-pub left_union : (gs hs : List Shape) (g h : Shape) → 1 ≤ length gs → 1 ≤ length hs → g ≡ get_or gs 0 g → h ≡ get_or hs 0 h → rises hs ≡ true → shape_cmp g h ≡ Less
-    → union gs hs ≡ g ∷ union (take (length gs - 1) (drop 1 gs)) hs
-left_union [] hs g h a b x y r e = absurd (omega arith)
-left_union (i ∷ is) [] g h a b x y r e = absurd (omega arith)
-left_union (i ∷ is) (j ∷ js) g h a b x y r e =
-    left_first i j is js r (ap (λ v. shape_cmp v j) (sym x) ∙ ap (shape_cmp g) (sym y) ∙ e) ∙
-    (λ k. sym x k ∷ union (sym (rest-is i is) k) (j ∷ js))
+  pub left_union : shape_cmp g h ≡ Less → union (drop p gs) (drop q hs) ≡ g ∷ union (drop (p + 1) gs) (drop q hs)
+  left_union e =
+      let right = place_first hs q h b y in
+      (λ k. union (place_first gs p g a x k) (right k)) ∙ left_first g h (drop (p + 1) gs) (drop (q + 1) hs) right-rises e ∙
+      (λ k. g ∷ union (drop (p + 1) gs) (sym right k))
 
-pub both_union : (gs hs : List Shape) (g h : Shape) → 1 ≤ length gs → 1 ≤ length hs → g ≡ get_or gs 0 g → h ≡ get_or hs 0 h → rises hs ≡ true → shape_cmp g h ≡ Equal
-    → union gs hs ≡ g ∷ union (take (length gs - 1) (drop 1 gs)) (take (length hs - 1) (drop 1 hs))
-both_union [] hs g h a b x y r e = absurd (omega arith)
-both_union (i ∷ is) [] g h a b x y r e = absurd (omega arith)
-both_union (i ∷ is) (j ∷ js) g h a b x y r e =
-    same_first i j is js r (ap (λ v. shape_cmp v j) (sym x) ∙ ap (shape_cmp g) (sym y) ∙ e) ∙
-    (λ k. sym x k ∷ union (sym (rest-is i is) k) (sym (rest-is j js) k))
+  pub both_union : shape_cmp g h ≡ Equal → union (drop p gs) (drop q hs) ≡ g ∷ union (drop (p + 1) gs) (drop (q + 1) hs)
+  both_union e =
+      (λ k. union (place_first gs p g a x k) (place_first hs q h b y k)) ∙ same_first g h (drop (p + 1) gs) (drop (q + 1) hs) right-rises e
 
-pub right_union : (gs hs : List Shape) (g h : Shape) → 1 ≤ length gs → 1 ≤ length hs → g ≡ get_or gs 0 g → h ≡ get_or hs 0 h → rises hs ≡ true → shape_cmp g h ≡ Greater
-    → union gs hs ≡ h ∷ union gs (take (length hs - 1) (drop 1 hs))
-right_union [] hs g h a b x y r e = absurd (omega arith)
-right_union (i ∷ is) [] g h a b x y r e = absurd (omega arith)
-right_union (i ∷ is) (j ∷ js) g h a b x y r e =
-    right_first i j is js r (ap (λ v. shape_cmp v j) (sym x) ∙ ap (shape_cmp g) (sym y) ∙ e) ∙
-    (λ k. sym y k ∷ union (i ∷ is) (sym (rest-is j js) k))
-
--- where the lists without their first graphs add none, neither do these
-pub left_kept : (gs hs : List Shape) (g h : Shape) → 1 ≤ length gs → 1 ≤ length hs → g ≡ get_or gs 0 g → h ≡ get_or hs 0 h → rises hs ≡ true → shape_cmp g h ≡ Less
-    → union (take (length gs - 1) (drop 1 gs)) hs ≡ take (length gs - 1) (drop 1 gs) → union gs hs ≡ gs
-left_kept gs hs g h a b x y r e s = left_union gs hs g h a b x y r e ∙ ap (λ v. g ∷ v) s ∙ sym (first-is gs g a x)
-
-pub both_kept : (gs hs : List Shape) (g h : Shape) → 1 ≤ length gs → 1 ≤ length hs → g ≡ get_or gs 0 g → h ≡ get_or hs 0 h → rises hs ≡ true → shape_cmp g h ≡ Equal
-    → union (take (length gs - 1) (drop 1 gs)) (take (length hs - 1) (drop 1 hs)) ≡ take (length gs - 1) (drop 1 gs) → union gs hs ≡ gs
-both_kept gs hs g h a b x y r e s = both_union gs hs g h a b x y r e ∙ ap (λ v. g ∷ v) s ∙ sym (first-is gs g a x)
+  pub right_union : shape_cmp g h ≡ Greater → union (drop p gs) (drop q hs) ≡ h ∷ union (drop p gs) (drop (q + 1) hs)
+  right_union e =
+      let left = place_first gs p g a x in
+      (λ k. union (left k) (place_first hs q h b y k)) ∙ right_first g h (drop (p + 1) gs) (drop (q + 1) hs) right-rises e ∙
+      (λ k. h ∷ union (sym left k) (drop (q + 1) hs))
 
 -- one graph more behind those that are there
 pub pushed : (done added more all : List Shape) (g copy : Shape) → copy ≡ g → added ≡ done ++ copy ∷ [] → all ≡ g ∷ more → added ++ more ≡ done ++ all
 pushed done added more all g copy c a e =
     ap (λ v. v ++ more) a ∙ append_assoc done (copy ∷ []) more ∙ (λ k. done ++ c k ∷ more) ∙ ap (λ v. done ++ v) (sym e)
 
-pub empty_left : (gs hs : List Shape) → length gs < 1 → rises hs ≡ true → union gs hs ≡ hs
-empty_left [] hs a r = none_left hs r
-empty_left (g ∷ gs) hs a r = absurd (omega arith)
+-- what a slice from a place on has
+pub rest_is : (gs : List Shape) (p : ℕ) → take (length gs - p) (drop p gs) ≡ drop p gs
+rest_is gs p = take_all (length gs - p) (drop p gs) (omega (arith, length-drop p gs))
+
+-- where one of the lists is gone through, what is left of both is the union
+pub left_over : (gs hs : List Shape) (p q : ℕ) → (length gs ≤ p) ⊎ (length hs ≤ q) → rises hs ≡ true → drop p gs ++ drop q hs ≡ union (drop p gs) (drop q hs)
+left_over gs hs p q (inl end) r =
+    let none : drop p gs ≡ [] = drop_all p gs end in
+    ap (λ v. v ++ drop q hs) none ∙ sym (none_left (drop q hs) (drop_rises q hs r)) ∙ ap (λ v. union v (drop q hs)) (sym none)
+left_over gs hs p q (inr end) r =
+    let none : drop q hs ≡ [] = drop_all q hs end in
+    ap (λ v. drop p gs ++ v) none ∙ append-nil (drop p gs) ∙ ap (λ v. union (drop p gs) v) (sym none)

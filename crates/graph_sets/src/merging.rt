@@ -1,5 +1,5 @@
 //! Two rising lists of graphs, gone through side by side.
-ghost use Rattle.std.specs.Prelude.{◌≡◌, ◌++◌, true, IsTrue, OnOk};
+ghost use Rattle.std.specs.Prelude.{◌≡◌, ◌++◌, ◌↔◌, true, IsTrue, OnOk};
 ghost use Rattle.listseg_meaning.specs.Sets as sets;
 
 use crate::folded::FoldedGraph;
@@ -17,7 +17,6 @@ fn append(graphs: &mut Vec<FoldedGraph>, others: &[FoldedGraph]) -> Result<(), M
 }
 
 /// Puts the union of two lists, of which the right one rises, behind the graphs that are there.
-#[tactic(auto, using(crate::proofs::Merged::without_first))]
 pub fn merge(
     graphs: &mut Vec<FoldedGraph>,
     left: &[FoldedGraph],
@@ -26,43 +25,47 @@ pub fn merge(
     requires rises { sets.rises right.now ≡ true }
     ensures merged { OnOk result (graphs.new.items ≡ graphs.old.items ++ sets.union left.now right.now) }
 {
-    let [first, rest @ ..] = left else {
-        return append(graphs, right);
-    };
-    let [other, others @ ..] = right else {
-        return append(graphs, left);
-    };
-    match first.cmp(other) {
-        Ordering::Less => {
-            graphs.push(first.copy()?)?;
-            merge(graphs, rest, right)
-        }
-        Ordering::Equal => {
-            graphs.push(first.copy()?)?;
-            merge(graphs, rest, others)
-        }
-        Ordering::Greater => {
-            graphs.push(other.copy()?)?;
-            merge(graphs, left, others)
+    let mut left_place = 0;
+    let mut right_place = 0;
+    while left_place < left.len() && right_place < right.len() {
+        let first = &left[left_place];
+        let other = &right[right_place];
+        match first.cmp(other) {
+            Ordering::Less => {
+                graphs.push(first.copy()?)?;
+                left_place += 1;
+            }
+            Ordering::Equal => {
+                graphs.push(first.copy()?)?;
+                left_place += 1;
+                right_place += 1;
+            }
+            Ordering::Greater => {
+                graphs.push(other.copy()?)?;
+                right_place += 1;
+            }
         }
     }
+    append(graphs, &left[left_place..])?;
+    append(graphs, &right[right_place..])
 }
 
-/// Whether a list has all graphs of another, which rises, as far as is seen.
-#[tactic(auto, using(crate::proofs::Merged::without_first))]
+/// Whether a list has all graphs of another, which rises.
 pub fn has_all(left: &[FoldedGraph], right: &[FoldedGraph]) -> bool
     requires rises { sets.rises right.now ≡ true }
-    ensures same { IsTrue result → sets.union left.now right.now ≡ left.now }
+    ensures same { IsTrue result ↔ sets.union left.now right.now ≡ left.now }
 {
-    let [other, others @ ..] = right else {
-        return true;
-    };
-    let [first, rest @ ..] = left else {
-        return false;
-    };
-    match first.cmp(other) {
-        Ordering::Less => has_all(rest, right),
-        Ordering::Equal => has_all(rest, others),
-        Ordering::Greater => false,
+    let mut left_place = 0;
+    let mut right_place = 0;
+    while left_place < left.len() && right_place < right.len() {
+        match left[left_place].cmp(&right[right_place]) {
+            Ordering::Less => left_place += 1,
+            Ordering::Equal => {
+                left_place += 1;
+                right_place += 1;
+            }
+            Ordering::Greater => return false,
+        }
     }
+    right_place == right.len()
 }

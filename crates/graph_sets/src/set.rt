@@ -1,5 +1,5 @@
 //! Sets of folded graphs.
-ghost use Rattle.std.specs.Prelude.{◌≡◌, ◌≤◌, ◌∷◌, ◌++◌, [], true, length, IfNone, IfOk, IfSome, IsTrue, OnErr, OnOk, drop, take};
+ghost use Rattle.std.specs.Prelude.{◌≡◌, ◌↔◌, ◌≤◌, ◌∷◌, ◌++◌, [], true, length, IfNone, IfOk, IfSome, IsTrue, OnErr, OnOk, drop, take};
 ghost use Rattle.shape_graph.proofs.Function.{fold_of};
 ghost use Rattle.listseg_meaning.specs.Sets as sets;
 
@@ -29,21 +29,24 @@ impl Model for GraphSet {
     ghost invariant = { λ a. rises a.graphs.items ≡ true };
 }
 
-// The place that a graph goes to; none where it is there.
+// The place that a graph goes to among graphs that rise, searched by halves; none where it is there.
 fn place_of(graphs: &[FoldedGraph], graph: &FoldedGraph) -> Option<usize>
+    requires rises { sets.rises graphs.now ≡ true }
     ensures there { IfNone result (sets.put graph.now graphs.now ≡ graphs.now) }
     ensures inside { IfSome result (λ place. place ≤ length graphs.now) }
     ensures place { IfSome result (λ place. sets.put graph.now graphs.now ≡ take place graphs.now ++ graph.now ∷ drop place graphs.now) }
 {
-    let mut place = 0;
-    while place < graphs.len() {
-        match graph.cmp(&graphs[place]) {
-            Ordering::Less => return Some(place),
+    let mut low = 0;
+    let mut high = graphs.len();
+    while low < high {
+        let middle = low + (high - low) / 2;
+        match graph.cmp(&graphs[middle]) {
+            Ordering::Less => high = middle,
             Ordering::Equal => return None,
-            Ordering::Greater => place += 1,
+            Ordering::Greater => low = middle + 1,
         }
     }
-    Some(place)
+    Some(low)
 }
 
 impl GraphSet {
@@ -87,9 +90,9 @@ impl GraphSet {
         }
     }
 
-    /// Whether all graphs of another set are there, as far as is seen.
+    /// Whether all graphs of another set are there.
     pub fn has_all(&self, other: &GraphSet) -> bool
-        ensures same { IsTrue result → sets.union self.now other.now ≡ self.now }
+        ensures same { IsTrue result ↔ sets.union self.now other.now ≡ self.now }
     {
         has_all(self.as_slice(), other.as_slice())
     }

@@ -1,9 +1,9 @@
 -- A ticket less.
-use Rattle.std.proofs.Common.{◌≡◌, ◌≢◌, ℕ, zero, suc, ◌+◌, ◌<◌, ◌≤◌, ◌==◌, Bool, true, false, List, [], ◌∷◌, ◌++◌, map, length, take, drop, Option, Some, None, if◌then◌else◌, slice_get, refl, sym, ap, subst, ◌∙◌, arith}
+use Rattle.std.proofs.Common.{◌≡◌, ◌≢◌, ℕ, zero, suc, ◌+◌, ◌≤◌, List, [], ◌∷◌, ◌++◌, map, length, take, drop, Option, Some, None, if◌then◌else◌, slice_get, refl, sym, ap, subst, ◌∙◌, arith}
 use Rattle.std.specs.Prelude.{MatchOption}
 use Rattle.plain_values.proofs.Cases.{by_test, some_inj}
 use Rattle.imp_slots.specs.Fits.{Absent, Distinct}
-use Rattle.session_machine.specs.Machine.{Ticket, ticket_of, without_ticket}
+use Rattle.session_machine.specs.Machine.{ticket_of, without_ticket}
 use Rattle.open_tickets.specs.declared.tickets.Open.{Open}
 use Rattle.open_tickets.specs.declared.tickets.Tickets.{Tickets}
 use Rattle.open_tickets.specs.Tickets.{number, ticket, AreBelow, tickets, AreOpen, IsAt, IsPlaced}

@@ -1,5 +1,5 @@
 -- A ticket more.
-use Rattle.std.proofs.Common.{◌≡◌, ◌≢◌, ℕ, suc, ◌+◌, ◌<◌, ◌≤◌, List, [], ◌∷◌, ◌++◌, map, length, Some, None, refl, sym, ap, subst, ◌∙◌, arith}
+use Rattle.std.proofs.Common.{◌≡◌, ◌≢◌, ℕ, suc, ◌+◌, ◌<◌, ◌≤◌, List, [], ◌∷◌, ◌++◌, map, length, refl, sym, ap, subst, ◌∙◌, arith}
 use Rattle.imp_slots.specs.Fits.{Absent, Distinct}
 use Rattle.open_tickets.specs.declared.tickets.Open.{Open}
 use Rattle.open_tickets.specs.declared.tickets.Tickets.{Tickets}

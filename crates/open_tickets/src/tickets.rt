@@ -1,5 +1,5 @@
 //! Open tickets.
-ghost use Rattle.std.specs.Prelude.{◌≡◌, ◌+◌, ◌<◌, ◌≤◌, ◌^◌, [], ◌∷◌, ◌++◌, length, map, nat_le, None, IfOk, ℕ, MatchOption, OnErr, OnOk, Some, take, drop};
+ghost use Rattle.std.specs.Prelude.{◌≡◌, ◌+◌, ◌<◌, ◌^◌, [], ◌∷◌, ◌++◌, length, map, nat_le, None, IfOk, ℕ, MatchOption, OnErr, OnOk, Some, take, drop};
 ghost use Rattle.session_machine.specs.Machine.{ticket_of, without_ticket};
 ghost use Rattle.open_tickets.specs.Tickets.{anew, number, tickets, AreOpen, IsAt, IsPlaced};
 

@@ -1,31 +1,22 @@
 -- Filling what is missing keeps cells.
-use Rattle.std.proofs.Common.{◌≡◌, ◌⊎◌, ℕ, Bool, true, false, ◌||◌, List, [], ◌∷◌, ◌++◌, map, take, filter, Option, Some, None, refl, sym, ap, subst, ◌∙◌, inl, inr}
+use Rattle.std.proofs.Common.{◌≡◌, ℕ, Bool, true, false, List, [], ◌++◌, take, filter, sym, subst, ◌∙◌, inl, inr}
 use Rattle.std.specs.Prelude.{not}
-use Rattle.std.proofs.lemmas.Bool.{or_left, or_right, false_from_ne_true}
+use Rattle.std.proofs.lemmas.Bool.{or_right, false_from_ne_true}
 use Rattle.plain_values.proofs.Cases.{or_either}
-use Rattle.imp_syntax.specs.declared.edit.Location.{Location}
-use Rattle.imp_syntax.specs.declared.edit.Location.TheVariants.{Before}
 use Rattle.imp_slots.specs.Fits.{IsChecked}
 use Rattle.imp_slots.specs.Plain.{Routine}
 use Rattle.domain_laws.specs.Operations.{Operations}
-use Rattle.batch_meaning.specs.Answers.{Found, In, Misses, procedure_of}
 use Rattle.batch_meaning.specs.Batch.{Engine}
-use Rattle.batch_meaning.specs.Report.{Checked, checked_statements}
 use Rattle.cell_names.specs.Paths.{CellName}
 use Rattle.cell_rows.specs.Claims.{HasName}
-use Rattle.cell_rows.specs.Targets.{Target, demanded, targets}
 use Rattle.demand_order.specs.Order.{System, IsAcyclic, member, seen, fill_all}
-use Rattle.demand_order.specs.OrderLaws.{IsDistinct, IsClosed, Needed, input, under, order}
-use Rattle.demand_order.specs.InTurn.{all_demanded}
+use Rattle.demand_order.specs.OrderLaws.{IsClosed, Needed, order}
 use Rattle.demand_order.proofs.AskingProofs.{system-acyclic}
-use Rattle.demand_order.proofs.InTurnLemmas.{turns-one}
 use Rattle.demand_order.proofs.OrderLemmas.{member-append}
 use Rattle.demand_order.proofs.OrderLawProofs.{order-distinct}
 use Rattle.demand_order.proofs.TheoremProofs.{below, ceiling, filled, kept_or_needed, missing}
-use Rattle.demand_laws.specs.Claims.{found_by, names_of, report_names}
-use Rattle.demand_laws.specs.Reports.{check_targets, report_demands, targets_in, or_none}
+use Rattle.demand_laws.specs.Claims.{names_of}
 use Rattle.demand_laws.proofs.Machine.{rows, law}
-use Rattle.kept_set.specs.Touched.{AreCells}
 use Rattle.named_cells.specs.Same.{same_name}
 use Rattle.named_cells.proofs.Same.{same_is}
 use Rattle.session_machine.specs.Claims.{AreKept}

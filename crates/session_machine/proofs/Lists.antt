@@ -1,7 +1,7 @@
 -- Lists of names, each once.
-use Rattle.std.proofs.Common.{◌≡◌, ℕ, zero, suc, Bool, true, false, ◌||◌, ◌⊎◌, List, [], ◌∷◌, ◌++◌, take, filter, if◌then◌else◌, refl, sym, ap, subst, ◌∙◌, inl, inr}
+use Rattle.std.proofs.Common.{◌≡◌, ℕ, zero, suc, Bool, true, false, ◌||◌, ◌⊎◌, List, [], ◌∷◌, ◌++◌, take, filter, if◌then◌else◌, refl, sym, subst, inl, inr}
 use Rattle.std.proofs.lemmas.Bool.{or_left, or_right, false_from_ne_true}
-use Rattle.plain_values.proofs.Cases.{by_bool, or_either}
+use Rattle.plain_values.proofs.Cases.{or_either}
 use Rattle.demand_order.specs.Order.{member}
 use Rattle.demand_order.specs.OrderLaws.{IsDistinct}
 

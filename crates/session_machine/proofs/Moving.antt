@@ -1,5 +1,5 @@
 -- What another program leaves.
-use Rattle.std.proofs.Common.{◌≡◌, ◌↔◌, Bool, true, List, filter, refl, sym, ap, subst, ◌∙◌}
+use Rattle.std.proofs.Common.{◌≡◌, ◌↔◌, Bool, true, List, filter}
 use Rattle.imp_slots.specs.Fits.{IsChecked}
 use Rattle.domain_laws.specs.Operations.{Operations}
 use Rattle.cell_names.specs.Paths.{CellName}
@@ -11,7 +11,7 @@ use Rattle.kept_after.proofs.After.{kept_decides}
 use Rattle.named_cells.specs.Same.{same_name}
 use Rattle.named_cells.proofs.Same.{same_is}
 use Rattle.session_machine.specs.Claims.{AreKept}
-use Rattle.session_machine.proofs.Lists.{filter_member, filter_holds, filter_there, filter_distinct}
+use Rattle.session_machine.proofs.Lists.{filter_holds, filter_there, filter_distinct}
 
 module _ {S : Type 0} (dom : Operations S) (e : Edit) (co : IsChecked e.old) (cn : IsChecked e.new) (kept : List CellName) (are : AreKept dom e.engine e.old kept) where
   abbrev k : CellName → Bool

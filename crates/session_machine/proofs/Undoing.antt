@@ -1,14 +1,13 @@
 -- What an edit leaves its undoing leaves.
-use Rattle.std.proofs.Common.{◌≡◌, Bool, true, List, refl, sym, ap, subst, ◌∙◌}
+use Rattle.std.proofs.Common.{◌≡◌, true, List, sym}
 use Rattle.imp_slots.specs.Fits.{IsChecked}
 use Rattle.domain_laws.specs.Operations.{Operations}
 use Rattle.cell_names.specs.Paths.{CellName}
 use Rattle.cell_rows.specs.Claims.{IsUntouched}
-use Rattle.demand_order.specs.Order.{System, member}
-use Rattle.demand_order.specs.Leading.{LeadsTo, itself, through, Stays}
+use Rattle.demand_order.specs.Order.{member}
+use Rattle.demand_order.specs.Leading.{LeadsTo, itself, through}
 use Rattle.kept_set.specs.Touched.{Edit, IsKept, IsTouchedByNew, old_system}
 use Rattle.kept_set.proofs.ByNew.{is_right, by_new}
-use Rattle.kept_after.specs.After.{kept_after}
 use Rattle.named_cells.specs.Same.{same_name}
 use Rattle.named_cells.proofs.Same.{same_is}
 use Rattle.session_machine.specs.Claims.{AreKept}

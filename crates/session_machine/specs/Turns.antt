@@ -1,5 +1,5 @@
 -- What each request makes of the machine.
-use Rattle.std.specs.Prelude.{◌≡◌, ℕ, suc, ◌<◌, ◌≤◌, Bool, List, [], ◌∷◌, ◌++◌, take, filter, length, Option, Some, None}
+use Rattle.std.specs.Prelude.{ℕ, suc, Bool, List, [], ◌∷◌, ◌++◌, take, filter, length, Option, Some, None}
 use Rattle.imp_syntax.specs.Plain.{Procedure}
 use Rattle.imp_syntax.specs.declared.edit.Location.{Location}
 use Rattle.imp_syntax.specs.declared.edit.Edit.{Edit}
@@ -12,7 +12,6 @@ use Rattle.cell_rows.specs.Targets.{Target, demanded, targets}
 use Rattle.demand_laws.specs.Claims.{names_of, found_by, report_fills}
 use Rattle.imp_check.specs.Slots.{routines_of}
 use Rattle.imp_edit.specs.Edited.{edited, next_after}
-use Rattle.kept_set.specs.Touched as touched
 use Rattle.kept_after.specs.After.{kept_after}
 use Rattle.named_cells.specs.Same.{same_name}
 use Rattle.why_slice.specs.Upstream.{upstream}

@@ -16,7 +16,7 @@ use Rattle.plain_values.proofs.Cases.{by_test}
 use Rattle.plain_values.proofs.Members.{Each, each_more, each_both, none_there}
 use Rattle.cell_rows.specs.Names.{scope_of, name, Mark, mark, Place, bare, number, breaks, break_numbers, place_of, item, start_of, iterate_point, when}
 use Rattle.cell_rows.specs.Rows as R
-use Rattle.cell_rows.specs.Rows.{Row, Init, One, Two, Fixed, Joins, Posts, Enters, Leaves, sites_of, last_point, leave_points, joined_point, next_operation, branch_row, post_row, next_row, fix_row, exit_row, leap_row, enter_row, turn_row, loop_row, joins_row}
+use Rattle.cell_rows.specs.Rows.{Row, One, Two, Joins, Posts, Enters, Leaves, last_point, leave_points, joined_point, next_operation, branch_row, post_row, next_row, fix_row, exit_row, leap_row, enter_row, turn_row, loop_row, joins_row}
 use Rattle.cell_rows.specs.Targets.{Text, deeper, texts}
 use Rattle.cell_rows.specs.Flat.{Flat, flat_of, flat}
 use Rattle.cell_rows.proofs.Listed.{each_map, one}
