@@ -4,7 +4,7 @@ use Rattle.imp_syntax.specs.Plain.{Statement, Simple, Break, Call, If, While, St
 use Rattle.imp_syntax.specs.declared.words.Declaration.{Declaration}
 use Rattle.imp_check.specs.Slots.{Frame}
 use Rattle.imp_check.specs.Statements.{Scope}
-use Rattle.imp_check.specs.Parts.{first_or, last_or}
+use Rattle.imp_check.specs.Parts.{first_or, last_or, leaving}
 use Rattle.imp_check.specs.Entries.{block_entries}
 use Rattle.imp_check.specs.declared.entry.Around.{Around}
 use Rattle.imp_check.specs.declared.entry.BlockEnds.{BlockEnds}
@@ -84,7 +84,7 @@ abbrev pub heads_in : Option Around → List Head → (place : ℕ) → (ends : 
 heads_in None hs place ends = head_with hs place ends
 heads_in (Some w) hs place ends = hs
 
--- These statements come between two of a block, of which none leaves a loop, and those of these numbers go.
+-- These statements come between two of a block, and those of these numbers go.
 abbrev pub gap_splice : Frame → Context → (front next : Option ℕ) → (gone : List ℕ) → Statements → Splice
 gap_splice f k front next gone news = record {
   gone = gone;
@@ -94,6 +94,7 @@ gap_splice f k front next gone news = record {
   next = next;
   holder = holder_of k.around;
   loop = k.head;
+  leaving = leaving news;
   first = first_or news next;
   last = last_or news front;
 }
