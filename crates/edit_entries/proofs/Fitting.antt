@@ -23,7 +23,7 @@ module _ (before : List Routine) (l : Layout) (f : Frame) where
   abbrev pub Fits : Statements → Type 0
   Fits b = FitsCode before l (code_in f b)
 
-  abbrev pub One : Statement → Type 0
+  abbrev One : Statement → Type 0
   One s = FitsCode before l (statement_in f s slot.Stop)
 
   -- a statement, and the code behind it
@@ -38,7 +38,7 @@ module _ (before : List Routine) (l : Layout) (f : Frame) where
   parts (tree.If n c t e) r h = record { one = (h.0, h.1, h.2, tt); rest = h.3 }
   parts (tree.While n c b) r h = record { one = (h.0, h.1, tt); rest = h.2 }
 
-  pub joined : (s : Statement) (r : Code) → One s → FitsCode before l r → FitsCode before l (statement_in f s r)
+  joined : (s : Statement) (r : Code) → One s → FitsCode before l r → FitsCode before l (statement_in f s r)
   joined (tree.Simple n a) r h k = (h.0, k)
   joined (tree.Break n) r h k = k
   joined (tree.Call n x g es) r h k = (h.0, k)

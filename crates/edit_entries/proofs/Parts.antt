@@ -19,7 +19,7 @@ use Rattle.imp_check.specs.declared.entry.Head.{Head}
 use Rattle.imp_check.specs.declared.entry.Which.{Which}
 use Rattle.imp_check.specs.declared.entry.Which.TheVariants as of
 use Rattle.imp_check.specs.declared.fault.Fault.TheVariants.{Statements as TooManyStatements, Nesting}
-use Rattle.edit_entries.specs.Gaps.{are_quiet, are_closed, lone, or_new, ends_with, ends_in, holder_of, held_in, head_with, heads_in, gap_splice}
+use Rattle.edit_entries.specs.Gaps.{are_quiet, are_closed, closed_at, lone, or_new, ends_with, ends_in, holder_of, held_in, head_with, heads_in, gap_splice}
 use Rattle.edit_entries.specs.Holes.{Hole, Then, Else, Body, plug, holder, in_loop, loop_of, between, with_body}
 use Rattle.edit_entries.specs.Spliced.{is, rebroken, spliced, breaking, AreTold}
 use Rattle.edit_entries.proofs.Breaks.{looped, loop_found, loop_with, context_head, holder_last, none_leaves}
@@ -78,6 +78,13 @@ looping [] i = i
 looping (Then b n c e r ∷ hs) i = looping hs i
 looping (Else b n c t r ∷ hs) i = looping hs i
 looping (Body b n c r ∷ hs) i = refl
+
+-- Whether a block is closed is told by the loop around it.
+pub closed_in : (hs : List Hole) (o : Option ℕ) (i : Bool) (b : Statements) → closed_at o b ≡ are_closed i b → closed_at (loop_of o hs) b ≡ are_closed (in_loop i hs) b
+closed_in [] o i b e = e
+closed_in (Then v n c x r ∷ hs) o i b e = closed_in hs o i b e
+closed_in (Else v n c t r ∷ hs) o i b e = closed_in hs o i b e
+closed_in (Body v n c r ∷ hs) o i b e = closed_in hs (Some n) true b refl
 
 -- Holes are none, or there is a last one.
 record Inmost (hs : List Hole) : Type 0 where

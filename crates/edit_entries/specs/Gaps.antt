@@ -41,6 +41,11 @@ abbrev mutual
   are_closed inside Ends = true
   are_closed inside (Starts s ss) = is_closed inside s && are_closed inside ss
 
+-- The same at a place, around which this loop is, if one is.
+abbrev pub closed_at : Option ℕ → Statements → Bool
+closed_at None b = are_closed false b
+closed_at (Some n) b = are_closed true b
+
 -- these variables, and no procedure
 abbrev pub lone : List Declaration → Scope
 lone vs = record { earlier = []; others = []; variables = vs }

@@ -1,6 +1,6 @@
 -- The change that puts statements at a place.
 use Rattle.std.proofs.lemmas.Bool.Decides.{nat_tests}
-use Rattle.std.proofs.Common.{◌≡◌, ℕ, zero, suc, ◌+◌, ◌-◌, ◌^◌, ◌<◌, ◌≤◌, ◌==◌, ◌||◌, nat_lt, min, cond, Bool, true, false, List, [], ◌∷◌, ◌++◌, length, drop, slice_get, slice_set, slice_index_or, Option, Some, None, refl, sym, ap, ◌∙◌, subst, arith, add-one, drop-cons, append_assoc}
+use Rattle.std.proofs.Common.{◌≡◌, ℕ, zero, suc, ◌+◌, ◌-◌, ◌^◌, ◌<◌, ◌≤◌, ◌==◌, ◌||◌, nat_lt, min, cond, Bool, true, false, List, [], ◌∷◌, ◌++◌, length, drop, slice_get, slice_set, slice_index_or, Option, Some, None, refl, sym, ap, ◌∙◌, subst, arith, add-one, drop-cons, append-nil, append_assoc}
 use Rattle.std.proofs.lemmas.Bool.{lt-ltb}
 use Rattle.std.specs.List.{All}
 use Rattle.std.specs.Option.{option_map}
@@ -19,6 +19,7 @@ use Rattle.imp_check.specs.declared.fault.Fault.TheVariants.{Statements as TooMa
 use Rattle.imp_check.specs.declared.fault.Found.{Found}
 use Rattle.imp_check.proofs.RebuildLemmas.{entry_numbers}
 use Rattle.edit_entries.specs.Gaps.{head_with, heads_in, holder_of}
+use Rattle.edit_entries.specs.Spliced.{breaking, left_of}
 use Rattle.edit_entries.proofs.Others.{entry_append}
 use Rattle.imp_edit.specs.Gaps.{IsBelow}
 use Rattle.imp_edit.specs.Refusals.{IsRefusal}
@@ -30,6 +31,10 @@ none_fall i j d h l = absurd (omega arith)
 
 pub none_within : (b : ℕ) → AreWithin b []
 none_within b = record { falling = none_fall; below = λ i d l. absurd (omega arith) }
+
+-- Where no break goes and none comes, those of a loop stay.
+pub breaks_stay : (gone come : List ℕ) (x : Entry) → come ≡ [] → left_of gone x.breaks ≡ x.breaks → breaking gone come x ≡ x
+breaks_stay gone come x e h = ap (λ ns. record x { breaks = left_of gone x.breaks ++ ns }) e ∙ ap (λ ns. record x { breaks = ns }) (append-nil (left_of gone x.breaks) ∙ h)
 
 -- The last statement of a block, by its place.
 pub last_there : (b : Statements) (o : Option ℕ) (i : ℕ) (s : Statement) → i ≡ length (statements_of b) - 1 → Some s ≡ slice_get (statements_of b) i → Some (number_of s) ≡ last_or b o
@@ -157,54 +162,12 @@ pub refused_first : (o p : Option Found) (r : EditError) → IsRefusal (option_m
 refused_first None p r h = only_memory p r h
 refused_first (Some f) p r h = h
 
-pub refused_second : (o p : Option Found) (r : EditError) → o ≡ None → IsRefusal (option_map Fault p) r → IsRefusal (option_map Fault (first o p)) r
-refused_second o p r e h = subst (λ z. IsRefusal (option_map Fault (first z p)) r) (sym e) h
-
 in_first : (x : List ℕ) (o : _) (p : _) → in_procedure x (first o p) ≡ first (in_procedure x o) (in_procedure x p)
 in_first x None p = refl
 in_first x (Some s) p = refl
 
 pub refused_step : (x : List ℕ) (o : _) (p : _) (q : _) (r : EditError) → q ≡ first o p → IsRefusal (option_map Fault (in_procedure x o)) r → IsRefusal (option_map Fault (in_procedure x q)) r
 refused_step x o p q r e h = subst (λ z. IsRefusal (option_map Fault z) r) (sym (ap (in_procedure x) e ∙ in_first x o p)) (refused_first (in_procedure x o) (in_procedure x p) r h)
-
--- How many statements there then are, counted up to a limit.
-pub few_then : (pc g bc left count : ℕ) → left ≡ pc - g → count ≡ min (left + min bc (2 ^ 32 - 1)) (2 ^ 32 - 1) → count ≤ 10000 → count ≡ (pc - g) + bc
-few_then pc g bc left count e f h = let k : count ≡ left + bc = grind arith in k ∙ ap (λ z. z + bc) e
-
--- .. and the fault of the size of the program
-abbrev many : ℕ → Option SizeFault
-many n = unless (nat_lt n 10001) TooManyStatements
-
-abbrev deep : ℕ → Option SizeFault
-deep n = unless (nat_lt n 33) Nesting
-
-below : (n k : ℕ) → n < k → (f : SizeFault) → unless (nat_lt n k) f ≡ None
-below n k h f = ap (λ t. unless t f) (lt-ltb n k h)
-
-past : (n k : ℕ) → k ≤ n → (f : SizeFault) → unless (nat_lt n k) f ≡ Some f
-past n k h f = ap (λ t. unless t f) (not_less n k h)
-  where
-    not_less : (n k : ℕ) → k ≤ n → nat_lt n k ≡ false
-    not_less n k h = grind (arith, nat_tests)
-
-pub small_fault : (x : List ℕ) (n count d : ℕ) → count ≡ n → count ≤ 10000 → d < 33 → in_procedure x (at 0 (first (many n) (deep d))) ≡ None
-small_fault x n count d e h k = ap (λ o. in_procedure x (at 0 (first o (deep d)))) (below n 10001 (omega (arith, e, h)) TooManyStatements) ∙ ap (λ o. in_procedure x (at 0 o)) (below d 33 k Nesting)
-
-pub many_fault : (x : List ℕ) (pc g bc left count d : ℕ) → left ≡ pc - g → count ≡ min (left + min bc (2 ^ 32 - 1)) (2 ^ 32 - 1) → 10000 < count → in_procedure x (at 0 (first (many ((pc - g) + bc)) (deep d))) ≡ Some (record { fault = TooManyStatements; proc = x; at = 0 })
-many_fault x pc g bc left count d e f h =
-    let k : 10001 ≤ left + bc = grind arith in
-    ap (λ z. in_procedure x (at 0 (first (many (z + bc)) (deep d)))) (sym e)
-    ∙ ap (λ o. in_procedure x (at 0 (first o (deep d)))) (past (left + bc) 10001 k TooManyStatements)
-
-pub deep_fault : (x : List ℕ) (n count d : ℕ) → count ≡ n → count ≤ 10000 → 32 < d → in_procedure x (at 0 (first (many n) (deep d))) ≡ Some (record { fault = Nesting; proc = x; at = 0 })
-deep_fault x n count d e h k = ap (λ o. in_procedure x (at 0 (first o (deep d)))) (below n 10001 (omega (arith, e, h)) TooManyStatements) ∙ ap (λ o. in_procedure x (at 0 o)) (past d 33 k Nesting)
-
--- how deep the blocks that come are, counted up to a limit
-pub not_deep : (d n m sum : ℕ) → m ≡ min n (2 ^ 32 - 1) → sum ≡ min (d + m) (2 ^ 32 - 1) → sum ≤ 32 → d + n < 33
-not_deep d n m sum e f h = grind arith
-
-pub too_deep : (d n m sum : ℕ) → m ≡ min n (2 ^ 32 - 1) → sum ≡ min (d + m) (2 ^ 32 - 1) → 32 < sum → 32 < d + n
-too_deep d n m sum e f h = grind arith
 
 -- The procedures, with other ends of one body.
 pub head_set : (hs : List Head) (n : ℕ) (h : Head) (ends : BlockEnds → BlockEnds) → n < length hs → h ≡ slice_index_or hs n h → slice_set hs n (record h { body = ends h.body }) ≡ head_with hs n ends
