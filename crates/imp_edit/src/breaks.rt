@@ -109,8 +109,8 @@ fn breaks_stay(gap: &Gap, news: &Block, entry: &Entry) -> bool
 fn loses_all(entry: &Entry, gone: &[StmtId]) -> bool
     ensures none { result ≡ true → left_of gone.now entry.now.breaks ≡ [] }
 {
-    for number in entry.breaks.as_slice() {
-        if !has(gone, *number) {
+    for other in entry.breaks.as_slice() {
+        if !has(gone, *other) {
             return false;
         }
     }

@@ -3,5 +3,5 @@ use Rattle.edit_entries.specs.Spliced.{left_of}
 use Rattle.imp_edit.proofs.breaks.loses_all.Given as goal
 
 -- where none from here on is left, none is
-abbrev pub invariant-loop-number : goal.invariant-loop-number
-invariant-loop-number l = left_of l.gone (drop l.number-index l.entry.breaks) ≡ [] → left_of l.gone l.entry.breaks ≡ []
+abbrev pub invariant-loop-other : goal.invariant-loop-other
+invariant-loop-other l = left_of l.gone (drop l.other-index l.entry.breaks) ≡ [] → left_of l.gone l.entry.breaks ≡ []
