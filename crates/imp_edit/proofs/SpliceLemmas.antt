@@ -7,15 +7,13 @@ use Rattle.std.specs.Option.{option_map}
 use Rattle.imp_syntax.specs.Plain.{Statement, Statements, Ends, Starts, Procedure, number_of, statements_of}
 use Rattle.imp_check.specs.Changes.{AreFalling, AreWithin}
 use Rattle.imp_check.specs.Entries.{entry_of, head_of, heads_of}
-use Rattle.imp_check.specs.Faults.{first, unless, at, in_procedure}
+use Rattle.imp_check.specs.Faults.{first, in_procedure}
 use Rattle.imp_check.specs.Parts.{last_or}
 use Rattle.imp_check.specs.Programs.{has, last_of, name_of}
 use Rattle.imp_check.specs.declared.entry.Around.{Around}
 use Rattle.imp_check.specs.declared.entry.BlockEnds.{BlockEnds}
 use Rattle.imp_check.specs.declared.entry.Entry.{Entry}
 use Rattle.imp_check.specs.declared.entry.Head.{Head}
-use Rattle.imp_check.specs.declared.fault.Fault.{Fault as SizeFault}
-use Rattle.imp_check.specs.declared.fault.Fault.TheVariants.{Statements as TooManyStatements, Nesting}
 use Rattle.imp_check.specs.declared.fault.Found.{Found}
 use Rattle.imp_check.proofs.RebuildLemmas.{entry_numbers}
 use Rattle.edit_entries.specs.Gaps.{head_with, heads_in, holder_of}
