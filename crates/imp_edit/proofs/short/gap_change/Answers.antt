@@ -1,4 +1,4 @@
-use Rattle.std.proofs.Common.{◌∙◌, ◌≡◌, [], true, false, List, sym, ap, subst, slice_get}
+use Rattle.std.proofs.Common.{◌∙◌, ◌≡◌, [], true, List, sym, ap, subst, slice_get}
 use Rattle.std.specs.Option.{option_map}
 use Rattle.imp_syntax.specs.Plain.{Procedure, Statements}
 use Rattle.imp_slots.specs.Fits.{FitsCode}
