@@ -1,5 +1,5 @@
--- The breaks of the loop around a block, where a part of the block goes and none of what comes leaves a loop.
-use Rattle.std.proofs.Common.{◌≡◌, ℕ, ◌⊎◌, inl, inr, cond, Bool, true, false, List, [], ◌∷◌, ◌++◌, length, Option, Some, None, refl, sym, ap, ◌∙◌, subst}
+-- The breaks of the loop around a block, where a part of the block goes and another one comes.
+use Rattle.std.proofs.Common.{◌≡◌, ℕ, ◌⊎◌, inl, inr, cond, Bool, true, false, List, [], ◌∷◌, ◌++◌, length, Option, Some, None, refl, sym, ap, ◌∙◌, subst, append-nil}
 use Rattle.imp_syntax.specs.Plain.{Condition, Statement, Simple, Break, Call, If, While, Statements, Ends, Starts, Procedure, numbers_in, numbers, program_numbers}
 use Rattle.imp_slots.specs.Fits.{Absent, Distinct}
 use Rattle.imp_check.specs.Programs.{has}
@@ -8,7 +8,7 @@ use Rattle.imp_check.specs.Parts.{ends_of, first_or, last_or, leaving_in, leavin
 use Rattle.imp_check.specs.Entries.{entry_at, entries_of, entry_of, frame_at, context_at}
 use Rattle.imp_check.specs.declared.entry.Context.{Context}
 use Rattle.imp_check.specs.declared.entry.Entry.{Entry}
-use Rattle.edit_entries.specs.Spliced.{left_of, without}
+use Rattle.edit_entries.specs.Spliced.{left_of, breaking, AreTold}
 use Rattle.edit_entries.specs.Holes.{append, Hole, Then, Else, Body, fill, plug, holder, loop_of, between, with_body}
 use Rattle.edit_entries.proofs.Others.{leaving_append}
 use Rattle.edit_entries.proofs.Filled.{context_in, ends_filled, has_loop, no_loop, some_loop}
@@ -79,6 +79,12 @@ none_left gone (x ∷ xs) f = go (has gone x) refl (none_left gone xs (λ m h. f
     go : (b : Bool) → has gone x ≡ b → left_of gone xs ≡ [] → cond b (left_of gone xs) (x ∷ left_of gone xs) ≡ []
     go true q e = e
     go false q e = absurd (absent_not x gone (has_false x gone q) (f x (inl refl)))
+
+-- Holes without loops.
+tail_plain : (h : Hole) (hs : List Hole) → has_loop (h ∷ hs) ≡ false → (has_loop (h ∷ []) ≡ false) × (has_loop hs ≡ false)
+tail_plain (Then b n c e r) hs i = (refl, i)
+tail_plain (Else b n c t r) hs i = (refl, i)
+tail_plain (Body b n c r) hs i = absurd cc
 
 -- The part goes from a block ..
 module _ (before olds news behind : Statements) (quits : leaving news ≡ []) where
@@ -154,11 +160,6 @@ module _ (before olds news behind : Statements) (quits : leaving news ≡ []) wh
       ∙ ap (left_of gone) (sym (leaving_append b (Starts (If n c t x) r)))
   filled_lost (Body b n c r) x y i once sub q = cc
 
-  tail_plain : (h : Hole) (hs : List Hole) → has_loop (h ∷ hs) ≡ false → (has_loop (h ∷ []) ≡ false) × (has_loop hs ≡ false)
-  tail_plain (Then b n c e r) hs i = (refl, i)
-  tail_plain (Else b n c t r) hs i = (refl, i)
-  tail_plain (Body b n c r) hs i = absurd cc
-
   pub lost : (hs : List Hole) → has_loop hs ≡ false → Distinct (numbers (plug hs had)) → leaving (plug hs has_now) ≡ left_of gone (leaving (plug hs had))
   lost [] i once = part_lost once
   lost (h ∷ hs) i once =
@@ -197,6 +198,55 @@ none_leaves hs before olds news behind quits z =
     let a = some_parts (leaving before) (leaving (append olds behind)) (sym (leaving_append before (append olds behind)) ∙ w) in
     let d = some_parts (leaving olds) (leaving behind) (sym (leaving_append olds behind) ∙ a.1) in
     leaving_append before (append news behind) ∙ nothing (leaving before) (leaving (append news behind)) a.0 (leaving_append news behind ∙ nothing (leaving news) (leaving behind) quits d.1))
+
+-- Where no breaks are left, those that leave the part are all that there are.
+only_filled : (h : Hole) (x y : Statements) (ns : List ℕ) → has_loop (h ∷ []) ≡ false → leaving (fill h x) ≡ [] → (leaving x ≡ [] → leaving y ≡ ns) → leaving (fill h y) ≡ ns
+only_filled (Then b n c e r) x y ns i z f =
+    let a = some_parts (leaving b) ((leaving x ++ leaving e) ++ leaving r) (sym (leaving_append b (Starts (If n c x e) r)) ∙ z) in
+    let d = some_parts (leaving x ++ leaving e) (leaving r) a.1 in
+    let g = some_parts (leaving x) (leaving e) d.0 in
+    leaving_append b (Starts (If n c y e) r)
+    ∙ ap (λ k. k ++ ((leaving y ++ leaving e) ++ leaving r)) a.0
+    ∙ ap (λ k. (leaving y ++ k) ++ leaving r) g.1
+    ∙ ap (λ k. (leaving y ++ []) ++ k) d.1
+    ∙ append-nil (leaving y ++ [])
+    ∙ append-nil (leaving y)
+    ∙ f g.0
+only_filled (Else b n c t r) x y ns i z f =
+    let a = some_parts (leaving b) ((leaving t ++ leaving x) ++ leaving r) (sym (leaving_append b (Starts (If n c t x) r)) ∙ z) in
+    let d = some_parts (leaving t ++ leaving x) (leaving r) a.1 in
+    let g = some_parts (leaving t) (leaving x) d.0 in
+    leaving_append b (Starts (If n c t y) r)
+    ∙ ap (λ k. k ++ ((leaving t ++ leaving y) ++ leaving r)) a.0
+    ∙ ap (λ k. (k ++ leaving y) ++ leaving r) g.0
+    ∙ ap (λ k. leaving y ++ k) d.1
+    ∙ append-nil (leaving y)
+    ∙ f g.1
+only_filled (Body b n c r) x y ns i z f = cc
+
+only_plugged : (hs : List Hole) (x y : Statements) (ns : List ℕ) → has_loop hs ≡ false → leaving (plug hs x) ≡ [] → (leaving x ≡ [] → leaving y ≡ ns) → leaving (plug hs y) ≡ ns
+only_plugged [] x y ns i z f = f z
+only_plugged (h ∷ hs) x y ns i z f =
+    let j = tail_plain h hs i in
+    only_filled h (plug hs x) (plug hs y) ns j.0 z (λ w. only_plugged hs x y ns j.1 w f)
+
+-- So the breaks are those that are left, and those that come, where only one of the two are.
+pub gained : (before olds news behind : Statements) (hs : List Hole) → has_loop hs ≡ false → Distinct (numbers (plug hs (between before behind olds))) → AreTold (numbers olds) (leaving news) (leaving (plug hs (between before behind olds))) →
+    leaving (plug hs (between before behind news)) ≡ left_of (numbers olds) (leaving (plug hs (between before behind olds))) ++ leaving news
+gained before olds news behind hs i once (inl quits) =
+    lost before olds news behind quits hs i once
+    ∙ sym (append-nil (left_of (numbers olds) (leaving (plug hs (between before behind olds)))))
+    ∙ ap (λ k. left_of (numbers olds) (leaving (plug hs (between before behind olds))) ++ k) (sym quits)
+gained before olds news behind hs i once (inr none) =
+    only_plugged hs (between before behind Ends) (between before behind news) (leaving news) i (lost before olds Ends behind refl hs i once ∙ none)
+    (λ w.
+    let a = some_parts (leaving before) (leaving behind) (sym (leaving_append before behind) ∙ w) in
+    leaving_append before (append news behind)
+    ∙ ap (λ k. k ++ leaving (append news behind)) a.0
+    ∙ leaving_append news behind
+    ∙ ap (λ k. leaving news ++ k) a.1
+    ∙ append-nil (leaving news))
+    ∙ ap (λ k. k ++ leaving news) (sym none)
 
 -- The innermost loop around a block.
 pub record Looped (hs : List Hole) (m : ℕ) : Type 0 where
@@ -265,10 +315,10 @@ module _ (ps qs : List Procedure) (p : Procedure) (hs : List Hole) (m : ℕ) (l 
       inner_once (Body l.before m l.condition l.behind) (plug l.inner x)
       (deep_once l.outer (fill (Body l.before m l.condition l.behind) (plug l.inner x)) (subst (λ z. Distinct (numbers z)) (plugged x) own))
 
--- A loop whose body keeps its ends and loses breaks.
-pub fewer : (f : Frame) (k : Context) (a b : Option ℕ) (m : ℕ) (c : Condition) (g : List ℕ) (x y : Statements) → ends_of y ≡ ends_of x → leaving y ≡ left_of g (leaving x) →
-    entry_at f k a b (While m c y) ≡ without g (entry_at f k a b (While m c x))
-fewer f k a b m c g x y p q =
+-- A loop whose body keeps its ends and has other breaks.
+pub rebroken_loop : (f : Frame) (k : Context) (a b : Option ℕ) (m : ℕ) (c : Condition) (g z : List ℕ) (x y : Statements) → ends_of y ≡ ends_of x → leaving y ≡ left_of g (leaving x) ++ z →
+    entry_at f k a b (While m c y) ≡ breaking g z (entry_at f k a b (While m c x))
+rebroken_loop f k a b m c g z x y p q =
     ap (λ s. record (entry_at f k a b (While m c y)) { inner = s }) p
     ∙ ap (λ ls. record (entry_at f k a b (While m c x)) { breaks = ls }) q
 

@@ -1,10 +1,10 @@
 -- Blocks in which no call stands and each break stands in a loop.
-use Rattle.std.proofs.Common.{◌≡◌, [], Bool, true, false, refl, ap, ◌∙◌}
+use Rattle.std.proofs.Common.{◌≡◌, ℕ, Option, Some, None, [], Bool, true, false, refl, ap, ◌∙◌}
 use Rattle.imp_syntax.specs.Plain.{Statement, Simple, Break, Call, If, While, Statements, Ends, Starts}
 use Rattle.imp_check.specs.Faults.{first, at}
 use Rattle.imp_check.specs.Statements.{Scope, condition_fault, statement_fault, block_fault}
 use Rattle.imp_check.specs.Parts.{leaving_in, leaving}
-use Rattle.edit_entries.specs.Gaps.{is_quiet, are_quiet, is_closed, are_closed}
+use Rattle.edit_entries.specs.Gaps.{is_quiet, are_quiet, is_closed, are_closed, closed_at}
 use Rattle.edit_entries.proofs.Quiet.{both_quiet, both_true, none}
 
 -- They do not call ..
@@ -19,6 +19,10 @@ mutual
   pub closed_quiet : (i : Bool) (b : Statements) → are_closed i b ≡ true → are_quiet b ≡ true
   closed_quiet i Ends h = refl
   closed_quiet i (Starts s ss) h = let w = both_quiet (is_closed i s) (are_closed i ss) h in both_true (is_quiet s) (are_quiet ss) (closed_quiet_in i s w.0) (closed_quiet i ss w.1)
+
+pub quiet_at : (o : Option ℕ) (b : Statements) → closed_at o b ≡ true → are_quiet b ≡ true
+quiet_at None b h = closed_quiet false b h
+quiet_at (Some n) b h = closed_quiet true b h
 
 -- .. and no break of theirs leaves them, where no loop is around.
 mutual

@@ -2,7 +2,7 @@
 use Rattle.std.proofs.lemmas.Bool.Decides.{nat_tests}
 use Rattle.std.proofs.Common.{◌≡◌, ℕ, List, [], ◌∷◌, ◌++◌, length, cond, Option, Some, None, Bool, true, false, refl, sym, ap, ◌∙◌, subst, arith}
 use Rattle.std.specs.Option.{option_map}
-use Rattle.imp_syntax.specs.Plain.{Statements, While, Procedure, numbers, program_numbers}
+use Rattle.imp_syntax.specs.Plain.{Statement, Simple, Break, Call, If, While, Statements, Procedure, numbers, program_numbers}
 use Rattle.imp_slots.specs.Fits.{Distinct}
 use Rattle.imp_check.specs.Slots.{Frame}
 use Rattle.imp_check.specs.declared.entry.Context.{Context}
@@ -10,10 +10,10 @@ use Rattle.imp_check.specs.declared.entry.Entry.{Entry}
 use Rattle.imp_check.specs.declared.entry.BlockEnds.{BlockEnds}
 use Rattle.imp_check.specs.Parts.{ends_of, first_or, last_or, leaving}
 use Rattle.imp_check.specs.Entries.{entry_at, entries_of, entry_of, frame_at, context_at}
-use Rattle.edit_entries.specs.Spliced.{is, left_of, losing, spliced, without}
+use Rattle.edit_entries.specs.Spliced.{is, left_of, rebroken, spliced, breaking, AreTold}
 use Rattle.edit_entries.specs.Holes.{append, Hole, Then, Else, Body, fill, plug, holder, loop_of, between, with_body}
 use Rattle.edit_entries.proofs.Others.{first_append, last_append, leaving_append}
-use Rattle.edit_entries.proofs.Breaks.{holder_last, loop_last, part_lost}
+use Rattle.edit_entries.proofs.Breaks.{holder_last, loop_last, looped, loop_found, loop_with, gained}
 use Rattle.edit_entries.proofs.Filled.{before as around_before, behind as around_behind, has_loop, holding, holding_number}
 use Rattle.edit_entries.proofs.Stay.{last_holder}
 use Rattle.edit_entries.proofs.Standing.{deep_once, own_distinct}
@@ -38,15 +38,22 @@ held (Then b n c e r) s x = record x { inner = s }
 held (Else b n c t r) s x = record x { other = s }
 held (Body b n c r) s x = record x { inner = s }
 
--- the same of a statement that had the block, and lost breaks where it is the loop around it
-losing_held : (f : Frame) (k : Context) (a p : Option ℕ) (g : List ℕ) (h : Hole) (t : Bool) (x y : Statements) → (has_loop (h ∷ []) ≡ true → t ≡ true) → leaving y ≡ left_of g (leaving x) →
-    Some (entry_at f k a p (holding h y)) ≡ option_map (held h (ends_of y)) (cond t (option_map (without g) (Some (entry_at f k a p (holding h x)))) (Some (entry_at f k a p (holding h x))))
-losing_held f k a p g (Then b n c e r) true x y i q = refl
-losing_held f k a p g (Then b n c e r) false x y i q = refl
-losing_held f k a p g (Else b n c t r) true x y i q = refl
-losing_held f k a p g (Else b n c t r) false x y i q = refl
-losing_held f k a p g (Body b n c r) true x y i q = ap (λ ls. Some (record (entry_at f k a p (While n c y)) { breaks = ls })) q
-losing_held f k a p g (Body b n c r) false x y i q = let no : false ≡ true = i refl in cc
+-- the same of a statement that had the block, and has other breaks where it is the loop around it
+rebroken_held : (f : Frame) (k : Context) (a p : Option ℕ) (g z : List ℕ) (h : Hole) (t : Bool) (x y : Statements) → t ≡ has_loop (h ∷ []) → (t ≡ true → leaving y ≡ left_of g (leaving x) ++ z) →
+    Some (entry_at f k a p (holding h y)) ≡ option_map (held h (ends_of y)) (cond t (option_map (breaking g z) (Some (entry_at f k a p (holding h x)))) (Some (entry_at f k a p (holding h x))))
+rebroken_held f k a p g z (Then b n c e r) true x y i q = cc
+rebroken_held f k a p g z (Then b n c e r) false x y i q = refl
+rebroken_held f k a p g z (Else b n c t r) true x y i q = cc
+rebroken_held f k a p g z (Else b n c t r) false x y i q = refl
+rebroken_held f k a p g z (Body b n c r) true x y i q = ap (λ ls. Some (record (entry_at f k a p (While n c y)) { breaks = ls })) (q refl)
+rebroken_held f k a p g z (Body b n c r) false x y i q = cc
+
+abbrev is_while : Statement → Bool
+is_while (Simple n a) = false
+is_while (Break n) = false
+is_while (Call n x g es) = false
+is_while (If n c t e) = false
+is_while (While n c b) = true
 
 pub some_is : (n m : ℕ) → is (Some n) m ≡ true → n ≡ m
 some_is n m h = grind (arith, nat_tests)
@@ -71,31 +78,85 @@ module _ (ps qs : List Procedure) (p : Procedure) (gs : List Hole) (h : Hole) (b
       ∙ ap (entry_of (entries_of (ps ++ with_body p (plug gs (fill h x)) ∷ qs))) (sym (holding_number h x))
       ∙ holder_found ps qs p gs h x (subst (λ (os : List Procedure). Distinct (program_numbers os)) (whole x) once)
 
-  pub holds : Distinct (program_numbers O) → Distinct (program_numbers N) → leaving news ≡ [] → (m : ℕ) → is (last_holder hs) m ≡ true →
-      entry_of (entries_of N) m ≡ option_map (held h (ends_of (between before behind news))) (losing (loop_of None hs) (numbers olds) (entry_of (entries_of O)) m)
-  holds old new q m e =
+  -- what is told of the breaks of the loop around
+  abbrev pub Told : Type 0
+  Told = (m : ℕ) (x : Entry) → loop_of None hs ≡ Some m → entry_of (entries_of O) m ≡ Some x → AreTold (numbers olds) (leaving news) x.breaks
+
+  -- The statement that has the block is the loop around it only where it is a loop.
+  module _ (old : Distinct (program_numbers O)) where
+    abbrev is_loop : Bool
+    is_loop = is (loop_of None hs) (holder h)
+
+    no_loop_there : has_loop (h ∷ []) ≡ false → is_loop ≡ true → ⊥
+    no_loop_there i t =
+        let l = looped hs (holder h) (some_from (loop_of None hs) (holder h) t) in
+        let x = between before behind olds in
+        let a = loop_found ps qs p hs (holder h) l x old in
+        let b = shown x old in
+        differ h i (loop_with ps qs p hs (holder h) l x) (frame_at ps p) (context_of (context_at (length ps)) gs) (last_or (around_before h) None) (first_or (around_behind h) None) x refl (sym a ∙ b)
+      where
+        some_from : (o : Option ℕ) (m : ℕ) → is o m ≡ true → o ≡ Some m
+        some_from None m e = cc
+        some_from (Some n) m e = ap Some (some_is n m e)
+
+        differ : (h : Hole) → has_loop (h ∷ []) ≡ false → (y : Entry) (f : Frame) (k : Context) (a p : Option ℕ) (x : Statements) → is_while y.part ≡ true → Some y ≡ Some (entry_at f k a p (holding h x)) → ⊥
+        differ (Then b n c e r) i y f k a p x w q = let z : y ≡ entry_at f k a p (If n c x e) = cc in let no : true ≡ false = sym w ∙ ap (λ (o : Entry). is_while o.part) z in absurd cc
+        differ (Else b n c t r) i y f k a p x w q = let z : y ≡ entry_at f k a p (If n c t x) = cc in let no : true ≡ false = sym w ∙ ap (λ (o : Entry). is_while o.part) z in absurd cc
+        differ (Body b n c r) i y f k a p x w q = absurd cc
+
+    loop_here : is_loop ≡ has_loop (h ∷ [])
+    loop_here = go (has_loop (h ∷ [])) refl is_loop refl
+      where
+        go : (a : Bool) → has_loop (h ∷ []) ≡ a → (b : Bool) → is_loop ≡ b → b ≡ a
+        go true i true t = refl
+        go false i false t = refl
+        go true i false t = let u : is_loop ≡ true = ap (λ o. is o (holder h)) (loop_last None gs h i) ∙ same (holder h) in let no : false ≡ true = sym t ∙ u in cc
+          where
+            same : (n : ℕ) → is (Some n) n ≡ true
+            same n = grind (arith, nat_tests)
+        go false i true t = absurd (no_loop_there i t)
+
+  pub holds : Distinct (program_numbers O) → Distinct (program_numbers N) → Told → (m : ℕ) → is (last_holder hs) m ≡ true →
+      entry_of (entries_of N) m ≡ option_map (held h (ends_of (between before behind news))) (rebroken (loop_of None hs) (numbers olds) (leaving news) (entry_of (entries_of O)) m)
+  holds old new told m e =
       let same : holder h ≡ m = some_is (holder h) m (ap (λ o. is o m) (sym (holder_last gs h)) ∙ e) in
-      let there : is (Some (holder h)) m ≡ true = ap (λ o. is o m) (sym (holder_last gs h)) ∙ e in
       let f = frame_at ps p in
       let k = context_of (context_at (length ps)) gs in
+      let a = last_or (around_before h) None in
+      let b = first_or (around_behind h) None in
       let x = between before behind olds in
+      let y = between before behind news in
       let t = is (loop_of None hs) m in
       let once : Distinct (numbers x) = deep_once hs x (own_distinct ps (with_body p (plug hs x)) qs old) in
+      let was : entry_of (entries_of O) m ≡ Some (entry_at f k a b (holding h x)) = ap (entry_of (entries_of O)) (sym same) ∙ shown x old in
+      let here : t ≡ has_loop (h ∷ []) = ap (is (loop_of None hs)) (sym same) ∙ loop_here old in
       ap (entry_of (entries_of N)) (sym same)
-      ∙ shown (between before behind news) new
-      ∙ losing_held f k (last_or (around_before h) None) (first_or (around_behind h) None) (numbers olds) h t x (between before behind news) (λ i. ap (λ o. is o m) (loop_last None gs h i) ∙ there) (part_lost before olds news behind q once)
-      ∙ ap (λ o. option_map (held h (ends_of (between before behind news))) (cond t (option_map (without (numbers olds)) o) o)) (sym (shown x old) ∙ ap (entry_of (entries_of O)) same)
+      ∙ shown y new
+      ∙ rebroken_held f k a b (numbers olds) (leaving news) h t x y here (λ i. gained before olds news behind [] refl once (told_breaks h f k a b x (sym here ∙ i) (told m (entry_at f k a b (holding h x)) (some_loop_at i) was)))
+      ∙ ap (λ o. option_map (held h (ends_of y)) (cond t (option_map (breaking (numbers olds) (leaving news)) o) o)) (sym was)
+    where
+      some_loop_at : is (loop_of None hs) m ≡ true → loop_of None hs ≡ Some m
+      some_loop_at i = from (loop_of None hs) i
+        where
+          from : (o : Option ℕ) → is o m ≡ true → o ≡ Some m
+          from None i = cc
+          from (Some n) i = ap Some (some_is n m i)
 
-  -- The table after an edit of a block of a statement, where no break that comes leaves a loop.
-  pub edit_table : Distinct (program_numbers O) → Distinct (program_numbers N) → Apart (numbers olds) (numbers news) → leaving news ≡ [] → (m : ℕ) →
+      told_breaks : (h : Hole) (f : Frame) (k : Context) (a b : Option ℕ) (x : Statements) → has_loop (h ∷ []) ≡ true → AreTold (numbers olds) (leaving news) (entry_at f k a b (holding h x)).breaks → AreTold (numbers olds) (leaving news) (leaving x)
+      told_breaks (Then v n c e r) f k a b x i w = absurd cc
+      told_breaks (Else v n c t r) f k a b x i w = absurd cc
+      told_breaks (Body v n c r) f k a b x i w = w
+
+  -- The table after an edit of a block of a statement.
+  pub edit_table : Distinct (program_numbers O) → Distinct (program_numbers N) → Apart (numbers olds) (numbers news) → Told → (m : ℕ) →
       entry_of (entries_of N) m ≡ spliced (the_splice ps qs p hs before olds news behind) (held h (ends_of (between before behind news))) (entry_of (entries_of O)) m
-  edit_table old new apart q m = table_is ps qs p hs before olds news behind old new apart q (held h (ends_of (between before behind news))) (holds old new q) m
+  edit_table old new apart told m = table_is ps qs p hs before olds news behind old new apart told (held h (ends_of (between before behind news))) (holds old new told) m
 
 -- The same of a block that is the body of a procedure: no statement has it.
 pub edit_body_table : (ps qs : List Procedure) (p : Procedure) (before olds news behind : Statements) → let O = old_program p [] before olds news behind ps qs in let N = new_program p [] before olds news behind ps qs in
-    Distinct (program_numbers O) → Distinct (program_numbers N) → Apart (numbers olds) (numbers news) → leaving news ≡ [] → (m : ℕ) →
+    Distinct (program_numbers O) → Distinct (program_numbers N) → Apart (numbers olds) (numbers news) → (m : ℕ) →
     entry_of (entries_of N) m ≡ spliced (the_splice ps qs p [] before olds news behind) (λ x. x) (entry_of (entries_of O)) m
-edit_body_table ps qs p before olds news behind old new apart q m = table_is ps qs p [] before olds news behind old new apart q (λ x. x) (λ n e. absurd (no e)) m
+edit_body_table ps qs p before olds news behind old new apart m = table_is ps qs p [] before olds news behind old new apart (λ n x l w. cc) (λ x. x) (λ n e. absurd (no e)) m
   where
     no : false ≡ true → ⊥
     no e = cc

@@ -1,5 +1,4 @@
--- What is known of a program in which statements come at a place of a block, and others go from it, where none of them calls
--- and no break leaves those that come.
+-- What is known of a program in which statements come at a place of a block, and others go from it, where none of them calls.
 use Rattle.std.proofs.Common.{◌≡◌, ℕ, ◌-◌, ◌+◌, nat_lt, ◌⊎◌, inl, inr, List, [], ◌∷◌, ◌++◌, length, cond, Option, Some, None, Bool, true, false, refl, sym, ap, ◌∙◌, subst, arith}
 use Rattle.std.specs.Option.{option_map}
 use Rattle.imp_syntax.specs.Plain.{Statements, Ends, Starts, Procedure, number_of, numbers, program_numbers}
@@ -20,14 +19,14 @@ use Rattle.imp_check.specs.declared.entry.Head.{Head}
 use Rattle.imp_check.specs.declared.entry.Which.{Which}
 use Rattle.imp_check.specs.declared.entry.Which.TheVariants as of
 use Rattle.imp_check.specs.declared.fault.Fault.TheVariants.{Statements as TooManyStatements, Nesting}
-use Rattle.edit_entries.specs.Gaps.{are_quiet, are_closed, lone, or_new, ends_with, ends_in, holder_of, held_in, head_with, heads_in, gap_splice}
+use Rattle.edit_entries.specs.Gaps.{are_quiet, are_closed, closed_at, lone, or_new, ends_with, ends_in, holder_of, held_in, head_with, heads_in, gap_splice}
 use Rattle.edit_entries.specs.Holes.{Hole, Then, Else, Body, plug, holder, in_loop, loop_of, between, with_body}
-use Rattle.edit_entries.specs.Spliced.{is, losing, spliced, without}
+use Rattle.edit_entries.specs.Spliced.{is, rebroken, spliced, breaking, AreTold}
 use Rattle.edit_entries.proofs.Breaks.{looped, loop_found, loop_with, context_head, holder_last, none_leaves}
 use Rattle.edit_entries.proofs.Closed.{closed_quiet, closed_leaving, closed_fault}
 use Rattle.edit_entries.proofs.Exchange.{context_depth}
-use Rattle.edit_entries.proofs.Filled.{before as around_before, behind as around_behind, holding, ends_filled}
-use Rattle.edit_entries.proofs.Fitting.{program_fits}
+use Rattle.edit_entries.proofs.Filled.{before as around_before, behind as around_behind, cut, has_loop, holding, ends_filled}
+use Rattle.edit_entries.proofs.Fitting.{NoneLeaves, program_fits}
 use Rattle.edit_entries.proofs.Holders.{ends_between, held, holds, shown, some_is, edit_body_table}
 use Rattle.edit_entries.proofs.Located.{Has}
 use Rattle.edit_entries.proofs.Numbers.{Apart, around_edit}
@@ -73,6 +72,19 @@ around_last k [] (Then b n c e r) = refl
 around_last k [] (Else b n c t r) = refl
 around_last k [] (Body b n c r) = refl
 around_last k (g ∷ gs) h = around_last _ gs h
+
+looping : (hs : List Hole) → in_loop false hs ≡ true → has_loop hs ≡ true
+looping [] i = i
+looping (Then b n c e r ∷ hs) i = looping hs i
+looping (Else b n c t r ∷ hs) i = looping hs i
+looping (Body b n c r ∷ hs) i = refl
+
+-- Whether a block is closed is told by the loop around it.
+pub closed_in : (hs : List Hole) (o : Option ℕ) (i : Bool) (b : Statements) → closed_at o b ≡ are_closed i b → closed_at (loop_of o hs) b ≡ are_closed (in_loop i hs) b
+closed_in [] o i b e = e
+closed_in (Then v n c x r ∷ hs) o i b e = closed_in hs o i b e
+closed_in (Else v n c t r ∷ hs) o i b e = closed_in hs o i b e
+closed_in (Body v n c r ∷ hs) o i b e = closed_in hs (Some n) true b refl
 
 -- Holes are none, or there is a last one.
 record Inmost (hs : List Hole) : Type 0 where
@@ -125,46 +137,51 @@ module _ (ps qs : List Procedure) (p : Procedure) (before olds news behind : Sta
   had_ends (Else v n d t r) f c o u x = refl
   had_ends (Body v n d r) f c o u x = refl
 
-  -- .. that may have lost breaks
-  held_losing : (h : Hole) (t : Bool) (x : Entry) → ends_in (which_of h) x ≡ ends_of (between before behind olds) →
-      option_map (held h (ends_of (between before behind news))) (cond t (option_map (without (numbers olds)) (Some x)) (Some x)) ≡ option_map (held_in (around_of h) E) (cond t (option_map (without (numbers olds)) (Some x)) (Some x))
-  held_losing h true x q = ap Some (held_is h (without (numbers olds) x) (kept_ends h ∙ q))
+  -- .. that may have other breaks
+  held_rebroken : (h : Hole) (t : Bool) (x : Entry) → ends_in (which_of h) x ≡ ends_of (between before behind olds) →
+      option_map (held h (ends_of (between before behind news))) (cond t (option_map (breaking (numbers olds) (leaving news)) (Some x)) (Some x)) ≡ option_map (held_in (around_of h) E) (cond t (option_map (breaking (numbers olds) (leaving news)) (Some x)) (Some x))
+  held_rebroken h true x q = ap Some (held_is h (breaking (numbers olds) (leaving news) x) (kept_ends h ∙ q))
     where
-      kept_ends : (h : Hole) → ends_in (which_of h) (without (numbers olds) x) ≡ ends_in (which_of h) x
+      kept_ends : (h : Hole) → ends_in (which_of h) (breaking (numbers olds) (leaving news) x) ≡ ends_in (which_of h) x
       kept_ends (Then v n c e r) = refl
       kept_ends (Else v n c e r) = refl
       kept_ends (Body v n c r) = refl
-  held_losing h false x q = ap Some (held_is h x q)
+  held_rebroken h false x q = ap Some (held_is h x q)
 
-  module _ (apart : Apart (numbers olds) (numbers news)) (quits : leaving news ≡ []) where
+  -- what is told of the breaks of the loop around
+  abbrev pub Told : List Hole → Type 0
+  Told hs = (m : ℕ) (x : Entry) → (k hs).head ≡ Some m → entry_of (entries_of (O hs)) m ≡ Some x → AreTold (numbers olds) (leaving news) x.breaks
+
+  module _ (apart : Apart (numbers olds) (numbers news)) where
     abbrev Tabled : List Hole → Type 0
-    Tabled hs = Distinct (program_numbers (O hs)) → Distinct (program_numbers (N hs)) → (m : ℕ) →
+    Tabled hs = Distinct (program_numbers (O hs)) → Distinct (program_numbers (N hs)) → Told hs → (m : ℕ) →
         entry_of (entries_of (N hs)) m ≡ spliced (gap_splice (frame_at ps p) (k hs) a b (numbers olds) news) (held_in (k hs).around E) (entry_of (entries_of (O hs))) m
 
     tabled_in : (gs : List Hole) (h : Hole) → Tabled (gs ++ h ∷ [])
-    tabled_in gs h old new m =
+    tabled_in gs h old new told m =
         let hs : List Hole = gs ++ h ∷ [] in
+        let known = λ (n : ℕ) (x : Entry) (l : loop_of None hs ≡ Some n) (w : entry_of (entries_of (O hs)) n ≡ Some x). told n x (context_head (context_at (length ps)) hs ∙ l) w in
         let at = entry_of (entries_of (O hs)) in
         let c = block_entries (frame_at ps p) (k hs) a b news in
-        table_is ps qs p hs before olds news behind old new apart quits (held_in (around_of h) E) holding_is m
-        ∙ ap (λ o. spliced (record { gone = numbers olds; come = c; come_numbers = numbers news; front = a; next = b; holder = o; loop = loop_of None hs; first = first_or news b; last = last_or news a }) (held_in (around_of h) E) at m) (holder_last gs h)
-        ∙ ap (λ o. spliced (record { gone = numbers olds; come = c; come_numbers = numbers news; front = a; next = b; holder = holder_of o; loop = loop_of None hs; first = first_or news b; last = last_or news a }) (held_in o E) at m) (sym (around_last (context_at (length ps)) gs h))
-        ∙ ap (λ o. spliced (record { gone = numbers olds; come = c; come_numbers = numbers news; front = a; next = b; holder = holder_of (k hs).around; loop = o; first = first_or news b; last = last_or news a }) (held_in (k hs).around E) at m) (sym (context_head (context_at (length ps)) hs))
+        table_is ps qs p hs before olds news behind old new apart known (held_in (around_of h) E) (holding_is known) m
+        ∙ ap (λ o. spliced (record { gone = numbers olds; come = c; come_numbers = numbers news; front = a; next = b; holder = o; loop = loop_of None hs; leaving = leaving news; first = first_or news b; last = last_or news a }) (held_in (around_of h) E) at m) (holder_last gs h)
+        ∙ ap (λ o. spliced (record { gone = numbers olds; come = c; come_numbers = numbers news; front = a; next = b; holder = holder_of o; loop = loop_of None hs; leaving = leaving news; first = first_or news b; last = last_or news a }) (held_in o E) at m) (sym (around_last (context_at (length ps)) gs h))
+        ∙ ap (λ o. spliced (record { gone = numbers olds; come = c; come_numbers = numbers news; front = a; next = b; holder = holder_of (k hs).around; loop = o; leaving = leaving news; first = first_or news b; last = last_or news a }) (held_in (k hs).around E) at m) (sym (context_head (context_at (length ps)) hs))
       where
-        holding_is : (n : ℕ) → is (last_holder (gs ++ h ∷ [])) n ≡ true → entry_of (entries_of (N (gs ++ h ∷ []))) n ≡ option_map (held_in (around_of h) E) (losing (loop_of None (gs ++ h ∷ [])) (numbers olds) (entry_of (entries_of (O (gs ++ h ∷ [])))) n)
-        holding_is n e =
+        holding_is : ((n : ℕ) (x : Entry) → loop_of None (gs ++ h ∷ []) ≡ Some n → entry_of (entries_of (O (gs ++ h ∷ []))) n ≡ Some x → AreTold (numbers olds) (leaving news) x.breaks) → (n : ℕ) → is (last_holder (gs ++ h ∷ [])) n ≡ true → entry_of (entries_of (N (gs ++ h ∷ []))) n ≡ option_map (held_in (around_of h) E) (rebroken (loop_of None (gs ++ h ∷ [])) (numbers olds) (leaving news) (entry_of (entries_of (O (gs ++ h ∷ [])))) n)
+        holding_is known n e =
             let x = entry_at (frame_at ps p) (context_of (context_at (length ps)) gs) (last_or (around_before h) None) (first_or (around_behind h) None) (holding h (between before behind olds)) in
             let s : holder h ≡ n = some_is (holder h) n (ap (λ o. is o n) (sym (holder_last gs h)) ∙ e) in
             let w : entry_of (entries_of (O (gs ++ h ∷ []))) n ≡ Some x = ap (entry_of (entries_of (O (gs ++ h ∷ [])))) (sym s) ∙ shown ps qs p gs h before olds news behind (between before behind olds) old in
             let t = is (loop_of None (gs ++ h ∷ [])) n in
-            holds ps qs p gs h before olds news behind old new quits n e
-            ∙ ap (λ o. option_map (held h (ends_of (between before behind news))) (cond t (option_map (without (numbers olds)) o) o)) w
-            ∙ held_losing h t x (had_ends h (frame_at ps p) (context_of (context_at (length ps)) gs) (last_or (around_before h) None) (first_or (around_behind h) None) (between before behind olds))
-            ∙ ap (λ o. option_map (held_in (around_of h) E) (cond t (option_map (without (numbers olds)) o) o)) (sym w)
+            holds ps qs p gs h before olds news behind old new known n e
+            ∙ ap (λ o. option_map (held h (ends_of (between before behind news))) (cond t (option_map (breaking (numbers olds) (leaving news)) o) o)) w
+            ∙ held_rebroken h t x (had_ends h (frame_at ps p) (context_of (context_at (length ps)) gs) (last_or (around_before h) None) (first_or (around_behind h) None) (between before behind olds))
+            ∙ ap (λ o. option_map (held_in (around_of h) E) (cond t (option_map (breaking (numbers olds) (leaving news)) o) o)) (sym w)
 
     -- Entries.
     pub gap_table : (hs : List Hole) → Tabled hs
-    gap_table hs = by_inmost Tabled (λ old new m. edit_body_table ps qs p before olds news behind old new apart quits m) tabled_in hs
+    gap_table hs = by_inmost Tabled (λ old new told m. edit_body_table ps qs p before olds news behind old new apart m) tabled_in hs
 
   -- Procedures.
   abbrev Headed : List Hole → Type 0
@@ -187,9 +204,9 @@ module _ (ps qs : List Procedure) (p : Procedure) (before olds news behind : Sta
   pub gap_heads : (hs : List Hole) → Headed hs
   gap_heads hs = by_inmost Headed (body_headed (between before behind olds) (between before behind news) ps (ends_changed before behind olds news)) headed_in hs
 
-  module _ (hs : List Hole) (quiet : are_quiet olds ≡ true) (closed : are_closed false news ≡ true) where
+  module _ (hs : List Hole) (quiet : are_quiet olds ≡ true) (closed : are_closed (in_loop false hs) news ≡ true) where
     silent : are_quiet news ≡ true
-    silent = closed_quiet false news closed
+    silent = closed_quiet (in_loop false hs) news closed
 
     pub same_calls : (g : List ℕ) → calls g olds ≡ calls g news
     same_calls g = quiet_calls g olds quiet ∙ sym (quiet_calls g news silent)
@@ -206,17 +223,20 @@ module _ (ps qs : List Procedure) (p : Procedure) (before olds news behind : Sta
         program_fault p hs before olds news behind ps qs z same_calls
         ∙ ap (λ n. first (in_procedure (name_of (last_of (O hs))) (at 0 (first (unless (nat_lt counted 10001) TooManyStatements) (unless (nat_lt (n + nesting news) 33) Nesting)))) (news_fault p hs before olds news behind ps qs)) deep
         ∙ ap (λ o. first (in_procedure (name_of (last_of (O hs))) (at 0 (first (unless (nat_lt counted 10001) TooManyStatements) (unless (nat_lt ((k hs).depth + nesting news) 33) Nesting)))) (in_procedure p.name o))
-        (quiet_fault sc (in_loop false hs) news silent ∙ own_fault (in_loop false hs))
-      where
-        own_fault : (i : Bool) → block_fault (lone (variables p)) i news ≡ block_fault (lone (variables p)) true news
-        own_fault true = refl
-        own_fault false = closed_fault (lone (variables p)) false news closed
+        (quiet_fault sc (in_loop false hs) news silent ∙ closed_fault (lone (variables p)) (in_loop false hs) news closed)
 
     pub gap_sites : sites_of (N hs) ≡ sites_of (O hs)
     gap_sites = sites_stay p hs before olds news behind (λ es n. quiet_sites (frame_at es p) n (context_at 0) None None olds quiet ∙ sym (quiet_sites (frame_at es p) n (context_at 0) None None news silent)) ps qs
 
+    none_out : NoneLeaves p hs before olds news behind
+    none_out z = go (in_loop false hs) refl closed
+      where
+        go : (i : Bool) → in_loop false hs ≡ i → are_closed i news ≡ true → leaving (plug hs (between before behind news)) ≡ []
+        go true i w = cut hs (between before behind news) (between before behind olds) (looping hs i) ∙ z
+        go false i w = none_leaves hs before olds news behind (closed_leaving news w) z
+
     pub gap_fits : FitsCode [] (layout_in p) (code_in (frame_at [] p) news) → IsChecked (routines_of (O hs)) → AreNumbered (N hs) → IsChecked (routines_of (N hs))
-    gap_fits w c d = program_fits p hs before olds news behind ps qs (λ rs es v. quiet_fits (layout_in p) [] es [] rs news silent w) (none_leaves hs before olds news behind (closed_leaving news closed)) c d
+    gap_fits w c d = program_fits p hs before olds news behind ps qs (λ rs es v. quiet_fits (layout_in p) [] es [] rs news silent w) none_out c d
 
   -- The statements around the place are statements of the program.
   module _ (hs : List Hole) (once : Distinct (program_numbers (O hs))) where

@@ -4,7 +4,7 @@ use Rattle.imp_syntax.specs.Plain.{Statement, Simple, Break, Call, If, While, St
 use Rattle.imp_syntax.specs.declared.words.Declaration.{Declaration}
 use Rattle.imp_check.specs.Slots.{Frame}
 use Rattle.imp_check.specs.Statements.{Scope}
-use Rattle.imp_check.specs.Parts.{first_or, last_or}
+use Rattle.imp_check.specs.Parts.{first_or, last_or, leaving}
 use Rattle.imp_check.specs.Entries.{block_entries}
 use Rattle.imp_check.specs.declared.entry.Around.{Around}
 use Rattle.imp_check.specs.declared.entry.BlockEnds.{BlockEnds}
@@ -40,6 +40,11 @@ abbrev mutual
   pub are_closed : (inside : Bool) → Statements → Bool
   are_closed inside Ends = true
   are_closed inside (Starts s ss) = is_closed inside s && are_closed inside ss
+
+-- The same at a place, around which this loop is, if one is.
+abbrev pub closed_at : Option ℕ → Statements → Bool
+closed_at None b = are_closed false b
+closed_at (Some n) b = are_closed true b
 
 -- these variables, and no procedure
 abbrev pub lone : List Declaration → Scope
@@ -84,7 +89,7 @@ abbrev pub heads_in : Option Around → List Head → (place : ℕ) → (ends : 
 heads_in None hs place ends = head_with hs place ends
 heads_in (Some w) hs place ends = hs
 
--- These statements come between two of a block, of which none leaves a loop, and those of these numbers go.
+-- These statements come between two of a block, and those of these numbers go.
 abbrev pub gap_splice : Frame → Context → (front next : Option ℕ) → (gone : List ℕ) → Statements → Splice
 gap_splice f k front next gone news = record {
   gone = gone;
@@ -94,6 +99,7 @@ gap_splice f k front next gone news = record {
   next = next;
   holder = holder_of k.around;
   loop = k.head;
+  leaving = leaving news;
   first = first_or news next;
   last = last_or news front;
 }

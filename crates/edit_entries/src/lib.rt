@@ -4,13 +4,13 @@
 //! A part stands in its block between the statements before and behind it. The lemmas say of the program with another part:
 //!
 //! - its entries are those of before, but of the statements that go and come, of their two neighbours, of the statement
-//!   that has the block, and of the loop around it, which loses the breaks that go (`spliced` of `specs/Spliced.antt`;
-//!   `proofs/Table.antt`, `Holders.antt`, `Breaks.antt`); another condition changes one entry (`proofs/Guards.antt`);
+//!   that has the block, and of the loop around it, which loses the breaks that go and gets those that come, where only
+//!   one of the two are among its breaks (`spliced` of `specs/Spliced.antt`; `proofs/Table.antt`, `Holders.antt`,
+//!   `Breaks.antt`); another condition changes one entry (`proofs/Guards.antt`);
 //! - its first fault is that of the part alone, where the parts have the same calls: the count of statements and the
 //!   depth of the place decide whether it is too large (`proofs/Programs.antt`, `Exchange.antt`);
-//! - where no call stands in the statements that come and go, and no break leaves those that come, all this is told by
-//!   what is known at the place: its block, the statements in front and behind, and the loop around it
-//!   (`specs/Gaps.antt`, `proofs/Closed.antt`, `Parts.antt`);
+//! - where no call stands in the statements that come and go, all this is told by what is known at the place: its block,
+//!   the statements in front and behind, and the loop around it (`specs/Gaps.antt`, `proofs/Closed.antt`, `Parts.antt`);
 //! - its call statements stay, and so do its procedures but for the ends of a body (`proofs/Sites.antt`); it fits over slots
 //!   (`proofs/Fitting.antt`).
 //!

@@ -6,17 +6,17 @@ ghost use Rattle.imp_syntax.specs.Plain.{Statements};
 ghost use Rattle.imp_check.specs.Changes.{AreFalling, AreWithin, overlay};
 ghost use Rattle.imp_check.specs.Entries.{block_entries, entries_of, entry_of, frame_at};
 ghost use Rattle.imp_check.specs.Faults.{first};
-ghost use Rattle.imp_check.specs.Parts.{first_or, last_or};
+ghost use Rattle.imp_check.specs.Parts.{first_or, last_or, leaving};
 ghost use Rattle.imp_check.specs.Programs.{has};
 ghost use Rattle.imp_check.specs.declared.entry.BlockEnds.{BlockEnds};
 ghost use Rattle.imp_check.specs.declared.entry.Entry.{Entry};
 ghost use Rattle.edit_entries.specs.Gaps.{ends_in, ends_with, held_in, holder_of, with_ends};
-ghost use Rattle.edit_entries.specs.Spliced.{is, losing, with_front, with_next};
+ghost use Rattle.edit_entries.specs.Spliced.{is, rebroken, with_front, with_next};
 ghost use Rattle.imp_edit.specs.Gaps.{AreBelow, IsBelow, entries_with};
 
 use crate::alone::form_again;
 use crate::blocks::{first_or, last_or};
-use crate::breaks::{loop_puts, losing};
+use crate::breaks::{loop_puts, rebroken};
 use crate::gap::Gap;
 use crate::puts::put_at;
 use imp_check::{Around, BlockEnds, Entry, Head, Place, Put, Table, Which};
@@ -108,7 +108,7 @@ fn with_ends(entry: Entry, which: Which, gap: &Gap, news: &Block) -> Entry
 }
 
 /// What stands at the number of the statement that has the block, with the ends of the block as they then are and
-/// without the breaks that go.
+/// the breaks that there then are.
 fn holding(
     alloc: Global,
     table: &Table,
@@ -116,9 +116,9 @@ fn holding(
     gap: &Gap,
     news: &Block,
 ) -> Result<Place, Memory>
-    ensures is { IfOk result (λ place. place ≡ option_map (held_in (Some around) (ends_with gap.now.front gap.now.next news.now)) (losing gap.now.context.head gap.now.gone (entry_of (entries_of table.now.program)) around.stmt)) }
+    ensures is { IfOk result (λ place. place ≡ option_map (held_in (Some around) (ends_with gap.now.front gap.now.next news.now)) (rebroken gap.now.context.head gap.now.gone (leaving news.now) (entry_of (entries_of table.now.program)) around.stmt)) }
 {
-    match losing(alloc, table, gap, around.stmt)? {
+    match rebroken(alloc, table, gap, news, around.stmt)? {
         Some(entry) => Place::of(alloc, with_ends(entry, around.which, gap, news)),
         None => Ok(Place::free()),
     }
@@ -133,11 +133,11 @@ pub(crate) fn ends_stay(gap: &Gap) -> bool
 
 /// The changes of the loop around the place and of the statement that has the block.
 fn around_puts(alloc: Global, table: &Table, gap: &Gap, news: &Block) -> Result<Vec<Put>, Memory>
-    ensures are { IfOk result (λ puts. (m : ℕ) → overlay puts.items (entry_of (entries_of table.now.program)) m ≡ cond (is (holder_of gap.now.context.around) m) (option_map (held_in gap.now.context.around (ends_with gap.now.front gap.now.next news.now)) (losing gap.now.context.head gap.now.gone (entry_of (entries_of table.now.program)) m)) (losing gap.now.context.head gap.now.gone (entry_of (entries_of table.now.program)) m)) }
+    ensures are { IfOk result (λ puts. (m : ℕ) → overlay puts.items (entry_of (entries_of table.now.program)) m ≡ cond (is (holder_of gap.now.context.around) m) (option_map (held_in gap.now.context.around (ends_with gap.now.front gap.now.next news.now)) (rebroken gap.now.context.head gap.now.gone (leaving news.now) (entry_of (entries_of table.now.program)) m)) (rebroken gap.now.context.head gap.now.gone (leaving news.now) (entry_of (entries_of table.now.program)) m)) }
     ensures falling { IfOk result (λ puts. AreFalling puts.items) }
     ensures within { IfOk result (λ puts. (b : ℕ) → IsBelow b gap.now.context.head → IsBelow b (holder_of gap.now.context.around) → AreWithin b puts.items) }
 {
-    let mut puts = loop_puts(alloc, table, gap)?;
+    let mut puts = loop_puts(alloc, table, gap, news)?;
     if ends_stay(gap) {
         return Ok(puts);
     }

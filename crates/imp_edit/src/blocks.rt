@@ -3,7 +3,7 @@ ghost use Rattle.std.specs.Prelude.{◌≡◌, ◌++◌, ◌+◌, ◌-◌, ◌<�
 ghost use Rattle.imp_check.specs.Entries.{inside, inside_loop};
 ghost use Rattle.imp_check.specs.Parts.{breaks_of, ends_of, first_ends, first_or, last_or, leaving, leaving_in, part_of, second_ends};
 ghost use Rattle.imp_check.specs.Programs.{nesting, statement_nesting};
-ghost use Rattle.edit_entries.specs.Gaps.{are_closed, is_closed};
+ghost use Rattle.edit_entries.specs.Gaps.{are_closed, closed_at, is_closed};
 
 use imp_check::{Around, BlockEnds, Context, Which};
 use imp_syntax::{Block, Stmt, StmtId, StmtNode};
@@ -35,6 +35,16 @@ fn is_closed(inside: bool, stmt: &Stmt) -> bool
         StmtNode::Call(_) => false,
         StmtNode::If(_, then, els) => are_closed(inside, then) && are_closed(inside, els),
         StmtNode::While(_, body) => are_closed(true, body),
+    }
+}
+
+/// The same at a place, around which this loop is, if one is.
+pub(crate) fn closed_at(head: Option<StmtId>, block: &Block) -> bool
+    ensures is { result ≡ closed_at head block.now }
+{
+    match head {
+        Some(_) => are_closed(true, block),
+        None => are_closed(false, block),
     }
 }
 
@@ -134,7 +144,7 @@ pub(crate) fn part_of(alloc: Global, stmt: &Stmt) -> Result<Stmt, Memory>
 /// Adds the breaks that leave the loop around a block.
 #[cycle(leaving)]
 #[tactic(auto, using(imp_syntax::specs::Blocks::member_smaller, imp_syntax::specs::Blocks::block_rest))]
-fn add_leaving(block: &Block, breaks: &mut Items<StmtId>) -> Result<(), Memory>
+pub(crate) fn add_leaving(block: &Block, breaks: &mut Items<StmtId>) -> Result<(), Memory>
     ensures added { OnOk result (breaks.new ≡ breaks.old ++ leaving block.now) }
 {
     for stmt in block.as_slice() {

@@ -12,7 +12,7 @@
 //!
 //! The change is found from the tree of the program, or, for another condition and for statements that come and go, from
 //! what is known of the statements beside them and in them, in time that the size of the program does not enter: where no
-//! call stands in them and no break leaves those that come.
+//! call stands in them, and no break comes to a loop that keeps others.
 //!
 //! An edit's own statements carry the numbers from `next` on, so a number is never used again, and numbers of the new
 //! program stand once.

@@ -16,7 +16,8 @@ ghost use Rattle.imp_edit.specs.Short.{IsMade};
 
 use crate::alone::{condition_alone, form_alone};
 use crate::beside::entry_again;
-use crate::blocks::are_closed;
+use crate::blocks::closed_at;
+use crate::breaks::are_told;
 use crate::error::EditError;
 use crate::gap::{Gap, gap_of};
 use crate::splicing::splice;
@@ -25,9 +26,9 @@ use imp_syntax::{Block, Cond, Edit, Stmt, StmtId};
 use plain_values::{Items, Memory};
 use std::alloc::Global;
 
-/// The change of an edit that gives a statement another condition, puts statements at a place in which no call stands and
-/// whose breaks leave loops of their own, or takes a statement away in which no call stands; `None` for other edits, whose
-/// change is found from the whole program.
+/// The change of an edit that gives a statement another condition, puts statements at a place in which no call stands, or
+/// takes a statement away in which no call stands; `None` for other edits, and where a break that comes has no loop or
+/// leaves one that keeps other breaks: then the change is found from the whole program.
 ///
 /// Another condition takes time in proportion to the condition, the breaks of the statement and the square of the
 /// procedure's variables. Statements take time in proportion to the statements that come, with those inside them, and to
@@ -63,7 +64,7 @@ pub(crate) fn short_change(
 }
 
 /// The change of an edit that puts statements at this place, and takes away what goes; `None` where a call stands in what
-/// comes, or a break leaves it.
+/// comes, or a break that has no loop there or leaves one that keeps other breaks.
 fn gap_change(
     alloc: Global,
     table: &Table,
@@ -81,7 +82,10 @@ fn gap_change(
 {
     table.procs();
     let news = brought(alloc, edit)?;
-    if !are_closed(false, &news) {
+    if !closed_at(gap.context.head, &news) {
+        return Ok(None);
+    }
+    if !are_told(table, gap, &news) {
         return Ok(None);
     }
     let Some(head) = table.view().head(gap.context.proc) else {
