@@ -14,3 +14,4 @@ pub mod LiteralLemmas
 pub mod Balance
 pub mod Parted
 pub mod Keyed
+pub mod Looped

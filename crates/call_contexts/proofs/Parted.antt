@@ -26,6 +26,7 @@ use Rattle.program_chains.specs.Chains.{has}
 use Rattle.program_chains.specs.Marks.{literals, marks, marks_of}
 use Rattle.call_contexts.specs.Literals.{form_literals, literals_in}
 use Rattle.batch_meaning.specs.Batch.{Engine}
+use Rattle.call_contexts.specs.Loops.{loops, all_loops}
 use Rattle.call_contexts.specs.Settings.{Setting, all_marks, setting_of, IsPart}
 use Rattle.call_contexts.specs.Tallies.{literal_lists, one_if, times, tally, tally_by, all_tallies, Tells, capped}
 use Rattle.call_contexts.specs.Differences.{lists_in, lost, gained, lists_by}
@@ -104,11 +105,12 @@ marks_kept w old new k ms t u e m h i keys =
     mark_there w new k q.0 q.1 ∙ ap (λ (z : List ℤ). Some (if w.thresholds then z else [])) same ∙ sym (mark_there w old k p.0 p.1) ∙ m
 
 pub marks_kept_if : (same : Bool) (w : Widening) (old new : List Procedure) (k : ℕ) (ms : List ℤ) (t u : List (ℕ × ℕ)) → w.thresholds ≡ true
-    → IsPart w (routines_of old) k ms t
+    → slice_get (all_marks w (routines_of old)) k ≡ Some ms
+    → slice_get (all_tallies w (routines_of old)) k ≡ Some t
     → slice_get (all_tallies w (routines_of new)) k ≡ Some u
     → OnTrue same (keys_of u ≡ keys_of t) → OnTrue same (slice_get (all_marks w (routines_of new)) k ≡ Some ms)
-marks_kept_if true w old new k ms t u e part i keys = marks_kept w old new k ms t u e part.marks_are part.tally_is i keys
-marks_kept_if false w old new k ms t u e part i keys = tt
+marks_kept_if true w old new k ms t u e m h i keys = marks_kept w old new k ms t u e m h i keys
+marks_kept_if false w old new k ms t u e m h i keys = tt
 
 pub made_of : (t s u : List (ℕ × ℕ)) (ls ms gs hs : List (List ℕ)) → s ≡ t → ms ≡ ls → hs ≡ gs → Makes s u ms hs → Makes t u ls gs
 made_of t s u ls ms gs hs a b c m =
@@ -148,15 +150,15 @@ untouched_tally w old new puts k t b e f l h =
     tally_there w new k q.0 q.1 ∙ ap Some (by_thresholds w Q e ∙ same ∙ sym (by_thresholds w P e) ∙ p.2)
 
 -- a procedure without thresholds, or one that is not touched
-pub part_kept : (w : Widening) (old new : List Procedure) (puts : List Put) (k : ℕ) (c : Bool) (ms : List ℤ) (t : List (ℕ × ℕ)) → Brings old new puts → c ≡ touches (entry_of (entries_of old)) puts k → k < length new
-    → slice_get (all_marks w (routines_of old)) k ≡ Some ms → slice_get (all_tallies w (routines_of old)) k ≡ Some t
-    → (w.thresholds && c) ≡ false → IsPart w (routines_of new) k ms t
-part_kept w old new puts k c ms t b e l m h f = go w.thresholds refl f
+pub part_kept : (w : Widening) (old new : List Procedure) (puts : List Put) (k : ℕ) (c : Bool) (ms : List ℤ) (t : List (ℕ × ℕ)) (ls : List ℕ) → Brings old new puts → c ≡ touches (entry_of (entries_of old)) puts k → k < length new
+    → slice_get (all_marks w (routines_of old)) k ≡ Some ms → slice_get (all_tallies w (routines_of old)) k ≡ Some t → slice_get (all_loops (routines_of new)) k ≡ Some ls
+    → (w.thresholds && c) ≡ false → IsPart w (routines_of new) k ms t ls
+part_kept w old new puts k c ms t ls b e l m h i f = go w.thresholds refl f
   where
-    go : (d : Bool) → w.thresholds ≡ d → (d && c) ≡ false → IsPart w (routines_of new) k ms t
+    go : (d : Bool) → w.thresholds ≡ d → (d && c) ≡ false → IsPart w (routines_of new) k ms t ls
     go true d f =
         let u = untouched_tally w old new puts k t b d (sym e ∙ f) l h in
-        record { marks_are = marks_kept w old new k ms t t d m h u refl; tally_is = u }
+        record { marks_are = marks_kept w old new k ms t t d m h u refl; tally_is = u; loops_are = i }
     go false d f =
         let p = had w old k t h in
         let q = there new k l in
@@ -167,6 +169,7 @@ part_kept w old new puts k c ms t b e l m h f = go w.thresholds refl f
         record {
           marks_are = mark_there w new k q.0 q.1 ∙ ap Some (no_marks Q ∙ sym (no_marks P)) ∙ sym (mark_there w old k p.0 p.1) ∙ m;
           tally_is = tally_there w new k q.0 q.1 ∙ ap Some (no_tally Q ∙ sym (no_tally P) ∙ p.2);
+          loops_are = i;
         }
 
 -- The tally of a procedure that is made of its statements.
@@ -234,22 +237,25 @@ pub record SoFar (e : Engine) (program : List Routine) (place : ℕ) (s : Settin
   pub engine : s.engine ≡ e
   pub marks : s.marks ≡ take place (all_marks e.widening program)
   pub tallies : s.tallies ≡ take place (all_tallies e.widening program)
+  pub loops : s.loops ≡ take place (all_loops program)
 
-pub so_far_more : (e : Engine) (program : List Routine) (i k : ℕ) (s t : Setting) (ms : List ℤ) (ts : List (ℕ × ℕ)) → SoFar e program i s → k ≡ i → IsPart e.widening program k ms ts
-    → t.engine ≡ s.engine → t.marks ≡ s.marks ++ ms ∷ [] → t.tallies ≡ s.tallies ++ ts ∷ [] → SoFar e program (i + 1) t
-so_far_more e program i k s t ms ts so_far at part same more others =
-    let p = subst (λ j. IsPart e.widening program j ms ts) at part in
+pub so_far_more : (e : Engine) (program : List Routine) (i k : ℕ) (s t : Setting) (ms : List ℤ) (ts : List (ℕ × ℕ)) (ls : List ℕ) → SoFar e program i s → k ≡ i → IsPart e.widening program k ms ts ls
+    → t.engine ≡ s.engine → t.marks ≡ s.marks ++ ms ∷ [] → t.tallies ≡ s.tallies ++ ts ∷ [] → t.loops ≡ s.loops ++ ls ∷ [] → SoFar e program (i + 1) t
+so_far_more e program i k s t ms ts ls so_far at part same more others rest =
+    let p = subst (λ j. IsPart e.widening program j ms ts ls) at part in
     record {
       engine = same ∙ so_far.engine;
       marks = part_more (all_marks e.widening program) s.marks t.marks i ms so_far.marks p.marks_are more;
       tallies = part_more (all_tallies e.widening program) s.tallies t.tallies i ts so_far.tallies p.tally_is others;
+      loops = part_more (all_loops program) s.loops t.loops i ls so_far.loops p.loops_are rest;
     }
 
 pub so_far_whole : (e : Engine) (ps : List Procedure) (i : ℕ) (s : Setting) → SoFar e (routines_of ps) i s → length ps ≤ i → s ≡ setting_of e (routines_of ps)
 so_far_whole e ps i s so_far h =
     let ms = so_far.marks ∙ take_whole (all_marks e.widening (routines_of ps)) i (omega (arith, h, length-map (routines_of ps) (marks e.widening), as_many [] ps)) in
     let ts = so_far.tallies ∙ take_whole (all_tallies e.widening (routines_of ps)) i (omega (arith, h, length-map (routines_of ps) (tally_by e.widening), as_many [] ps)) in
-    λ j. record { engine = so_far.engine j; marks = ms j; tallies = ts j }
+    let ls = so_far.loops ∙ take_whole (all_loops (routines_of ps)) i (omega (arith, h, length-map (routines_of ps) loops, as_many [] ps)) in
+    λ j. record { engine = so_far.engine j; marks = ms j; tallies = ts j; loops = ls j }
 
 -- Procedures that are touched, one change after the other.
 touches_last : (at : ℕ → Option Entry) (ps : List Put) (p : Put) (k : ℕ) → touches at (ps ++ p ∷ []) k ≡ (stands_in (at p.number) k || (stands_in p.entry k || touches at ps k))
@@ -293,10 +299,10 @@ pub touched_whole : (at : ℕ → Option Entry) (ps : List Put) (i k : ℕ) (has
 touched_whole at ps i k has e h = e ∙ ap (λ qs. touches at qs k) (take_whole ps i h)
 
 -- a part that is as it was
-part_of : (w : Widening) (program : List Routine) (k : ℕ) (ms ns : List ℤ) (t u : List (ℕ × ℕ)) → ns ≡ ms → u ≡ t → IsPart w program k ms t → IsPart w program k ns u
-part_of w program k ms ns t u a b p = record { marks_are = p.marks_are ∙ ap Some (sym a); tally_is = p.tally_is ∙ ap Some (sym b) }
+part_of : (w : Widening) (program : List Routine) (k : ℕ) (ms ns : List ℤ) (t u : List (ℕ × ℕ)) (ls os : List ℕ) → ns ≡ ms → u ≡ t → os ≡ ls → IsPart w program k ms t ls → IsPart w program k ns u os
+part_of w program k ms ns t u ls os a b c p = record { marks_are = p.marks_are ∙ ap Some (sym a); tally_is = p.tally_is ∙ ap Some (sym b); loops_are = p.loops_are ∙ ap Some (sym c) }
 
-pub shared_part : {T E : Type 0} (r : Result T E) (f : T → List ℤ) (g : T → List (ℕ × ℕ)) (w : Widening) (program : List Routine) (k : ℕ) (ms : List ℤ) (t : List (ℕ × ℕ))
-    → IfOk r (λ p. f p ≡ ms) → IfOk r (λ p. g p ≡ t) → IsPart w program k ms t → IfOk r (λ p. IsPart w program k (f p) (g p))
-shared_part (Ok p) f g w program k ms t a b part = part_of w program k ms (f p) t (g p) a b part
-shared_part (Err e) f g w program k ms t a b part = tt
+pub shared_part : {T E : Type 0} (r : Result T E) (f : T → List ℤ) (g : T → List (ℕ × ℕ)) (h : T → List ℕ) (w : Widening) (program : List Routine) (k : ℕ) (ms : List ℤ) (t : List (ℕ × ℕ)) (ls : List ℕ)
+    → IfOk r (λ p. f p ≡ ms) → IfOk r (λ p. g p ≡ t) → IfOk r (λ p. h p ≡ ls) → IsPart w program k ms t ls → IfOk r (λ p. IsPart w program k (f p) (g p) (h p))
+shared_part (Ok p) f g h w program k ms t ls a b c part = part_of w program k ms (f p) t (g p) ls (h p) a b c part
+shared_part (Err e) f g h w program k ms t ls a b c part = tt

@@ -19,7 +19,7 @@ marks_over-requires-clause-counts c =
     let ls = lost k (entry_of (entries_of old)) puts in
     let gs = gained k puts in
     let makes = made_of t c.counts.result.now u ls c.as_slice.result.now gs c.as_slice-2.result.now c.counts.ensures.is (c.as_slice.ensures.same ∙ c.in_ok-lost.ensures.are) (c.as_slice-2.ensures.same ∙ c.in_ok-gained.ensures.are) c.in_ok-counts.ensures.told in
-    tally_changed w old new puts k t u c.requires.brings c.requires.thresholds c.requires.there c.requires.part.tally_is makes
+    tally_changed w old new puts k t u c.requires.brings c.requires.thresholds c.requires.there c.requires.tally makes
 
 pub marks_over-requires-clause-kept : goal.marks_over-requires-clause-kept
 marks_over-requires-clause-kept c =
@@ -33,8 +33,8 @@ marks_over-requires-clause-kept c =
     let ls = lost k (entry_of (entries_of old)) puts in
     let gs = gained k puts in
     let makes = made_of t c.counts.result.now u ls c.as_slice.result.now gs c.as_slice-2.result.now c.counts.ensures.is (c.as_slice.ensures.same ∙ c.in_ok-lost.ensures.are) (c.as_slice-2.ensures.same ∙ c.in_ok-gained.ensures.are) c.in_ok-counts.ensures.told in
-    marks_kept_if c.has_same_numbers-is_kept.result w old new k c.args.before.now t u c.requires.thresholds c.requires.part
-    (tally_changed w old new puts k t u c.requires.brings c.requires.thresholds c.requires.there c.requires.part.tally_is makes)
+    marks_kept_if c.has_same_numbers-is_kept.result w old new k c.args.before.now t u c.requires.thresholds c.requires.marks c.requires.tally
+    (tally_changed w old new puts k t u c.requires.brings c.requires.thresholds c.requires.there c.requires.tally makes)
     (subst (λ (z : List (ℕ × ℕ)). OnTrue c.has_same_numbers-is_kept.result (keys_of u ≡ keys_of z)) c.counts-3.ensures.is c.has_same_numbers-is_kept.ensures.same)
 
 pub returns : goal.returns
@@ -52,6 +52,7 @@ returns c =
     record {
       is = record {
         marks_are = c.in_ok-marks.ensures.are;
-        tally_is = tally_changed w old new puts k t u c.requires.brings c.requires.thresholds c.requires.there c.requires.part.tally_is makes ∙ ap Some (sym c.in_ok-new.ensures.is);
+        tally_is = tally_changed w old new puts k t u c.requires.brings c.requires.thresholds c.requires.there c.requires.tally makes ∙ ap Some (sym c.in_ok-new.ensures.is);
+        loops_are = c.requires.loops;
       };
     }
