@@ -15,3 +15,4 @@ pub mod Balance
 pub mod Parted
 pub mod Keyed
 pub mod Looped
+pub mod Differing

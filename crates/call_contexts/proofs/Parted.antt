@@ -29,7 +29,7 @@ use Rattle.batch_meaning.specs.Batch.{Engine}
 use Rattle.call_contexts.specs.Loops.{loops, all_loops}
 use Rattle.call_contexts.specs.Settings.{Setting, all_marks, setting_of, IsPart}
 use Rattle.call_contexts.specs.Tallies.{literal_lists, one_if, times, tally, tally_by, all_tallies, Tells, capped}
-use Rattle.call_contexts.specs.Differences.{lists_in, lost, gained, lists_by}
+use Rattle.call_contexts.specs.Differences.{lists_in, lost, gained, lists_by, AreDifferent}
 use Rattle.call_contexts.specs.Touches.{stands_in, touches, Brings}
 use Rattle.call_contexts.proofs.Balance.{counted, counted_block, own_counted, balance, times_below}
 use Rattle.call_contexts.proofs.Few.{as_many}
@@ -64,8 +64,8 @@ module _ (old new : List Procedure) (puts : List Put) (b : Brings old new puts) 
       let y = own_counted k n new q i in
       (omega (arith, r.0, x, y), omega (arith, r.1, x))
 
-  changed_times : (n : ℕ) → capped ((times n (lists_at old k p) - times n (lost k (entry_of (entries_of old)) puts)) + times n (gained k puts)) ≡ times n (lists_at new k q)
-  changed_times n = omega (arith, (law n).0, (law n).1, few new k q b.faultless i n)
+  changed_times : (ls gs : List (List ℕ)) → AreDifferent (lost k (entry_of (entries_of old)) puts) (gained k puts) ls gs → (n : ℕ) → capped ((times n (lists_at old k p) - times n ls) + times n gs) ≡ times n (lists_at new k q)
+  changed_times ls gs d n = omega (arith, (law n).0, (law n).1, d.balanced n, d.within n, few new k q b.faultless i n)
 
 abbrev pub Makes : List (ℕ × ℕ) → List (ℕ × ℕ) → (ls gs : List (List ℕ)) → Type 0
 Makes t u ls gs = (f : ℕ → ℕ) → Tells t f → ((n : ℕ) → f n < 2 ^ 32) → Tells u (λ n. capped ((f n - times n ls) + times n gs))
@@ -73,11 +73,12 @@ Makes t u ls gs = (f : ℕ → ℕ) → Tells t f → ((n : ℕ) → f n < 2 ^ 3
 pub by_thresholds : (w : Widening) (r : Routine) → w.thresholds ≡ true → tally_by w r ≡ tally r.code
 by_thresholds w r e = ap (λ (b : Bool). if b then tally r.code else []) e
 
-pub tally_changed : (w : Widening) (old new : List Procedure) (puts : List Put) (k : ℕ) (t u : List (ℕ × ℕ)) → Brings old new puts → w.thresholds ≡ true → k < length new
+pub tally_changed : (w : Widening) (old new : List Procedure) (puts : List Put) (k : ℕ) (t u : List (ℕ × ℕ)) (ls gs : List (List ℕ)) → Brings old new puts → w.thresholds ≡ true → k < length new
     → slice_get (all_tallies w (routines_of old)) k ≡ Some t
-    → Makes t u (lost k (entry_of (entries_of old)) puts) (gained k puts)
+    → AreDifferent (lost k (entry_of (entries_of old)) puts) (gained k puts) ls gs
+    → Makes t u ls gs
     → slice_get (all_tallies w (routines_of new)) k ≡ Some u
-tally_changed w old new puts k t u b e l h m =
+tally_changed w old new puts k t u ls gs b e l h d m =
     let p = had w old k t h in
     let q = there new k l in
     let P = routine_of (take k old) p.0 in
@@ -85,8 +86,8 @@ tally_changed w old new puts k t u b e l h m =
     let was : Tells t (λ n. times n (literal_lists P.code)) = subst (λ (z : List (ℕ × ℕ)). Tells z (λ n. times n (literal_lists P.code))) (sym (by_thresholds w P e) ∙ p.2) (tally_tells P.code) in
     let now = m (λ n. times n (literal_lists P.code)) was (λ n. omega (arith, few old k p.0 b.faultless_before p.1 n)) in
     let same : tally Q.code ≡ u =
-    told_once (tally Q.code) u (λ n. times n (literal_lists Q.code)) (λ n. capped ((times n (literal_lists P.code) - times n (lost k (entry_of (entries_of old)) puts)) + times n (gained k puts))) (tally_tells Q.code) now
-    (λ n. sym (changed_times old new puts b k p.0 q.0 p.1 q.1 n)) in
+    told_once (tally Q.code) u (λ n. times n (literal_lists Q.code)) (λ n. capped ((times n (literal_lists P.code) - times n ls) + times n gs)) (tally_tells Q.code) now
+    (λ n. sym (changed_times old new puts b k p.0 q.0 p.1 q.1 ls gs d n)) in
     tally_there w new k q.0 q.1 ∙ ap Some (by_thresholds w Q e ∙ same)
 
 -- a procedure with the same numbers
@@ -136,18 +137,29 @@ none_lost at (p ∷ ps) k h =
     let more = none_lost at ps k (right (stands_in p.entry k) (touches at ps k) r) in
     ((λ i. none_in k (at p.number) (left (stands_in (at p.number) k) (stands_in p.entry k || touches at ps k) h) i ++ more.0 i), (λ i. none_in k p.entry (left (stands_in p.entry k) (touches at ps k) r) i ++ more.1 i))
 
-untouched_tally : (w : Widening) (old new : List Procedure) (puts : List Put) (k : ℕ) (t : List (ℕ × ℕ)) → Brings old new puts → w.thresholds ≡ true → touches (entry_of (entries_of old)) puts k ≡ false → k < length new
+tally_kept : (w : Widening) (old new : List Procedure) (puts : List Put) (k : ℕ) (t : List (ℕ × ℕ)) → Brings old new puts → w.thresholds ≡ true → ((n : ℕ) → times n (lost k (entry_of (entries_of old)) puts) ≡ times n (gained k puts)) → k < length new
     → slice_get (all_tallies w (routines_of old)) k ≡ Some t → slice_get (all_tallies w (routines_of new)) k ≡ Some t
-untouched_tally w old new puts k t b e f l h =
+tally_kept w old new puts k t b e f l h =
     let p = had w old k t h in
     let q = there new k l in
     let P = routine_of (take k old) p.0 in
     let Q = routine_of (take k new) q.0 in
-    let none = none_lost (entry_of (entries_of old)) puts k f in
     let same : tally Q.code ≡ tally P.code =
     told_once (tally Q.code) (tally P.code) (λ n. times n (literal_lists Q.code)) (λ n. times n (literal_lists P.code)) (tally_tells Q.code) (tally_tells P.code)
-    (λ n. omega (arith, (law old new puts b k p.0 q.0 p.1 q.1 n).0, ap (times n) none.0, ap (times n) none.1)) in
+    (λ n. omega (arith, (law old new puts b k p.0 q.0 p.1 q.1 n).0, f n)) in
     tally_there w new k q.0 q.1 ∙ ap Some (by_thresholds w Q e ∙ same ∙ sym (by_thresholds w P e) ∙ p.2)
+
+untouched_tally : (w : Widening) (old new : List Procedure) (puts : List Put) (k : ℕ) (t : List (ℕ × ℕ)) → Brings old new puts → w.thresholds ≡ true → touches (entry_of (entries_of old)) puts k ≡ false → k < length new
+    → slice_get (all_tallies w (routines_of old)) k ≡ Some t → slice_get (all_tallies w (routines_of new)) k ≡ Some t
+untouched_tally w old new puts k t b e f l h = let none = none_lost (entry_of (entries_of old)) puts k f in tally_kept w old new puts k t b e (λ n. ap (times n) (none.0 ∙ sym none.1)) l h
+
+-- a procedure of which as many statements with each number go as come
+pub part_same : (w : Widening) (old new : List Procedure) (puts : List Put) (k : ℕ) (ms : List ℤ) (t : List (ℕ × ℕ)) (os : List ℕ) (ls gs : List (List ℕ)) → Brings old new puts → w.thresholds ≡ true → k < length new
+    → slice_get (all_marks w (routines_of old)) k ≡ Some ms → slice_get (all_tallies w (routines_of old)) k ≡ Some t → slice_get (all_loops (routines_of new)) k ≡ Some os
+    → AreDifferent (lost k (entry_of (entries_of old)) puts) (gained k puts) ls gs → ls ≡ gs → IsPart w (routines_of new) k ms t os
+part_same w old new puts k ms t os ls gs b e l m h i d s =
+    let u = tally_kept w old new puts k t b e (λ n. omega (arith, d.balanced n, ap (times n) s)) l h in
+    record { marks_are = marks_kept w old new k ms t t e m h u refl; tally_is = u; loops_are = i }
 
 -- a procedure without thresholds, or one that is not touched
 pub part_kept : (w : Widening) (old new : List Procedure) (puts : List Put) (k : ℕ) (c : Bool) (ms : List ℤ) (t : List (ℕ × ℕ)) (ls : List ℕ) → Brings old new puts → c ≡ touches (entry_of (entries_of old)) puts k → k < length new

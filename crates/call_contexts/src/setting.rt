@@ -14,7 +14,7 @@ ghost use Rattle.call_contexts.specs.Loops.{all_loops};
 ghost use Rattle.call_contexts.specs.Touches.{Brings, touches};
 
 use crate::counts::Counts;
-use crate::differences::{gained, lost};
+use crate::differences::Differences;
 use crate::loops::Loops;
 use crate::marking::{marks, marks_of};
 use crate::table::procedure_count;
@@ -276,10 +276,11 @@ impl Setting {
 
     /// The setting of the program that a change makes, where this is that of the program before it. Procedures that keep
     /// the set of their numbers share their marks with this setting; the marks of others are made of the numbers that are
-    /// counted then. Procedures that keep their loops share these. It takes time linear in the change, in the number of
-    /// procedures, and in the different numbers of those that the change touches, times the logarithm of these where their
-    /// set changes, and in the loops of those from which the change takes loops or to which it brings some, times the
-    /// logarithm of these; of a procedure more it takes the time of [`marks`]. It fails for want of memory alone.
+    /// counted then. Procedures that keep their loops share these, and those where the numbers that come are those that go
+    /// share what is counted. It takes time linear in the change and in the number of procedures. Where other numbers come
+    /// than go, it also takes time linear in the different numbers of the procedure, times the logarithm of these where
+    /// their set changes; where loops come or go, in its loops, times the logarithm of these; and for a procedure more the
+    /// time of [`marks`]. It fails for want of memory alone.
     pub fn after(&self, alloc: Global, table: &Table, change: &Change) -> Result<Setting, Memory>
         ghost program: { List Procedure }
         requires makes { Makes table.now.program change.now program }
@@ -374,9 +375,12 @@ impl Setting {
         requires there { proc < length new.now }
         ensures is { IfOk result (λ part. IsPart self.now.engine.widening (routines_of new.now) proc part.marks part.tally part.loops) }
     {
-        let lost = lost(alloc, old, puts, proc)?;
-        let gained = gained(alloc, puts, proc)?;
-        let counts = changed(alloc, tally.counts(), lost.as_slice(), gained.as_slice())?;
+        let differences = Differences::new(alloc, old, puts, proc)?;
+        if differences.are_none() {
+            return Part::shared(before, tally, loops);
+        }
+        let (lost, gained) = (differences.lost(), differences.gained());
+        let counts = changed(alloc, tally.counts(), lost, gained)?;
         let is_kept = counts.has_same_numbers(tally.counts());
         let marks = self.marks_over(alloc, new, proc, before, &counts, is_kept)?;
         Ok(Part {
