@@ -34,6 +34,7 @@ use Rattle.call_contexts.proofs.Lists.{by_test, some_inj, get_below, take_item}
 use Rattle.call_contexts.proofs.LiteralLemmas.{routine_there, there}
 use Rattle.call_contexts.proofs.Numbered.{has_both}
 use Rattle.call_contexts.proofs.Placed.{any_loop, any_block}
+use Rattle.call_contexts.proofs.Rising.{has_there, there_has}
 use Rattle.call_contexts.proofs.TallyLemmas.{any_is, rising_sorted, rising_has}
 
 -- Among the loops of a block is each while of it.
@@ -164,19 +165,6 @@ told_loops ps k ns numbered l s h =
     loops_there ps k p.0 p.1 ∙ ap Some (same_rising (loops R) ns (rising_sorted (whiles R.code)) s (λ n. own_loops ps k p.0 numbered p.1 n ∙ sym (h n)))
 
 -- Those that are found among the statements of the procedure.
-has_there : (ns : List ℕ) (i n : ℕ) → slice_get ns i ≡ Some n → has n ns ≡ true
-has_there [] i n e = absurd cc
-has_there (m ∷ ns) zero n e = by_test n m (λ b. (if b then true else has n ns) ≡ true) (λ q. refl) (λ q. absurd (q (sym (some_inj m n e))))
-has_there (m ∷ ns) (suc i) n e = go (n == m) (has_there ns i n e)
-  where
-    go : (b : Bool) → has n ns ≡ true → (if b then true else has n ns) ≡ true
-    go true h = refl
-    go false h = h
-
-there_has : (ns : List ℕ) (n : ℕ) → has n ns ≡ true → (i : ℕ) × (slice_get ns i ≡ Some n)
-there_has [] n h = absurd cc
-there_has (m ∷ ns) n h = (by_test n m (λ b. (if b then true else has n ns) ≡ true → (i : ℕ) × (slice_get (m ∷ ns) i ≡ Some n)) (λ e h. (0, ap Some (sym e))) (λ e h. let r = there_has ns n h in (suc r.0, r.1))) h
-
 pub loops_made : (ps : List Procedure) (k : ℕ) (ns : List ℕ) (none found : ℕ → Bool) → AreNumbered ps → k < length ps → IsStrictlySortedBy nat_cmp ns
     → ((n : ℕ) → none n ≡ false)
     → ((n : ℕ) → found n ≡ (none n || (has n (numbers_at ps k) && loop_in k (entry_of (entries_of ps) n))))
@@ -198,7 +186,14 @@ loops_made ps k ns none found numbered l s e f h = told_loops ps k ns numbered l
         none_both true = refl
         none_both false = refl
 
--- Those before a change, and those that it brings, as far as they are loops behind it.
+-- They rise.
+pub loops_rise : (ps : List Procedure) (k : ℕ) (ns : List ℕ) → slice_get (all_loops (routines_of ps)) k ≡ Some ns → IsStrictlySortedBy nat_cmp ns
+loops_rise ps k ns h =
+    let p = there ps k (omega (arith, get_below (all_loops (routines_of ps)) k ns h, length-map (routines_of ps) loops, as_many [] ps)) in
+    let R = routine_of (take k ps) p.0 in
+    subst (IsStrictlySortedBy nat_cmp) (some_inj (loops R) ns (sym (loops_there ps k p.0 p.1) ∙ h)) (rising_sorted (whiles R.code))
+
+-- Behind a change they are those of its numbers that are loops there, and at other numbers those before it.
 absent : (n : ℕ) (ns : List ℕ) → has n ns ≡ false → Absent n ns
 absent n [] h = tt
 absent n (m ∷ ns) h = (by_test n m (λ b. (if b then true else has n ns) ≡ false → Absent n (m ∷ ns)) (λ e h. absurd cc) (λ e h. (e, absent n ns h))) h
@@ -214,47 +209,23 @@ module _ (old new : List Procedure) (puts : List Put) (b : Brings old new puts) 
   elsewhere : (n : ℕ) → has n (put_numbers puts) ≡ false → is n ≡ was n
   elsewhere n h = ap (loop_in k) (b.entries n ∙ overlay_other puts (entry_of (entries_of old)) n (absent n (put_numbers puts) h))
 
-  pub loops_changed : (before after : List ℕ) (none kept found : ℕ → Bool) → k < length new → slice_get (all_loops (routines_of old)) k ≡ Some before → IsStrictlySortedBy nat_cmp after
-      → ((n : ℕ) → none n ≡ false)
-      → ((n : ℕ) → kept n ≡ (none n || (has n before && is n)))
-      → ((n : ℕ) → found n ≡ (kept n || (has n (put_numbers puts) && is n)))
-      → ((n : ℕ) → has n after ≡ found n)
+  pub loops_changed : (before after : List ℕ) → k < length new → slice_get (all_loops (routines_of old)) k ≡ Some before → IsStrictlySortedBy nat_cmp after
+      → ((n : ℕ) → has n after ≡ (if has n (put_numbers puts) then is n else has n before))
       → slice_get (all_loops (routines_of new)) k ≡ Some after
-  loops_changed before after none kept found l h s e f g m =
-      told_loops new k after b.numbered l s
-      (λ n.
-      m n
-      ∙ g n
-      ∙ ap (λ c. c || (has n (put_numbers puts) && is n)) (f n ∙ ap (λ c. c || (has n before && is n)) (e n))
-      ∙ whole (has n before) (has n (put_numbers puts)) (is n) (here n))
+  loops_changed before after l h s m = told_loops new k after b.numbered l s (λ n. m n ∙ each n (has n (put_numbers puts)) refl)
     where
-      here : (n : ℕ) → has n (put_numbers puts) ≡ false → has n before ≡ is n
-      here n a = loops_tell old k before b.numbered_before h n ∙ sym (elsewhere n a)
-
-      whole : (a c t : Bool) → (c ≡ false → a ≡ t) → ((a && t) || (c && t)) ≡ t
-      whole true true true q = refl
-      whole true true false q = refl
-      whole true false true q = refl
-      whole true false false q = refl
-      whole false true true q = refl
-      whole false true false q = refl
-      whole false false true q = q refl
-      whole false false false q = refl
+      each : (n : ℕ) (c : Bool) → has n (put_numbers puts) ≡ c → (if c then is n else has n before) ≡ is n
+      each n true e = refl
+      each n false e = loops_tell old k before b.numbered_before h n ∙ sym (elsewhere n e)
 
   -- Where each that comes or goes is a loop as before, all loops are those before.
   pub loops_kept : (before : List ℕ) → k < length new → slice_get (all_loops (routines_of old)) k ≡ Some before → ((n : ℕ) → has n (put_numbers puts) ≡ true → was n ≡ is n) → slice_get (all_loops (routines_of new)) k ≡ Some before
   loops_kept before l h same =
-      told_loops new k before b.numbered l sorted (λ n. loops_tell old k before b.numbered_before h n ∙ each n (has n (put_numbers puts)) refl)
+      told_loops new k before b.numbered l (loops_rise old k before h) (λ n. loops_tell old k before b.numbered_before h n ∙ each n (has n (put_numbers puts)) refl)
     where
       each : (n : ℕ) (c : Bool) → has n (put_numbers puts) ≡ c → was n ≡ is n
       each n true e = same n e
       each n false e = sym (elsewhere n e)
-
-      sorted : IsStrictlySortedBy nat_cmp before
-      sorted =
-          let p = there old k (omega (arith, get_below (all_loops (routines_of old)) k before h, length-map (routines_of old) loops, as_many [] old)) in
-          let R = routine_of (take k old) p.0 in
-          subst (IsStrictlySortedBy nat_cmp) (some_inj (loops R) before (sym (loops_there old k p.0 p.1) ∙ h)) (rising_sorted (whiles R.code))
 
 -- A procedure that is not touched.
 pub untouched_loops : (old new : List Procedure) (puts : List Put) (k : ℕ) (before : List ℕ) → Brings old new puts → touches (entry_of (entries_of old)) puts k ≡ false → k < length new → slice_get (all_loops (routines_of old)) k ≡ Some before → slice_get (all_loops (routines_of new)) k ≡ Some before
@@ -354,6 +325,28 @@ put_step puts i p l e = ap put_numbers (take_item puts i p l e) ∙ both (take i
     both : (qs : List Put) → put_numbers (qs ++ p ∷ []) ≡ put_numbers qs ++ p.number ∷ []
     both [] = refl
     both (q ∷ qs) = ap (λ ns. q.number ∷ ns) (both qs)
+
+abbrev pub Sets : (initial now : List ℕ) → (ns : List ℕ) → (is : ℕ → Bool) → Type 0
+Sets initial now ns is = (n : ℕ) → has n now ≡ (if has n ns then is n else has n initial)
+
+pub sets_none : (initial ns : List ℕ) (is : ℕ → Bool) → ns ≡ [] → Sets initial initial ns is
+sets_none initial ns is e n = sym (ap (λ ms. if has n ms then is n else has n initial) e)
+
+pub sets_one : (initial now more ns ms : List ℕ) (is : ℕ → Bool) (m : ℕ) → Sets initial now ns is → ms ≡ ns ++ m ∷ [] → ((n : ℕ) → has n more ≡ (if n == m then is m else has n now)) → Sets initial more ms is
+sets_one initial now more ns ms is m a e h n =
+    h n
+    ∙ by_test n m (λ b. (if b then is m else has n now) ≡ (if has n ns || (if b then true else false) then is n else has n initial))
+    (λ q. ap is (sym q) ∙ with (has n ns))
+    (λ q. a n ∙ without (has n ns))
+    ∙ ap (λ c. if c then is n else has n initial) (sym (has_both n ns (m ∷ [])) ∙ ap (has n) (sym e))
+  where
+    with : (c : Bool) → is n ≡ (if c || true then is n else has n initial)
+    with true = refl
+    with false = refl
+
+    without : (c : Bool) → (if c then is n else has n initial) ≡ (if c || false then is n else has n initial)
+    without true = refl
+    without false = refl
 
 abbrev pub SameSoFar : (was is : ℕ → Bool) → List ℕ → Type 0
 SameSoFar was is ns = (n : ℕ) → has n ns ≡ true → was n ≡ is n

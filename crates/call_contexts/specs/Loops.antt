@@ -1,5 +1,5 @@
 -- The loops of a procedure, by their numbers.
-use Rattle.std.specs.Prelude.{ℕ, Bool, false, List, [], ◌∷◌, ◌++◌, Option, Some, None, map, ◌==◌, ◌&&◌}
+use Rattle.std.specs.Prelude.{ℕ, ◌<◌, ◌≤◌, Bool, false, List, [], ◌∷◌, ◌++◌, length, slice_index, Option, Some, None, map, ◌==◌, ◌&&◌}
 use Rattle.imp_slots.specs.Plain.{Code, Stop, Simple, If, While, Call, Break, Routine}
 use Rattle.imp_check.specs.declared.change.Put.{Put}
 use Rattle.imp_check.specs.declared.entry.Entry.{Entry}
@@ -30,3 +30,9 @@ loop_in k (Some e) = (e.context.proc == k) && is_loop e.part
 -- the numbers at which a change takes statements or brings them
 abbrev pub put_numbers : List Put → List ℕ
 put_numbers puts = map (λ (p : Put). p.number) puts
+
+-- the place of a number that is not among these: lower ones stand before it, and higher ones from it on
+pub record IsGap (ns : List ℕ) (n i : ℕ) : Type 0 where
+  pub within : i ≤ length ns
+  pub before : (k : ℕ) → k < i → slice_index ns k < n
+  pub behind : (k : ℕ) → i ≤ k → k < length ns → n < slice_index ns k

@@ -1,5 +1,5 @@
 //! The loops of a procedure.
-ghost use Rattle.std.specs.Prelude.{◌≡◌, ◌||◌, ◌&&◌, ◌==◌, ◌<◌, ℕ, true, length, slice_get, IfOk, OnOk, Some};
+ghost use Rattle.std.specs.Prelude.{◌≡◌, ◌||◌, ◌&&◌, ◌==◌, ◌<◌, ℕ, true, not, if◌then◌else◌, length, slice_get, IfOk, IfErr, OnOk, Some};
 ghost use Rattle.std.specs.Bool.{OnTrue};
 ghost use Rattle.std.specs.BTreeSet.{contains};
 ghost use Rattle.std.specs.List.Sorted.{IsStrictlySortedBy};
@@ -8,7 +8,7 @@ ghost use Rattle.std.specs.Ordering.{nat_cmp};
 ghost use Rattle.imp_check.specs.Entries.{entries_of, entry_of};
 ghost use Rattle.imp_check.specs.Slots.{routines_of};
 ghost use Rattle.program_chains.specs.Chains.{has};
-ghost use Rattle.call_contexts.specs.Loops.{all_loops, loop_in, put_numbers};
+ghost use Rattle.call_contexts.specs.Loops.{all_loops, loop_in, put_numbers, IsGap};
 ghost use Rattle.call_contexts.specs.Touches.{Brings};
 
 use crate::places::is_loop;
@@ -94,17 +94,69 @@ fn add_loops(
     Ok(())
 }
 
-/// Adds those of the statements that a change brings that are loops of the procedure.
-fn add_new_loops(
+/// Where a statement stands among statements whose numbers rise, or where it belongs. It takes time logarithmic in how many
+/// these are.
+fn place_among(stmts: &[StmtId], stmt: StmtId) -> Result<usize, usize>
+    requires rising { IsStrictlySortedBy nat_cmp stmts.now }
+    ensures found { IfOk result (λ place. slice_get stmts.now place ≡ Some stmt) }
+    ensures gap { IfErr result (IsGap stmts.now stmt) }
+{
+    stmts.binary_search_by_key(&stmt.number(), |other| other.number())
+}
+
+/// Puts a statement among statements whose numbers rise, unless it is there. Those behind it move by one.
+fn bring(stmts: &mut Vec<StmtId>, stmt: StmtId) -> Result<(), Memory>
+    requires rising { IsStrictlySortedBy nat_cmp stmts.old.items }
+    ensures rising { OnOk result (IsStrictlySortedBy nat_cmp stmts.new.items) }
+    ensures brought { OnOk result ((n : ℕ) → has n stmts.new.items ≡ ((n == stmt) || has n stmts.old.items)) }
+{
+    if let Err(place) = place_among(stmts.as_slice(), stmt) {
+        stmts.insert(place, stmt)?;
+    }
+    Ok(())
+}
+
+/// Takes a statement from statements whose numbers rise, if it is there. Those behind it move by one.
+fn take(stmts: &mut Vec<StmtId>, stmt: StmtId)
+    requires rising { IsStrictlySortedBy nat_cmp stmts.old.items }
+    ensures rising { IsStrictlySortedBy nat_cmp stmts.new.items }
+    ensures taken { (n : ℕ) → has n stmts.new.items ≡ (has n stmts.old.items && not (n == stmt)) }
+{
+    if let Ok(place) = place_among(stmts.as_slice(), stmt) {
+        stmts.remove(place);
+    }
+}
+
+/// Sets whether a statement is among statements whose numbers rise.
+fn set_loop(stmts: &mut Vec<StmtId>, stmt: StmtId, is_loop: bool) -> Result<(), Memory>
+    requires rising { IsStrictlySortedBy nat_cmp stmts.old.items }
+    ensures rising { OnOk result (IsStrictlySortedBy nat_cmp stmts.new.items) }
+    ensures set { OnOk result ((n : ℕ) → has n stmts.new.items ≡ (if n == stmt then is_loop else has n stmts.old.items)) }
+{
+    if is_loop {
+        bring(stmts, stmt)
+    } else {
+        take(stmts, stmt);
+        Ok(())
+    }
+}
+
+/// Makes the loops of the procedure before a change those after it: of the statements of the change those that are loops
+/// then, and all others as before.
+fn set_loops(
     prog: &View<'_>,
     proc: ProcId,
     puts: &[Put],
-    found: &mut BTreeSet<u32>,
+    stmts: &mut Vec<StmtId>,
 ) -> Result<(), Memory>
-    ensures added { OnOk result ((n : ℕ) → contains nat_cmp found.new n ≡ (contains nat_cmp found.old n || (has n (put_numbers puts.now) && loop_in proc (entry_of (entries_of prog.now) n)))) }
+    requires rising { IsStrictlySortedBy nat_cmp stmts.old.items }
+    ensures rising { OnOk result (IsStrictlySortedBy nat_cmp stmts.new.items) }
+    ensures set { OnOk result ((n : ℕ) → has n stmts.new.items ≡ (if has n (put_numbers puts.now) then loop_in proc (entry_of (entries_of prog.now) n) else has n stmts.old.items)) }
 {
     for put in puts {
-        add_loop(prog, proc, StmtId::new(put.number), found)?;
+        let stmt = StmtId::new(put.number);
+        let is_loop = is_loop_of(prog.entry(stmt), proc);
+        set_loop(stmts, stmt, is_loop)?;
     }
     Ok(())
 }
@@ -172,8 +224,8 @@ impl Loops {
     }
 
     /// The loops of the procedure after a change, where these are those before it. They are shared unless the change takes
-    /// loops or brings some. It takes time linear in the change, and where it does not share them, also in these loops,
-    /// times the logarithm of how many there are.
+    /// loops or brings some. It takes time linear in the change. Where it does not share them, it also copies them once, and
+    /// looks for each statement of the change among them by halves; each that comes or goes moves those behind it.
     pub(crate) fn after(
         &self,
         alloc: Global,
@@ -190,10 +242,9 @@ impl Loops {
         if keeps_loops(old, new, puts, proc) {
             return Ok(self.clone()?);
         }
-        let mut found = BTreeSet::new(alloc);
-        add_loops(new, proc, self.as_slice(), &mut found)?;
-        add_new_loops(new, proc, puts, &mut found)?;
-        let loops = Loops::of(alloc, found)?;
-        Ok(loops)
+        let mut stmts = Vec::from_slice(alloc, self.as_slice())?;
+        set_loops(new, proc, puts, &mut stmts)?;
+        let stmts = Rc::new(alloc, Items::from_vec(stmts))?;
+        Ok(Loops { stmts })
     }
 }
