@@ -74,7 +74,7 @@ impl<D: Domain> Session<D> {
         ensures ready { IsReady (D.operations self.new.engine.domain) self.new.engine.store self.new.book }
         ensures domain { self.new.engine.domain ≡ self.old.engine.domain }
         ensures book { self.new.book ≡ self.old.book }
-        ensures asked { IfOk result (λ f. IsAsked (flow_in self.old.book).program at.now string.now (map target_of f.going.targets)) }
+        ensures targets { IfOk result (λ f. IsAsked (flow_in self.old.book).program at.now string.now (map target_of f.going.targets)) }
         ensures filled { IfOk result (λ f. AreFilled (D.operations self.old.engine.domain) self.new.engine.store f.going.walk (flow_in self.old.book) (map target_of f.going.targets)) }
         ensures counted { IfOk result (λ f. f.count ≡ added self.old.engine.store self.new.engine.store) }
         ensures all { (m : Machine) → Holds (D.operations self.old.engine.domain) self.old.engine.store self.old.book m →

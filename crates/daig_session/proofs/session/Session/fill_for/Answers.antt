@@ -71,8 +71,8 @@ returns-clause-ready g c =
     let ts = map target_of c.in_ok-going.going.targets in
     subst (λ d. IsReady (ops d) new s.book) (sym c.fill_all.ensures.domain) (fills_ready (ops s.engine.domain) s.book s.engine.store new ts (added s.engine.store new) c.requires.ready c.fill_all.ensures.fills)
 
-pub returns-clause-asked : goal.returns-clause-asked
-returns-clause-asked g c =
+pub returns-clause-targets : goal.returns-clause-targets
+returns-clause-targets g c =
     let s = c.args.self.now in
     let dom = g.D.Domain.operations s.engine.domain in
     let l = c.args.at.now in

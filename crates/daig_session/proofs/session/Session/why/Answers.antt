@@ -28,7 +28,7 @@ upstream-requires g c =
     let ts = map target_of f.going.targets in
     let l = c.args.at.now in
     let string = c.args.string.now in
-    let a = c.in_ok-filled.ensures.asked in
+    let a = c.in_ok-filled.ensures.targets in
     let filled = subst (λ d. AreFilled (ops d) new.engine.store f.going.walk (flow_in s.book) ts) (sym c.fill_for.ensures.domain) c.in_ok-filled.ensures.filled in
     let is : c.flow-flow.result ≡ flow_in s.book = c.flow-flow.ensures.is ∙ ap flow_in c.fill_for.ensures.book in
     record { filled = subst (λ (p : Plan). (q : ℕ) × (us : List Target) × (procedure_of p.program l ≡ In q) × (targets p.program q l string ≡ Some us) × AreFilled (ops new.engine.domain) new.engine.store f.going.walk p us) (sym is) (a.place, ts, a.there, a.are, filled) }
@@ -65,7 +65,7 @@ returns-clause-explains g c = λ m h.
     let ts = map target_of f.going.targets in
     let l = c.args.at.now in
     let string = c.args.string.now in
-    let a = c.in_ok-filled.ensures.asked in
+    let a = c.in_ok-filled.ensures.targets in
     let stmts = listed_is (ops new.engine.domain) dom new.engine.store f.going.walk c.flow-flow.result (flow_in s.book) l string c.in_ok-stmts.stmts ts (ap ops c.fill_for.ensures.domain) (c.flow-flow.ensures.is ∙ ap flow_in c.fill_for.ensures.book) c.in_ok-stmts.ensures.is a c.in_ok-filled.ensures.filled in (
       answered_here dom s.book s.engine.store m l string ts c.requires.ready.right.checked h a,
       upstream_here dom s.book s.engine.store m l string ts c.in_ok-stmts.stmts h a stmts,
@@ -82,7 +82,7 @@ returns-clause-stays g c =
     let ts = map target_of f.going.targets in
     let l = c.args.at.now in
     let string = c.args.string.now in
-    let a = c.in_ok-filled.ensures.asked in
+    let a = c.in_ok-filled.ensures.targets in
     let stmts = listed_is (ops new.engine.domain) dom new.engine.store f.going.walk c.flow-flow.result (flow_in s.book) l string c.in_ok-stmts.stmts ts (ap ops c.fill_for.ensures.domain) (c.flow-flow.ensures.is ∙ ap flow_in c.fill_for.ensures.book) c.in_ok-stmts.ensures.is a c.in_ok-filled.ensures.filled in
     subst (Suffices dom s.book.setting.engine s.book.history.now l string) (sym stmts) (
     c.answers_stay.ensures.listed s.engine.domain s.book.setting.engine same_name s.book.history.now l string a.place ts same_is a.there a.are)
