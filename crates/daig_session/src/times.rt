@@ -18,7 +18,7 @@ impl<D: Domain> Session<D> {
     /// The move to the nearest program of a side, to which this change leads, if there is one.
     fn nearest_move(&self, alloc: Global, change: Option<&Change>) -> Result<Moving, UndoError>
         requires ready { IsReady (D.operations self.now.engine.domain) self.now.engine.store self.now.book }
-        requires leads { (side : List (List Procedure)) × IsNearest self.now.book change.entry (λ c. c.now) side }
+        requires leads { (side : List (List Procedure)) × IsNearest self.now.book change (λ c. c.now) side }
         ensures moving { (side : List (List Procedure)) → IsNearest self.now.book change.entry (λ c. c.now) side →
             IfOk result (IsMovingTo self.now.engine.store self.now.book.setting.engine self.now.book.history.now side) }
         ensures stopped { (side : List (List Procedure)) → IsNearest self.now.book change.entry (λ c. c.now) side → IfErr result (IsStopped side) }
