@@ -14,3 +14,6 @@ pub mod LiteralLemmas
 pub mod Balance
 pub mod Parted
 pub mod Keyed
+pub mod Rising
+pub mod Looped
+pub mod Differing

@@ -26,9 +26,10 @@ use Rattle.program_chains.specs.Chains.{has}
 use Rattle.program_chains.specs.Marks.{literals, marks, marks_of}
 use Rattle.call_contexts.specs.Literals.{form_literals, literals_in}
 use Rattle.batch_meaning.specs.Batch.{Engine}
+use Rattle.call_contexts.specs.Loops.{loops, all_loops}
 use Rattle.call_contexts.specs.Settings.{Setting, all_marks, setting_of, IsPart}
 use Rattle.call_contexts.specs.Tallies.{literal_lists, one_if, times, tally, tally_by, all_tallies, Tells, capped}
-use Rattle.call_contexts.specs.Differences.{lists_in, lost, gained, lists_by}
+use Rattle.call_contexts.specs.Differences.{lists_in, lost, gained, lists_by, AreDifferent}
 use Rattle.call_contexts.specs.Touches.{stands_in, touches, Brings}
 use Rattle.call_contexts.proofs.Balance.{counted, counted_block, own_counted, balance, times_below}
 use Rattle.call_contexts.proofs.Few.{as_many}
@@ -63,8 +64,8 @@ module _ (old new : List Procedure) (puts : List Put) (b : Brings old new puts) 
       let y = own_counted k n new q i in
       (omega (arith, r.0, x, y), omega (arith, r.1, x))
 
-  changed_times : (n : ℕ) → capped ((times n (lists_at old k p) - times n (lost k (entry_of (entries_of old)) puts)) + times n (gained k puts)) ≡ times n (lists_at new k q)
-  changed_times n = omega (arith, (law n).0, (law n).1, few new k q b.faultless i n)
+  changed_times : (ls gs : List (List ℕ)) → AreDifferent (lost k (entry_of (entries_of old)) puts) (gained k puts) ls gs → (n : ℕ) → capped ((times n (lists_at old k p) - times n ls) + times n gs) ≡ times n (lists_at new k q)
+  changed_times ls gs d n = omega (arith, (law n).0, (law n).1, d.balanced n, d.within n, few new k q b.faultless i n)
 
 abbrev pub Makes : List (ℕ × ℕ) → List (ℕ × ℕ) → (ls gs : List (List ℕ)) → Type 0
 Makes t u ls gs = (f : ℕ → ℕ) → Tells t f → ((n : ℕ) → f n < 2 ^ 32) → Tells u (λ n. capped ((f n - times n ls) + times n gs))
@@ -72,11 +73,12 @@ Makes t u ls gs = (f : ℕ → ℕ) → Tells t f → ((n : ℕ) → f n < 2 ^ 3
 pub by_thresholds : (w : Widening) (r : Routine) → w.thresholds ≡ true → tally_by w r ≡ tally r.code
 by_thresholds w r e = ap (λ (b : Bool). if b then tally r.code else []) e
 
-pub tally_changed : (w : Widening) (old new : List Procedure) (puts : List Put) (k : ℕ) (t u : List (ℕ × ℕ)) → Brings old new puts → w.thresholds ≡ true → k < length new
+pub tally_changed : (w : Widening) (old new : List Procedure) (puts : List Put) (k : ℕ) (t u : List (ℕ × ℕ)) (ls gs : List (List ℕ)) → Brings old new puts → w.thresholds ≡ true → k < length new
     → slice_get (all_tallies w (routines_of old)) k ≡ Some t
-    → Makes t u (lost k (entry_of (entries_of old)) puts) (gained k puts)
+    → AreDifferent (lost k (entry_of (entries_of old)) puts) (gained k puts) ls gs
+    → Makes t u ls gs
     → slice_get (all_tallies w (routines_of new)) k ≡ Some u
-tally_changed w old new puts k t u b e l h m =
+tally_changed w old new puts k t u ls gs b e l h d m =
     let p = had w old k t h in
     let q = there new k l in
     let P = routine_of (take k old) p.0 in
@@ -84,8 +86,8 @@ tally_changed w old new puts k t u b e l h m =
     let was : Tells t (λ n. times n (literal_lists P.code)) = subst (λ (z : List (ℕ × ℕ)). Tells z (λ n. times n (literal_lists P.code))) (sym (by_thresholds w P e) ∙ p.2) (tally_tells P.code) in
     let now = m (λ n. times n (literal_lists P.code)) was (λ n. omega (arith, few old k p.0 b.faultless_before p.1 n)) in
     let same : tally Q.code ≡ u =
-    told_once (tally Q.code) u (λ n. times n (literal_lists Q.code)) (λ n. capped ((times n (literal_lists P.code) - times n (lost k (entry_of (entries_of old)) puts)) + times n (gained k puts))) (tally_tells Q.code) now
-    (λ n. sym (changed_times old new puts b k p.0 q.0 p.1 q.1 n)) in
+    told_once (tally Q.code) u (λ n. times n (literal_lists Q.code)) (λ n. capped ((times n (literal_lists P.code) - times n ls) + times n gs)) (tally_tells Q.code) now
+    (λ n. sym (changed_times old new puts b k p.0 q.0 p.1 q.1 ls gs d n)) in
     tally_there w new k q.0 q.1 ∙ ap Some (by_thresholds w Q e ∙ same)
 
 -- a procedure with the same numbers
@@ -104,11 +106,12 @@ marks_kept w old new k ms t u e m h i keys =
     mark_there w new k q.0 q.1 ∙ ap (λ (z : List ℤ). Some (if w.thresholds then z else [])) same ∙ sym (mark_there w old k p.0 p.1) ∙ m
 
 pub marks_kept_if : (same : Bool) (w : Widening) (old new : List Procedure) (k : ℕ) (ms : List ℤ) (t u : List (ℕ × ℕ)) → w.thresholds ≡ true
-    → IsPart w (routines_of old) k ms t
+    → slice_get (all_marks w (routines_of old)) k ≡ Some ms
+    → slice_get (all_tallies w (routines_of old)) k ≡ Some t
     → slice_get (all_tallies w (routines_of new)) k ≡ Some u
     → OnTrue same (keys_of u ≡ keys_of t) → OnTrue same (slice_get (all_marks w (routines_of new)) k ≡ Some ms)
-marks_kept_if true w old new k ms t u e part i keys = marks_kept w old new k ms t u e part.marks_are part.tally_is i keys
-marks_kept_if false w old new k ms t u e part i keys = tt
+marks_kept_if true w old new k ms t u e m h i keys = marks_kept w old new k ms t u e m h i keys
+marks_kept_if false w old new k ms t u e m h i keys = tt
 
 pub made_of : (t s u : List (ℕ × ℕ)) (ls ms gs hs : List (List ℕ)) → s ≡ t → ms ≡ ls → hs ≡ gs → Makes s u ms hs → Makes t u ls gs
 made_of t s u ls ms gs hs a b c m =
@@ -134,29 +137,40 @@ none_lost at (p ∷ ps) k h =
     let more = none_lost at ps k (right (stands_in p.entry k) (touches at ps k) r) in
     ((λ i. none_in k (at p.number) (left (stands_in (at p.number) k) (stands_in p.entry k || touches at ps k) h) i ++ more.0 i), (λ i. none_in k p.entry (left (stands_in p.entry k) (touches at ps k) r) i ++ more.1 i))
 
-untouched_tally : (w : Widening) (old new : List Procedure) (puts : List Put) (k : ℕ) (t : List (ℕ × ℕ)) → Brings old new puts → w.thresholds ≡ true → touches (entry_of (entries_of old)) puts k ≡ false → k < length new
+tally_kept : (w : Widening) (old new : List Procedure) (puts : List Put) (k : ℕ) (t : List (ℕ × ℕ)) → Brings old new puts → w.thresholds ≡ true → ((n : ℕ) → times n (lost k (entry_of (entries_of old)) puts) ≡ times n (gained k puts)) → k < length new
     → slice_get (all_tallies w (routines_of old)) k ≡ Some t → slice_get (all_tallies w (routines_of new)) k ≡ Some t
-untouched_tally w old new puts k t b e f l h =
+tally_kept w old new puts k t b e f l h =
     let p = had w old k t h in
     let q = there new k l in
     let P = routine_of (take k old) p.0 in
     let Q = routine_of (take k new) q.0 in
-    let none = none_lost (entry_of (entries_of old)) puts k f in
     let same : tally Q.code ≡ tally P.code =
     told_once (tally Q.code) (tally P.code) (λ n. times n (literal_lists Q.code)) (λ n. times n (literal_lists P.code)) (tally_tells Q.code) (tally_tells P.code)
-    (λ n. omega (arith, (law old new puts b k p.0 q.0 p.1 q.1 n).0, ap (times n) none.0, ap (times n) none.1)) in
+    (λ n. omega (arith, (law old new puts b k p.0 q.0 p.1 q.1 n).0, f n)) in
     tally_there w new k q.0 q.1 ∙ ap Some (by_thresholds w Q e ∙ same ∙ sym (by_thresholds w P e) ∙ p.2)
 
+untouched_tally : (w : Widening) (old new : List Procedure) (puts : List Put) (k : ℕ) (t : List (ℕ × ℕ)) → Brings old new puts → w.thresholds ≡ true → touches (entry_of (entries_of old)) puts k ≡ false → k < length new
+    → slice_get (all_tallies w (routines_of old)) k ≡ Some t → slice_get (all_tallies w (routines_of new)) k ≡ Some t
+untouched_tally w old new puts k t b e f l h = let none = none_lost (entry_of (entries_of old)) puts k f in tally_kept w old new puts k t b e (λ n. ap (times n) (none.0 ∙ sym none.1)) l h
+
+-- a procedure of which as many statements with each number go as come
+pub part_same : (w : Widening) (old new : List Procedure) (puts : List Put) (k : ℕ) (ms : List ℤ) (t : List (ℕ × ℕ)) (os : List ℕ) (ls gs : List (List ℕ)) → Brings old new puts → w.thresholds ≡ true → k < length new
+    → slice_get (all_marks w (routines_of old)) k ≡ Some ms → slice_get (all_tallies w (routines_of old)) k ≡ Some t → slice_get (all_loops (routines_of new)) k ≡ Some os
+    → AreDifferent (lost k (entry_of (entries_of old)) puts) (gained k puts) ls gs → ls ≡ gs → IsPart w (routines_of new) k ms t os
+part_same w old new puts k ms t os ls gs b e l m h i d s =
+    let u = tally_kept w old new puts k t b e (λ n. omega (arith, d.balanced n, ap (times n) s)) l h in
+    record { marks_are = marks_kept w old new k ms t t e m h u refl; tally_is = u; loops_are = i }
+
 -- a procedure without thresholds, or one that is not touched
-pub part_kept : (w : Widening) (old new : List Procedure) (puts : List Put) (k : ℕ) (c : Bool) (ms : List ℤ) (t : List (ℕ × ℕ)) → Brings old new puts → c ≡ touches (entry_of (entries_of old)) puts k → k < length new
-    → slice_get (all_marks w (routines_of old)) k ≡ Some ms → slice_get (all_tallies w (routines_of old)) k ≡ Some t
-    → (w.thresholds && c) ≡ false → IsPart w (routines_of new) k ms t
-part_kept w old new puts k c ms t b e l m h f = go w.thresholds refl f
+pub part_kept : (w : Widening) (old new : List Procedure) (puts : List Put) (k : ℕ) (c : Bool) (ms : List ℤ) (t : List (ℕ × ℕ)) (ls : List ℕ) → Brings old new puts → c ≡ touches (entry_of (entries_of old)) puts k → k < length new
+    → slice_get (all_marks w (routines_of old)) k ≡ Some ms → slice_get (all_tallies w (routines_of old)) k ≡ Some t → slice_get (all_loops (routines_of new)) k ≡ Some ls
+    → (w.thresholds && c) ≡ false → IsPart w (routines_of new) k ms t ls
+part_kept w old new puts k c ms t ls b e l m h i f = go w.thresholds refl f
   where
-    go : (d : Bool) → w.thresholds ≡ d → (d && c) ≡ false → IsPart w (routines_of new) k ms t
+    go : (d : Bool) → w.thresholds ≡ d → (d && c) ≡ false → IsPart w (routines_of new) k ms t ls
     go true d f =
         let u = untouched_tally w old new puts k t b d (sym e ∙ f) l h in
-        record { marks_are = marks_kept w old new k ms t t d m h u refl; tally_is = u }
+        record { marks_are = marks_kept w old new k ms t t d m h u refl; tally_is = u; loops_are = i }
     go false d f =
         let p = had w old k t h in
         let q = there new k l in
@@ -167,6 +181,7 @@ part_kept w old new puts k c ms t b e l m h f = go w.thresholds refl f
         record {
           marks_are = mark_there w new k q.0 q.1 ∙ ap Some (no_marks Q ∙ sym (no_marks P)) ∙ sym (mark_there w old k p.0 p.1) ∙ m;
           tally_is = tally_there w new k q.0 q.1 ∙ ap Some (no_tally Q ∙ sym (no_tally P) ∙ p.2);
+          loops_are = i;
         }
 
 -- The tally of a procedure that is made of its statements.
@@ -234,22 +249,25 @@ pub record SoFar (e : Engine) (program : List Routine) (place : ℕ) (s : Settin
   pub engine : s.engine ≡ e
   pub marks : s.marks ≡ take place (all_marks e.widening program)
   pub tallies : s.tallies ≡ take place (all_tallies e.widening program)
+  pub loops : s.loops ≡ take place (all_loops program)
 
-pub so_far_more : (e : Engine) (program : List Routine) (i k : ℕ) (s t : Setting) (ms : List ℤ) (ts : List (ℕ × ℕ)) → SoFar e program i s → k ≡ i → IsPart e.widening program k ms ts
-    → t.engine ≡ s.engine → t.marks ≡ s.marks ++ ms ∷ [] → t.tallies ≡ s.tallies ++ ts ∷ [] → SoFar e program (i + 1) t
-so_far_more e program i k s t ms ts so_far at part same more others =
-    let p = subst (λ j. IsPart e.widening program j ms ts) at part in
+pub so_far_more : (e : Engine) (program : List Routine) (i k : ℕ) (s t : Setting) (ms : List ℤ) (ts : List (ℕ × ℕ)) (ls : List ℕ) → SoFar e program i s → k ≡ i → IsPart e.widening program k ms ts ls
+    → t.engine ≡ s.engine → t.marks ≡ s.marks ++ ms ∷ [] → t.tallies ≡ s.tallies ++ ts ∷ [] → t.loops ≡ s.loops ++ ls ∷ [] → SoFar e program (i + 1) t
+so_far_more e program i k s t ms ts ls so_far at part same more others rest =
+    let p = subst (λ j. IsPart e.widening program j ms ts ls) at part in
     record {
       engine = same ∙ so_far.engine;
       marks = part_more (all_marks e.widening program) s.marks t.marks i ms so_far.marks p.marks_are more;
       tallies = part_more (all_tallies e.widening program) s.tallies t.tallies i ts so_far.tallies p.tally_is others;
+      loops = part_more (all_loops program) s.loops t.loops i ls so_far.loops p.loops_are rest;
     }
 
 pub so_far_whole : (e : Engine) (ps : List Procedure) (i : ℕ) (s : Setting) → SoFar e (routines_of ps) i s → length ps ≤ i → s ≡ setting_of e (routines_of ps)
 so_far_whole e ps i s so_far h =
     let ms = so_far.marks ∙ take_whole (all_marks e.widening (routines_of ps)) i (omega (arith, h, length-map (routines_of ps) (marks e.widening), as_many [] ps)) in
     let ts = so_far.tallies ∙ take_whole (all_tallies e.widening (routines_of ps)) i (omega (arith, h, length-map (routines_of ps) (tally_by e.widening), as_many [] ps)) in
-    λ j. record { engine = so_far.engine j; marks = ms j; tallies = ts j }
+    let ls = so_far.loops ∙ take_whole (all_loops (routines_of ps)) i (omega (arith, h, length-map (routines_of ps) loops, as_many [] ps)) in
+    λ j. record { engine = so_far.engine j; marks = ms j; tallies = ts j; loops = ls j }
 
 -- Procedures that are touched, one change after the other.
 touches_last : (at : ℕ → Option Entry) (ps : List Put) (p : Put) (k : ℕ) → touches at (ps ++ p ∷ []) k ≡ (stands_in (at p.number) k || (stands_in p.entry k || touches at ps k))
@@ -293,10 +311,10 @@ pub touched_whole : (at : ℕ → Option Entry) (ps : List Put) (i k : ℕ) (has
 touched_whole at ps i k has e h = e ∙ ap (λ qs. touches at qs k) (take_whole ps i h)
 
 -- a part that is as it was
-part_of : (w : Widening) (program : List Routine) (k : ℕ) (ms ns : List ℤ) (t u : List (ℕ × ℕ)) → ns ≡ ms → u ≡ t → IsPart w program k ms t → IsPart w program k ns u
-part_of w program k ms ns t u a b p = record { marks_are = p.marks_are ∙ ap Some (sym a); tally_is = p.tally_is ∙ ap Some (sym b) }
+part_of : (w : Widening) (program : List Routine) (k : ℕ) (ms ns : List ℤ) (t u : List (ℕ × ℕ)) (ls os : List ℕ) → ns ≡ ms → u ≡ t → os ≡ ls → IsPart w program k ms t ls → IsPart w program k ns u os
+part_of w program k ms ns t u ls os a b c p = record { marks_are = p.marks_are ∙ ap Some (sym a); tally_is = p.tally_is ∙ ap Some (sym b); loops_are = p.loops_are ∙ ap Some (sym c) }
 
-pub shared_part : {T E : Type 0} (r : Result T E) (f : T → List ℤ) (g : T → List (ℕ × ℕ)) (w : Widening) (program : List Routine) (k : ℕ) (ms : List ℤ) (t : List (ℕ × ℕ))
-    → IfOk r (λ p. f p ≡ ms) → IfOk r (λ p. g p ≡ t) → IsPart w program k ms t → IfOk r (λ p. IsPart w program k (f p) (g p))
-shared_part (Ok p) f g w program k ms t a b part = part_of w program k ms (f p) t (g p) a b part
-shared_part (Err e) f g w program k ms t a b part = tt
+pub shared_part : {T E : Type 0} (r : Result T E) (f : T → List ℤ) (g : T → List (ℕ × ℕ)) (h : T → List ℕ) (w : Widening) (program : List Routine) (k : ℕ) (ms : List ℤ) (t : List (ℕ × ℕ)) (ls : List ℕ)
+    → IfOk r (λ p. f p ≡ ms) → IfOk r (λ p. g p ≡ t) → IfOk r (λ p. h p ≡ ls) → IsPart w program k ms t ls → IfOk r (λ p. IsPart w program k (f p) (g p) (h p))
+shared_part (Ok p) f g h w program k ms t ls a b c part = part_of w program k ms (f p) t (g p) ls (h p) a b c part
+shared_part (Err e) f g h w program k ms t ls a b c part = tt

@@ -113,7 +113,7 @@ loop_of (Some e) = is_loop e.part
 
 module _ (n : ℕ) where
   -- whether one of these is a loop of this number
-  abbrev any_loop : List Entry → Bool
+  abbrev pub any_loop : List Entry → Bool
   any_loop [] = false
   any_loop (x ∷ xs) = cond (x.number == n) (is_loop x.part || any_loop xs) (any_loop xs)
 
@@ -131,7 +131,7 @@ module _ (n : ℕ) where
   no_loop false r = refl
 
   module _ (f : Frame) where
-    any_block : (c : Context) (a p : Option ℕ) (b : Statements) → any_loop (block_entries f c a p b) ≡ has_while n (code_in f b)
+    pub any_block : (c : Context) (a p : Option ℕ) (b : Statements) → any_loop (block_entries f c a p b) ≡ has_while n (code_in f b)
     any_block c a p Ends = refl
     any_block c a p (Starts (tree.Simple m x) ss) = no_loop (m == n) (any_loop (block_entries f c (Some m) p ss)) ∙ any_block c (Some m) p ss
     any_block c a p (Starts (tree.Break m) ss) = no_loop (m == n) (any_loop (block_entries f c (Some m) p ss)) ∙ any_block c (Some m) p ss

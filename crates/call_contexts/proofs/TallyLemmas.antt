@@ -22,7 +22,7 @@ use Rattle.call_contexts.proofs.SameEntries.{same_entries}
 pub same_test : (n m : ℕ) → is_eq (nat_cmp n m) ≡ (n == m)
 same_test n m = grind (arith, nat_tests)
 
-any_is : (n : ℕ) (ns : List ℕ) → list_any (is_at (nat_cmp n)) ns ≡ has n ns
+pub any_is : (n : ℕ) (ns : List ℕ) → list_any (is_at (nat_cmp n)) ns ≡ has n ns
 any_is n [] = refl
 any_is n (m ∷ ns) = ap (λ b. b || list_any (is_at (nat_cmp n)) ns) (same_test n m) ∙ go (n == m) (any_is n ns)
   where

@@ -5,4 +5,5 @@ pub mod Settings
 pub mod Literals
 pub mod Touches
 pub mod Tallies
+pub mod Loops
 pub mod Differences

@@ -5,8 +5,8 @@
 //! which their states are joined. [`joined`] sheds one chain's state and joins it behind those before.
 //! [`marks`] gives the numbers at which widening stops in a procedure, and a [`Setting`] has those of
 //! all procedures, with how often and how the iterates of a loop are made. It counts in how many statements
-//! each number stands, so after a change of the program [`Setting::after`] looks at the change alone, and
-//! makes the marks of those procedures that have other numbers then of the numbers that it counts.
+//! each number stands, and knows the loops of each procedure, so after a change of the program [`Setting::after`] looks
+//! at the change alone, and makes the marks of those procedures that have other numbers then of the numbers that it counts.
 //!
 //! A program has at most 4,096 chains, each of at most 8 calls. Nothing walks the program: a place is
 //! read off what is known of the statement, and the chains to a procedure are found along call
@@ -18,6 +18,7 @@ mod differences;
 mod filtered;
 mod joining;
 mod literals;
+mod loops;
 mod marking;
 mod numbers;
 mod places;

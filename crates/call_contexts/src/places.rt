@@ -22,7 +22,8 @@ fn holder(prog: &View<'_>, stmt: StmtId) -> Result<ProcId, Refusal>
     }
 }
 
-fn is_loop(part: &Stmt) -> bool
+/// Whether a statement is a loop.
+pub(crate) fn is_loop(part: &Stmt) -> bool
     ensures is { result ≡ is_loop part.now }
 {
     matches!(part.node(), StmtNode::While(_, _))

@@ -8,18 +8,20 @@ ghost use Rattle.imp_check.specs.Slots.{routines_of};
 ghost use Rattle.imp_check.specs.Entries.{entries_of, entry_of};
 ghost use Rattle.imp_check.specs.Fine.{IsFine};
 ghost use Rattle.imp_check.specs.Changes.{AreFalling, Makes};
-ghost use Rattle.call_contexts.specs.Settings.{engine_of, all_marks, setting_of, marks_at, IsPart};
+ghost use Rattle.call_contexts.specs.Settings.{engine_of, all_marks, setting_of, marks_at, loops_at, IsPart};
 ghost use Rattle.call_contexts.specs.Tallies.{all_tallies};
+ghost use Rattle.call_contexts.specs.Loops.{all_loops};
 ghost use Rattle.call_contexts.specs.Touches.{Brings, touches};
 
 use crate::counts::Counts;
-use crate::differences::{gained, lost};
+use crate::differences::Differences;
+use crate::loops::Loops;
 use crate::marking::{marks, marks_of};
 use crate::table::procedure_count;
 use crate::tallying::{changed, tally};
 use crate::touched::touched_places;
 use imp_check::{Change, Put, Table, View};
-use imp_syntax::ProcId;
+use imp_syntax::{ProcId, StmtId};
 use plain_values::{Items, Memory};
 use program_chains::{Widening, marks_rise};
 use std::alloc::{AllocError, Global};
@@ -109,44 +111,56 @@ impl Tally {
     }
 }
 
-/// The marks of a procedure, and in how many of its statements each of its numbers stands.
+/// The marks of a procedure, in how many of its statements each of its numbers stands, and its loops.
 #[derive(Drop)]
 struct Part {
     marks: Marks,
     tally: Tally,
+    loops: Loops,
 }
 
 impl Part {
     /// The part of a procedure, made of its statements.
     fn new(alloc: Global, widening: Widening, prog: &View<'_>, proc: ProcId) -> Result<Part, Memory>
         requires there { proc < length prog.now }
-        ensures is { IfOk result (λ part. IsPart widening (routines_of prog.now) proc part.marks part.tally) }
+        ensures is { IfOk result (λ part. IsPart widening (routines_of prog.now) proc part.marks part.tally part.loops) }
     {
         let marks = Marks::new(alloc, marks(alloc, widening, prog, proc)?)?;
         let tally = Tally::new(alloc, tally(alloc, widening, prog, proc)?)?;
-        Ok(Part { marks, tally })
+        let loops = Loops::new(alloc, prog, proc)?;
+        Ok(Part {
+            marks,
+            tally,
+            loops,
+        })
     }
 
-    /// The part of these marks and this tally, which it shares.
-    fn shared(marks: &Marks, tally: &Tally) -> Result<Part, Memory>
+    /// The part of these marks and this tally, which it shares, and of these loops.
+    fn shared(marks: &Marks, tally: &Tally, loops: Loops) -> Result<Part, Memory>
         ensures marks { IfOk result (λ part. part.marks ≡ marks.now) }
         ensures tally { IfOk result (λ part. part.tally ≡ tally.now) }
+        ensures loops { IfOk result (λ part. part.loops ≡ loops) }
     {
         let marks = marks.clone()?;
         let tally = tally.clone()?;
-        Ok(Part { marks, tally })
+        Ok(Part {
+            marks,
+            tally,
+            loops,
+        })
     }
 }
 
 /// How the loops of a program are interpreted: how often their iterates are made and how, with the
 /// marks of each procedure. It counts in how many statements of each procedure a number stands, so that it knows after a
-/// change whether the procedure still has the same numbers.
+/// change whether the procedure still has the same numbers. It also knows the loops of each procedure.
 #[derive(Drop)]
 pub struct Setting {
     budget: u32,
     widening: Widening,
     marks: Items<Marks>,
     tallies: Items<Tally>,
+    loops: Items<Loops>,
 }
 
 impl Model for Setting {
@@ -157,18 +171,42 @@ impl Model for Setting {
 
     ghost coded = { setting_code };
 
-    ghost view = { λ a. record { engine = record { budget = a.budget; widening = a.widening }; marks = a.marks; tallies = a.tallies } };
+    ghost view = { λ a. record { engine = record { budget = a.budget; widening = a.widening }; marks = a.marks; tallies = a.tallies; loops = a.loops } };
 }
 
 /// A setting of no procedures yet.
 fn no_parts(alloc: Global, budget: u32, widening: Widening) -> Setting
-    ensures is { result ≡ record { engine = engine_of budget widening; marks = []; tallies = [] } }
+    ensures is { result ≡ record { engine = engine_of budget widening; marks = []; tallies = []; loops = [] } }
 {
     Setting {
         budget,
         widening,
         marks: Items::new(alloc),
         tallies: Items::new(alloc),
+        loops: Items::new(alloc),
+    }
+}
+
+/// The loops of a procedure after a change, where these procedures are touched, and these were its loops.
+fn loops_over(
+    alloc: Global,
+    old: &View<'_>,
+    new: &View<'_>,
+    puts: &[Put],
+    touched: &BTreeSet<u32>,
+    proc: ProcId,
+    before: &Loops,
+) -> Result<Loops, Memory>
+    requires brings { Brings old.now new.now puts.now }
+    requires touched { (k : ℕ) → contains nat_cmp touched.now k ≡ touches (entry_of (entries_of old.now)) puts.now k }
+    requires before { slice_get (all_loops (routines_of old.now)) proc ≡ Some before.now }
+    requires there { proc < length new.now }
+    ensures are { IfOk result (λ loops. slice_get (all_loops (routines_of new.now)) proc ≡ Some loops) }
+{
+    if touched.contains(&proc.place()) {
+        before.after(alloc, old, new, puts, proc)
+    } else {
+        Ok(before.clone()?)
     }
 }
 
@@ -195,9 +233,11 @@ impl Setting {
         ensures engine { self.new.engine ≡ self.old.engine }
         ensures marks { OnOk result (self.new.marks ≡ self.old.marks ++ part.marks ∷ []) }
         ensures tallies { OnOk result (self.new.tallies ≡ self.old.tallies ++ part.tally ∷ []) }
+        ensures loops { OnOk result (self.new.loops ≡ self.old.loops ++ part.loops ∷ []) }
     {
         self.marks.push(part.marks)?;
-        self.tallies.push(part.tally)
+        self.tallies.push(part.tally)?;
+        self.loops.push(part.loops)
     }
 
     /// How often the iterates of a loop are made at most.
@@ -224,11 +264,23 @@ impl Setting {
         }
     }
 
+    /// The loops of the procedure at a place, their numbers rising; none where there is no procedure.
+    pub fn loops(&self, place: usize) -> &[StmtId]
+        ensures are { result.now ≡ loops_at self.now place }
+    {
+        match self.loops.get(place) {
+            Some(loops) => loops.as_slice(),
+            None => &[],
+        }
+    }
+
     /// The setting of the program that a change makes, where this is that of the program before it. Procedures that keep
     /// the set of their numbers share their marks with this setting; the marks of others are made of the numbers that are
-    /// counted then. It takes time linear in the change, in the number of procedures, and in the different numbers of those
-    /// that the change touches, times the logarithm of these where their set changes; of a procedure more it takes the time
-    /// of [`marks`]. It fails for want of memory alone.
+    /// counted then. Procedures that keep their loops share these, and those where the numbers that come are those that go
+    /// share what is counted. It takes time linear in the change and in the number of procedures. Where other numbers come
+    /// than go, it also takes time linear in the different numbers of the procedure, times the logarithm of these where
+    /// their set changes; where loops come or go, in its loops, times the logarithm of these; and for a procedure more the
+    /// time of [`marks`]. It fails for want of memory alone.
     pub fn after(&self, alloc: Global, table: &Table, change: &Change) -> Result<Setting, Memory>
         ghost program: { List Procedure }
         requires makes { Makes table.now.program change.now program }
@@ -278,16 +330,21 @@ impl Setting {
         requires before { self.now ≡ setting_of self.now.engine (routines_of old.now) }
         requires touched { (k : ℕ) → contains nat_cmp touched.now k ≡ touches (entry_of (entries_of old.now)) puts.now k }
         requires there { proc < length new.now }
-        ensures is { IfOk result (λ part. IsPart self.now.engine.widening (routines_of new.now) proc part.marks part.tally) }
+        ensures is { IfOk result (λ part. IsPart self.now.engine.widening (routines_of new.now) proc part.marks part.tally part.loops) }
     {
         let place = proc.place() as usize;
-        let (Some(marks), Some(tally)) = (self.marks.get(place), self.tallies.get(place)) else {
+        let (Some(marks), Some(tally), Some(before)) = (
+            self.marks.get(place),
+            self.tallies.get(place),
+            self.loops.get(place),
+        ) else {
             return Part::new(alloc, self.widening, new, proc);
         };
+        let loops = loops_over(alloc, old, new, puts, touched, proc, before)?;
         if self.recounts(touched, proc) {
-            self.changed_part(alloc, old, new, puts, proc, marks, tally)
+            self.changed_part(alloc, old, new, puts, proc, marks, tally, loops)
         } else {
-            Part::shared(marks, tally)
+            Part::shared(marks, tally, loops)
         }
     }
 
@@ -298,7 +355,7 @@ impl Setting {
         self.widening.thresholds && touched.contains(&proc.place())
     }
 
-    /// The part of a procedure that a change touches, where it had these marks and this tally.
+    /// The part of a procedure that a change touches, where it had these marks and this tally, and has these loops.
     fn changed_part(
         &self,
         alloc: Global,
@@ -308,21 +365,28 @@ impl Setting {
         proc: ProcId,
         before: &Marks,
         tally: &Tally,
+        loops: Loops,
     ) -> Result<Part, Memory>
         requires brings { Brings old.now new.now puts.now }
         requires thresholds { self.now.engine.widening.thresholds ≡ true }
-        requires part { IsPart self.now.engine.widening (routines_of old.now) proc before.now tally.now }
+        requires marks { slice_get (all_marks self.now.engine.widening (routines_of old.now)) proc ≡ Some before.now }
+        requires tally { slice_get (all_tallies self.now.engine.widening (routines_of old.now)) proc ≡ Some tally.now }
+        requires loops { slice_get (all_loops (routines_of new.now)) proc ≡ Some loops }
         requires there { proc < length new.now }
-        ensures is { IfOk result (λ part. IsPart self.now.engine.widening (routines_of new.now) proc part.marks part.tally) }
+        ensures is { IfOk result (λ part. IsPart self.now.engine.widening (routines_of new.now) proc part.marks part.tally part.loops) }
     {
-        let lost = lost(alloc, old, puts, proc)?;
-        let gained = gained(alloc, puts, proc)?;
-        let counts = changed(alloc, tally.counts(), lost.as_slice(), gained.as_slice())?;
+        let differences = Differences::new(alloc, old, puts, proc)?;
+        if differences.are_none() {
+            return Part::shared(before, tally, loops);
+        }
+        let (lost, gained) = (differences.lost(), differences.gained());
+        let counts = changed(alloc, tally.counts(), lost, gained)?;
         let is_kept = counts.has_same_numbers(tally.counts());
         let marks = self.marks_over(alloc, new, proc, before, &counts, is_kept)?;
         Ok(Part {
             marks,
             tally: Tally::new(alloc, counts)?,
+            loops,
         })
     }
 

@@ -1,6 +1,6 @@
 -- A statement whose node is the same in two programs, but for the loops around it, keeps its rows.
 use Rattle.std.proofs.lemmas.Bool.{ltb-true, lt-ltb}
-use Rattle.std.proofs.Common.{◌≡◌, ◌⊎◌, inl, inr, ℕ, ℤ, ◌<◌, ◌≤◌, nat_lt, List, [], ◌∷◌, Option, Some, None, Bool, true, false, refl, sym, ap, ◌∙◌, arith}
+use Rattle.std.proofs.Common.{◌≡◌, ◌⊎◌, inl, inr, ℕ, ℤ, ◌≤◌, nat_lt, List, [], ◌∷◌, Option, Some, None, Bool, true, false, refl, sym, ap, ◌∙◌, arith}
 use Rattle.std.specs.Prelude.{if◌then◌else◌}
 use Rattle.batch_meaning.specs.Batch.{Engine}
 use Rattle.batch_meaning.specs.Places.{if_some}
@@ -8,14 +8,14 @@ use Rattle.cell_names.specs.Paths.{CellName}
 use Rattle.cell_names.specs.declared.frame.Frame.{Frame}
 use Rattle.cell_names.specs.declared.frame.Frame.TheVariants.{InLoop}
 use Rattle.cell_rows.specs.Names.{name}
-use Rattle.cell_rows.specs.Rows.{Row, Two, JoinsBoth, Widens, Binary, next_operation}
+use Rattle.cell_rows.specs.Rows.{Row, Two, JoinsBoth, Widens, next_operation}
 use Rattle.imp_flow.specs.Shapes.{Node, Shape}
 use Rattle.imp_flow.specs.Shapes as shape
 use Rattle.imp_flow.specs.Nodes.{node_of}
 use Rattle.imp_flow.specs.NodeRows.{Looping, looping, where_so, iterate_at, enter_at, branch_at, turn_at, post_at, next_at, fix_at, exit_at, leap_at}
 use Rattle.imp_flow.specs.Plans.{Plan, marks_at, plan_nodes}
 use Rattle.imp_flow.specs.Changed.{Stays, is_looping}
-use Rattle.imp_flow.proofs.ChangedRows.{part, Kept, Rows, Keeps, kept_by}
+use Rattle.imp_flow.proofs.ChangedRows.{part, Kept, Keeps, kept_by}
 use Rattle.imp_flow.proofs.ChangedStays.{kept_stays}
 
 abbrev pub unlooped : Node → Node

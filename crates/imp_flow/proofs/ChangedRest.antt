@@ -1,7 +1,6 @@
 -- Statements that a search has no need to look at keep their rows.
-use Rattle.std.proofs.lemmas.Bool.Decides.{nat_tests}
 use Rattle.std.proofs.lemmas.Bool.{cases_lt, ltb-true}
-use Rattle.std.proofs.Common.{◌≡◌, ◌⊎◌, inl, inr, ℕ, zero, suc, ◌<◌, ◌≤◌, ◌==◌, nat_lt, List, [], ◌∷◌, length, map, slice_get, reverse, Option, Some, None, Bool, true, false, refl, sym, ap, subst, ◌∙◌, arith}
+use Rattle.std.proofs.Common.{◌≡◌, ◌⊎◌, inl, inr, ℕ, zero, suc, ◌<◌, nat_lt, List, [], ◌∷◌, length, map, slice_get, Option, Some, None, Bool, true, false, refl, sym, ap, subst, ◌∙◌, arith}
 use Rattle.std.specs.Prelude.{if◌then◌else◌}
 use Rattle.std.specs.Option.{option_map}
 use Rattle.std.specs.BTreeSet.{contains, IsOrdered}
@@ -11,7 +10,6 @@ use Rattle.imp_syntax.specs.Plain.{Procedure, Statement}
 use Rattle.imp_syntax.specs.Plain as tree
 use Rattle.imp_slots.specs.Plain.{Guard, Invoke}
 use Rattle.imp_slots.specs.Fits.{Absent, IsChecked}
-use Rattle.imp_slots.specs.declared.actions.SlotStmt.TheVariants as act
 use Rattle.imp_check.specs.Parts.{ends_of}
 use Rattle.imp_check.specs.Programs.{AreNumbered}
 use Rattle.imp_check.specs.Slots.{routines_of}
@@ -25,18 +23,20 @@ use Rattle.imp_check.specs.declared.entry.SlotForm.{SlotForm}
 use Rattle.imp_check.specs.declared.entry.SlotForm.TheVariants as form
 use Rattle.imp_check.proofs.PutLemmas.{same}
 use Rattle.imp_check.proofs.OverlayLemmas.{put_numbers, overlay_other}
-use Rattle.imp_check.proofs.StandLemmas.{number_there, place_there, site_there, overlay_kept}
-use Rattle.imp_check.proofs.BreakLemmas.{Has, Named, loop_named}
+use Rattle.imp_check.proofs.StandLemmas.{place_there, site_there, overlay_kept}
+use Rattle.imp_check.proofs.BreakLemmas.{Has, loop_named}
 use Rattle.batch_meaning.specs.Batch.{Engine}
+use Rattle.call_contexts.specs.Places.{is_loop}
+use Rattle.call_contexts.proofs.Looped.{loop_there}
 use Rattle.cell_names.specs.declared.frame.Point.{Point}
 use Rattle.cell_names.specs.declared.frame.Point.TheVariants.{Entry, Body}
 use Rattle.imp_flow.specs.Shapes.{Node, Shape}
 use Rattle.imp_flow.specs.Shapes as shape
-use Rattle.imp_flow.specs.Entered.{Table, behind_or, leave_at, front_in, front_point, end_by, end_of, end_in, branching, shape_from, known_in, node_by}
-use Rattle.imp_flow.specs.Plans.{Plan, plan_of, marks_at}
-use Rattle.imp_flow.specs.Changed.{AreChanged, Stays, is_looping, is_loop}
+use Rattle.imp_flow.specs.Entered.{Table, behind_or, leave_at, front_in, front_point, end_of, end_in, branching, shape_from, known_in, node_by}
+use Rattle.imp_flow.specs.Plans.{Plan, plan_of, marks_at, loops_at}
+use Rattle.imp_flow.specs.Changed.{AreChanged, Stays, is_looping}
 use Rattle.imp_flow.specs.declared.search.Search.{Search}
-use Rattle.imp_flow.specs.Searches.{left_of, left_by, last_at, EndsAlike, GoesOn, IsLooked, AllLooked, IsLoopLooked, ArePutsLooked, AreCallersLooked, AreLoopsLooked}
+use Rattle.imp_flow.specs.Searches.{left_of, left_by, EndsAlike, GoesOn, IsLooked, AllLooked, ArePutsLooked, AreCallersLooked, AreLoopsLooked}
 use Rattle.imp_flow.proofs.EnteredLemmas.{node_found, node_gone}
 use Rattle.imp_flow.proofs.ChangedStays.{none_stays}
 use Rattle.imp_flow.proofs.ChangedSet.{are_changed, puts_looked_more, callers_looked_more}
@@ -95,6 +95,19 @@ leaves_alike f g (b ∷ bs) h =
     let e : leave_at f b ≡ leave_at g b = ap (λ (o : Option known.Entry). record { stmt = b; front = front_in o }) (h b (inl refl)) in
     (λ i. e i ∷ leaves_alike f g bs (λ c k. h c (inr k)) i)
 
+-- what is no loop has not the shape of one
+no_branch : (f : Table) (x : known.Entry) (c : Guard) (s : Statement) → is_loop s ≡ false → is_looping (branching f x c s) ≡ false
+no_branch f x c (tree.Simple n a) e = refl
+no_branch f x c (tree.Break n) e = refl
+no_branch f x c (tree.Call n y q es) e = refl
+no_branch f x c (tree.If n d t u) e = refl
+no_branch f x c (tree.While n d b) e = absurd cc
+
+no_shape : (f : Table) (ends : ℕ → Option Point) (x : known.Entry) (m : SlotForm) → is_loop x.part ≡ false → is_looping (shape_from f ends x m) ≡ false
+no_shape f ends x (form.Stmt s) e = refl
+no_shape f ends x (form.Cond c) e = no_branch f x c x.part e
+no_shape f ends x (form.Call i q) e = refl
+
 -- Ends of procedures.
 abbrev end_last : Option (Option ℕ) → Option Point
 end_last None = None
@@ -131,7 +144,7 @@ module _ (ps qs : List Procedure) (puts : List Put) (engine : Engine) (old_check
       let left : left_by (Some y.entry) ≡ Some n = ap (λ m. left_of m y.entry.context.head) y.break ∙ y.loop in
       overlay_kept puts (entry_of (entries_of ps)) b y.entry (sym (made b) ∙ y.known) (λ i p s k. none i p s (ap left_by k ∙ left)) ∙ sym y.known
 
-  module _ (s : Search) (looked_puts : ArePutsLooked old new s puts) (looked_callers : (k : ℕ) → k < length qs → AreCallersLooked old new s ps qs k) (looked_loops : engine.widening.delay < engine.budget → (k : ℕ) → k < length qs → AreLoopsLooked old new s qs k) where
+  module _ (s : Search) (looked_puts : ArePutsLooked old new s puts) (looked_callers : (k : ℕ) → k < length qs → AreCallersLooked old new s ps qs k) (looked_loops : engine.widening.delay < engine.budget → (k : ℕ) → k < length qs → AreLoopsLooked old new s k) where
     -- a call whose callee ends as before, or at which the search looked
     callee : (n : ℕ) (x : known.Entry) (m : SlotForm) → entry_of (entries_of qs) n ≡ Some x → x.form ≡ m → IsLooked old new s n ⊎ ((i : Invoke) (q : ℕ) → m ≡ form.Call i q → end_in ps x.context.proc q ≡ end_in qs x.context.proc q)
     callee n x (form.Stmt a) e f = inr (λ i q c. absurd cc)
@@ -166,13 +179,13 @@ module _ (ps qs : List Procedure) (puts : List Put) (engine : Engine) (old_check
       | inr l ↦ inr (inr (inl l))
       | inl l ↦ elim (looked_loops l x.context.proc (place_there qs n x e)) [
         | inl m ↦ inr (inl m)
-        | inr a ↦ let k = number_there qs n x e in go (is_looping (node_by qs x).shape) refl (a.at k.0 n k.1)
+        | inr a ↦ go (is_loop x.part) refl a
       ]
     ]
       where
-        go : (b : Bool) → is_looping (node_by qs x).shape ≡ b → IsLoopLooked old new s n → IsLooked old new s n ⊎ AreMarksAlike engine (marks_at old x.context.proc) (marks_at new x.context.proc) (node_by qs x)
-        go true t l = inl (l (ap is_loop (node_found qs n x new_checked new_numbered e) ∙ t))
-        go false t l = inr (inr (inr t))
+        go : (b : Bool) → is_loop x.part ≡ b → AllLooked old new s (loops_at new x.context.proc) → IsLooked old new s n ⊎ AreMarksAlike engine (marks_at old x.context.proc) (marks_at new x.context.proc) (node_by qs x)
+        go true t a = let k = loop_there qs n x new_numbered e t in inl (a.at k.0 n k.1)
+        go false t a = inr (inr (inr (no_shape (known_in qs) (end_in qs x.context.proc) x x.form t)))
 
     stays_there : (n : ℕ) (x : known.Entry) → entry_of (entries_of ps) n ≡ Some x → entry_of (entries_of qs) n ≡ Some x → ((i : ℕ) (p : Put) → slice_get puts i ≡ Some p → left_by p.entry ≡ Some n → ⊥) → IsLooked old new s n ⊎ Stays old new n
     stays_there n x e f none = elim (callee n x x.form f refl) [
@@ -211,7 +224,7 @@ pub record AllDone (ps qs : List Procedure) (puts : List Put) (old new : Plan) (
   pub on : GoesOn old new s t
   pub at_callers : (k : ℕ) → k < length qs → AreCallersLooked old new t ps qs k
   pub further : GoesOn old new t u
-  pub at_loops : old.engine.widening.delay < old.engine.budget → (k : ℕ) → k < length qs → AreLoopsLooked old new u qs k
+  pub at_loops : old.engine.widening.delay < old.engine.budget → (k : ℕ) → k < length qs → AreLoopsLooked old new u k
 
 pub all_found : (ps qs : List Procedure) (puts : List Put) (engine : Engine) (old new : Plan) (s t u : Search) (ns : List ℕ) → old ≡ plan_of (routines_of ps) engine → new ≡ plan_of (routines_of qs) engine → AreNumbered ps → AreNumbered qs → ((n : ℕ) → entry_of (entries_of qs) n ≡ overlay puts (entry_of (entries_of ps)) n) → AllDone ps qs puts old new s t u → IsOrdered nat_cmp u.changed → ns ≡ u.changed.keys → AreChanged (plan_of (routines_of ps) engine) (plan_of (routines_of qs) engine) ns
 all_found ps qs puts engine old new s t u ns eo en np nq made done o e = go (subst (λ (z : Plan). AllDone ps qs puts (plan_of (routines_of ps) engine) z s t u) en (subst (λ (z : Plan). AllDone ps qs puts z new s t u) eo done))

@@ -4,22 +4,19 @@ use Rattle.std.proofs.lemmas.Map.Keys.{IsStrictlyIncreasing-from_sorted}
 use Rattle.std.proofs.lemmas.Map.Views.{btree_set_contains_iff}
 use Rattle.std.proofs.lemmas.Map.Lookups.{exact_unsigned}
 use Rattle.std.specs.Cmp.{nat_cmp_total}
-use Rattle.std.proofs.Common.{◌≡◌, ◌⊎◌, inl, inr, ℕ, suc, ◌+◌, ◌<◌, ◌==◌, ◌||◌, ◌&&◌, not, List, [], ◌∷◌, length, reverse, Option, Some, None, Bool, true, false, MatchBool, slice_get, refl, sym, ap, subst, ◌∙◌, arith}
-use Rattle.std.specs.BTreeSet.{BTreeSet, contains, IsOrdered}
+use Rattle.std.proofs.Common.{◌≡◌, inl, inr, ℕ, ◌+◌, ◌<◌, ◌==◌, ◌||◌, ◌&&◌, not, List, [], ◌∷◌, reverse, Some, Bool, true, false, MatchBool, slice_get, refl, sym, ap, subst, ◌∙◌, arith}
+use Rattle.std.specs.BTreeSet.{contains, IsOrdered}
 use Rattle.std.specs.Ordering.{nat_cmp}
 use Rattle.plain_values.specs.Equal.{same, same_equal, same_Decides}
 use Rattle.imp_slots.specs.PartCodes.{layout_code}
 use Rattle.batch_meaning.specs.Places.{main_layout}
 use Rattle.plain_values.proofs.Cases.{by_test, some_inj}
-use Rattle.plain_values.proofs.Members.{Member, here, there}
 use Rattle.cell_names.specs.declared.frame.Frame.{Frame}
 use Rattle.cell_names.specs.declared.frame.Point.{Point}
 use Rattle.cell_names.specs.declared.frame.Point.TheVariants.{Entry, Then, Else, Body, Post, Iterate, Fix, Exit, Leap}
 use Rattle.cell_rows.specs.Rows.{Row, Init}
 use Rattle.cell_rows.specs.Flat.{flat_row}
-use Rattle.imp_flow.specs.Shapes.{Node}
-use Rattle.imp_flow.specs.Nodes.{node_of}
-use Rattle.imp_flow.specs.Plans.{Plan, plan_nodes}
+use Rattle.imp_flow.specs.Plans.{Plan, loops_at}
 use Rattle.imp_flow.specs.Owners.{owner}
 use Rattle.imp_flow.specs.Changed.{is_start, IsChanged, IsTold, AreChanged, Stays}
 use Rattle.imp_syntax.specs.Plain.{Procedure}
@@ -27,7 +24,7 @@ use Rattle.imp_slots.specs.Fits.{IsChecked}
 use Rattle.imp_check.specs.Entries.{entries_of, sites_in}
 use Rattle.imp_check.specs.declared.change.Put.{Put}
 use Rattle.imp_flow.specs.declared.search.Search.{Search}
-use Rattle.imp_flow.specs.Searches.{left_by, IsSearch, GoesOn, IsLooked, AllLooked, IsLoopLooked, AllLoopsLooked, ArePutsLooked, AreCallersLooked, AreLoopsLooked}
+use Rattle.imp_flow.specs.Searches.{left_by, IsSearch, GoesOn, IsLooked, AllLooked, ArePutsLooked, AreCallersLooked, AreLoopsLooked}
 
 -- the second set has what the first has, and m, unless it is kept
 abbrev pub Adds : (has more : ℕ → Bool) → (m : ℕ) → (kept : Bool) → Type 0
@@ -192,9 +189,6 @@ module _ (old new : Plan) where
     pub all_looked_more : (ns : List ℕ) → AllLooked old new s ns → AllLooked old new t ns
     all_looked_more ns a = record { at = λ i n e. looked_more n (a.at i n e) }
 
-    pub loop_looked_more : (n : ℕ) → IsLoopLooked old new s n → IsLoopLooked old new t n
-    loop_looked_more n l e = looked_more n (l e)
-
     pub put_looked_more : (p : Put) → IsPutLooked old new s p → IsPutLooked old new t p
     put_looked_more p a = record { at = looked_more p.number a.at; left = λ n e. looked_more n (a.left n e) }
 
@@ -205,9 +199,9 @@ module _ (old new : Plan) where
     callers_looked_more ps qs k (inl e) = inl e
     callers_looked_more ps qs k (inr a) = inr (all_looked_more (sites_in (entries_of qs) k) a)
 
-    pub loops_looked_more : (qs : List Procedure) (k : ℕ) → AreLoopsLooked old new s qs k → AreLoopsLooked old new t qs k
-    loops_looked_more qs k (inl e) = inl e
-    loops_looked_more qs k (inr a) = inr (record { at = λ i n e. loop_looked_more n (a.at i n e) })
+    pub loops_looked_more : (k : ℕ) → AreLoopsLooked old new s k → AreLoopsLooked old new t k
+    loops_looked_more k (inl e) = inl e
+    loops_looked_more k (inr a) = inr (all_looked_more (loops_at new k) a)
 
 -- what holds of the first items of a list, and of one more
 pub one_more : {A : Type 0} (xs : List A) (P : A → Type 0) (i : ℕ) (x : A) → ((k : ℕ) (y : A) → k < i → slice_get xs k ≡ Some y → P y) → slice_get xs i ≡ Some x → P x → (k : ℕ) (y : A) → k < i + 1 → slice_get xs k ≡ Some y → P y

@@ -2,17 +2,17 @@
 use Rattle.std.proofs.lemmas.List.{length-reverse, map-append, reverse-append, reverse-reverse}
 use Rattle.std.proofs.lemmas.Bool.{ltb-true, lt-ltb}
 use Rattle.std.proofs.lemmas.Option.{slice_get_past}
-use Rattle.std.proofs.Common.{◌≡◌, ◌≢◌, ℕ, zero, suc, ◌+◌, ◌-◌, ◌<◌, ◌≤◌, ◌==◌, ◌⊎◌, inl, inr, cond, nat_lt, List, [], ◌∷◌, ◌++◌, length, map, reverse, slice_get, Option, Some, None, Bool, true, false, refl, sym, ap, ◌∙◌, subst, arith, append_assoc, append-nil}
+use Rattle.std.proofs.Common.{◌≡◌, ◌≢◌, ℕ, zero, suc, ◌+◌, ◌-◌, ◌<◌, ◌≤◌, ◌⊎◌, inl, inr, cond, nat_lt, List, [], ◌∷◌, ◌++◌, length, map, reverse, slice_get, Option, Some, None, Bool, true, false, refl, sym, ap, ◌∙◌, subst, arith, append_assoc, append-nil}
 use Rattle.std.specs.Prelude.{if◌then◌else◌}
 use Rattle.std.specs.Option.{option_map}
 use Rattle.std.specs.Str.{bytes_eq}
 use Rattle.imp_syntax.specs.Plain.{Statements, Ends, Starts, Procedure, number_of}
 use Rattle.imp_syntax.specs.Plain as tree
-use Rattle.imp_slots.specs.Plain.{Code, Routine, Layout}
-use Rattle.imp_slots.specs.Fits.{Distinct, IsChecked, routine_numbers}
-use Rattle.imp_check.specs.Parts.{first_or, last_or, ends_of, leaving}
+use Rattle.imp_slots.specs.Plain.{Routine, Layout}
+use Rattle.imp_slots.specs.Fits.{Distinct, IsChecked}
+use Rattle.imp_check.specs.Parts.{first_or, last_or, leaving}
 use Rattle.imp_check.specs.Programs.{AreNumbered}
-use Rattle.imp_check.specs.Slots.{Frame, layout_in, statement_in, code_in, guard_in, callee_in, invoke_in, routine_of, routines_from, routines_of}
+use Rattle.imp_check.specs.Slots.{Frame, layout_in, code_in, guard_in, callee_in, invoke_in, routine_of, routines_from, routines_of}
 use Rattle.imp_check.specs.Entries.{inside, inside_loop, entry_at, block_entries, procedure_entries, entries_from, entries_of, entry_of, frame_at, context_at, heads_of, head_of}
 use Rattle.imp_check.specs.declared.entry.Context.{Context}
 use Rattle.imp_check.specs.declared.entry.Entry as known
@@ -30,13 +30,12 @@ use Rattle.cell_rows.specs.Rows.{last_point}
 use Rattle.cell_rows.proofs.FlatOnce.{once_reversed}
 use Rattle.imp_flow.specs.Shapes.{Node, Shape}
 use Rattle.imp_flow.specs.Shapes as shape
-use Rattle.imp_flow.specs.declared.node.Leave.{Leave}
 use Rattle.imp_flow.specs.declared.steps.Step.{Step}
 use Rattle.imp_flow.specs.declared.steps.Step.TheVariants.{Take}
-use Rattle.imp_flow.specs.Nodes.{leaving as leaves, body_end, callee_end, shape_of, node_in, block_nodes, nodes_of, node_of}
-use Rattle.imp_flow.specs.Entered.{Table, start_of, behind_or, front_in, leave_at, end_of, end_in, shape_from, head_of as outer_of, loops_up, node_from, known_in, node_by}
+use Rattle.imp_flow.specs.Nodes.{leaving as leaves, body_end, callee_end, node_in, block_nodes, nodes_of, node_of}
+use Rattle.imp_flow.specs.Entered.{Table, start_of, behind_or, front_in, leave_at, end_of, end_in, head_of as outer_of, loops_up, node_from, known_in, node_by}
 use Rattle.imp_flow.specs.Reached.{into_loops}
-use Rattle.imp_flow.proofs.NumberLemmas.{node_numbers, all_numbers as all_nodes, found_there}
+use Rattle.imp_flow.proofs.NumberLemmas.{all_numbers as all_nodes, found_there}
 
 -- The last point of a block is told by its last statement.
 pub last_is : (f : Frame) (b : Statements) (p : Point) (o : Option ℕ) → last_point (code_in f b) (behind_or p o) ≡ behind_or p (last_or b o)

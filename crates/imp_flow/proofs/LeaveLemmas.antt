@@ -4,9 +4,8 @@ use Rattle.std.specs.Option.{option_map}
 use Rattle.batch_meaning.specs.Places.{if_some}
 use Rattle.cell_names.specs.declared.frame.Frame.{Frame}
 use Rattle.plain_values.proofs.Cases.{by_test, some_inj}
-use Rattle.cell_names.specs.declared.frame.Point.{Point}
 use Rattle.cell_names.specs.declared.frame.Point.TheVariants.{Leap}
-use Rattle.cell_rows.specs.Names.{name, next_place, place_of, item}
+use Rattle.cell_rows.specs.Names.{name, next_place, place_of}
 use Rattle.cell_rows.specs.Rows.{Joins}
 use Rattle.imp_flow.specs.declared.node.Leave.{Leave}
 use Rattle.imp_flow.specs.Entered.{Table, leave_at}

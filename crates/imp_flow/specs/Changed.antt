@@ -19,7 +19,7 @@ use Rattle.imp_flow.specs.Owners.{owner}
 use Rattle.imp_flow.specs.declared.changed.Pair.{Pair}
 use Rattle.imp_flow.specs.declared.node.Leave.{Leave}
 use Rattle.imp_flow.specs.contracts.node.LeavePartialEq.TheImpl as leaves
-use Rattle.imp_flow.specs.Shapes.{Node, Shape, Act, If, While, Call}
+use Rattle.imp_flow.specs.Shapes.{Shape, Act, If, While, Call}
 use Rattle.imp_flow.specs.Plans.{Plan, marks_at}
 
 -- A point of the statement that has a row in the old program, and not the same one in the new.
@@ -92,14 +92,10 @@ module _ (engine : Engine) (marks others : List ℤ) where
   same_shapes (Call i c (Some p)) (Call j d (Some q)) = same invoke_code i j && points.ghosts.eq p q
   same_shapes _ _ = false
 
--- whether a statement is a loop
+-- whether a statement with this shape is a loop
 abbrev pub is_looping : Shape → Bool
 is_looping (While g p ls) = true
 is_looping _ = false
-
-abbrev pub is_loop : Option Node → Bool
-is_loop None = false
-is_loop (Some x) = is_looping x.shape
 
 -- no point of a statement with this shape has a row
 abbrev pub is_bare : Shape → Bool

@@ -1,5 +1,5 @@
 -- The statements of a program as nodes of its flow.
-use Rattle.std.specs.Prelude.{ℕ, suc, List, [], ◌∷◌, ◌++◌, length, Option, Some, None, cond, ◌==◌}
+use Rattle.std.specs.Prelude.{ℕ, List, [], ◌∷◌, ◌++◌, length, Option, Some, None, cond, ◌==◌}
 use Rattle.imp_slots.specs.Plain.{Code, Stop, Simple, If, While, Call, Break, Routine}
 use Rattle.imp_slots.specs.ActionViews.{action_of}
 use Rattle.imp_slots.specs.declared.actions.SlotStmt.TheVariants as act

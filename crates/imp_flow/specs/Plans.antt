@@ -1,12 +1,11 @@
 -- A program's rows by its nodes.
-use Rattle.std.specs.Prelude.{ℕ, zero, suc, ℤ, List, [], ◌∷◌, reverse, Option, Some, None, true, false}
+use Rattle.std.specs.Prelude.{ℕ, ℤ, List, reverse, Option, None, true, false}
 use Rattle.imp_slots.specs.Plain.{Routine}
 use Rattle.batch_meaning.specs.Batch.{Engine}
 use Rattle.batch_meaning.specs.Places.{if_some, main_layout}
 use Rattle.call_contexts.specs.Settings.{setting_of}
 use Rattle.call_contexts.specs.Settings as settings
 use Rattle.cell_names.specs.declared.frame.Frame.{Frame}
-use Rattle.cell_names.specs.declared.frame.Frame.TheVariants.{InCall, InLoop}
 use Rattle.cell_names.specs.declared.frame.Point.{Point}
 use Rattle.cell_names.specs.declared.frame.Point.TheVariants.{Entry, Then, Else, Body, Post, Iterate, Fix, Exit, Leap}
 use Rattle.cell_rows.specs.Rows.{Row, Init}
@@ -26,6 +25,10 @@ plan_of program engine = record { program = program; engine = engine }
 -- the marks of the procedure at a place
 abbrev pub marks_at : Plan → ℕ → List ℤ
 marks_at plan place = settings.marks_at (setting_of plan.engine plan.program) place
+
+-- the loops of the procedure at a place
+abbrev pub loops_at : Plan → ℕ → List ℕ
+loops_at plan place = settings.loops_at (setting_of plan.engine plan.program) place
 
 abbrev pub plan_nodes : Plan → List Node
 plan_nodes plan = nodes_of (reverse plan.program)

@@ -4,19 +4,16 @@ use Rattle.std.specs.BTreeSet.{contains}
 use Rattle.std.specs.Ordering.{nat_cmp}
 use Rattle.imp_syntax.specs.Plain.{Procedure}
 use Rattle.imp_slots.specs.Fits.{IsChecked}
-use Rattle.imp_slots.specs.declared.actions.SlotStmt.{SlotStmt}
 use Rattle.imp_slots.specs.declared.actions.SlotStmt.TheVariants as act
 use Rattle.imp_check.specs.Parts.{ends_of}
 use Rattle.imp_check.specs.Entries.{entries_of, sites_in}
-use Rattle.imp_check.specs.Walks.{numbers_at}
 use Rattle.imp_check.specs.declared.change.Put.{Put}
 use Rattle.imp_check.specs.declared.entry.Entry.{Entry}
 use Rattle.imp_check.specs.declared.entry.SlotForm.{SlotForm}
 use Rattle.imp_check.specs.declared.entry.SlotForm.TheVariants as form
 use Rattle.batch_meaning.specs.Places.{main_layout}
-use Rattle.imp_flow.specs.Nodes.{node_of}
-use Rattle.imp_flow.specs.Plans.{Plan, marks_at, plan_nodes}
-use Rattle.imp_flow.specs.Changed.{IsChanged, IsTold, Stays, is_loop}
+use Rattle.imp_flow.specs.Plans.{Plan, marks_at, loops_at}
+use Rattle.imp_flow.specs.Changed.{IsChanged, IsTold, Stays}
 use Rattle.imp_flow.specs.declared.search.Search.{Search}
 
 -- the loop that a break leaves
@@ -71,14 +68,6 @@ module _ (old new : Plan) where
   abbrev pub AreCallersLooked : Search → (before after : List Procedure) → ℕ → Type 0
   AreCallersLooked s before after k = EndsAlike before after k ⊎ AllLooked s (sites_in (entries_of after) k)
 
-  -- at a statement, if it is a loop of the new program
-  abbrev pub IsLoopLooked : Search → ℕ → Type 0
-  IsLoopLooked s n = is_loop (node_of (plan_nodes new) n) ≡ true → IsLooked s n
-
-  -- at the loops among these
-  pub record AllLoopsLooked (s : Search) (ns : List ℕ) : Type 0 where
-    pub at : (i n : ℕ) → slice_get ns i ≡ Some n → IsLoopLooked s n
-
   -- at the loops of a procedure that has other marks
-  abbrev pub AreLoopsLooked : Search → (after : List Procedure) → ℕ → Type 0
-  AreLoopsLooked s after k = (marks_at old k ≡ marks_at new k) ⊎ AllLoopsLooked s (numbers_at after k)
+  abbrev pub AreLoopsLooked : Search → ℕ → Type 0
+  AreLoopsLooked s k = (marks_at old k ≡ marks_at new k) ⊎ AllLooked s (loops_at new k)

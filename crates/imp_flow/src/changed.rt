@@ -3,7 +3,7 @@ ghost use Rattle.std.specs.Prelude.{◌≡◌, ◌+◌, ◌<◌, drop, length, �
 ghost use Rattle.imp_slots.specs.Fits.{IsChecked};
 ghost use Rattle.imp_flow.specs.Entered.{leaves_now, shape_now};
 ghost use Rattle.imp_flow.specs.Shapes as plain;
-ghost use Rattle.imp_flow.specs.Changed.{IsTold, IsChanged, Stays, is_bare, is_looping, same_leaves, same_marks, same_rounds, same_shapes};
+ghost use Rattle.imp_flow.specs.Changed.{IsTold, IsChanged, Stays, is_bare, same_leaves, same_marks, same_rounds, same_shapes};
 ghost use Rattle.imp_flow.specs.Nodes.{node_of};
 ghost use Rattle.imp_flow.specs.Plans.{marks_at, plan_nodes};
 
@@ -135,13 +135,6 @@ fn same_shapes(
         }
         _ => false,
     }
-}
-
-/// Whether a statement with this shape is a loop.
-pub(crate) fn is_looping(shape: &Shape<'_>) -> bool
-    ensures is { result ≡ is_looping (shape_now shape.now) }
-{
-    matches!(shape, Shape::While(_, _, _))
 }
 
 /// Whether no point of a statement with this shape has a row.

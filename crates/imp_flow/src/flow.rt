@@ -10,7 +10,7 @@ ghost use Rattle.cell_rows.specs.Flat.{flat_row};
 ghost use Rattle.imp_flow.specs.Entered.{node_now};
 ghost use Rattle.imp_flow.specs.Near.{PathFrame, last_frame, row_in};
 ghost use Rattle.imp_flow.specs.Nodes.{node_of};
-ghost use Rattle.imp_flow.specs.Plans.{marks_at, plan_nodes, plan_of, by_node, point_at, node_row};
+ghost use Rattle.imp_flow.specs.Plans.{loops_at, marks_at, plan_nodes, plan_of, by_node, point_at, node_row};
 
 use crate::node::{Node, node_of};
 use crate::row::Row;
@@ -102,6 +102,13 @@ impl<'a> Flow<'a> {
         ensures is { result.now ≡ marks_at self.now proc }
     {
         self.setting.marks(proc.place() as usize)
+    }
+
+    /// The loops of a procedure, their numbers rising.
+    pub(crate) fn loops(&self, proc: ProcId) -> &[StmtId]
+        ensures are { result.now ≡ loops_at self.now proc }
+    {
+        self.setting.loops(proc.place() as usize)
     }
 
     /// The start of main.

@@ -12,12 +12,11 @@ ghost use Rattle.imp_check.specs.Fine.{IsFine};
 ghost use Rattle.imp_check.specs.Changes.{AreFalling, Makes};
 ghost use Rattle.batch_meaning.specs.Places.{main_layout};
 ghost use Rattle.call_contexts.specs.Settings.{setting_of};
-ghost use Rattle.imp_flow.specs.Nodes.{node_of};
-ghost use Rattle.imp_flow.specs.Plans.{marks_at, plan_nodes, plan_of};
-ghost use Rattle.imp_flow.specs.Changed.{AreChanged, is_loop};
-ghost use Rattle.imp_flow.specs.Searches.{left_by, EndsAlike, IsSearch, GoesOn, IsLooked, AllLooked, IsLoopLooked, AllLoopsLooked, ArePutsLooked, AreCallersLooked, AreLoopsLooked};
+ghost use Rattle.imp_flow.specs.Plans.{plan_of};
+ghost use Rattle.imp_flow.specs.Changed.{AreChanged};
+ghost use Rattle.imp_flow.specs.Searches.{left_by, EndsAlike, IsSearch, GoesOn, IsLooked, AllLooked, ArePutsLooked, AreCallersLooked, AreLoopsLooked};
 
-use crate::changed::{Pair, is_looping, pair_at, pair_of, stays};
+use crate::changed::{Pair, pair_at, pair_of, stays};
 use crate::flow::{Flow, main_layout};
 use call_contexts::{Setting, procedure_count};
 use imp_check::{Change, Place, Put, SlotForm, Table, View};
@@ -197,75 +196,26 @@ fn look_at_callers(
     Ok(())
 }
 
-/// Whether a statement is a loop.
-fn is_loop(flow: &Flow<'_>, stmt: StmtId) -> bool
-    ensures is { result ≡ is_loop (node_of (plan_nodes flow.now) stmt) }
-{
-    match flow.node(stmt) {
-        None => false,
-        Some(node) => is_looping(&node.shape),
-    }
-}
-
-/// Looks at a statement, if it is a loop.
-fn look_at_loop(
-    old: &Flow<'_>,
-    new: &Flow<'_>,
-    stmt: StmtId,
-    search: &mut Search,
-) -> Result<(), Memory>
-    requires is { IsSearch old.now new.now search.old }
-    ensures on { OnOk result (GoesOn old.now new.now search.old search.new) }
-    ensures looked { OnOk result (IsLoopLooked old.now new.now search.new stmt) }
-{
-    if !is_loop(new, stmt) {
-        return Ok(());
-    }
-    look(old, new, stmt, search)?;
-    Ok(())
-}
-
-/// Looks at the loops among these statements.
-fn look_at_loops_among(
-    old: &Flow<'_>,
-    new: &Flow<'_>,
-    stmts: &[StmtId],
-    search: &mut Search,
-) -> Result<(), Memory>
-    requires is { IsSearch old.now new.now search.old }
-    ensures on { OnOk result (GoesOn old.now new.now search.old search.new) }
-    ensures looked { OnOk result (AllLoopsLooked old.now new.now search.new stmts.now) }
-{
-    for stmt in stmts {
-        look_at_loop(old, new, *stmt, search)?;
-    }
-    Ok(())
-}
-
 /// Looks at the loops of a procedure, where it has other marks.
 fn look_at_loops_of(
-    alloc: Global,
     old: &Flow<'_>,
     new: &Flow<'_>,
-    after: &View<'_>,
     proc: ProcId,
     search: &mut Search,
 ) -> Result<(), Memory>
     requires is { IsSearch old.now new.now search.old }
     ensures on { OnOk result (GoesOn old.now new.now search.old search.new) }
-    ensures looked { OnOk result (AreLoopsLooked old.now new.now search.new after.now proc) }
+    ensures looked { OnOk result (AreLoopsLooked old.now new.now search.new proc) }
 {
     if old.marks(proc) == new.marks(proc) {
         return Ok(());
     }
-    let stmts = after.statements(alloc, proc)?;
-    look_at_loops_among(old, new, stmts.as_slice(), search)?;
+    look_at_all(old, new, new.loops(proc), search)?;
     Ok(())
 }
 
 /// Looks at the loops of procedures that have other marks, where loops are widened.
 fn look_at_loops(
-    alloc: Global,
     old: &Flow<'_>,
     new: &Flow<'_>,
     after: &View<'_>,
@@ -273,13 +223,13 @@ fn look_at_loops(
 ) -> Result<(), Memory>
     requires is { IsSearch old.now new.now search.old }
     ensures on { OnOk result (GoesOn old.now new.now search.old search.new) }
-    ensures looked { OnOk result (old.now.engine.widening.delay < old.now.engine.budget → (k : ℕ) → k < length after.now → AreLoopsLooked old.now new.now search.new after.now k) }
+    ensures looked { OnOk result (old.now.engine.widening.delay < old.now.engine.budget → (k : ℕ) → k < length after.now → AreLoopsLooked old.now new.now search.new k) }
 {
     if old.budget() <= old.widening().delay {
         return Ok(());
     }
     for place in 0..procedure_count(after) {
-        look_at_loops_of(alloc, old, new, after, ProcId::new(place), search)?;
+        look_at_loops_of(old, new, ProcId::new(place), search)?;
     }
     Ok(())
 }
@@ -290,10 +240,9 @@ fn look_at_loops(
 /// statement is told by its number, so one that is gone is touched, and one that is new is not.
 ///
 /// It looks at the statements that come or go, at the loops that breaks among them leave, at the calls of procedures that
-/// end with another statement, and, where loops are widened, at the loops of procedures that have other marks, whose
-/// statements it goes through. Each look takes time linear in what the statement uses, as conditions and breaks, times the
-/// logarithms of the change and of how many statements are touched. Beside these looks it takes time linear in the
-/// procedures and their marks, and in the statements of procedures that have other marks.
+/// end with another statement, and, where loops are widened, at the loops of procedures that have other marks. Each look
+/// takes time linear in what the statement uses, as conditions and breaks, times the logarithms of the change and of how
+/// many statements are touched. Beside these looks it takes time linear in the procedures and their marks.
 ///
 /// # Errors
 ///
@@ -320,6 +269,6 @@ pub fn points_changed(
     look_at_puts(&old, &new, change.entries.as_slice(), &mut search)?;
     let now = table.changed(change);
     look_at_callers(&old, &new, &table.view(), &now, &mut search)?;
-    look_at_loops(alloc, &old, &new, &now, &mut search)?;
+    look_at_loops(&old, &new, &now, &mut search)?;
     Ok(search.changed.into_iter().collect(alloc)?)
 }

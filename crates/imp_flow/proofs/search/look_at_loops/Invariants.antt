@@ -6,5 +6,5 @@ use Rattle.imp_flow.proofs.search.look_at_loops.Given as goal
 abbrev pub invariant-loop-place : goal.invariant-loop-place
 invariant-loop-place l = record {
   on : GoesOn l.old l.new l.initial.search l.search;
-  looked : (k : ℕ) → k < l.place → AreLoopsLooked l.old l.new l.search l.after k;
+  looked : (k : ℕ) → k < l.place → AreLoopsLooked l.old l.new l.search k;
 }

@@ -1,10 +1,8 @@
-use Rattle.std.proofs.Common.{ℕ, ◌<◌, List, Ok, length, subst, sym, ap, ◌∙◌}
+use Rattle.std.proofs.Common.{ℕ, ◌<◌, List, Ok, length, subst, ap, ◌∙◌}
 use Rattle.std.proofs.lemmas.Iterator.{items_from_collect}
 use Rattle.std.proofs.lemmas.Iterator.Consumers.{YieldsList-from_rest}
 use Rattle.imp_syntax.specs.Plain.{Procedure}
 use Rattle.imp_check.specs.Slots.{routines_of}
-use Rattle.imp_check.specs.declared.change.Put.{Put}
-use Rattle.batch_meaning.specs.Batch.{Engine}
 use Rattle.call_contexts.specs.Settings.{Setting}
 use Rattle.imp_flow.specs.Plans.{plan_of}
 use Rattle.imp_flow.specs.Searches.{ArePutsLooked, AreCallersLooked, AreLoopsLooked}
@@ -24,7 +22,7 @@ returns g c =
     let vs = c.view-2.result in
     let ws = c.changed-now.result in
     let callers : (k : ℕ) → k < length ws → AreCallersLooked old new t vs ws k = c.in_ok-look_at_callers.ensures.looked in
-    let loops : old.engine.widening.delay < old.engine.budget → (k : ℕ) → k < length ws → AreLoopsLooked old new u ws k = c.in_ok-look_at_loops.ensures.looked in
+    let loops : old.engine.widening.delay < old.engine.budget → (k : ℕ) → k < length ws → AreLoopsLooked old new u k = c.in_ok-look_at_loops.ensures.looked in
     record {
       are =
           all_found ps qs c.args.change.now.entries.items engine old new s t u c.in_ok-collect.field-0.items
@@ -38,7 +36,7 @@ returns g c =
             on = c.in_ok-look_at_callers.ensures.on;
             at_callers = subst (λ (z : List Procedure). (k : ℕ) → k < length z → AreCallersLooked old new t ps z k) c.changed-now.ensures.is (subst (λ (z : List Procedure). (k : ℕ) → k < length ws → AreCallersLooked old new t z ws k) c.view-2.ensures.is callers);
             further = c.in_ok-look_at_loops.ensures.on;
-            at_loops = subst (λ (z : List Procedure). old.engine.widening.delay < old.engine.budget → (k : ℕ) → k < length z → AreLoopsLooked old new u z k) c.changed-now.ensures.is loops;
+            at_loops = subst (λ (z : List Procedure). old.engine.widening.delay < old.engine.budget → (k : ℕ) → k < length z → AreLoopsLooked old new u k) c.changed-now.ensures.is loops;
           })
           c.into_iter.ensures.into_iter_gives.4
           (items_from_collect {E = Unit {0}} (Ok c.in_ok-collect.field-0) c.in_ok-collect.ensures.ran (YieldsList-from_rest u.changed.keys c.into_iter.ensures.into_iter_gives.0));

@@ -2,10 +2,28 @@ use Rattle.std.proofs.Common.{subst, sym, ap, ◌∙◌, Some, List, ℕ}
 use Rattle.std.specs.Bool.{OnTrue}
 use Rattle.std.specs.Map.{keys_of}
 use Rattle.std.specs.Prelude.{◌≡◌}
-use Rattle.imp_check.specs.Entries.{entries_of, entry_of}
-use Rattle.call_contexts.specs.Differences.{lost, gained}
-use Rattle.call_contexts.proofs.Parted.{tally_changed, marks_kept_if, made_of}
+use Rattle.imp_check.specs.Slots.{routines_of}
+use Rattle.call_contexts.specs.declared.setting.Part.{Part}
+use Rattle.call_contexts.proofs.Parted.{tally_changed, marks_kept_if, made_of, part_same, shared_part}
 use Rattle.call_contexts.proofs.setting.Setting.changed_part.Goals as goal
+
+pub returns-then-are_none : goal.returns-then-are_none
+returns-then-are_none c =
+    let w = c.args.self.now.engine.widening in
+    let old = c.args.old.now in
+    let new = c.args.new.now in
+    let puts = c.args.puts.now in
+    let k = c.args.proc in
+    let ms = c.args.before.now in
+    let t = c.args.tally.now in
+    let os = c.args.loops in
+    let ls = c.in_ok-differences.differences.lost in
+    let gs = c.in_ok-differences.differences.gained in
+    record {
+      is =
+          shared_part c.shared.result (λ (p : Part). p.marks) (λ (p : Part). p.tally) (λ (p : Part). p.loops) w (routines_of new) k ms t os c.shared.ensures.marks c.shared.ensures.tally c.shared.ensures.loops
+          (part_same w old new puts k ms t os ls gs c.requires.brings c.requires.thresholds c.requires.there c.requires.marks c.requires.tally c.requires.loops c.in_ok-differences.ensures.are c.if-are_none.ensures.none);
+    }
 
 pub marks_over-requires-clause-counts : goal.marks_over-requires-clause-counts
 marks_over-requires-clause-counts c =
@@ -16,10 +34,10 @@ marks_over-requires-clause-counts c =
     let k = c.args.proc in
     let t = c.args.tally.now in
     let u = c.in_ok-counts.counts in
-    let ls = lost k (entry_of (entries_of old)) puts in
-    let gs = gained k puts in
-    let makes = made_of t c.counts.result.now u ls c.as_slice.result.now gs c.as_slice-2.result.now c.counts.ensures.is (c.as_slice.ensures.same ∙ c.in_ok-lost.ensures.are) (c.as_slice-2.ensures.same ∙ c.in_ok-gained.ensures.are) c.in_ok-counts.ensures.told in
-    tally_changed w old new puts k t u c.requires.brings c.requires.thresholds c.requires.there c.requires.part.tally_is makes
+    let ls = c.in_ok-differences.differences.lost in
+    let gs = c.in_ok-differences.differences.gained in
+    let makes = made_of t c.counts.result.now u ls c.lost-lost.result.now gs c.gained-gained.result.now c.counts.ensures.is c.lost-lost.ensures.are c.gained-gained.ensures.are c.in_ok-counts.ensures.told in
+    tally_changed w old new puts k t u ls gs c.requires.brings c.requires.thresholds c.requires.there c.requires.tally c.in_ok-differences.ensures.are makes
 
 pub marks_over-requires-clause-kept : goal.marks_over-requires-clause-kept
 marks_over-requires-clause-kept c =
@@ -30,11 +48,11 @@ marks_over-requires-clause-kept c =
     let k = c.args.proc in
     let t = c.args.tally.now in
     let u = c.in_ok-counts.counts in
-    let ls = lost k (entry_of (entries_of old)) puts in
-    let gs = gained k puts in
-    let makes = made_of t c.counts.result.now u ls c.as_slice.result.now gs c.as_slice-2.result.now c.counts.ensures.is (c.as_slice.ensures.same ∙ c.in_ok-lost.ensures.are) (c.as_slice-2.ensures.same ∙ c.in_ok-gained.ensures.are) c.in_ok-counts.ensures.told in
-    marks_kept_if c.has_same_numbers-is_kept.result w old new k c.args.before.now t u c.requires.thresholds c.requires.part
-    (tally_changed w old new puts k t u c.requires.brings c.requires.thresholds c.requires.there c.requires.part.tally_is makes)
+    let ls = c.in_ok-differences.differences.lost in
+    let gs = c.in_ok-differences.differences.gained in
+    let makes = made_of t c.counts.result.now u ls c.lost-lost.result.now gs c.gained-gained.result.now c.counts.ensures.is c.lost-lost.ensures.are c.gained-gained.ensures.are c.in_ok-counts.ensures.told in
+    marks_kept_if c.has_same_numbers-is_kept.result w old new k c.args.before.now t u c.requires.thresholds c.requires.marks c.requires.tally
+    (tally_changed w old new puts k t u ls gs c.requires.brings c.requires.thresholds c.requires.there c.requires.tally c.in_ok-differences.ensures.are makes)
     (subst (λ (z : List (ℕ × ℕ)). OnTrue c.has_same_numbers-is_kept.result (keys_of u ≡ keys_of z)) c.counts-3.ensures.is c.has_same_numbers-is_kept.ensures.same)
 
 pub returns : goal.returns
@@ -46,12 +64,13 @@ returns c =
     let k = c.args.proc in
     let t = c.args.tally.now in
     let u = c.in_ok-counts.counts in
-    let ls = lost k (entry_of (entries_of old)) puts in
-    let gs = gained k puts in
-    let makes = made_of t c.counts.result.now u ls c.as_slice.result.now gs c.as_slice-2.result.now c.counts.ensures.is (c.as_slice.ensures.same ∙ c.in_ok-lost.ensures.are) (c.as_slice-2.ensures.same ∙ c.in_ok-gained.ensures.are) c.in_ok-counts.ensures.told in
+    let ls = c.in_ok-differences.differences.lost in
+    let gs = c.in_ok-differences.differences.gained in
+    let makes = made_of t c.counts.result.now u ls c.lost-lost.result.now gs c.gained-gained.result.now c.counts.ensures.is c.lost-lost.ensures.are c.gained-gained.ensures.are c.in_ok-counts.ensures.told in
     record {
       is = record {
         marks_are = c.in_ok-marks.ensures.are;
-        tally_is = tally_changed w old new puts k t u c.requires.brings c.requires.thresholds c.requires.there c.requires.part.tally_is makes ∙ ap Some (sym c.in_ok-new.ensures.is);
+        tally_is = tally_changed w old new puts k t u ls gs c.requires.brings c.requires.thresholds c.requires.there c.requires.tally c.in_ok-differences.ensures.are makes ∙ ap Some (sym c.in_ok-new.ensures.is);
+        loops_are = c.requires.loops;
       };
     }
