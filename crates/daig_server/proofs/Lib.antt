@@ -1,4 +1,3 @@
-pub mod NumberingLemmas
 pub mod FewLemmas
 pub mod LineLemmas
 pub mod ServeLemmas
@@ -8,4 +7,3 @@ pub mod TallyLemmas
 pub mod SourceLemmas
 pub mod ServedLemmas
 pub mod GeneratedLemmas
-pub mod LengthLemmas

@@ -15,7 +15,6 @@ use Rattle.request_json.specs.declared.error.ReadError.{ReadError}
 use Rattle.request_json.specs.declared.request.Query.{Query}
 use Rattle.request_json.specs.declared.request.Request.{Request}
 use Rattle.request_json.specs.declared.request.Request.TheVariants as q
-use Rattle.request_json.specs.declared.reply.Reply.{Reply}
 use Rattle.request_json.specs.declared.reply.Reply.TheVariants as r
 use Rattle.request_json.specs.declared.reply.Refusal.{Refusal}
 use Rattle.request_json.specs.declared.reply.Refusal.TheVariants as refusal
@@ -25,10 +24,9 @@ use Rattle.line_replies.specs.Texts.{program_reply}
 use Rattle.imp_slots.specs.Plain.{Routine}
 use Rattle.analysis_words.specs.declared.refusal.Refusal.TheVariants.{LongString}
 use Rattle.line_answers.specs.Lines.{Served, line_turn, read_turn, request_turn, server}
-use Rattle.line_answers.specs.Turns.{Turn, ask_by, ask_turn, cancel_by, edit_by, edit_turn, goes, move_turn, state_by, why_by, step_by, step_of, told}
+use Rattle.line_answers.specs.Turns.{Turn, ask_by, cancel_by, edit_by, edit_turn, goes, move_turn, state_by, why_by, step_by, step_of, told}
 use Rattle.line_answers.specs.Edits.{replace_of, insert_of, delete_of, guard_of, declare_of, add_of, drop_of}
 use Rattle.line_answers.specs.Readings.{Readings}
-use Rattle.gen_summary.specs.declared.kind.Kind.{Kind}
 use Rattle.gen_summary.specs.declared.kind.Kind.TheVariants.{Cost}
 use Rattle.gen_summary.specs.declared.tally.Tally.{Tally}
 use Rattle.gen_summary.specs.Summary.{added, cost_in, kind_of, nothing, summary_text, IsWithin}

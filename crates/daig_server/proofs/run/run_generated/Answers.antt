@@ -1,13 +1,11 @@
 use Rattle.std.proofs.Common.{◌∙◌, [], ap, length, arith}
 use Rattle.daig_server.specs.Sources.{source_of}
 use Rattle.daig_server.proofs.GeneratedLemmas.{generated_accepted, generated_ends}
-use Rattle.daig_server.proofs.LengthLemmas.{source_short}
 use Rattle.daig_server.proofs.run.run_generated.Goals as goal
 
 pub run_source-requires-clause-short : goal.run_source-requires-clause-short
 run_source-requires-clause-short g c =
-    let short = source_short c.args.drawn.seed c.args.drawn.size c.requires.few in
-    omega (arith, short, ap length (c.as_slice-source.ensures.value ∙ (c.in-Ok.ensures {u = tt}).text))
+    omega (arith, c.source.ensures.short, c.requires.few, ap length (c.as_slice-source.ensures.value ∙ (c.in-Ok.ensures {u = tt}).text))
 
 pub returns-clause-status : goal.returns-clause-status
 returns-clause-status g c =

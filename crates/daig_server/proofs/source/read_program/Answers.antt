@@ -1,4 +1,4 @@
-use Rattle.daig_server.proofs.NumberingLemmas.{tree_numbered}
+use Rattle.line_answers.proofs.Sources.{tree_numbered}
 use Rattle.daig_server.proofs.source.read_program.Goals as goal
 
 pub returns-in-Ok-clause-numbered : goal.returns-in-Ok-clause-numbered
