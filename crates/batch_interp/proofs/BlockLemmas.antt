@@ -8,7 +8,7 @@ use Rattle.domain_laws.specs.Operations.{Operations}
 use Rattle.batch_meaning.specs.Values as plain
 use Rattle.batch_meaning.specs.Values.{Value, lift, lift2}
 use Rattle.batch_meaning.specs.Batch as meaning
-use Rattle.batch_meaning.specs.Batch.{Engine, Passed, after, next_of, settle, iterate, joined, head_of, behind, batch}
+use Rattle.batch_meaning.specs.Batch.{Engine, Passed, after, next_of, settle, iterate, joined, behind, batch}
 use Rattle.batch_interp.specs.Answered.{value_of}
 use Rattle.batch_interp.specs.Frames.{Plan, calls_in, passed}
 use Rattle.batch_interp.specs.Passing.{states, Ends}

@@ -4,7 +4,6 @@ ghost use Rattle.imp_slots.specs.Plain.{Does, DoBreak, Stop, If, While, Call};
 ghost use Rattle.imp_slots.specs.ActionViews.{effect_of};
 ghost use Rattle.imp_slots.specs.BlockViews.{before_code};
 ghost use Rattle.batch_meaning.specs.Values as plain;
-ghost use Rattle.batch_meaning.specs.Values.{lift, lift2};
 ghost use Rattle.batch_meaning.specs.Batch.{Engine, next_of, head_of, joined};
 ghost use Rattle.batch_interp.specs.Answered.{value_of};
 ghost use Rattle.batch_interp.specs.Frames.{marks_at, calls_in, passed};

@@ -1,5 +1,5 @@
 //! Where a block stands: its procedure, and the calls that led to it.
-ghost use Rattle.std.specs.Prelude.{◌≡◌, ◌-◌, ◌∷◌, [], ◌<◌, ◌≤◌, length, map, reverse, take, slice_get, IfOk};
+ghost use Rattle.std.specs.Prelude.{◌≡◌, ◌-◌, ◌∷◌, [], ◌<◌, length, map, reverse, take, slice_get, IfOk};
 ghost use Rattle.std.specs.Option.{option_copied};
 ghost use Rattle.call_contexts.specs.Settings.{setting_of};
 ghost use Rattle.batch_interp.specs.Frames.{marks_at};

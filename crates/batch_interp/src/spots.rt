@@ -1,8 +1,7 @@
 //! Statements by their numbers, with what is known in front of them.
 ghost use Rattle.std.specs.Prelude.{◌≡◌, IfOk, true, false, option_map};
 ghost use Rattle.imp_slots.specs.Plain.{Stop, While};
-ghost use Rattle.imp_slots.specs.BlockViews.{before_code, number_of};
-ghost use Rattle.batch_meaning.specs.Values as plain;
+ghost use Rattle.imp_slots.specs.BlockViews.{before_code};
 ghost use Rattle.batch_meaning.specs.Values.{lift};
 ghost use Rattle.batch_meaning.specs.Batch.{head_of};
 ghost use Rattle.batch_meaning.specs.Places.{find};

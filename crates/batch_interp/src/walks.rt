@@ -1,9 +1,8 @@
 //! The way along a chain to a location.
-ghost use Rattle.std.specs.Prelude.{◌≡◌, ◌<◌, ◌-◌, [], ◌∷◌, length, reverse, take, slice_get, Option, Some, None, option_map, IfOk, IfSome, suc};
+ghost use Rattle.std.specs.Prelude.{◌≡◌, ◌<◌, ◌-◌, [], ◌∷◌, length, reverse, Option, Some, None, IfOk};
 ghost use Rattle.batch_meaning.specs.Values.{lift};
-ghost use Rattle.batch_meaning.specs.Places.{spots_in, entered, entry, value_in, value_at};
+ghost use Rattle.batch_meaning.specs.Places.{entered, entry};
 ghost use Rattle.batch_interp.specs.Answered.{value_of};
-ghost use Rattle.batch_interp.specs.Frames.{earlier};
 ghost use Rattle.batch_interp.specs.Seeking.{call_at};
 ghost use Rattle.batch_interp.specs.Walking.{entered_of, IsEntered, called_from};
 
@@ -12,8 +11,8 @@ use crate::frames::{Frame, Plan};
 use crate::spots::{Seen, seek};
 use domain_laws::{Domain, Steps};
 use imp_slots::{SlotCall, SlotNode};
-use imp_syntax::{Location, StmtId};
-use plain_values::{Items, Memory, Text};
+use imp_syntax::StmtId;
+use plain_values::Memory;
 use std::alloc::Global;
 use std::sync::ledger::Ledger;
 

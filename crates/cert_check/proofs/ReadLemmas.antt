@@ -9,7 +9,7 @@ use Rattle.script_loop.specs.Lines.{whole_lines, last_part, last_line}
 use Rattle.plain_values.proofs.Cases.{by_test}
 use Rattle.cert_meaning.specs.Portable.{Portable}
 use Rattle.cert_lines.specs.Lines as plain
-use Rattle.cert_lines.specs.Lines.{written_in, unless_there, with_entry, entry_of, entries}
+use Rattle.cert_lines.specs.Lines.{unless_there, with_entry, entry_of, entries}
 use Rattle.cert_check.specs.Table.{HasEntries}
 use Rattle.cert_check.specs.Reading.{entry_told, lines_from, IsRead, IsAdded, IsReading, GoesOn}
 use Rattle.cert_check.specs.declared.entry.Entry.{Entry}

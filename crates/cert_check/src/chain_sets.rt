@@ -1,6 +1,8 @@
 //! The chains to the procedures, as sets.
-ghost use Rattle.std.specs.Prelude.{◌≡◌, [], List, ℕ, true, map, reverse, IfOk, OnOk, if◌then◌else◌};
+ghost use Rattle.std.specs.Prelude.{◌≡◌, [], List, ℕ, None, true, map, reverse, IfOk, OnOk, if◌then◌else◌};
 ghost use Rattle.std.specs.Str.{bytes_eq};
+ghost use Rattle.imp_slots.specs.Fits.{IsChecked};
+ghost use Rattle.imp_check.specs.Programs.{check_fault};
 ghost use Rattle.imp_check.specs.Slots.{routines_of};
 ghost use Rattle.program_chains.specs.Chains.{chains};
 ghost use Rattle.cert_lines.specs.Lines.{is_chain};
@@ -77,12 +79,14 @@ pub(crate) struct ChainSets {
 }
 
 impl ChainSets {
-    /// The chains to the procedures of a program. It takes the time of finding them, and time linear in them.
+    /// The chains to the procedures of a program, which has no fault as it is read. It takes the time of finding them, and
+    /// time linear in them.
     pub(crate) fn new(alloc: Global, prog: &View<'_>) -> Result<ChainSets, Memory>
         ensures are { IfOk result (λ t. AreChains (routines_of prog.now) t.sets) }
+        ensures faultless { check_fault prog.now ≡ None }
+        ensures fit { IsChecked (routines_of prog.now) }
     {
-        prog.procs();
-        let mut sets = Items::new(alloc);
+        let mut sets = Items::with_capacity(alloc, prog.procs().len())?;
         for place in 0..procedure_count(prog) {
             let chains = chains(alloc, prog, ProcId::new(place), &[])?;
             sets.push(set_of(alloc, chains.as_slice())?)?;

@@ -1,5 +1,5 @@
 //! One line of a certificate.
-ghost use Rattle.std.specs.Prelude.{◌≡◌, ◌∷◌, List, IfOk, reverse, map, option_map, option_and_then};
+ghost use Rattle.std.specs.Prelude.{◌≡◌, IfOk, reverse, option_map, option_and_then};
 ghost use Rattle.serde_json.specs.View.{view};
 ghost use Rattle.imp_check.specs.Slots.{routines_of};
 ghost use Rattle.cert_meaning.specs.Chained.{layout_around, layouts_around};

@@ -1,5 +1,5 @@
 //! The lines of a certificate, read once.
-ghost use Rattle.std.specs.Prelude.{◌≡◌, ◌+◌, ◌<◌, ◌≤◌, ◌^◌, [], IfOk, OnOk};
+ghost use Rattle.std.specs.Prelude.{◌+◌, ◌<◌, ◌≤◌, ◌^◌, [], length, IfOk, OnOk};
 ghost use Rattle.imp_check.specs.Slots.{routines_of};
 ghost use Rattle.script_loop.specs.Lines.{all_lines, last_line};
 ghost use Rattle.cert_lines.specs.Lines as plain;
@@ -112,8 +112,8 @@ fn read_rest<D: Portable>(
     }
 }
 
-/// Reads the lines of a certificate in their order, up to the first bad one. It takes time linear in the certificate,
-/// beside what the domain takes for its texts.
+/// Reads the lines of a certificate, which has fewer than 2^64 bytes, in their order, up to the first bad one. It takes
+/// time linear in the certificate, beside what the domain takes for its texts.
 pub(crate) fn read_lines<D: Portable>(
     alloc: Global,
     dom: &D,
@@ -123,6 +123,7 @@ pub(crate) fn read_lines<D: Portable>(
 ) -> Result<Lines<D::State>, Memory>
     requires chains { AreChains (routines_of prog.now) chains.now.sets }
     ensures is { IfOk result (IsRead (plain.entries (D.port dom.now) (routines_of prog.now) 1 [] (all_lines cert.now))) }
+    ensures short { length cert.now < 2 ^ 64 }
 {
     let mut written = Written::new(alloc);
     let mut line: Vec<u8> = Vec::new(alloc);

@@ -2,7 +2,6 @@
 ghost use Rattle.std.specs.Prelude.{◌≡◌, ◌++◌, IfOk, OnOk, codes, decimal, reverse};
 ghost use Rattle.request_json.specs.Replies.{count, list_of};
 ghost use Rattle.serde_json.specs.Written.{compact_text};
-ghost use Rattle.cert_meaning.specs.Followed as plain;
 ghost use Rattle.cert_lines.specs.Verify.{verified_data, verified_line, why_name, No, BadLine, Yes};
 ghost use Rattle.cert_check.specs.Following.{why_of};
 ghost use Rattle.cert_check.specs.Verified.{verified_of};

@@ -1,5 +1,7 @@
 //! Checking a certificate.
-ghost use Rattle.std.specs.Prelude.{◌≡◌, length, IfOk};
+ghost use Rattle.std.specs.Prelude.{◌≡◌, ◌<◌, ◌^◌, None, length, IfOk};
+ghost use Rattle.imp_slots.specs.Fits.{IsChecked};
+ghost use Rattle.imp_check.specs.Programs.{check_fault};
 ghost use Rattle.imp_check.specs.Slots.{routines_of};
 ghost use Rattle.cert_meaning.specs.Followed.{followed_program};
 ghost use Rattle.cert_meaning.specs.Portable.{HasUpperBounds};
@@ -14,7 +16,6 @@ use crate::following::follow_main;
 use crate::reading::{Lines, read_lines};
 use crate::verified::{Verified, verified_line};
 use crate::written::Written;
-use call_contexts::main_place;
 use cert_accepted::{certificates_are_accepted, checked_programs_have_lines};
 use cert_lines::a_yes_is_sound;
 use imp_check::Checked;
@@ -32,16 +33,16 @@ fn verify_written<D: Portable, L: Ledger>(
     written: &Written<D::State>,
     steps: &mut Steps<L>,
 ) -> Result<Verified, Memory>
+    requires some { 0 < length (routines_of prog.now) }
     ensures is { IfOk result (λ v. verified_of v ≡ of_followed (followed_program (D.operations dom.now) (D.port dom.now).leq (state_at written.now) (routines_of prog.now))) }
 {
-    main_place(&prog.view());
     match follow_main(alloc, dom, prog.routines(), written, steps)? {
         Followed::Behind(_) => Ok(Verified::Yes),
         Followed::Fails { at, chain, why } => Ok(Verified::No { at, chain, why }),
     }
 }
 
-/// What checking comes to.
+/// What checking comes to, of a program without faults and fewer than 2^64 bytes.
 #[tactic(auto, unfolding(cert_lines::specs::Verify::verify))]
 fn verified<D: Portable, L: Ledger>(
     alloc: Global,
@@ -51,19 +52,15 @@ fn verified<D: Portable, L: Ledger>(
     steps: &mut Steps<L>,
 ) -> Result<Verified, Memory>
     ensures is { IfOk result (λ v. verified_of v ≡ verify (D.operations dom.now) (D.port dom.now) (routines_of prog.now) cert.now) }
+    ensures faultless { check_fault prog.now ≡ None }
+    ensures fit { IsChecked (routines_of prog.now) }
+    ensures short { IfOk result (λ _. length cert.now < 2 ^ 64) }
 {
     let chains = ChainSets::new(alloc, &prog.view())?;
     match read_lines(alloc, dom, prog, &chains, cert)? {
         Lines::Bad(line) => Ok(Verified::BadLine(line)),
         Lines::Read(written) => verify_written(alloc, dom, prog, &written, steps),
     }
-}
-
-/// How many bytes a certificate has, which are fewer than 2^64.
-fn byte_count(cert: &[u8]) -> usize
-    ensures is { result ≡ length cert.now }
-{
-    cert.len()
 }
 
 /// The line that says whether a certificate of a program holds: `{"verify":"yes"}`; or the first bad line, counted
@@ -94,8 +91,5 @@ pub fn verify<D: Portable, L: Ledger>(
     a_yes_is_sound::<D>();
     certificates_are_accepted::<D>();
     checked_programs_have_lines();
-    prog.routines();
-    prog.program();
-    byte_count(cert);
     verified_line(alloc, &verified)
 }

@@ -2,7 +2,6 @@
 ghost use Rattle.std.specs.Prelude.{◌≡◌, ◌++◌, ◌∷◌, [], IfOk, OnOk, List, map, reverse};
 ghost use Rattle.serde_json.specs.Written.{compact_text};
 ghost use Rattle.imp_slots.specs.Plain.{Routine};
-ghost use Rattle.domain_laws.specs.Operations.{Operations};
 ghost use Rattle.batch_meaning.specs.Batch.{Engine};
 ghost use Rattle.batch_interp.specs.Heads.{head_told};
 ghost use Rattle.cert_lines.specs.Certificate.{Certificate, Gives, certificate_text};

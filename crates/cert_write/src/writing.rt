@@ -1,5 +1,5 @@
 //! Certificates.
-ghost use Rattle.std.specs.Prelude.{◌≡◌, ◌++◌, Contains, List, IfOk, map, reverse, slice_get};
+ghost use Rattle.std.specs.Prelude.{◌≡◌, Contains, IfOk, map, reverse, slice_get};
 ghost use Rattle.imp_check.specs.Slots.{routines_of};
 ghost use Rattle.program_chains.specs.Chains.{chains};
 ghost use Rattle.call_contexts.specs.Settings.{engine_of, setting_of};

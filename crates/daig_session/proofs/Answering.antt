@@ -1,5 +1,5 @@
 -- What a question answers is the machine's.
-use Rattle.std.proofs.Common.{◌≡◌, ℕ, suc, ◌+◌, ◌*◌, ◌≤◌, List, [], ◌∷◌, ◌++◌, length, Some, Err, refl, sym, ap, subst, ◌∙◌, arith}
+use Rattle.std.proofs.Common.{◌≡◌, ℕ, suc, ◌+◌, ◌*◌, ◌≤◌, List, [], ◌∷◌, ◌++◌, length, Some, refl, sym, ap, subst, ◌∙◌, arith}
 use Rattle.imp_syntax.specs.declared.edit.Location.{Location}
 use Rattle.imp_slots.specs.Fits.{IsChecked}
 use Rattle.domain_laws.specs.Operations.{Operations}
@@ -20,7 +20,7 @@ use Rattle.daig_session.specs.Books.{flow_in}
 use Rattle.daig_session.specs.Going.{IsAsked, IsRefused}
 use Rattle.daig_session.specs.Holds.{Holds}
 use Rattle.daig_session.specs.Reports.{IsUnticked}
-use Rattle.daig_session.specs.Turns.{Questions}
+use Rattle.daig_session.specs.Turns.{Fails}
 use Rattle.daig_session.proofs.Filled.{added_holds, as_many}
 
 append_none : {A : Type 0} (xs : List A) → xs ++ [] ≡ xs
@@ -52,9 +52,9 @@ module _ {S : Type 0} (dom : Operations S) (book : Book) (store : Store S) where
   pub answer_here : (m : Machine) (l : Location) (string : List ℕ) → Holds dom store book m → answer dom (flow_in book).engine (flow_in book).program l string ≡ answer_at dom l string m
   answer_here m l string h = ap (λ (z : Machine). answer_at dom l string z) h.is
 
-  pub refused_turn : (m : Machine) (l : Location) (string : List ℕ) (e : QueryError) → Holds dom store book m → IsRefused (answer dom (flow_in book).engine (flow_in book).program l string) e → Questions dom m (Holds dom store book) l string (Err e)
-  refused_turn m l string (Refused r) h is = (sym (answer_here m l string h) ∙ is, h)
-  refused_turn m l string Memory h is = between_none (missing_at dom l string m) m (Holds dom store book) h
+  pub fails_refused : (m : Machine) (l : Location) (string : List ℕ) (e : QueryError) → Holds dom store book m → IsRefused (answer dom (flow_in book).engine (flow_in book).program l string) e → Fails dom m (Holds dom store book) l string e
+  fails_refused m l string (Refused r) h is = (sym (answer_here m l string h) ∙ is, h)
+  fails_refused m l string Memory h is = between_none (missing_at dom l string m) m (Holds dom store book) h
 
   pub says_here : (m : Machine) (l : Location) (string : List ℕ) (v : Value S) → Holds dom store book m → Says (answer dom (flow_in book).engine (flow_in book).program l string) (Some v) → Says (answer_at dom l string m) (Some v)
   says_here m l string v h s = subst (λ a. Says a (Some v)) (answer_here m l string h) s

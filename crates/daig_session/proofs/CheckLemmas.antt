@@ -4,10 +4,9 @@ use Rattle.std.specs.Option.{option_copied}
 use Rattle.std.specs.Prelude.{IfOk, IfSome, IsSome}
 use Rattle.imp_syntax.specs.Plain.{Statement, Statements, Ends, Starts, Procedure, number_of, program_numbers}
 use Rattle.imp_syntax.specs.Plain as tree
-use Rattle.imp_slots.specs.ActionViews.{act_of, action_of, effect_of}
+use Rattle.imp_slots.specs.ActionViews.{act_of}
 use Rattle.imp_slots.specs.Plain.{Act, Code, DoBreak, Does, Effect}
 use Rattle.imp_slots.specs.declared.actions.SlotStmt.{SlotStmt}
-use Rattle.imp_slots.specs.Plain as slot
 use Rattle.imp_check.specs.Entries.{block_entries, entries_from, entries_of, entry_at, entry_of, frame_at, context_at, inside, inside_loop, procedure_entries, statement_entries}
 use Rattle.imp_check.specs.Parts.{first_or}
 use Rattle.imp_check.specs.Programs.{AreNumbered}
@@ -18,6 +17,7 @@ use Rattle.imp_check.specs.declared.entry.Entry.{Entry}
 use Rattle.imp_check.specs.declared.entry.Which.TheVariants as which
 use Rattle.imp_check.proofs.RebuildLemmas.{Known, all_numbers, entry_numbers}
 use Rattle.imp_check.proofs.WalkLemmas.{all_known}
+use Rattle.call_contexts.proofs.LiteralLemmas.{effect_again}
 use Rattle.analysis_words.specs.declared.findings.Check.{Check as Kind}
 use Rattle.analysis_words.specs.declared.findings.Finding.{Finding}
 use Rattle.analysis_words.specs.declared.verdict.Verdict.{Verdict}
@@ -33,23 +33,6 @@ checked_entries (e ∷ es) = checked_form e.number e.form ++ checked_entries es
 checked_both : (xs ys : List Entry) → checked_entries (xs ++ ys) ≡ checked_entries xs ++ checked_entries ys
 checked_both [] ys = refl
 checked_both (x ∷ xs) ys = ap (λ cs. checked_form x.number x.form ++ cs) (checked_both xs ys) ∙ sym (append_assoc (checked_form x.number x.form) (checked_entries xs) (checked_entries ys))
-
-effect_again : (e : Effect) → effect_of (action_of e) ≡ e
-effect_again slot.Skip = refl
-effect_again (slot.Assert g) = refl
-effect_again (slot.SetInt x e) = refl
-effect_again (slot.Input x) = refl
-effect_again (slot.ReadElement x a e) = refl
-effect_again (slot.ReadItem x q) = refl
-effect_again (slot.MakeArray a e) = refl
-effect_again (slot.CopyArray a b) = refl
-effect_again (slot.WriteElement a e f) = refl
-effect_again (slot.SetNull p) = refl
-effect_again (slot.MakeCell p) = refl
-effect_again (slot.CopyLink p q) = refl
-effect_again (slot.ReadNext p q) = refl
-effect_again (slot.WriteNext p q) = refl
-effect_again (slot.WriteItem p e) = refl
 
 -- a statement by its entries, and a block by those of its statements
 module _ (f : Frame) where

@@ -1,5 +1,5 @@
 -- What is listed for a question is the machine's.
-use Rattle.std.proofs.Common.{◌≡◌, ℕ, List, Some, Err, sym, ap, subst, ◌∙◌}
+use Rattle.std.proofs.Common.{◌≡◌, ℕ, List, Some, sym, ap, subst, ◌∙◌}
 use Rattle.imp_syntax.specs.declared.edit.Location.{Location}
 use Rattle.imp_slots.specs.Fits.{IsChecked}
 use Rattle.domain_laws.specs.Operations.{Operations}
@@ -12,15 +12,12 @@ use Rattle.daig_query.specs.declared.walk.Walk.{Walk}
 use Rattle.daig_query.specs.Answered.{AreFilled}
 use Rattle.why_slice.specs.Upstream.{upstream}
 use Rattle.session_machine.specs.Machine.{Machine}
-use Rattle.session_machine.specs.Turns.{answer_at, missing_at, or_none, upstream_at, upstream_in}
+use Rattle.session_machine.specs.Turns.{answer_at, or_none, upstream_at, upstream_in}
 use Rattle.daig_session.specs.declared.book.Book.{Book}
-use Rattle.daig_session.specs.declared.error.QueryError.{QueryError}
-use Rattle.daig_session.specs.declared.error.QueryError.TheVariants.{Refused, Memory}
 use Rattle.daig_session.specs.Books.{flow_in, machine_of}
-use Rattle.daig_session.specs.Going.{IsAnswered, IsAsked, IsRefused}
+use Rattle.daig_session.specs.Going.{IsAnswered, IsAsked}
 use Rattle.daig_session.specs.Holds.{Holds}
-use Rattle.daig_session.specs.Turns.{Explains}
-use Rattle.daig_session.proofs.Answering.{answer_here, between_none}
+use Rattle.daig_session.proofs.Answering.{answer_here}
 use Rattle.daig_session.proofs.Asked.{asked_answered}
 
 -- what is told of a list of statements
@@ -28,11 +25,13 @@ abbrev pub IsListed : {S : Type 0} → Operations S → Store S → Walk → Pla
 IsListed dom store walk plan l string stmts =
     (p : ℕ) (ts : List Target) → procedure_of plan.program l ≡ In p → targets plan.program p l string ≡ Some ts → AreFilled dom store walk plan ts → stmts ≡ upstream dom plan.engine plan.program same_name l string p ts
 
-module _ {S : Type 0} (dom : Operations S) (book : Book) (store : Store S) where
-  pub why_refused_turn : (m : Machine) (l : Location) (string : List ℕ) (e : QueryError) → Holds dom store book m → IsRefused (answer dom (flow_in book).engine (flow_in book).program l string) e → Explains dom m (Holds dom store book) l string (Err e)
-  why_refused_turn m l string (Refused r) h is = (sym (answer_here dom book store m l string h) ∙ is, h)
-  why_refused_turn m l string Memory h is = between_none (missing_at dom l string m) m (Holds dom store book) h
+-- it is the list of what the answer depends on
+pub listed_is : {S : Type 0} (new dom : Operations S) (store : Store S) (walk : Walk) (flow plan : Plan) (l : Location) (string stmts : List ℕ) (ts : List Target) → new ≡ dom → flow ≡ plan → IsListed new store walk flow l string stmts →
+    (a : IsAsked plan.program l string ts) → AreFilled dom store walk plan ts → stmts ≡ upstream dom plan.engine plan.program same_name l string a.place ts
+listed_is {S} new dom store walk flow plan l string stmts ts is same listed a filled =
+    subst (λ (d : Operations S). IsListed d store walk plan l string stmts) is (subst (λ (p : Plan). IsListed new store walk p l string stmts) same listed) a.place ts a.there a.are filled
 
+module _ {S : Type 0} (dom : Operations S) (book : Book) (store : Store S) where
   -- a question that is asked has an answer
   pub answered_here : (m : Machine) (l : Location) (string : List ℕ) (ts : List Target) → IsChecked (flow_in book).program → Holds dom store book m → IsAsked (flow_in book).program l string ts → IsAnswered (answer_at dom l string m)
   answered_here m l string ts checked h a = subst IsAnswered (answer_here dom book store m l string h) (asked_answered dom (flow_in book).engine (flow_in book).program l string ts checked a)

@@ -30,6 +30,27 @@ pub take_all : {A : Type 0} (xs : List A) → take (length xs) xs ≡ xs
 take_all [] = refl
 take_all (x ∷ xs) = ap (λ ys. x ∷ ys) (take_all xs)
 
+-- How many cells were filled is no part of what is in order.
+pub ready_costing : {S : Type 0} (dom : Operations S) (store : Store S) (book : Book) (cost : ℕ) → IsReady dom store book → IsReady dom store (record book { cost = cost })
+ready_costing dom store book cost r = record {
+  right = r.right;
+  order = record {
+    set = r.order.set;
+    fine = r.order.fine;
+    some = r.order.some;
+    low = r.order.low;
+    below = r.order.below;
+    behind = r.order.behind;
+    ahead = r.order.ahead;
+    are_open = r.order.are_open;
+  };
+  waiting = r.waiting;
+}
+
+-- the domain and the book are the same
+pub answered_costing : {S : Type 0} (new dom : Operations S) (store : Store S) (book after : Book) (cost : ℕ) (m : Machine) → new ≡ dom → after ≡ book → Holds dom store (record book { cost = cost }) m → Holds new store (record after { cost = cost }) m
+answered_costing {S} new dom store book after cost m is same h = subst (λ (d : Operations S). Holds d store (record after { cost = cost }) m) (sym is) (subst (λ (b : Book). Holds dom store (record b { cost = cost }) m) (sym same) h)
+
 module _ {S : Type 0} (dom : Operations S) (book : Book) (store new : Store S) where
   -- a question asks for targets
   pub asks_targets : (l : Location) (string : List ℕ) (ts : List Target) → IsAsked (flow_in book).program l string ts → AreTargets (flow_in book) ts

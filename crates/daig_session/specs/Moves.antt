@@ -1,8 +1,9 @@
 -- Moves from one program to another.
-use Rattle.std.specs.Prelude.{◌≡◌, ◌↔◌, ℕ, ◌≤◌, true, List, [], ◌∷◌}
+use Rattle.std.specs.Prelude.{◌≡◌, ◌↔◌, ℕ, ◌≤◌, true, List, [], ◌∷◌, Option, MatchOption}
 use Rattle.imp_syntax.specs.Plain.{Procedure}
 use Rattle.imp_syntax.specs.declared.edit.Edit.{Edit}
 use Rattle.imp_check.specs.Slots.{routines_of}
+use Rattle.imp_check.specs.declared.change.Change.{Change}
 use Rattle.imp_edit.specs.Edited.{edited, next_after, Continues}
 use Rattle.domain_laws.specs.Operations.{Operations}
 use Rattle.batch_meaning.specs.Batch.{Engine}
@@ -16,7 +17,7 @@ use Rattle.cell_removal.specs.Removal.{Removes}
 use Rattle.edit_invalidate.specs.Touched.{IsTouched}
 use Rattle.edit_invalidate.specs.Claims.{edit_of}
 use Rattle.edits_keep_cells.specs.Claims.{flow_of}
-use Rattle.edit_history.specs.After.{after, Leads}
+use Rattle.edit_history.specs.After.{after, Leads, LeadsOn}
 use Rattle.daig_query.specs.declared.store.Store.{Store}
 use Rattle.daig_query.specs.Kept.{kept}
 use Rattle.daig_query.specs.Right.{IsRight}
@@ -40,6 +41,10 @@ pub record IsMoving {S : Type 0} (store : Store S) (engine : Engine) (old new : 
 abbrev pub IsMovingTo : {S : Type 0} → Store S → Engine → List Procedure → List (List Procedure) → Moving → Type 0
 IsMovingTo store engine old [] m = ⊥
 IsMovingTo store engine old (p ∷ ps) m = IsMoving store engine old p m
+
+-- The change leads to the first of these programs; there is none where there are no programs.
+abbrev pub IsNearest : {R : Type 0} → Book → Option R → (change_at : R → Change) → (side : List (List Procedure)) → Type 0
+IsNearest book change change_at side = MatchOption change (side ≡ []) (λ c. LeadsOn book.history.room book.history.now (change_at c) side)
 
 -- What is left are the kept names, and all is right for the new program.
 pub record Leaves {S : Type 0} (dom : Operations S) (old new : Plan) (before after : Store S) : Type 0 where

@@ -32,17 +32,20 @@ ask_error query.Memory = ask.Memory
 
 -- what answers are of a machine, and which machine stands after them
 module _ {S : Type 0} (dom : Operations S) (m : Machine) (stands : Machine → Type 0) where
+  -- A question without an answer: the program refuses it; or some of what was missing is kept, for want of memory.
+  abbrev pub Fails : Location → (string : List ℕ) → QueryError → Type 0
+  Fails l string (query.Refused r) = (answer_at dom l string m ≡ Refuses r) × stands m
+  Fails l string query.Memory = IsBetween (missing_at dom l string m) m stands
+
   -- A question: the answer of the present program, interpreted from scratch; what was missing is kept.
   abbrev pub Questions : Location → (string : List ℕ) → Result (Value S) QueryError → Type 0
   Questions l string (Ok v) = Says (answer_at dom l string m) (Some v) × stands (asked dom l string m)
-  Questions l string (Err (query.Refused r)) = (answer_at dom l string m ≡ Refuses r) × stands m
-  Questions l string (Err query.Memory) = IsBetween (missing_at dom l string m) m stands
+  Questions l string (Err e) = Fails l string e
 
   -- The same with the statements that the answer depends on in its place.
   abbrev pub Explains : Location → (string : List ℕ) → Result (List ℕ) QueryError → Type 0
   Explains l string (Ok stmts) = IsAnswered (answer_at dom l string m) × (stmts ≡ upstream_at dom l string m) × stands (asked dom l string m)
-  Explains l string (Err (query.Refused r)) = (answer_at dom l string m ≡ Refuses r) × stands m
-  Explains l string (Err query.Memory) = IsBetween (missing_at dom l string m) m stands
+  Explains l string (Err e) = Fails l string e
 
   -- A ticket is opened, exactly where fewer than sixteen are and the program has an answer.
   abbrev pub Opens : Location → (string : List ℕ) → Result ℕ AskError → Type 0

@@ -1,5 +1,5 @@
 //! Questions, and their answers from cells.
-ghost use Rattle.std.specs.Prelude.{◌≡◌, ℕ, ◌+◌, ◌*◌, ◌≤◌, List, length, map, Some, IfOk, IfErr};
+ghost use Rattle.std.specs.Prelude.{ℕ, ◌+◌, ◌*◌, ◌≤◌, List, length, map, Some, IfOk, IfErr};
 ghost use Rattle.imp_syntax.specs.declared.edit.Location.{Location};
 ghost use Rattle.batch_meaning.specs.Answers.{answer};
 ghost use Rattle.cell_rows.specs.Targets.{Target as PlainTarget};

@@ -2,18 +2,17 @@
 ghost use Rattle.std.specs.Prelude.{◌≡◌, ℕ, suc, ◌+◌, ◌*◌, ◌≤◌, List, length, map, Some, IfErr, IfOk, OnOk};
 ghost use Rattle.imp_syntax.specs.declared.edit.Location.{Location};
 ghost use Rattle.imp_check.specs.Slots.{routines_of};
-ghost use Rattle.cell_rows.specs.Targets.{Target as PlainTarget};
 ghost use Rattle.imp_flow.specs.Reached.{target_of};
 ghost use Rattle.daig_query.specs.Answered.{AreFilled, Covers};
 ghost use Rattle.daig_query.specs.Filled.{added, missing, Fills};
 ghost use Rattle.why_slice.specs.Claims.{Suffices};
 ghost use Rattle.session_machine.specs.Machine.{Machine};
-ghost use Rattle.session_machine.specs.Turns.{missing_at, targets_of};
+ghost use Rattle.session_machine.specs.Turns.{asked, missing_at, targets_of, IsBetween};
 ghost use Rattle.daig_session.specs.Books.{flow_in};
-ghost use Rattle.daig_session.specs.Going.{IsGoing};
+ghost use Rattle.daig_session.specs.Going.{IsAsked, IsGoing};
 ghost use Rattle.daig_session.specs.Holds.{Holds, IsReady};
 ghost use Rattle.daig_session.specs.Reports.{IsUnticked};
-ghost use Rattle.daig_session.specs.Turns.{Explains, Questions};
+ghost use Rattle.daig_session.specs.Turns.{Explains, Fails, Questions};
 
 use crate::asking::{begun, read_answer};
 use crate::book::{Book, Going};
@@ -55,7 +54,49 @@ fn fill_all<D: Domain, L: Ledger>(
     engine.demand(alloc, &flow, targets.as_slice(), walk, steps)
 }
 
+/// A question for which nothing is missing, and how many cells were filled for it.
+#[derive(Drop)]
+struct Filled {
+    going: Going,
+    count: usize,
+}
+
 impl<D: Domain> Session<D> {
+    /// Fills what is missing for a question, or tells why it has no answer. The book stays as it is.
+    fn fill_for<L: Ledger>(
+        &mut self,
+        alloc: Global,
+        at: &Location,
+        string: &[u32],
+        steps: &mut Steps<L>,
+    ) -> Result<Filled, QueryError>
+        requires ready { IsReady (D.operations self.old.engine.domain) self.old.engine.store self.old.book }
+        ensures ready { IsReady (D.operations self.new.engine.domain) self.new.engine.store self.new.book }
+        ensures domain { self.new.engine.domain ≡ self.old.engine.domain }
+        ensures book { self.new.book ≡ self.old.book }
+        ensures targets { IfOk result (λ f. IsAsked (flow_in self.old.book).program at.now string.now (map target_of f.going.targets)) }
+        ensures filled { IfOk result (λ f. AreFilled (D.operations self.old.engine.domain) self.new.engine.store f.going.walk (flow_in self.old.book) (map target_of f.going.targets)) }
+        ensures counted { IfOk result (λ f. f.count ≡ added self.old.engine.store self.new.engine.store) }
+        ensures all { (m : Machine) → Holds (D.operations self.old.engine.domain) self.old.engine.store self.old.book m →
+            IfOk result (λ f. f.count ≡ length (missing_at (D.operations self.old.engine.domain) at.now string.now m)) }
+        ensures answered { (m : Machine) → Holds (D.operations self.old.engine.domain) self.old.engine.store self.old.book m →
+            IfOk result (λ f. Holds (D.operations self.old.engine.domain) self.new.engine.store (record self.old.book { cost = f.count }) (asked (D.operations self.old.engine.domain) at.now string.now m)) }
+        ensures unanswered { (m : Machine) → Holds (D.operations self.old.engine.domain) self.old.engine.store self.old.book m →
+            IfOk result (λ _. IsBetween (missing_at (D.operations self.old.engine.domain) at.now string.now m) m (Holds (D.operations self.new.engine.domain) self.new.engine.store self.new.book)) }
+        ensures fails { (m : Machine) → Holds (D.operations self.old.engine.domain) self.old.engine.store self.old.book m →
+            IfErr result (Fails (D.operations self.old.engine.domain) m (Holds (D.operations self.new.engine.domain) self.new.engine.store self.new.book) at.now string.now) }
+        ensures least { steps.old ≤ steps.new }
+        ensures unticked { IfErr result (IsUnticked steps.old steps.new) }
+        ensures ticked { IfOk result (λ f. steps.new ≤ steps.old + D.counted self.old.engine.domain * f.count) }
+        ensures most { steps.new ≤ steps.old + D.counted self.old.engine.domain * suc (added self.old.engine.store self.new.engine.store) }
+    {
+        questions_keep_cells::<D>();
+        let flow = self.book.flow();
+        let mut going = begun(alloc, &self.engine, &flow, at, string)?;
+        let count = fill_all(alloc, &mut self.engine, &self.book, &mut going, steps)?;
+        Ok(Filled { going, count })
+    }
+
     /// What the domain knows at a location under a call string, which has the outermost call first: the answer of the
     /// present program, interpreted from scratch. A state covers each configuration that a run reaches there.
     ///
@@ -90,12 +131,9 @@ impl<D: Domain> Session<D> {
         ensures most { (m : Machine) → Holds (D.operations self.old.engine.domain) self.old.engine.store self.old.book m →
             steps.new ≤ steps.old + D.counted self.old.engine.domain * suc (added self.old.engine.store self.new.engine.store + 2 * length (targets_of m at.now string.now)) }
     {
-        questions_keep_cells::<D>();
-        let flow = self.book.flow();
-        let mut going = begun(alloc, &self.engine, &flow, at, string)?;
-        let filled = fill_all(alloc, &mut self.engine, &self.book, &mut going, steps)?;
-        let value = read_answer(alloc, &self.engine, &going.walk, steps)?;
-        self.book.cost = filled as u64;
+        let filled = self.fill_for(alloc, at, string, steps)?;
+        let value = read_answer(alloc, &self.engine, &filled.going.walk, steps)?;
+        self.book.cost = filled.count as u64;
         Ok(value)
     }
 
@@ -132,14 +170,11 @@ impl<D: Domain> Session<D> {
             IfOk result (λ _. steps.new ≤ steps.old + D.counted self.old.engine.domain * length (missing_at (D.operations self.old.engine.domain) at.now string.now m)) }
         ensures most { steps.new ≤ steps.old + D.counted self.old.engine.domain * suc (added self.old.engine.store self.new.engine.store) }
     {
-        questions_keep_cells::<D>();
         answers_stay::<D>();
-        let before = self.book.flow();
-        let mut going = begun(alloc, &self.engine, &before, at, string)?;
-        let filled = fill_all(alloc, &mut self.engine, &self.book, &mut going, steps)?;
-        let now = self.book.flow();
-        let stmts = upstream(alloc, &self.engine, &now, at, string, &going.walk)?;
-        self.book.cost = filled as u64;
+        let filled = self.fill_for(alloc, at, string, steps)?;
+        let flow = self.book.flow();
+        let stmts = upstream(alloc, &self.engine, &flow, at, string, &filled.going.walk)?;
+        self.book.cost = filled.count as u64;
         Ok(stmts)
     }
 }

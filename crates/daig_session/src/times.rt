@@ -1,39 +1,29 @@
 //! Undo and redo.
-ghost use Rattle.std.specs.Prelude.{◌≡◌, IfOk, IfErr};
+ghost use Rattle.std.specs.Prelude.{◌≡◌, IfOk, IfErr, List};
+ghost use Rattle.imp_syntax.specs.Plain.{Procedure};
 ghost use Rattle.session_machine.specs.Machine.{Machine};
 ghost use Rattle.session_machine.specs.Turns.{redone, undone};
 ghost use Rattle.daig_session.specs.Holds.{Holds, IsReady};
-ghost use Rattle.daig_session.specs.Moves.{IsMovingTo};
+ghost use Rattle.daig_session.specs.Moves.{IsMovingTo, IsNearest};
 ghost use Rattle.daig_session.specs.Turns.{Goes, IsStopped};
 
 use crate::error::UndoError;
 use crate::moving::{Moving, leave, planned_move};
 use crate::session::Session;
 use domain_laws::Domain;
+use imp_check::Change;
 use std::alloc::Global;
 
 impl<D: Domain> Session<D> {
-    /// The move to the program behind.
-    fn moving_back(&self, alloc: Global) -> Result<Moving, UndoError>
+    /// The move to the nearest program of a side, to which this change leads, if there is one.
+    fn nearest_move(&self, alloc: Global, change: Option<&Change>) -> Result<Moving, UndoError>
         requires ready { IsReady (D.operations self.now.engine.domain) self.now.engine.store self.now.book }
-        ensures moving { IfOk result (IsMovingTo self.now.engine.store self.now.book.setting.engine self.now.book.history.now self.now.book.history.past) }
-        ensures stopped { IfErr result (IsStopped self.now.book.history.past) }
+        requires leads { (side : List (List Procedure)) × IsNearest self.now.book change (λ c. c.now) side }
+        ensures moving { (side : List (List Procedure)) → IsNearest self.now.book change.entry (λ c. c.now) side →
+            IfOk result (IsMovingTo self.now.engine.store self.now.book.setting.engine self.now.book.history.now side) }
+        ensures stopped { (side : List (List Procedure)) → IsNearest self.now.book change.entry (λ c. c.now) side → IfErr result (IsStopped side) }
     {
-        let Some(change) = self.book.history.behind() else {
-            return Err(UndoError::Nothing);
-        };
-        let table = self.book.history.table();
-        let moving = planned_move(alloc, &self.engine, table, change, &self.book.setting)?;
-        Ok(moving)
-    }
-
-    /// The move to the program ahead.
-    fn moving_on(&self, alloc: Global) -> Result<Moving, UndoError>
-        requires ready { IsReady (D.operations self.now.engine.domain) self.now.engine.store self.now.book }
-        ensures moving { IfOk result (IsMovingTo self.now.engine.store self.now.book.setting.engine self.now.book.history.now self.now.book.history.future) }
-        ensures stopped { IfErr result (IsStopped self.now.book.history.future) }
-    {
-        let Some(change) = self.book.history.ahead() else {
+        let Some(change) = change else {
             return Err(UndoError::Nothing);
         };
         let table = self.book.history.table();
@@ -56,7 +46,7 @@ impl<D: Domain> Session<D> {
         ensures goes { (m : Machine) → Holds (D.operations self.old.engine.domain) self.old.engine.store self.old.book m →
             Goes m (Holds (D.operations self.new.engine.domain) self.new.engine.store self.new.book) m.past (undone (D.operations self.old.engine.domain) m) result }
     {
-        let Moving { setting, plan } = self.moving_back(alloc)?;
+        let Moving { setting, plan } = self.nearest_move(alloc, self.book.history.behind())?;
         leave(&mut self.engine, plan);
         self.book.back(setting);
         Ok(self.book.next)
@@ -76,7 +66,7 @@ impl<D: Domain> Session<D> {
         ensures goes { (m : Machine) → Holds (D.operations self.old.engine.domain) self.old.engine.store self.old.book m →
             Goes m (Holds (D.operations self.new.engine.domain) self.new.engine.store self.new.book) m.future (redone (D.operations self.old.engine.domain) m) result }
     {
-        let Moving { setting, plan } = self.moving_on(alloc)?;
+        let Moving { setting, plan } = self.nearest_move(alloc, self.book.history.ahead())?;
         leave(&mut self.engine, plan);
         self.book.forth(setting);
         Ok(self.book.next)

@@ -34,6 +34,11 @@ pub on_error : {V E : Type 0} (r : Result V E) (A : Type 0) → A → IfErr r (�
 on_error (Ok v) A h = tt
 on_error (Err e) A h = h
 
+-- nor is there a line where there is none
+pub never_ok : {V E : Type 0} (r : Result V E) (P : V → Type 0) → IfOk r (λ v. ⊥) → IfOk r P
+never_ok (Ok v) P h = absurd h
+never_ok (Err e) P h = tt
+
 -- nothing is filled, or the reply alone is not written
 pub halted_before : (xs : List CellName) (turn : Turn) (m : Machine) (stands : Machine → Type 0) → stands m → IsHalted xs turn m stands
 halted_before xs turn m stands h = inl (between_none xs m stands h)

@@ -1,6 +1,6 @@
 -- What requests for questions, tickets, undo and redo are replied.
 use Rattle.std.proofs.Common.{◌≡◌, ◌⊎◌, inl, inr, ◌<◌, ◌≤◌, ℕ, Bool, true, false, List, [], ◌∷◌, map, length, Option, Some, None, Result, Ok, Err, if◌then◌else◌, refl, sym, ap, subst, ◌∙◌, arith}
-use Rattle.std.specs.Prelude.{nat_le, nat_lt, IfSome, option_map}
+use Rattle.std.specs.Prelude.{nat_le, nat_lt, IfErr, IfSome, option_map}
 use Rattle.std.proofs.lemmas.Bool.Decides.{nat_tests}
 use Rattle.plain_values.proofs.Cases.{by_bool, by_test}
 use Rattle.imp_syntax.specs.Plain.{Procedure}
@@ -22,13 +22,14 @@ use Rattle.open_tickets.specs.declared.tickets.NoTicket.{NoTicket}
 use Rattle.open_tickets.specs.Tickets.{ticket}
 use Rattle.daig_session.specs.declared.book.Book.{Book}
 use Rattle.daig_session.specs.declared.book.Going.{Going}
+use Rattle.daig_session.specs.declared.error.QueryError.{QueryError}
 use Rattle.daig_session.specs.declared.error.QueryError.TheVariants as question
 use Rattle.daig_session.specs.declared.error.AskError.TheVariants as ask
 use Rattle.daig_session.specs.declared.error.UndoError.TheVariants as undo
 use Rattle.daig_session.specs.declared.stepping.Turn.TheVariants.{Pending, Done}
 use Rattle.daig_session.specs.Going.{AreWaiting, IsAnswered}
 use Rattle.daig_session.specs.Holds.{Holds, IsReady}
-use Rattle.daig_session.specs.Turns.{Cancels, Explains, Goes, IsStepOf, Opens, Questions}
+use Rattle.daig_session.specs.Turns.{Cancels, Explains, Fails, Goes, IsStepOf, Opens, Questions}
 use Rattle.daig_session.proofs.Asked.{too_long}
 use Rattle.request_json.specs.declared.request.Query.{Query}
 use Rattle.request_json.specs.declared.reply.Reply.TheVariants as r
@@ -37,7 +38,8 @@ use Rattle.request_json.specs.declared.reply.Refusal.TheVariants as refusal
 use Rattle.line_replies.specs.States.{answer_reply, layout_at}
 use Rattle.line_answers.specs.Turns.{Turn, ask_by, ask_turn, cancel_by, goes, move_turn, refused, state_by, state_turn, step_by, step_of, told, why_by, why_turn}
 use Rattle.session_lines.proofs.Places.{missing_answered, says_answered, short_not_long}
-use Rattle.session_lines.proofs.Replied.{IsFollowed, IsReplied, Writes, follows}
+use Rattle.session_lines.specs.Followed.{Follows, IsHalted, TellsWhy}
+use Rattle.session_lines.proofs.Replied.{IsFollowed, IsReplied, Writes, follows, halted_before, never_ok, on_error}
 
 -- the ticket that is found has the number
 pub number_found : (n : ℕ) (ts : List Ticket) → IfSome (ticket_of n ts) (λ t. t.number ≡ n)
@@ -69,17 +71,22 @@ module _ {S : Type 0} (dom : Operations S) (m : Machine) (stands : Machine → T
   pub state_answered : (query : Query) (v : Value S) → Questions dom m stands query.at query.string (Ok v) → IsReplied (state_turn dom query m) stands (answer_reply dom (layout_at (routines_of m.program) query.at) (answer_at dom query.at query.string m))
   state_answered query v h = told_by query (answer_at dom query.at query.string m) (says_answered (answer_at dom query.at query.string m) v h.0) h.1
 
-  pub state_refused : (query : Query) (why : cause.Refusal) → Questions dom m stands query.at query.string (Err (question.Refused why)) → IsReplied (state_turn dom query m) stands (r.Refused (refusal.Query why))
-  state_refused query why h = subst (λ a. IsReplied (state_by dom query a m) stands (r.Refused (refusal.Query why))) (sym h.0) (record { is = refl; after = h.1 })
-
   why_by_list : (query : Query) (stmts : List ℕ) (a : Answer S) → IsAnswered a → stmts ≡ upstream_at dom query.at query.string m → stands (asked dom query.at query.string m) → IsReplied (why_by dom query a m) stands (r.Why stmts)
   why_by_list query stmts a (v, is) e h = subst (λ b. IsReplied (why_by dom query b m) stands (r.Why stmts)) (sym is) (record { is = ap r.Why (sym e); after = h })
 
   pub why_answered : (query : Query) (stmts : List ℕ) → Explains dom m stands query.at query.string (Ok stmts) → IsReplied (why_turn dom query m) stands (r.Why stmts)
   why_answered query stmts h = why_by_list query stmts (answer_at dom query.at query.string m) h.0 h.1 h.2
 
-  pub why_refused : (query : Query) (why : cause.Refusal) → Explains dom m stands query.at query.string (Err (question.Refused why)) → IsReplied (why_turn dom query m) stands (r.Refused (refusal.Query why))
-  why_refused query why h = subst (λ a. IsReplied (why_by dom query a m) stands (r.Refused (refusal.Query why))) (sym h.0) (record { is = refl; after = h.1 })
+  -- a question without an answer, whose turn is refused where the program refuses the question
+  module _ (query : Query) (turn : Turn) (refuses : (why : cause.Refusal) → answer_at dom query.at query.string m ≡ Refuses why → turn ≡ refused (refusal.Query why) m) {V E : Type 0} (line : Result V E) (items : V → List ℕ) where
+    pub unanswered_follows : (error : QueryError) → Fails dom m stands query.at query.string error → TellsWhy line items error → IsFollowed line items turn stands
+    unanswered_follows (question.Refused why) h tells =
+        subst (λ (t : Turn). IsFollowed line items t stands) (sym (refuses why h.0)) (follows line items (refused (refusal.Query why) m) stands (r.Refused (refusal.Query why)) (record { is = refl; after = h.1 }) tells)
+    unanswered_follows question.Memory h tells = never_ok line (λ v. Follows turn stands (items v)) tells
+
+    pub unanswered_halts : (error : QueryError) → Fails dom m stands query.at query.string error → IfErr line (λ _. IsHalted (missing_at dom query.at query.string m) turn m stands)
+    unanswered_halts (question.Refused why) h = on_error line (IsHalted (missing_at dom query.at query.string m) turn m stands) (halted_before (missing_at dom query.at query.string m) turn m stands h.1)
+    unanswered_halts question.Memory h = on_error line (IsHalted (missing_at dom query.at query.string m) turn m stands) (inl h)
 
 -- ---- a ticket is opened
 

@@ -1,13 +1,17 @@
 -- What is written for a line, and which machine stands after it.
-use Rattle.std.specs.Prelude.{◌≡◌, ◌⊎◌, ℕ, List, [], Option, Some, None, Result, Ok, Err}
+use Rattle.std.specs.Prelude.{◌≡◌, ◌⊎◌, ℕ, List, [], Option, Some, None, Result, Ok, Err, IfOk}
 use Rattle.domain_laws.specs.Operations.{Operations}
 use Rattle.cell_names.specs.Paths.{CellName}
 use Rattle.session_machine.specs.Machine.{Machine, Ticket, ticket_of}
 use Rattle.session_machine.specs.Turns.{IsBetween, missing_at, missing_for_report}
+use Rattle.daig_session.specs.declared.error.QueryError.{QueryError}
+use Rattle.daig_session.specs.declared.error.QueryError.TheVariants as question
 use Rattle.request_json.specs.declared.error.ReadError.{ReadError}
 use Rattle.request_json.specs.declared.request.Request.{Request}
 use Rattle.request_json.specs.declared.request.Request.TheVariants as q
+use Rattle.request_json.specs.declared.reply.Reply.TheVariants as r
 use Rattle.request_json.specs.declared.reply.Refusal.{Refusal}
+use Rattle.request_json.specs.declared.reply.Refusal.TheVariants as refusal
 use Rattle.request_json.specs.Replies.{reply_text}
 use Rattle.imp_syntax.specs.declared.edit.Edit.{Edit}
 use Rattle.line_answers.specs.Edits.{IsTextError}
@@ -45,6 +49,11 @@ missing_of dom (Ok request) m = []
 -- machine after the turn, and its reply alone is not written.
 abbrev pub IsHalted : List CellName → Turn → Machine → (stands : Machine → Type 0) → Type 0
 IsHalted xs turn m stands = IsBetween xs m stands ⊎ stands turn.machine
+
+-- The line of a question without an answer tells why it is refused; for want of memory there is none.
+abbrev pub TellsWhy : {V E : Type 0} → Result V E → (items : V → List ℕ) → QueryError → Type 0
+TellsWhy line items (question.Refused why) = IfOk line (λ v. items v ≡ reply_text (r.Refused (refusal.Query why)))
+TellsWhy line items question.Memory = IfOk line (λ v. ⊥)
 
 -- a request for an edit
 abbrev pub Edits : Request → Type 0

@@ -9,7 +9,7 @@ ghost use Rattle.request_json.specs.Replies.{reply_text};
 ghost use Rattle.line_replies.specs.States.{answer_reply, layout_at};
 ghost use Rattle.imp_check.specs.Slots.{routines_of};
 ghost use Rattle.line_answers.specs.Turns.{report_turn, state_turn, why_turn};
-ghost use Rattle.session_lines.specs.Followed.{Follows, IsHalted};
+ghost use Rattle.session_lines.specs.Followed.{Follows, IsHalted, TellsWhy};
 
 use crate::written::{line_of, refused};
 use daig_graph::Value;
@@ -45,6 +45,16 @@ pub(crate) fn value_line<D: Domain>(
     line_of(alloc, reply)
 }
 
+/// The line of a question without an answer, which tells why it is refused. For want of memory there is none.
+fn unanswered_line(alloc: Global, error: QueryError) -> Result<Vec<u8>, Memory>
+    ensures tells { TellsWhy result (λ v. v.items) error }
+{
+    match error {
+        QueryError::Refused(why) => refused(alloc, Refusal::Query(why)),
+        QueryError::Memory => Err(Memory),
+    }
+}
+
 /// The state at a location under a call string.
 pub(crate) fn state_line<D: Domain, L: Ledger>(
     alloc: Global,
@@ -64,8 +74,7 @@ pub(crate) fn state_line<D: Domain, L: Ledger>(
     let string = numbers_of(alloc, &query.string)?;
     match session.query(alloc, &query.at, string.as_slice(), steps) {
         Ok(value) => value_line(alloc, session, &query.at, &value),
-        Err(QueryError::Refused(why)) => refused(alloc, Refusal::Query(why)),
-        Err(QueryError::Memory) => Err(Memory),
+        Err(error) => unanswered_line(alloc, error),
     }
 }
 
@@ -88,8 +97,7 @@ pub(crate) fn why_line<D: Domain, L: Ledger>(
     let string = numbers_of(alloc, &query.string)?;
     match session.why(alloc, &query.at, string.as_slice(), steps) {
         Ok(stmts) => line_of(alloc, Reply::Why(stmts)),
-        Err(QueryError::Refused(why)) => refused(alloc, Refusal::Query(why)),
-        Err(QueryError::Memory) => Err(Memory),
+        Err(error) => unanswered_line(alloc, error),
     }
 }
 

@@ -1,11 +1,10 @@
 //! The statements that the names of cells hang on.
-ghost use Rattle.std.specs.Prelude.{◌≡◌, ◌<◌, ℕ, List, [], ◌∷◌, length, Some, None, slice_get, IfOk, IfSome, IsSome, option_map, reverse};
+ghost use Rattle.std.specs.Prelude.{◌≡◌, ◌<◌, List, ◌∷◌, length, Some, None, slice_get, IfOk, IfSome, IsSome, option_map, reverse};
 ghost use Rattle.std.specs.FinMap as map;
 ghost use Rattle.cell_names.specs.declared.frame.Point.TheVariants.{Entry, Body};
 ghost use Rattle.cell_names.specs.Paths.{CellName, path_at};
 ghost use Rattle.cell_rows.specs.Flat.{flat_row};
 ghost use Rattle.imp_flow.specs.Near.{PathFrame, last_frame, row_in};
-ghost use Rattle.imp_flow.specs.Plans.{Plan};
 ghost use Rattle.daig_graph.specs.Cells.{AreCells, Filled};
 ghost use Rattle.batch_meaning.specs.Values.{Value as PlainValue};
 ghost use Rattle.daig_query.specs.Answered.{value_in};

@@ -2,7 +2,7 @@ use Rattle.std.proofs.Common.{◌≡◌, ◌+◌, ◌-◌, suc, sym, ap, ◌∙�
 use Rattle.batch_meaning.specs.Values as plain
 use Rattle.batch_meaning.specs.Values.{lift}
 use Rattle.batch_meaning.specs.Batch as meaning
-use Rattle.batch_meaning.specs.Batch.{Passed, after, behind, next_of, iterate, joined, head_of}
+use Rattle.batch_meaning.specs.Batch.{Passed, after, iterate, head_of}
 use Rattle.batch_interp.specs.Frames.{marks_at, calls_in, passed}
 use Rattle.batch_interp.specs.Passing.{states}
 use Rattle.batch_interp.proofs.BlockLemmas.{block_step, block_over, block_end, while_at, while_over, of_callee, stopped, round_over, round_stops, round_goes_on}

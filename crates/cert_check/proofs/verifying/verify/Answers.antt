@@ -1,4 +1,3 @@
-use Rattle.std.proofs.Common.{◌<◌, ◌^◌, length, subst}
 use Rattle.imp_check.specs.Slots.{routines_of}
 use Rattle.cert_check.specs.Verified.{verified_of}
 use Rattle.cert_check.proofs.VerifyLemmas.{covers_if_yes, accepted_if_written}
@@ -7,13 +6,12 @@ use Rattle.cert_check.proofs.verifying.verify.Goals as goal
 pub returns-clause-sound : goal.returns-clause-sound
 returns-clause-sound g c =
     let dom = c.args.dom.now in
-    covers_if_yes (g.D.Domain.operations dom) (g.D.Domain.covers dom) (g.D.Portable.port dom) (routines_of c.args.prog.now) c.args.cert.now c.verified_line.result (verified_of c.in_ok-verified.verified) c.routines.ensures.fit (c.a_yes_is_sound.ensures.sound dom (g.D.Portable.port dom) (g.met.D.Portable.port_laws dom)) c.in_ok-verified.ensures.is c.verified_line.ensures.line
+    covers_if_yes (g.D.Domain.operations dom) (g.D.Domain.covers dom) (g.D.Portable.port dom) (routines_of c.args.prog.now) c.args.cert.now c.verified_line.result (verified_of c.in_ok-verified.verified) c.in_ok-verified.ensures.fit (c.a_yes_is_sound.ensures.sound dom (g.D.Portable.port dom) (g.met.D.Portable.port_laws dom)) c.in_ok-verified.ensures.is c.verified_line.ensures.line
 
 pub returns-clause-accepts : goal.returns-clause-accepts
 returns-clause-accepts g c =
     let dom = c.args.dom.now in
-    let fit = c.routines.ensures.fit in
-    let short : length c.args.cert.now < 2 ^ 64 = subst (λ k. k < 2 ^ 64) c.byte_count.ensures.is c.byte_count.type_inv in
+    let fit = c.in_ok-verified.ensures.fit in
     λ bounds utf8 small written.
     accepted_if_written (g.D.Domain.operations dom) (g.D.Portable.port dom) (routines_of c.args.prog.now) c.args.cert.now c.verified_line.result (verified_of c.in_ok-verified.verified) fit
-    (c.certificates_are_accepted.ensures.accepted dom bounds utf8) (c.checked_programs_have_lines.ensures.lines c.args.prog.now c.program.ensures.faultless fit small) short c.in_ok-verified.ensures.is c.verified_line.ensures.line written
+    (c.certificates_are_accepted.ensures.accepted dom bounds utf8) (c.checked_programs_have_lines.ensures.lines c.args.prog.now c.in_ok-verified.ensures.faultless fit small) c.in_ok-verified.ensures.short c.in_ok-verified.ensures.is c.verified_line.ensures.line written

@@ -1,17 +1,12 @@
-use Rattle.std.proofs.Common.{◌≡◌, ℕ, List, inl, Ok, Err, subst, ◌∙◌}
+use Rattle.std.proofs.Common.{◌≡◌, ℕ, List, Ok, ap, subst, ◌∙◌}
 use Rattle.imp_check.specs.Slots.{routines_of}
-use Rattle.session_machine.specs.Turns.{answer_at, asked, missing_at}
-use Rattle.daig_session.specs.declared.error.QueryError.{QueryError}
-use Rattle.daig_session.specs.declared.error.QueryError.TheVariants as question
+use Rattle.session_machine.specs.Turns.{answer_at, asked}
 use Rattle.daig_session.specs.Holds.{Holds}
-use Rattle.daig_session.specs.Turns.{Questions}
-use Rattle.request_json.specs.declared.reply.Reply.TheVariants as r
-use Rattle.request_json.specs.declared.reply.Refusal.TheVariants as refusal
+use Rattle.daig_session.specs.Turns.{Fails, Questions}
 use Rattle.line_replies.specs.States.{answer_reply, layout_at}
-use Rattle.line_answers.specs.Turns.{state_turn}
-use Rattle.session_lines.specs.Followed.{IsHalted}
-use Rattle.session_lines.proofs.Replied.{Writes, follows, halted_before, on_error}
-use Rattle.session_lines.proofs.Turned.{state_answered, state_refused}
+use Rattle.line_answers.specs.Turns.{state_by, state_turn}
+use Rattle.session_lines.proofs.Replied.{Writes, follows}
+use Rattle.session_lines.proofs.Turned.{state_answered, unanswered_follows, unanswered_halts}
 use Rattle.session_lines.proofs.questions.state_line.Goals as goal
 
 pub returns-in-Ok-clause-turn : goal.returns-in-Ok-clause-turn
@@ -26,37 +21,20 @@ returns-in-Ok-clause-turn g c = λ m h.
     (subst (λ (d : g.row.D.Denot). Writes c.value_line.result (λ v. v.items) (answer_reply (g.D.Domain.operations d) (layout_at (routines_of m.program) at) a)) c.query.ensures.domain
     (c.value_line.ensures.line (asked dom at c.args.query.now.string m) a is.1 is.0))
 
-pub returns-in-Err-Refused-clause-turn : goal.returns-in-Err-Refused-clause-turn
-returns-in-Err-Refused-clause-turn g c = λ m h.
+pub returns-in-Err-clause-turn : goal.returns-in-Err-clause-turn
+returns-in-Err-clause-turn g c = λ m h.
     let dom = g.D.Domain.operations c.args.session.now.engine.domain in
-    let at = c.args.query.now.at in
+    let query = c.args.query.now in
     let stands = Holds (g.D.Domain.operations c.query.new.self.engine.domain) c.query.new.self.engine.store c.query.new.self.book in
-    let string : c.as_slice.result.now ≡ c.args.query.now.string = c.as_slice.ensures.same ∙ c.in_ok-string.ensures.numbers in
-    let is : Questions dom m stands at c.args.query.now.string (Err (question.Refused c.in-Err-Refused.why)) =
-    subst (λ (why : QueryError). Questions dom m stands at c.args.query.now.string (Err why)) c.in-Err-Refused.field-0-is
-    (subst (λ (s : List ℕ). Questions dom m stands at s (Err c.in-Err-Refused.field-0)) string (c.in-Err-Refused.ensures.answers m h)) in
-    follows c.refused.result (λ v. v.items) (state_turn dom c.args.query.now m) stands (r.Refused (refusal.Query c.in-Err-Refused.why)) (state_refused dom m stands c.args.query.now c.in-Err-Refused.why is) c.refused.ensures.line
+    let string : c.as_slice.result.now ≡ query.string = c.as_slice.ensures.same ∙ c.in_ok-string.ensures.numbers in
+    let fails : Fails dom m stands query.at query.string c.in-Err.error = subst (λ (s : List ℕ). Fails dom m stands query.at s c.in-Err.error) string (c.in-Err.ensures.answers m h) in
+    unanswered_follows dom m stands query (state_turn dom query m) (λ why is. ap (λ a. state_by dom query a m) is) c.unanswered_line.result (λ v. v.items) c.in-Err.error fails c.unanswered_line.ensures.tells
 
-pub returns-in-Err-Refused-clause-between : goal.returns-in-Err-Refused-clause-between
-returns-in-Err-Refused-clause-between g c = λ m h.
+pub returns-in-Err-clause-between : goal.returns-in-Err-clause-between
+returns-in-Err-clause-between g c = λ m h.
     let dom = g.D.Domain.operations c.args.session.now.engine.domain in
-    let at = c.args.query.now.at in
+    let query = c.args.query.now in
     let stands = Holds (g.D.Domain.operations c.query.new.self.engine.domain) c.query.new.self.engine.store c.query.new.self.book in
-    let string : c.as_slice.result.now ≡ c.args.query.now.string = c.as_slice.ensures.same ∙ c.in_ok-string.ensures.numbers in
-    let is : Questions dom m stands at c.args.query.now.string (Err (question.Refused c.in-Err-Refused.why)) =
-    subst (λ (why : QueryError). Questions dom m stands at c.args.query.now.string (Err why)) c.in-Err-Refused.field-0-is
-    (subst (λ (s : List ℕ). Questions dom m stands at s (Err c.in-Err-Refused.field-0)) string (c.in-Err-Refused.ensures.answers m h)) in
-    let xs = missing_at dom at c.args.query.now.string m in
-    let turn = state_turn dom c.args.query.now m in
-    on_error c.refused.result (IsHalted xs turn m stands) (halted_before xs turn m stands is.1)
-
-pub returns-clause-between : goal.returns-clause-between
-returns-clause-between g c = λ m h.
-    let dom = g.D.Domain.operations c.args.session.now.engine.domain in
-    let at = c.args.query.now.at in
-    let stands = Holds (g.D.Domain.operations c.query.new.self.engine.domain) c.query.new.self.engine.store c.query.new.self.book in
-    let string : c.as_slice.result.now ≡ c.args.query.now.string = c.as_slice.ensures.same ∙ c.in_ok-string.ensures.numbers in
-    let is : Questions dom m stands at c.args.query.now.string (Err question.Memory) =
-    subst (λ (why : QueryError). Questions dom m stands at c.args.query.now.string (Err why)) c.in-Err-Memory.field-0-is
-    (subst (λ (s : List ℕ). Questions dom m stands at s (Err c.in-Err-Memory.field-0)) string (c.in-Err-Memory.ensures.answers m h)) in
-    inl is
+    let string : c.as_slice.result.now ≡ query.string = c.as_slice.ensures.same ∙ c.in_ok-string.ensures.numbers in
+    let fails : Fails dom m stands query.at query.string c.in-Err.error = subst (λ (s : List ℕ). Fails dom m stands query.at s c.in-Err.error) string (c.in-Err.ensures.answers m h) in
+    unanswered_halts dom m stands query (state_turn dom query m) (λ why is. ap (λ a. state_by dom query a m) is) c.unanswered_line.result (λ v. v.items) c.in-Err.error fails

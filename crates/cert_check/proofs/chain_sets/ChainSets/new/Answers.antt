@@ -13,7 +13,7 @@ loop-place-preserved c =
     let all : map reverse c.as_slice.result.now ≡ chains program c.new.result = chains_turned program c.new.result c.as_slice.result.now (c.as_slice.ensures.same ∙ c.in_ok-chains.ensures.is) in
     sets_step program c.loop-place.sets c.push.new.self c.loop-place.place c.in_ok-set_of.field-0 c.in_ok-push.ensures.added (λ z. c.in_ok-set_of.ensures.is z ∙ ap (is_chain z) all ∙ ap (λ p. is_chain z (chains program p)) c.new.ensures.is) c.loop-place.invariant
 
-pub returns : goal.returns
-returns c =
+pub returns-clause-are : goal.returns-clause-are
+returns-clause-are c =
     let program = routines_of c.args.prog.now in
-    record { are = sets_whole program c.loop-place.sets c.loop-place.place c.procs.ensures.fit (omega (arith, as_many [] c.args.prog.now, c.procedure_count-place-end.ensures.is, c.loop-place-test.false)) c.loop-place.invariant }
+    sets_whole program c.loop-place.sets c.loop-place.place c.procs.ensures.fit (omega (arith, as_many [] c.args.prog.now, c.procedure_count-place-end.ensures.is, c.loop-place-test.false)) c.loop-place.invariant

@@ -1,207 +1,135 @@
-use Rattle.std.proofs.Common.{◌≡◌, ◌*◌, ◌+◌, ◌≤◌, length, map, Some, Err, rules, sym, ap, subst, ◌∙◌, arith}
+use Rattle.std.proofs.Common.{◌≡◌, ◌*◌, ◌+◌, ◌≤◌, length, map, Some, Err, rules, sym, ap, subst}
 use Rattle.std.specs.Prelude.{IfErr}
 use Rattle.std.proofs.lemmas.Result.{err_from_is_err_and}
 use Rattle.imp_check.specs.Slots.{routines_of}
-use Rattle.imp_flow.specs.Plans.{Plan}
 use Rattle.imp_flow.specs.Reached.{target_of}
 use Rattle.batch_meaning.specs.Answers.{answer}
 use Rattle.daig_query.specs.Answered.{AreFilled, Covers, Says}
 use Rattle.daig_query.specs.Filled.{added}
-use Rattle.daig_query.specs.Right.{IsRight}
-use Rattle.session_machine.specs.Turns.{asked, missing_at, targets_of, IsBetween}
+use Rattle.session_machine.specs.Turns.{asked, targets_of}
 use Rattle.daig_session.specs.Books.{flow_in}
-use Rattle.daig_session.specs.Going.{IsGoing, IsRefused}
-use Rattle.daig_session.specs.Holds.{Holds, IsReady}
+use Rattle.daig_session.specs.Holds.{Holds}
 use Rattle.daig_session.specs.Reports.{IsUnticked}
 use Rattle.daig_session.specs.Turns.{Questions}
-use Rattle.daig_session.proofs.Answering.{between_some, most_here, no_steps, refused_turn, says_here, work_both, work_first, work_here}
-use Rattle.daig_session.proofs.Filled.{asked_holds, fills_ready, missing_here}
+use Rattle.daig_session.proofs.Answering.{most_here, says_here, work_both, work_first, work_here}
+use Rattle.daig_session.proofs.Filled.{answered_costing, ready_costing}
 use Rattle.daig_session.proofs.session.Session.query.Goals as goal
-
-pub begun-requires : goal.begun-requires
-begun-requires g c =
-    let s = c.args.self.now in
-    record { right = subst (λ (p : Plan). IsRight (g.D.Domain.operations s.engine.domain) p s.engine.store) (sym c.flow-flow.ensures.is) c.requires.ready.right }
-
-pub fill_all-requires-clause-going : goal.fill_all-requires-clause-going
-fill_all-requires-clause-going g c =
-    let s = c.args.self.now in
-    (c.args.at.now, c.args.string.now, subst (λ (p : Plan). IsGoing (g.D.Domain.operations s.engine.domain) p s.engine.store c.args.at.now c.args.string.now c.in_ok-going.going) c.flow-flow.ensures.is c.in_ok-going.ensures.going)
-
-pub returns-in_err-going-clause-answers : goal.returns-in_err-going-clause-answers
-returns-in_err-going-clause-answers g c = λ m h.
-    let s = c.args.self.now in
-    let dom = g.D.Domain.operations s.engine.domain in
-    let is = subst (λ (p : Plan). IsRefused (answer dom p.engine p.program c.args.at.now c.args.string.now) c.in_err-going.field-0.0) c.flow-flow.ensures.is c.in_err-going.ensures.refused in
-    let e : c.from_residual.result ≡ Err c.in_err-going.field-0.0 = search rules in
-    subst (Questions dom m (Holds dom s.engine.store s.book) c.args.at.now c.args.string.now) (sym e) (refused_turn dom s.book s.engine.store m c.args.at.now c.args.string.now c.in_err-going.field-0.0 h is)
-
-pub returns-in_err-going-clause-unticked : goal.returns-in_err-going-clause-unticked
-returns-in_err-going-clause-unticked g c =
-    let n = c.args.steps.now in
-    let e : c.from_residual.result ≡ Err c.in_err-going.field-0.0 = search rules in
-    subst (λ r. IfErr r (IsUnticked n n)) (sym e) (no_steps n c.in_err-going.field-0.0)
-
-pub returns-in_err-filled-clause-ready : goal.returns-in_err-filled-clause-ready
-returns-in_err-filled-clause-ready g c =
-    let s = c.args.self.now in
-    let ops = g.D.Domain.operations in
-    let new = c.fill_all.new.engine.store in
-    let ts = map target_of c.in_ok-going.going.targets in
-    subst (λ d. IsReady (ops d) new s.book) (sym c.fill_all.ensures.domain) (fills_ready (ops s.engine.domain) s.book s.engine.store new ts (added s.engine.store new) c.requires.ready c.fill_all.ensures.fills)
 
 pub returns-in_err-filled-clause-answers : goal.returns-in_err-filled-clause-answers
 returns-in_err-filled-clause-answers g c = λ m h.
-    let s = c.args.self.now in
+    let new = c.fill_for.new.self in
     let ops = g.D.Domain.operations in
-    let dom = ops s.engine.domain in
-    let new = c.fill_all.new.engine.store in
-    let l = c.args.at.now in
-    let string = c.args.string.now in
-    let ts = map target_of c.in_ok-going.going.targets in
-    let going = subst (λ (p : Plan). IsGoing dom p s.engine.store l string c.in_ok-going.going) c.flow-flow.ensures.is c.in_ok-going.ensures.going in
-    let p = err_from_is_err_and c.from_residual-in_err-filled.result c.from_residual-in_err-filled.ensures.1 in
-    rw (p.1, p.2) (subst (λ d. IsBetween (missing_at dom l string m) m (Holds (ops d) new s.book)) (sym c.fill_all.ensures.domain) (
-    between_some dom s.book s.engine.store new l string ts (added s.engine.store new) c.requires.ready.right.checked going.asked c.fill_all.ensures.fills (c.questions_keep_cells.ensures.question s.engine.domain) m h))
+    let e : c.from_residual.result ≡ Err c.in_err-filled.field-0.0 = search rules in
+    subst (Questions (ops c.args.self.now.engine.domain) m (Holds (ops new.engine.domain) new.engine.store new.book) c.args.at.now c.args.string.now) (sym e) (c.in_err-filled.ensures.fails m h)
+
+pub returns-in_err-filled-clause-unticked : goal.returns-in_err-filled-clause-unticked
+returns-in_err-filled-clause-unticked g c =
+    let e : c.from_residual.result ≡ Err c.in_err-filled.field-0.0 = search rules in
+    subst (λ r. IfErr r (IsUnticked c.args.steps.now c.fill_for.new.steps)) (sym e) c.in_err-filled.ensures.unticked
+
+pub returns-in_err-filled-clause-most : goal.returns-in_err-filled-clause-most
+returns-in_err-filled-clause-most g c = λ m h.
+    let s = c.args.self.now in
+    work_first c.args.steps.now c.fill_for.new.steps (g.D.Domain.counted s.engine.domain) (added s.engine.store c.fill_for.new.self.engine.store) (2 * length (targets_of m c.args.at.now c.args.string.now)) c.fill_for.ensures.most
 
 pub read_answer-requires : goal.read_answer-requires
 read_answer-requires g c =
     let s = c.args.self.now in
     let ops = g.D.Domain.operations in
-    let new = c.fill_all.new.engine.store in
+    let dom = ops s.engine.domain in
+    let new = c.fill_for.new.self in
+    let f = c.in_ok-filled.filled in
+    let ts = map target_of f.going.targets in
     let l = c.args.at.now in
     let string = c.args.string.now in
-    let ts = map target_of c.in_ok-going.going.targets in
-    let going = subst (λ (p : Plan). IsGoing (ops s.engine.domain) p s.engine.store l string c.in_ok-going.going) c.flow-flow.ensures.is c.in_ok-going.ensures.going in
-    record { filled = (flow_in s.book, l, string, ts, going.asked, subst (λ d. AreFilled (ops d) new c.fill_all.new.going.walk (flow_in s.book) ts) (sym c.fill_all.ensures.domain) c.in_ok-filled.ensures.filled) }
-
-pub returns-in_err-value-clause-ready : goal.returns-in_err-value-clause-ready
-returns-in_err-value-clause-ready g c =
-    let s = c.args.self.now in
-    let ops = g.D.Domain.operations in
-    let new = c.fill_all.new.engine.store in
-    let ts = map target_of c.in_ok-going.going.targets in
-    subst (λ d. IsReady (ops d) new s.book) (sym c.fill_all.ensures.domain) (fills_ready (ops s.engine.domain) s.book s.engine.store new ts (added s.engine.store new) c.requires.ready c.fill_all.ensures.fills)
+    let a = c.in_ok-filled.ensures.targets in
+    record { filled = (flow_in s.book, l, string, ts, a, subst (λ d. AreFilled (ops d) new.engine.store f.going.walk (flow_in s.book) ts) (sym c.fill_for.ensures.domain) c.in_ok-filled.ensures.filled) }
 
 pub returns-in_err-value-clause-answers : goal.returns-in_err-value-clause-answers
 returns-in_err-value-clause-answers g c = λ m h.
-    let s = c.args.self.now in
-    let ops = g.D.Domain.operations in
-    let dom = ops s.engine.domain in
-    let new = c.fill_all.new.engine.store in
-    let l = c.args.at.now in
-    let string = c.args.string.now in
-    let ts = map target_of c.in_ok-going.going.targets in
-    let going = subst (λ (p : Plan). IsGoing dom p s.engine.store l string c.in_ok-going.going) c.flow-flow.ensures.is c.in_ok-going.ensures.going in
     let p = err_from_is_err_and c.from_residual-in_err-value.result c.from_residual-in_err-value.ensures.1 in
-    rw (p.1, p.2) (subst (λ d. IsBetween (missing_at dom l string m) m (Holds (ops d) new s.book)) (sym c.fill_all.ensures.domain) (
-    between_some dom s.book s.engine.store new l string ts (added s.engine.store new) c.requires.ready.right.checked going.asked c.fill_all.ensures.fills (c.questions_keep_cells.ensures.question s.engine.domain) m h))
-
-pub returns-clause-ready : goal.returns-clause-ready
-returns-clause-ready g c =
-    let s = c.args.self.now in
-    let ops = g.D.Domain.operations in
-    let new = c.fill_all.new.engine.store in
-    let ts = map target_of c.in_ok-going.going.targets in
-    let r = subst (λ d. IsReady (ops d) new s.book) (sym c.fill_all.ensures.domain) (fills_ready (ops s.engine.domain) s.book s.engine.store new ts (added s.engine.store new) c.requires.ready c.fill_all.ensures.fills) in
-    record {
-      right = r.right;
-      order = record {
-        set = r.order.set;
-        fine = r.order.fine;
-        some = r.order.some;
-        low = r.order.low;
-        below = r.order.below;
-        behind = r.order.behind;
-        ahead = r.order.ahead;
-        are_open = r.order.are_open;
-      };
-      waiting = r.waiting;
-    }
-
-pub returns-clause-answers : goal.returns-clause-answers
-returns-clause-answers g c = λ m h.
-    let s = c.args.self.now in
-    let ops = g.D.Domain.operations in
-    let dom = ops s.engine.domain in
-    let new = c.fill_all.new.engine.store in
-    let l = c.args.at.now in
-    let string = c.args.string.now in
-    let ts = map target_of c.in_ok-going.going.targets in
-    let n = c.in_ok-filled.filled in
-    let v = c.in_ok-value.value in
-    let going = subst (λ (p : Plan). IsGoing dom p s.engine.store l string c.in_ok-going.going) c.flow-flow.ensures.is c.in_ok-going.ensures.going in
-    let filled = subst (λ d. AreFilled (ops d) new c.fill_all.new.going.walk (flow_in s.book) ts) (sym c.fill_all.ensures.domain) c.in_ok-filled.ensures.filled in
-    let says = subst (λ d. Says (answer (ops d) (flow_in s.book).engine (flow_in s.book).program l string) (Some v)) c.fill_all.ensures.domain (c.in_ok-value.ensures.says (flow_in s.book) l string ts going.asked filled) in
-    let e = c.in_ok-filled.ensures.all ∙ ap length (missing_here dom s.book s.engine.store new m l string ts h going.asked) in (
-      says_here dom s.book s.engine.store m l string v h says,
-      subst (λ d. Holds (ops d) new (record s.book { cost = n }) (asked dom l string m)) (sym c.fill_all.ensures.domain) (
-          asked_holds dom s.book s.engine.store new l string ts (added s.engine.store new) c.requires.ready.right.checked going.asked c.fill_all.ensures.fills (c.questions_keep_cells.ensures.question s.engine.domain) m n h e (sym c.in_ok-filled.ensures.counted ∙ e)),
-    )
-
-pub returns-clause-sound : goal.returns-clause-sound
-returns-clause-sound g c =
-    let s = c.args.self.now in
-    let ops = g.D.Domain.operations in
-    let new = c.fill_all.new.engine.store in
-    let l = c.args.at.now in
-    let string = c.args.string.now in
-    let ts = map target_of c.in_ok-going.going.targets in
-    let going = subst (λ (p : Plan). IsGoing (ops s.engine.domain) p s.engine.store l string c.in_ok-going.going) c.flow-flow.ensures.is c.in_ok-going.ensures.going in
-    let filled = subst (λ d. AreFilled (ops d) new c.fill_all.new.going.walk (flow_in s.book) ts) (sym c.fill_all.ensures.domain) c.in_ok-filled.ensures.filled in
-    subst (λ d. Covers (g.D.Domain.covers d) (routines_of s.book.history.now) l string (Some c.in_ok-value.value)) c.fill_all.ensures.domain (c.in_ok-value.ensures.sound (flow_in s.book) l string ts going.asked filled)
-
-pub returns-clause-ticked : goal.returns-clause-ticked
-returns-clause-ticked g c = λ m h.
-    let s = c.args.self.now in
-    let ops = g.D.Domain.operations in
-    let dom = ops s.engine.domain in
-    let each = g.D.Domain.counted s.engine.domain in
-    let new = c.fill_all.new.engine.store in
-    let l = c.args.at.now in
-    let string = c.args.string.now in
-    let ts = map target_of c.in_ok-going.going.targets in
-    let n = c.in_ok-filled.filled in
-    let going = subst (λ (p : Plan). IsGoing dom p s.engine.store l string c.in_ok-going.going) c.flow-flow.ensures.is c.in_ok-going.ensures.going in
-    let filled = subst (λ d. AreFilled (ops d) new c.fill_all.new.going.walk (flow_in s.book) ts) (sym c.fill_all.ensures.domain) c.in_ok-filled.ensures.filled in
-    let e = c.in_ok-filled.ensures.all ∙ ap length (missing_here dom s.book s.engine.store new m l string ts h going.asked) in
-    let read = subst (λ d. c.read_answer.new.steps ≤ c.fill_all.new.steps + g.D.Domain.counted d * (2 * length ts)) c.fill_all.ensures.domain (c.read_answer.ensures.ticked (flow_in s.book) ts filled) in
-    work_here dom s.book s.engine.store m l string ts c.args.steps.now c.read_answer.new.steps each n h going.asked e (work_both c.args.steps.now c.fill_all.new.steps c.read_answer.new.steps each n (2 * length ts) c.in_ok-filled.ensures.ticked read)
-
-pub returns-in_err-going-clause-most : goal.returns-in_err-going-clause-most
-returns-in_err-going-clause-most g c = λ m h. omega arith
-
-pub returns-in_err-filled-clause-most : goal.returns-in_err-filled-clause-most
-returns-in_err-filled-clause-most g c = λ m h.
-    let s = c.args.self.now in
-    work_first c.args.steps.now c.fill_all.new.steps (g.D.Domain.counted s.engine.domain) (added s.engine.store c.fill_all.new.engine.store) (2 * length (targets_of m c.args.at.now c.args.string.now)) c.fill_all.ensures.most
+    rw (p.1, p.2) (c.in_ok-filled.ensures.unanswered m h)
 
 pub returns-in_err-value-clause-most : goal.returns-in_err-value-clause-most
 returns-in_err-value-clause-most g c = λ m h.
     let s = c.args.self.now in
     let ops = g.D.Domain.operations in
     let dom = ops s.engine.domain in
-    let each = g.D.Domain.counted s.engine.domain in
-    let new = c.fill_all.new.engine.store in
+    let new = c.fill_for.new.self in
+    let f = c.in_ok-filled.filled in
+    let ts = map target_of f.going.targets in
     let l = c.args.at.now in
     let string = c.args.string.now in
-    let ts = map target_of c.in_ok-going.going.targets in
-    let going = subst (λ (p : Plan). IsGoing dom p s.engine.store l string c.in_ok-going.going) c.flow-flow.ensures.is c.in_ok-going.ensures.going in
-    let filled = subst (λ d. AreFilled (ops d) new c.fill_all.new.going.walk (flow_in s.book) ts) (sym c.fill_all.ensures.domain) c.in_ok-filled.ensures.filled in
-    let read = subst (λ d. c.read_answer.new.steps ≤ c.fill_all.new.steps + g.D.Domain.counted d * (2 * length ts)) c.fill_all.ensures.domain (c.read_answer.ensures.ticked (flow_in s.book) ts filled) in
-    most_here dom s.book s.engine.store m l string ts c.args.steps.now c.fill_all.new.steps c.read_answer.new.steps each c.in_ok-filled.filled (added s.engine.store new) h going.asked c.in_ok-filled.ensures.counted c.in_ok-filled.ensures.ticked read
+    let a = c.in_ok-filled.ensures.targets in
+    let each = g.D.Domain.counted s.engine.domain in
+    let filled = subst (λ d. AreFilled (ops d) new.engine.store f.going.walk (flow_in s.book) ts) (sym c.fill_for.ensures.domain) c.in_ok-filled.ensures.filled in
+    let read = subst (λ d. c.read_answer.new.steps ≤ c.fill_for.new.steps + g.D.Domain.counted d * (2 * length ts)) c.fill_for.ensures.domain (c.read_answer.ensures.ticked (flow_in s.book) ts filled) in
+    most_here dom s.book s.engine.store m l string ts c.args.steps.now c.fill_for.new.steps c.read_answer.new.steps each f.count (added s.engine.store new.engine.store) h a c.in_ok-filled.ensures.counted c.in_ok-filled.ensures.ticked read
+
+pub returns-clause-ready : goal.returns-clause-ready
+returns-clause-ready g c =
+    let new = c.fill_for.new.self in
+    ready_costing (g.D.Domain.operations new.engine.domain) new.engine.store new.book c.in_ok-filled.filled.count c.fill_for.ensures.ready
+
+pub returns-clause-answers : goal.returns-clause-answers
+returns-clause-answers g c = λ m h.
+    let s = c.args.self.now in
+    let ops = g.D.Domain.operations in
+    let dom = ops s.engine.domain in
+    let new = c.fill_for.new.self in
+    let f = c.in_ok-filled.filled in
+    let ts = map target_of f.going.targets in
+    let l = c.args.at.now in
+    let string = c.args.string.now in
+    let a = c.in_ok-filled.ensures.targets in
+    let v = c.in_ok-value.value in
+    let filled = subst (λ d. AreFilled (ops d) new.engine.store f.going.walk (flow_in s.book) ts) (sym c.fill_for.ensures.domain) c.in_ok-filled.ensures.filled in
+    let says = subst (λ d. Says (answer (ops d) (flow_in s.book).engine (flow_in s.book).program l string) (Some v)) c.fill_for.ensures.domain (c.in_ok-value.ensures.says (flow_in s.book) l string ts a filled) in (
+      says_here dom s.book s.engine.store m l string v h says,
+      answered_costing (ops new.engine.domain) dom new.engine.store s.book new.book f.count (asked dom l string m) (ap ops c.fill_for.ensures.domain) c.fill_for.ensures.book (c.in_ok-filled.ensures.answered m h),
+    )
+
+pub returns-clause-sound : goal.returns-clause-sound
+returns-clause-sound g c =
+    let s = c.args.self.now in
+    let ops = g.D.Domain.operations in
+    let new = c.fill_for.new.self in
+    let f = c.in_ok-filled.filled in
+    let ts = map target_of f.going.targets in
+    let l = c.args.at.now in
+    let string = c.args.string.now in
+    let a = c.in_ok-filled.ensures.targets in
+    let filled = subst (λ d. AreFilled (ops d) new.engine.store f.going.walk (flow_in s.book) ts) (sym c.fill_for.ensures.domain) c.in_ok-filled.ensures.filled in
+    subst (λ d. Covers (g.D.Domain.covers d) (routines_of s.book.history.now) l string (Some c.in_ok-value.value)) c.fill_for.ensures.domain (c.in_ok-value.ensures.sound (flow_in s.book) l string ts a filled)
+
+pub returns-clause-ticked : goal.returns-clause-ticked
+returns-clause-ticked g c = λ m h.
+    let s = c.args.self.now in
+    let ops = g.D.Domain.operations in
+    let dom = ops s.engine.domain in
+    let new = c.fill_for.new.self in
+    let f = c.in_ok-filled.filled in
+    let ts = map target_of f.going.targets in
+    let l = c.args.at.now in
+    let string = c.args.string.now in
+    let a = c.in_ok-filled.ensures.targets in
+    let each = g.D.Domain.counted s.engine.domain in
+    let filled = subst (λ d. AreFilled (ops d) new.engine.store f.going.walk (flow_in s.book) ts) (sym c.fill_for.ensures.domain) c.in_ok-filled.ensures.filled in
+    let read = subst (λ d. c.read_answer.new.steps ≤ c.fill_for.new.steps + g.D.Domain.counted d * (2 * length ts)) c.fill_for.ensures.domain (c.read_answer.ensures.ticked (flow_in s.book) ts filled) in
+    work_here dom s.book s.engine.store m l string ts c.args.steps.now c.read_answer.new.steps each f.count h a (c.in_ok-filled.ensures.all m h) (work_both c.args.steps.now c.fill_for.new.steps c.read_answer.new.steps each f.count (2 * length ts) c.in_ok-filled.ensures.ticked read)
 
 pub returns-clause-most : goal.returns-clause-most
 returns-clause-most g c = λ m h.
     let s = c.args.self.now in
     let ops = g.D.Domain.operations in
     let dom = ops s.engine.domain in
-    let each = g.D.Domain.counted s.engine.domain in
-    let new = c.fill_all.new.engine.store in
+    let new = c.fill_for.new.self in
+    let f = c.in_ok-filled.filled in
+    let ts = map target_of f.going.targets in
     let l = c.args.at.now in
     let string = c.args.string.now in
-    let ts = map target_of c.in_ok-going.going.targets in
-    let going = subst (λ (p : Plan). IsGoing dom p s.engine.store l string c.in_ok-going.going) c.flow-flow.ensures.is c.in_ok-going.ensures.going in
-    let filled = subst (λ d. AreFilled (ops d) new c.fill_all.new.going.walk (flow_in s.book) ts) (sym c.fill_all.ensures.domain) c.in_ok-filled.ensures.filled in
-    let read = subst (λ d. c.read_answer.new.steps ≤ c.fill_all.new.steps + g.D.Domain.counted d * (2 * length ts)) c.fill_all.ensures.domain (c.read_answer.ensures.ticked (flow_in s.book) ts filled) in
-    most_here dom s.book s.engine.store m l string ts c.args.steps.now c.fill_all.new.steps c.read_answer.new.steps each c.in_ok-filled.filled (added s.engine.store new) h going.asked c.in_ok-filled.ensures.counted c.in_ok-filled.ensures.ticked read
+    let a = c.in_ok-filled.ensures.targets in
+    let each = g.D.Domain.counted s.engine.domain in
+    let filled = subst (λ d. AreFilled (ops d) new.engine.store f.going.walk (flow_in s.book) ts) (sym c.fill_for.ensures.domain) c.in_ok-filled.ensures.filled in
+    let read = subst (λ d. c.read_answer.new.steps ≤ c.fill_for.new.steps + g.D.Domain.counted d * (2 * length ts)) c.fill_for.ensures.domain (c.read_answer.ensures.ticked (flow_in s.book) ts filled) in
+    most_here dom s.book s.engine.store m l string ts c.args.steps.now c.fill_for.new.steps c.read_answer.new.steps each f.count (added s.engine.store new.engine.store) h a c.in_ok-filled.ensures.counted c.in_ok-filled.ensures.ticked read

@@ -8,6 +8,7 @@ use Rattle.session_machine.specs.Machine.{keeping}
 use Rattle.session_machine.specs.Turns.{IsBetween, missing_for_report, reported}
 use Rattle.daig_session.specs.Books.{machine_of}
 use Rattle.daig_session.specs.Holds.{Holds}
+use Rattle.daig_session.proofs.Filled.{ready_costing}
 use Rattle.daig_session.proofs.Standing.{names, stands}
 use Rattle.daig_session.proofs.Reporting.{as_filled, cost_here, ended_holds, failed_holds, same_ticket}
 use Rattle.daig_session.proofs.session.Session.report.Goals as goal
@@ -27,12 +28,8 @@ overflow_sub-self g c =
 
 pub returns-in-Ok-clause-ready : goal.returns-in-Ok-clause-ready
 returns-in-Ok-clause-ready g c =
-    let r = c.all_findings.ensures.ready in
-    record {
-      right = r.right;
-      order = record { set = r.order.set; fine = r.order.fine; some = r.order.some; low = r.order.low; below = r.order.below; behind = r.order.behind; ahead = r.order.ahead; are_open = r.order.are_open };
-      waiting = r.waiting;
-    }
+    let new = c.all_findings.new.self in
+    ready_costing (g.D.Domain.operations new.engine.domain) new.engine.store new.book _ c.all_findings.ensures.ready
 
 pub returns-in-Ok-clause-next_ticket : goal.returns-in-Ok-clause-next_ticket
 returns-in-Ok-clause-next_ticket g c =
@@ -44,12 +41,8 @@ returns-in-Ok-clause-next_ticket g c =
 
 pub returns-in-Err-clause-ready : goal.returns-in-Err-clause-ready
 returns-in-Err-clause-ready g c =
-    let r = c.all_findings.ensures.ready in
-    record {
-      right = r.right;
-      order = record { set = r.order.set; fine = r.order.fine; some = r.order.some; low = r.order.low; below = r.order.below; behind = r.order.behind; ahead = r.order.ahead; are_open = r.order.are_open };
-      waiting = r.waiting;
-    }
+    let new = c.all_findings.new.self in
+    ready_costing (g.D.Domain.operations new.engine.domain) new.engine.store new.book _ c.all_findings.ensures.ready
 
 pub returns-in-Err-clause-next_ticket : goal.returns-in-Err-clause-next_ticket
 returns-in-Err-clause-next_ticket g c =

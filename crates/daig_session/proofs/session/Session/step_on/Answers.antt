@@ -14,7 +14,7 @@ use Rattle.daig_session.specs.Books.{flow_in}
 use Rattle.daig_session.specs.Going.{AreWaiting, IsAsked}
 use Rattle.daig_session.specs.Holds.{Holds, IsReady}
 use Rattle.daig_session.proofs.Answering.{between_some, most_here, says_here, work_both, work_first, work_here}
-use Rattle.daig_session.proofs.Filled.{fills_ready, missing_here}
+use Rattle.daig_session.proofs.Filled.{fills_ready, missing_here, ready_costing}
 use Rattle.daig_session.proofs.Stepped.{all_of, as_many_as, is_more}
 use Rattle.daig_session.proofs.TicketLemmas.{numbers_set, still_open, there_within, tickets_set}
 use Rattle.daig_session.proofs.Ticketed.{closed_ready, done_holds, pending_holds, ticketed_ready}
@@ -64,11 +64,7 @@ returns-then-not-progress-clause-ready g c =
     let t = record s.book.tickets { open_ones = c.put_going.new.open_ones } in
     let q = ticketed_ready dom new s.book t r (still_open s.book.tickets t r.order.are_open (ap (map number) items ∙ numbers_set os c.args.place one more there refl) refl)
     (subst (AreWaiting dom (flow_in s.book) new) (sym items) (waiting_set dom (flow_in s.book) new os c.args.place more r.waiting (record { short = waits.short; going = c.fill_some.ensures.going one.at one.string c.requires.there.going }))) in
-    subst (λ d. IsReady (ops d) new (record s.book { tickets = t; cost = c.in_ok-progress.progress.filled })) (sym c.fill_some.ensures.domain) (record {
-      right = q.right;
-      order = record { set = q.order.set; fine = q.order.fine; some = q.order.some; low = q.order.low; below = q.order.below; behind = q.order.behind; ahead = q.order.ahead; are_open = q.order.are_open };
-      waiting = q.waiting;
-    })
+    subst (λ d. IsReady (ops d) new (record s.book { tickets = t; cost = c.in_ok-progress.progress.filled })) (sym c.fill_some.ensures.domain) (ready_costing dom new (record s.book { tickets = t }) c.in_ok-progress.progress.filled q)
 
 pub returns-then-not-progress-clause-steps : goal.returns-then-not-progress-clause-steps
 returns-then-not-progress-clause-steps g c = λ m o h e.
@@ -140,11 +136,7 @@ returns-clause-ready g c =
     let ts = map target_of c.args.going.targets in
     let r = fills_ready dom s.book s.engine.store new ts (added s.engine.store new) c.requires.ready c.fill_some.ensures.fills in
     let q = closed_ready dom s.book new c.close.new.self c.args.place r c.close.ensures.tickets c.close.ensures.rest in
-    subst (λ d. IsReady (ops d) new (record s.book { tickets = c.close.new.self; cost = c.in_ok-progress.progress.filled })) (sym c.fill_some.ensures.domain) (record {
-      right = q.right;
-      order = record { set = q.order.set; fine = q.order.fine; some = q.order.some; low = q.order.low; below = q.order.below; behind = q.order.behind; ahead = q.order.ahead; are_open = q.order.are_open };
-      waiting = q.waiting;
-    })
+    subst (λ d. IsReady (ops d) new (record s.book { tickets = c.close.new.self; cost = c.in_ok-progress.progress.filled })) (sym c.fill_some.ensures.domain) (ready_costing dom new (record s.book { tickets = c.close.new.self }) c.in_ok-progress.progress.filled q)
 
 pub returns-clause-steps : goal.returns-clause-steps
 returns-clause-steps g c = λ m o h e.

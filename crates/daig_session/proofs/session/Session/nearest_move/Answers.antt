@@ -2,12 +2,12 @@ use Rattle.std.proofs.Common.{◌≡◌, List, sym, subst}
 use Rattle.imp_syntax.specs.Plain.{Procedure}
 use Rattle.imp_check.specs.Slots.{routines_of}
 use Rattle.call_contexts.specs.Settings.{setting_of}
-use Rattle.edit_history.specs.After.{after, Leads}
+use Rattle.edit_history.specs.After.{after, Leads, LeadsOn}
 use Rattle.edits_keep_cells.specs.Claims.{flow_of}
 use Rattle.daig_query.specs.Right.{IsRight}
-use Rattle.daig_session.specs.Moves.{IsMoving}
+use Rattle.daig_session.specs.Moves.{IsMoving, IsNearest}
 use Rattle.daig_session.proofs.Moved.{leads_first, moving_first}
-use Rattle.daig_session.proofs.session.Session.moving_on.Goals as goal
+use Rattle.daig_session.proofs.session.Session.nearest_move.Goals as goal
 
 pub planned_move-requires-clause-right : goal.planned_move-requires-clause-right
 planned_move-requires-clause-right g c =
@@ -16,9 +16,11 @@ planned_move-requires-clause-right g c =
 
 pub planned_move-requires-clause-leads : goal.planned_move-requires-clause-leads
 planned_move-requires-clause-leads g c =
-    let h = c.args.self.now.book.history in
+    let b = c.args.self.now.book in
+    let h = b.history in
+    let near : LeadsOn h.room h.now c.in-Some.change.now c.requires.leads.0 = subst (λ o. IsNearest b o (λ c. c.now) c.requires.leads.0) c.in-Some.is c.requires.leads.1 in
     subst (λ r. Leads r c.table-table.result.now.program c.in-Some.change.now) (sym c.table-table.ensures.room) (
-    subst (λ (p : List Procedure). Leads h.room p c.in-Some.change.now) (sym c.table-table.ensures.is) (leads_first h.room h.now c.in-Some.change.now h.future c.in-Some.ensures.is))
+    subst (λ (p : List Procedure). Leads h.room p c.in-Some.change.now) (sym c.table-table.ensures.is) (leads_first h.room h.now c.in-Some.change.now c.requires.leads.0 near))
 
 pub planned_move-requires-clause-set : goal.planned_move-requires-clause-set
 planned_move-requires-clause-set g c =
@@ -26,8 +28,9 @@ planned_move-requires-clause-set g c =
     subst (λ (p : List Procedure). b.setting ≡ setting_of b.setting.engine (routines_of p)) (sym c.table-table.ensures.is) c.requires.ready.order.set
 
 pub returns-clause-moving : goal.returns-clause-moving
-returns-clause-moving g c =
+returns-clause-moving g c = λ side is.
     let s = c.args.self.now in
     let h = s.book.history in
-    moving_first s.engine.store s.book.setting.engine h.room h.now c.in-Some.change.now h.future c.in_ok-moving.moving c.in-Some.ensures.is (
+    let near : LeadsOn h.room h.now c.in-Some.change.now side = subst (λ o. IsNearest s.book o (λ c. c.now) side) c.in-Some.is is in
+    moving_first s.engine.store s.book.setting.engine h.room h.now c.in-Some.change.now side c.in_ok-moving.moving near (
     subst (λ (p : List Procedure). IsMoving s.engine.store s.book.setting.engine p (after p c.in-Some.change.now) c.in_ok-moving.moving) c.table-table.ensures.is c.in_ok-moving.ensures.moving)
