@@ -55,9 +55,10 @@ pub(crate) fn deepest(procs: &[Proc]) -> u32
     most
 }
 
+/// How deep the blocks of a block are, up to 2^32 - 1.
 #[cycle(nestings)]
 #[tactic(auto, using(imp_syntax::specs::Blocks::member_smaller, imp_syntax::specs::Blocks::block_rest))]
-fn nesting(block: &Block) -> u32
+pub fn nesting(block: &Block) -> u32
     ensures is { result ≡ min (nesting block.now) (2 ^ 32 - 1) }
 {
     let mut most: u32 = 0;

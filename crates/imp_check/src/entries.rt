@@ -1,12 +1,12 @@
 //! The table of statements, made from the tree.
-ghost use Rattle.std.specs.Prelude.{◌≡◌, ◌∷◌, ◌++◌, ◌+◌, ◌<◌, ◌^◌, IfOk, OnOk, Some, None};
+ghost use Rattle.std.specs.Prelude.{◌≡◌, ◌+◌, ◌<◌, ◌^◌, IfOk, OnOk, Some, None};
 ghost use Rattle.imp_check.specs.Programs.{statement_nesting, nesting};
-ghost use Rattle.imp_check.specs.Parts.{part_of, first_ends, second_ends, leaving_in, leaving, breaks_of};
-ghost use Rattle.imp_check.specs.Entries.{form_in, entry_at, inside, inside_loop, statement_entries, block_entries};
+ghost use Rattle.imp_check.specs.Entries.{form_in, entry_at, statement_entries, block_entries};
 ghost use Rattle.imp_check.specs.Puts.{put_at, put_all, with_site, with_sites, with_form};
 
-use crate::entry::{Around, BlockEnds, Context, Entry, SlotForm, Which};
-use crate::heads::{ends_of, number_at};
+use crate::entry::{Context, Entry, SlotForm, Which};
+use crate::heads::number_at;
+use crate::parts::{breaks_of, first_ends, part_of, second_ends};
 use crate::place::Place;
 use crate::putting::put_entry;
 use crate::resolve::Frame;
@@ -36,82 +36,6 @@ fn form_in(alloc: Global, frame: &Frame, stmt: &Stmt) -> Result<SlotForm, Memory
     }
 }
 
-/// A statement with its blocks empty.
-fn part_of(alloc: Global, stmt: &Stmt) -> Result<Stmt, Memory>
-    ensures is { IfOk result (λ part. part ≡ part_of stmt.now) }
-{
-    let node = match stmt.node() {
-        StmtNode::If(cond, _, _) => StmtNode::If(cond.clone()?, Block::empty(), Block::empty()),
-        StmtNode::While(cond, _) => StmtNode::While(cond.clone()?, Block::empty()),
-        _ => return Ok(stmt.clone()?),
-    };
-    Stmt::new(alloc, stmt.id(), node)
-}
-
-const NO_ENDS: BlockEnds = BlockEnds {
-    first: None,
-    last: None,
-};
-
-/// The ends of the first block of an if or of the body of a while.
-fn first_ends(stmt: &Stmt) -> BlockEnds
-    ensures is { result ≡ first_ends stmt.now }
-{
-    match stmt.node() {
-        StmtNode::If(_, then, _) => ends_of(then),
-        StmtNode::While(_, body) => ends_of(body),
-        _ => NO_ENDS,
-    }
-}
-
-/// The ends of the second block of an if.
-fn second_ends(stmt: &Stmt) -> BlockEnds
-    ensures is { result ≡ second_ends stmt.now }
-{
-    match stmt.node() {
-        StmtNode::If(_, _, els) => ends_of(els),
-        _ => NO_ENDS,
-    }
-}
-
-/// Adds the breaks that leave the loop around a block.
-#[cycle(leaving)]
-#[tactic(auto, using(imp_syntax::specs::Blocks::member_smaller, imp_syntax::specs::Blocks::block_rest))]
-fn leaving(block: &Block, breaks: &mut Items<StmtId>) -> Result<(), Memory>
-    ensures added { OnOk result (breaks.new ≡ breaks.old ++ leaving block.now) }
-{
-    for stmt in block.as_slice() {
-        leaving_in(stmt, breaks)?;
-    }
-    Ok(())
-}
-
-#[cycle(leaving)]
-fn leaving_in(stmt: &Stmt, breaks: &mut Items<StmtId>) -> Result<(), Memory>
-    ensures added { OnOk result (breaks.new ≡ breaks.old ++ leaving_in stmt.now) }
-{
-    match stmt.node() {
-        StmtNode::Break => breaks.push(stmt.id()),
-        StmtNode::If(_, then, els) => {
-            leaving(then, breaks)?;
-            leaving(els, breaks)
-        }
-        _ => Ok(()),
-    }
-}
-
-/// The breaks that leave a while. Over a whole program this takes linear time: each statement is looked at for its
-/// innermost loop alone.
-fn breaks_of(alloc: Global, stmt: &Stmt) -> Result<Items<StmtId>, Memory>
-    ensures is { IfOk result (λ breaks. breaks ≡ breaks_of stmt.now) }
-{
-    let mut breaks = Items::new(alloc);
-    if let StmtNode::While(_, body) = stmt.node() {
-        leaving(body, &mut breaks)?;
-    }
-    Ok(breaks)
-}
-
 /// A statement between these two of its block.
 fn entry_at(
     alloc: Global,
@@ -137,35 +61,6 @@ fn entry_at(
         other: second_ends(stmt),
         breaks,
     })
-}
-
-impl Context {
-    fn inside(&self, stmt: StmtId, which: Which) -> Context
-        requires shallow { self.now.depth + 1 < 2 ^ 32 }
-        ensures is { result ≡ inside self.now stmt which }
-    {
-        Context {
-            proc: self.proc,
-            around: Some(Around { stmt, which }),
-            head: self.head,
-            depth: self.depth + 1,
-        }
-    }
-
-    fn inside_loop(&self, stmt: StmtId) -> Context
-        requires shallow { self.now.depth + 1 < 2 ^ 32 }
-        ensures is { result ≡ inside_loop self.now stmt }
-    {
-        Context {
-            proc: self.proc,
-            around: Some(Around {
-                stmt,
-                which: Which::Body,
-            }),
-            head: Some(stmt),
-            depth: self.depth + 1,
-        }
-    }
 }
 
 /// A table that is being made: the places of statements, and the call statements of each procedure.

@@ -115,7 +115,7 @@ fn variables_fault(variables: &[Declaration]) -> Option<Fault>
 }
 
 /// The variables of a procedure, in order.
-pub(crate) fn variables_of(alloc: Global, proc: &Proc) -> Result<Items<Declaration>, Memory>
+pub fn variables_of(alloc: Global, proc: &Proc) -> Result<Items<Declaration>, Memory>
     ensures is { IfOk result (λ vs. vs ≡ variables proc.now) }
 {
     let mut variables = Items::new(alloc);

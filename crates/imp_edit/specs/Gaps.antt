@@ -15,6 +15,7 @@ use Rattle.imp_check.specs.Parts.{leaving}
 use Rattle.imp_check.specs.Programs.{block_count, program_count, nesting, name_of, last_of}
 use Rattle.imp_check.specs.Statements.{block_fault}
 use Rattle.imp_check.specs.declared.change.Change.{Change}
+use Rattle.imp_check.specs.declared.entry.Context.{Context}
 use Rattle.imp_check.specs.declared.entry.Entry.{Entry}
 use Rattle.imp_check.specs.declared.entry.Head.{Head}
 use Rattle.imp_check.specs.declared.entry.Which.TheVariants as which
@@ -29,22 +30,25 @@ use Rattle.imp_edit.specs.declared.gap.Gap.{Gap}
 abbrev pub gone_gap : (at : ℕ → Option Entry) → (most : ℕ) → Entry → Option Gap
 gone_gap at most e = cond (part_quiet at most e) (Some (record { context = e.context; front = e.front; next = e.next; gone = part_numbers at most e })) None
 
--- behind a statement, and in front of one of its blocks
+-- behind a statement
 abbrev pub behind_gap : Entry → Option Gap
 behind_gap e = Some (record { context = e.context; front = Some e.number; next = e.next; gone = [] })
 
+-- in front of a block, whose first statement is this one: a block of a statement, or the body of the procedure at a place
+abbrev pub first_gap : Context → (first : Option ℕ) → Gap
+first_gap k first = record { context = k; front = None; next = first; gone = [] }
+
 abbrev pub then_gap : Entry → Option Gap
-then_gap e = Some (record { context = inside e.context e.number which.Then; front = None; next = e.inner.first; gone = [] })
+then_gap e = Some (first_gap (inside e.context e.number which.Then) e.inner.first)
 
 abbrev pub else_gap : Entry → Option Gap
-else_gap e = Some (record { context = inside e.context e.number which.Else; front = None; next = e.other.first; gone = [] })
+else_gap e = Some (first_gap (inside e.context e.number which.Else) e.other.first)
 
 abbrev pub body_gap : Entry → Option Gap
-body_gap e = Some (record { context = inside_loop e.context e.number; front = None; next = e.inner.first; gone = [] })
+body_gap e = Some (first_gap (inside_loop e.context e.number) e.inner.first)
 
--- in front of the body of the procedure at a place
 abbrev pub start_gap : (place : ℕ) → Head → Gap
-start_gap place h = record { context = context_at place; front = None; next = h.body.first; gone = [] }
+start_gap place h = first_gap (context_at place) h.body.first
 
 abbrev pub of_entry : (Entry → Option Gap) → Option Entry → Option Gap
 of_entry gap None = None

@@ -1,5 +1,5 @@
 //! Statements checked by themselves.
-ghost use Rattle.std.specs.Prelude.{◌≡◌, ◌++◌, [], IfOk, IfErr, OnOk, None};
+ghost use Rattle.std.specs.Prelude.{◌≡◌, [], IfOk, IfErr, None};
 ghost use Rattle.std.specs.Option.{option_map};
 ghost use Rattle.imp_syntax.specs.Plain.{Ends, If, Simple};
 ghost use Rattle.imp_syntax.specs.ActionViews.{action_of};
@@ -13,8 +13,8 @@ ghost use Rattle.imp_edit.specs.Alone.{IsAlone, alone, alone_fault, FitsAlone};
 ghost use Rattle.imp_edit.specs.Refusals.{IsRefusal};
 
 use crate::error::EditError;
-use imp_check::{CheckError, Fault, Found, SlotForm, Table, check_table};
-use imp_syntax::{Action, Block, Cond, Declaration, Proc, Program, Stmt, StmtId, StmtNode};
+use imp_check::{CheckError, Fault, Found, SlotForm, Table, check_table, variables_of};
+use imp_syntax::{Action, Block, Cond, Proc, Program, Stmt, StmtId, StmtNode};
 use plain_values::{Items, Memory, Text};
 use std::alloc::Global;
 
@@ -82,28 +82,6 @@ fn alone(alloc: Global, proc: &Proc, stmt: Stmt) -> Result<Program, Memory>
     let mut procs = Items::new(alloc);
     procs.push(main)?;
     Program::new(alloc, procs)
-}
-
-/// The variables of a procedure, in order.
-fn variables_of(alloc: Global, proc: &Proc) -> Result<Items<Declaration>, Memory>
-    ensures is { IfOk result (λ vs. vs ≡ variables proc.now) }
-{
-    let mut variables = Items::new(alloc);
-    append(&mut variables, proc.parameters())?;
-    if let Some(outcome) = proc.outcome() {
-        variables.push(outcome.clone()?)?;
-    }
-    append(&mut variables, proc.locals())?;
-    Ok(variables)
-}
-
-fn append(all: &mut Items<Declaration>, more: &[Declaration]) -> Result<(), Memory>
-    ensures added { OnOk result (all.new ≡ all.old ++ more.now) }
-{
-    for declaration in more {
-        all.push(declaration.clone()?)?;
-    }
-    Ok(())
 }
 
 /// What the statement of number 1 does over slots, or `None` where there is none.

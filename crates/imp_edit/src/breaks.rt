@@ -9,10 +9,10 @@ ghost use Rattle.edit_entries.specs.Spliced.{breaking, is, left_of, rebroken};
 ghost use Rattle.imp_edit.specs.Gaps.{BreaksTold, IsBelow};
 
 use crate::beside::entry_again;
-use crate::blocks::{add_leaving, are_closed};
+use crate::blocks::are_closed;
 use crate::gap::Gap;
 use crate::puts::put_at;
-use imp_check::{Entry, Place, Put, Table};
+use imp_check::{Entry, Place, Put, Table, add_leaving};
 use imp_syntax::{Block, StmtId};
 use plain_values::{Items, Memory};
 use std::alloc::Global;

@@ -16,10 +16,11 @@ ghost use Rattle.imp_edit.specs.Alone.{FitsAlone, alone_fault};
 ghost use Rattle.imp_edit.specs.Refusals.{IsRefusal};
 
 use crate::alone::{condition_alone, form_alone, simple_alone};
-use crate::blocks::{breaks_of, first_ends, inside, inside_loop, part_of, second_ends};
 use crate::error::EditError;
 use crate::gap::Gap;
-use imp_check::{Context, Entry, Head, SlotForm, Which};
+use imp_check::{
+    Context, Entry, Head, SlotForm, Which, breaks_of, first_ends, part_of, second_ends,
+};
 use imp_slots::SlotStmt;
 use imp_syntax::{Block, Stmt, StmtId, StmtNode};
 use plain_values::Memory;
@@ -136,13 +137,13 @@ fn add_statement(
     let id = stmt.id();
     match stmt.node() {
         StmtNode::If(_, then, els) => {
-            let first = alone_in(inside(&site.context, id, Which::Then));
-            let second = alone_in(inside(&site.context, id, Which::Else));
+            let first = alone_in(site.context.inside(id, Which::Then));
+            let second = alone_in(site.context.inside(id, Which::Else));
             add_block(alloc, head, &first, then, entries)?;
             add_block(alloc, head, &second, els, entries)
         }
         StmtNode::While(_, body) => {
-            let whole = alone_in(inside_loop(&site.context, id));
+            let whole = alone_in(site.context.inside_loop(id));
             add_block(alloc, head, &whole, body, entries)
         }
         _ => Ok(()),

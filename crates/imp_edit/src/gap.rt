@@ -2,10 +2,9 @@
 ghost use Rattle.std.specs.Prelude.{◌≡◌, ◌++◌, ◌&&◌, IfOk, Some, true};
 ghost use Rattle.imp_check.specs.Entries.{entries_of, entry_of, heads_of};
 ghost use Rattle.imp_check.specs.Walks.{walk};
-ghost use Rattle.imp_edit.specs.Gaps.{gap_of, part_gap, place_gap, behind_gap, then_gap, else_gap, body_gap, of_entry, of_place};
+ghost use Rattle.imp_edit.specs.Gaps.{gap_of, part_gap, place_gap, behind_gap, first_gap, then_gap, else_gap, body_gap, of_entry, of_place};
 ghost use Rattle.imp_edit.specs.Quiet.{quiet_from};
 
-use crate::blocks::{inside, inside_loop};
 use crate::quiet::{add_quiet, is_call};
 use imp_check::{Context, Entry, Table, Which};
 use imp_syntax::{Edit, Place, ProcId, StmtId};
@@ -112,14 +111,8 @@ fn then_gap(alloc: Global, table: &Table, stmt: StmtId) -> Option<Gap>
 {
     table.procs();
     let entry = table.entry(stmt)?;
-    let context = inside(&entry.context, entry.number, Which::Then);
-    let next = entry.inner.first;
-    Some(Gap {
-        context,
-        front: None,
-        next,
-        gone: Items::new(alloc),
-    })
+    let context = entry.context.inside(entry.number, Which::Then);
+    Some(first_gap(alloc, context, entry.inner.first))
 }
 
 /// In front of the second block of an if.
@@ -129,14 +122,8 @@ fn else_gap(alloc: Global, table: &Table, stmt: StmtId) -> Option<Gap>
 {
     table.procs();
     let entry = table.entry(stmt)?;
-    let context = inside(&entry.context, entry.number, Which::Else);
-    let next = entry.other.first;
-    Some(Gap {
-        context,
-        front: None,
-        next,
-        gone: Items::new(alloc),
-    })
+    let context = entry.context.inside(entry.number, Which::Else);
+    Some(first_gap(alloc, context, entry.other.first))
 }
 
 /// In front of the body of a while.
@@ -146,14 +133,8 @@ fn body_gap(alloc: Global, table: &Table, stmt: StmtId) -> Option<Gap>
 {
     table.procs();
     let entry = table.entry(stmt)?;
-    let context = inside_loop(&entry.context, entry.number);
-    let next = entry.inner.first;
-    Some(Gap {
-        context,
-        front: None,
-        next,
-        gone: Items::new(alloc),
-    })
+    let context = entry.context.inside_loop(entry.number);
+    Some(first_gap(alloc, context, entry.inner.first))
 }
 
 /// In front of the body of a procedure.
@@ -167,10 +148,17 @@ fn start_gap(alloc: Global, table: &Table, proc: ProcId) -> Option<Gap>
         head: None,
         depth: 0,
     };
-    Some(Gap {
+    Some(first_gap(alloc, context, head.body.first))
+}
+
+/// In front of a block, whose first statement is this one.
+fn first_gap(alloc: Global, context: Context, first: Option<StmtId>) -> Gap
+    ensures is { result ≡ first_gap context first }
+{
+    Gap {
         context,
         front: None,
-        next: head.body.first,
+        next: first,
         gone: Items::new(alloc),
-    })
+    }
 }

@@ -12,11 +12,10 @@ ghost use Rattle.imp_edit.specs.Gaps.{IsSplice, count_with, size_fault, splice_f
 ghost use Rattle.imp_edit.specs.Refusals.{IsRefusal};
 
 use crate::beside::{ends_stay, ends_with, puts_of};
-use crate::blocks::nesting;
 use crate::coming::entries_of;
 use crate::error::EditError;
 use crate::gap::Gap;
-use imp_check::{Change, Fault, Found, Head, Table, block_count};
+use imp_check::{Change, Fault, Found, Head, Table, block_count, nesting};
 use imp_syntax::Block;
 use plain_values::{Items, Memory, Text};
 use std::alloc::Global;

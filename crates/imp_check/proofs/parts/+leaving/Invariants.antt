@@ -1,7 +1,7 @@
 use Rattle.std.proofs.Common.{◌≡◌, ◌++◌, drop}
 use Rattle.imp_syntax.specs.Plain.{block_of}
 use Rattle.imp_check.specs.Parts.{leaving}
-use Rattle.imp_edit.proofs.blocks.+leaving.Given as goal
+use Rattle.imp_check.proofs.parts.+leaving.Given as goal
 
 abbrev pub decreases-add_leaving : goal.decreases-add_leaving
 decreases-add_leaving l = goal.size-add_leaving l
