@@ -1,5 +1,6 @@
 -- The breaks of the loop around a block, where a part of the block goes and another one comes.
-use Rattle.std.proofs.Common.{◌≡◌, ℕ, ◌⊎◌, inl, inr, cond, Bool, true, false, List, [], ◌∷◌, ◌++◌, length, Option, Some, None, refl, sym, ap, ◌∙◌, subst, append-nil}
+use Rattle.std.proofs.Common.{◌≡◌, ℕ, zero, suc, ◌⊎◌, inl, inr, cond, Bool, true, false, List, [], ◌∷◌, ◌++◌, length, take, drop, Option, Some, None, refl, sym, ap, ◌∙◌, subst, append-nil, append_assoc}
+use Rattle.std.proofs.lemmas.List.{take-append-drop}
 use Rattle.imp_syntax.specs.Plain.{Condition, Statement, Simple, Break, Call, If, While, Statements, Ends, Starts, Procedure, numbers_in, numbers, program_numbers}
 use Rattle.imp_slots.specs.Fits.{Absent, Distinct}
 use Rattle.imp_check.specs.Programs.{has}
@@ -8,7 +9,7 @@ use Rattle.imp_check.specs.Parts.{ends_of, first_or, last_or, leaving_in, leavin
 use Rattle.imp_check.specs.Entries.{entry_at, entries_of, entry_of, frame_at, context_at}
 use Rattle.imp_check.specs.declared.entry.Context.{Context}
 use Rattle.imp_check.specs.declared.entry.Entry.{Entry}
-use Rattle.edit_entries.specs.Spliced.{left_of, breaking, AreTold}
+use Rattle.edit_entries.specs.Spliced.{left_of, among, breaking}
 use Rattle.edit_entries.specs.Holes.{append, Hole, Then, Else, Body, fill, plug, holder, loop_of, between, with_body}
 use Rattle.edit_entries.proofs.Others.{leaving_append}
 use Rattle.edit_entries.proofs.Filled.{context_in, ends_filled, has_loop, no_loop, some_loop}
@@ -199,54 +200,70 @@ none_leaves hs before olds news behind quits z =
     let d = some_parts (leaving olds) (leaving behind) (sym (leaving_append olds behind) ∙ a.1) in
     leaving_append before (append news behind) ∙ nothing (leaving before) (leaving (append news behind)) a.0 (leaving_append news behind ∙ nothing (leaving news) (leaving behind) quits d.1))
 
--- Where no breaks are left, those that leave the part are all that there are.
-only_filled : (h : Hole) (x y : Statements) (ns : List ℕ) → has_loop (h ∷ []) ≡ false → leaving (fill h x) ≡ [] → (leaving x ≡ [] → leaving y ≡ ns) → leaving (fill h y) ≡ ns
-only_filled (Then b n c e r) x y ns i z f =
-    let a = some_parts (leaving b) ((leaving x ++ leaving e) ++ leaving r) (sym (leaving_append b (Starts (If n c x e) r)) ∙ z) in
-    let d = some_parts (leaving x ++ leaving e) (leaving r) a.1 in
-    let g = some_parts (leaving x) (leaving e) d.0 in
-    leaving_append b (Starts (If n c y e) r)
-    ∙ ap (λ k. k ++ ((leaving y ++ leaving e) ++ leaving r)) a.0
-    ∙ ap (λ k. (leaving y ++ k) ++ leaving r) g.1
-    ∙ ap (λ k. (leaving y ++ []) ++ k) d.1
-    ∙ append-nil (leaving y ++ [])
-    ∙ append-nil (leaving y)
-    ∙ f g.0
-only_filled (Else b n c t r) x y ns i z f =
-    let a = some_parts (leaving b) ((leaving t ++ leaving x) ++ leaving r) (sym (leaving_append b (Starts (If n c t x) r)) ∙ z) in
-    let d = some_parts (leaving t ++ leaving x) (leaving r) a.1 in
-    let g = some_parts (leaving t) (leaving x) d.0 in
-    leaving_append b (Starts (If n c t y) r)
-    ∙ ap (λ k. k ++ ((leaving t ++ leaving y) ++ leaving r)) a.0
-    ∙ ap (λ k. (k ++ leaving y) ++ leaving r) g.0
-    ∙ ap (λ k. leaving y ++ k) d.1
-    ∙ append-nil (leaving y)
-    ∙ f g.1
-only_filled (Body b n c r) x y ns i z f = cc
+-- The breaks in front of the part, and those behind it.
+abbrev pub in_front : List Hole → (before : Statements) → List ℕ
+in_front [] before = leaving before
+in_front (Then b n c e r ∷ hs) before = leaving b ++ in_front hs before
+in_front (Else b n c t r ∷ hs) before = leaving b ++ (leaving t ++ in_front hs before)
+in_front (Body b n c r ∷ hs) before = in_front hs before
 
-only_plugged : (hs : List Hole) (x y : Statements) (ns : List ℕ) → has_loop hs ≡ false → leaving (plug hs x) ≡ [] → (leaving x ≡ [] → leaving y ≡ ns) → leaving (plug hs y) ≡ ns
-only_plugged [] x y ns i z f = f z
-only_plugged (h ∷ hs) x y ns i z f =
-    let j = tail_plain h hs i in
-    only_filled h (plug hs x) (plug hs y) ns j.0 z (λ w. only_plugged hs x y ns j.1 w f)
+abbrev in_back : List Hole → (behind : Statements) → List ℕ
+in_back [] behind = leaving behind
+in_back (Then b n c e r ∷ hs) behind = in_back hs behind ++ (leaving e ++ leaving r)
+in_back (Else b n c t r ∷ hs) behind = in_back hs behind ++ leaving r
+in_back (Body b n c r ∷ hs) behind = in_back hs behind
 
--- So the breaks are those that are left, and those that come, where only one of the two are.
-pub gained : (before olds news behind : Statements) (hs : List Hole) → has_loop hs ≡ false → Distinct (numbers (plug hs (between before behind olds))) → AreTold (numbers olds) (leaving news) (leaving (plug hs (between before behind olds))) →
-    leaving (plug hs (between before behind news)) ≡ left_of (numbers olds) (leaving (plug hs (between before behind olds))) ++ leaving news
-gained before olds news behind hs i once (inl quits) =
-    lost before olds news behind quits hs i once
-    ∙ sym (append-nil (left_of (numbers olds) (leaving (plug hs (between before behind olds)))))
-    ∙ ap (λ k. left_of (numbers olds) (leaving (plug hs (between before behind olds))) ++ k) (sym quits)
-gained before olds news behind hs i once (inr none) =
-    only_plugged hs (between before behind Ends) (between before behind news) (leaving news) i (lost before olds Ends behind refl hs i once ∙ none)
-    (λ w.
-    let a = some_parts (leaving before) (leaving behind) (sym (leaving_append before behind) ∙ w) in
-    leaving_append before (append news behind)
-    ∙ ap (λ k. k ++ leaving (append news behind)) a.0
-    ∙ leaving_append news behind
-    ∙ ap (λ k. leaving news ++ k) a.1
-    ∙ append-nil (leaving news))
-    ∙ ap (λ k. k ++ leaving news) (sym none)
+then_parts : (b f y k e r : List ℕ) → b ++ (((f ++ (y ++ k)) ++ e) ++ r) ≡ (b ++ f) ++ (y ++ (k ++ (e ++ r)))
+then_parts b f y k e r =
+    ap (λ z. b ++ z)
+    (append_assoc (f ++ (y ++ k)) e r
+    ∙ append_assoc f (y ++ k) (e ++ r)
+    ∙ ap (λ z. f ++ z) (append_assoc y k (e ++ r)))
+    ∙ sym (append_assoc b f (y ++ (k ++ (e ++ r))))
+
+else_parts : (b t f y k r : List ℕ) → b ++ ((t ++ (f ++ (y ++ k))) ++ r) ≡ (b ++ (t ++ f)) ++ (y ++ (k ++ r))
+else_parts b t f y k r =
+    ap (λ z. b ++ z)
+    (append_assoc t (f ++ (y ++ k)) r
+    ∙ ap (λ z. t ++ z) (append_assoc f (y ++ k) r ∙ ap (λ z. f ++ z) (append_assoc y k r))
+    ∙ sym (append_assoc t f (y ++ (k ++ r))))
+    ∙ sym (append_assoc b (t ++ f) (y ++ (k ++ r)))
+
+parted : (hs : List Hole) → has_loop hs ≡ false → (before behind x : Statements) → leaving (plug hs (between before behind x)) ≡ in_front hs before ++ (leaving x ++ in_back hs behind)
+parted [] i before behind x = leaving_append before (append x behind) ∙ ap (λ k. leaving before ++ k) (leaving_append x behind)
+parted (Then b n c e r ∷ hs) i before behind x =
+    leaving_append b (Starts (If n c (plug hs (between before behind x)) e) r)
+    ∙ ap (λ z. leaving b ++ ((z ++ leaving e) ++ leaving r)) (parted hs i before behind x)
+    ∙ then_parts (leaving b) (in_front hs before) (leaving x) (in_back hs behind) (leaving e) (leaving r)
+parted (Else b n c t r ∷ hs) i before behind x =
+    leaving_append b (Starts (If n c t (plug hs (between before behind x))) r)
+    ∙ ap (λ z. leaving b ++ ((leaving t ++ z) ++ leaving r)) (parted hs i before behind x)
+    ∙ else_parts (leaving b) (leaving t) (in_front hs before) (leaving x) (in_back hs behind) (leaving r)
+parted (Body b n c r ∷ hs) i before behind x = cc
+
+among_parts : (f come k : List ℕ) → among (length f) come (f ++ k) ≡ f ++ (come ++ k)
+among_parts [] come k = refl
+among_parts (n ∷ f) come k = ap (λ ns. n ∷ ns) (among_parts f come k)
+
+-- So the breaks are those that are left, with those that come behind the ones in front of the part.
+pub gained : (before olds news behind : Statements) (hs : List Hole) → has_loop hs ≡ false → Distinct (numbers (plug hs (between before behind olds))) →
+    leaving (plug hs (between before behind news)) ≡ among (length (in_front hs before)) (leaving news) (left_of (numbers olds) (leaving (plug hs (between before behind olds))))
+gained before olds news behind hs i once =
+    let f = in_front hs before in
+    let k = in_back hs behind in
+    let left : left_of (numbers olds) (leaving (plug hs (between before behind olds))) ≡ f ++ k = sym (lost before olds Ends behind refl hs i once) ∙ parted hs i before behind Ends in
+    parted hs i before behind news ∙ sym (among_parts f (leaving news) k) ∙ ap (among (length f) (leaving news)) (sym left)
+
+-- None come, or none are left.
+pub among_none : (before : ℕ) (come left : List ℕ) → come ≡ [] → among before come left ≡ left
+among_none before come left e = ap (λ ns. take before left ++ (ns ++ drop before left)) e ∙ take-append-drop before left
+
+pub among_all : (before : ℕ) (come left : List ℕ) → left ≡ [] → among before come left ≡ come
+among_all before come left e = ap (among before come) e ∙ none before
+  where
+    none : (n : ℕ) → among n come [] ≡ come
+    none zero = append-nil come
+    none (suc n) = append-nil come
 
 -- The innermost loop around a block.
 pub record Looped (hs : List Hole) (m : ℕ) : Type 0 where
@@ -315,10 +332,15 @@ module _ (ps qs : List Procedure) (p : Procedure) (hs : List Hole) (m : ℕ) (l 
       inner_once (Body l.before m l.condition l.behind) (plug l.inner x)
       (deep_once l.outer (fill (Body l.before m l.condition l.behind) (plug l.inner x)) (subst (λ z. Distinct (numbers z)) (plugged x) own))
 
+-- the breaks that it has after an edit, by those of before
+pub loop_gained : (ps qs : List Procedure) (p : Procedure) (hs : List Hole) (m : ℕ) (l : Looped hs m) (before olds news behind : Statements) → Distinct (program_numbers (ps ++ with_body p (plug hs (between before behind olds)) ∷ qs)) →
+    (loop_with ps qs p hs m l (between before behind news)).breaks ≡ among (length (in_front l.inner before)) (leaving news) (left_of (numbers olds) (loop_with ps qs p hs m l (between before behind olds)).breaks)
+loop_gained ps qs p hs m l before olds news behind once = gained before olds news behind l.inner l.plain (loop_once ps qs p hs m l (between before behind olds) once)
+
 -- A loop whose body keeps its ends and has other breaks.
-pub rebroken_loop : (f : Frame) (k : Context) (a b : Option ℕ) (m : ℕ) (c : Condition) (g z : List ℕ) (x y : Statements) → ends_of y ≡ ends_of x → leaving y ≡ left_of g (leaving x) ++ z →
-    entry_at f k a b (While m c y) ≡ breaking g z (entry_at f k a b (While m c x))
-rebroken_loop f k a b m c g z x y p q =
+pub rebroken_loop : (f : Frame) (k : Context) (a b : Option ℕ) (m : ℕ) (c : Condition) (ns : List ℕ) (x y : Statements) → ends_of y ≡ ends_of x → leaving y ≡ ns →
+    entry_at f k a b (While m c y) ≡ breaking ns (entry_at f k a b (While m c x))
+rebroken_loop f k a b m c ns x y p q =
     ap (λ s. record (entry_at f k a b (While m c y)) { inner = s }) p
     ∙ ap (λ ls. record (entry_at f k a b (While m c x)) { breaks = ls }) q
 

@@ -10,13 +10,12 @@ use Rattle.imp_check.specs.declared.entry.Entry.{Entry}
 use Rattle.imp_check.specs.declared.entry.BlockEnds.{BlockEnds}
 use Rattle.imp_check.specs.Parts.{ends_of, first_or, last_or, leaving}
 use Rattle.imp_check.specs.Entries.{entry_at, entries_of, entry_of, frame_at, context_at}
-use Rattle.edit_entries.specs.Spliced.{is, left_of, rebroken, spliced, breaking, AreTold}
+use Rattle.edit_entries.specs.Spliced.{is, rebroken, spliced, breaking}
 use Rattle.edit_entries.specs.Holes.{append, Hole, Then, Else, Body, fill, plug, holder, loop_of, between, with_body}
 use Rattle.edit_entries.proofs.Others.{first_append, last_append, leaving_append}
-use Rattle.edit_entries.proofs.Breaks.{holder_last, loop_last, looped, loop_found, loop_with, gained}
+use Rattle.edit_entries.proofs.Breaks.{holder_last, loop_last, looped, loop_found, loop_with}
 use Rattle.edit_entries.proofs.Filled.{before as around_before, behind as around_behind, has_loop, holding, holding_number}
 use Rattle.edit_entries.proofs.Stay.{last_holder}
-use Rattle.edit_entries.proofs.Standing.{deep_once, own_distinct}
 use Rattle.edit_entries.proofs.Programs.{old_program, new_program}
 use Rattle.edit_entries.proofs.Touched.{context_of, plug_last, holder_found}
 use Rattle.edit_entries.proofs.Numbers.{Apart}
@@ -39,14 +38,14 @@ held (Else b n c t r) s x = record x { other = s }
 held (Body b n c r) s x = record x { inner = s }
 
 -- the same of a statement that had the block, and has other breaks where it is the loop around it
-rebroken_held : (f : Frame) (k : Context) (a p : Option ℕ) (g z : List ℕ) (h : Hole) (t : Bool) (x y : Statements) → t ≡ has_loop (h ∷ []) → (t ≡ true → leaving y ≡ left_of g (leaving x) ++ z) →
-    Some (entry_at f k a p (holding h y)) ≡ option_map (held h (ends_of y)) (cond t (option_map (breaking g z) (Some (entry_at f k a p (holding h x)))) (Some (entry_at f k a p (holding h x))))
-rebroken_held f k a p g z (Then b n c e r) true x y i q = cc
-rebroken_held f k a p g z (Then b n c e r) false x y i q = refl
-rebroken_held f k a p g z (Else b n c t r) true x y i q = cc
-rebroken_held f k a p g z (Else b n c t r) false x y i q = refl
-rebroken_held f k a p g z (Body b n c r) true x y i q = ap (λ ls. Some (record (entry_at f k a p (While n c y)) { breaks = ls })) (q refl)
-rebroken_held f k a p g z (Body b n c r) false x y i q = cc
+rebroken_held : (f : Frame) (k : Context) (a p : Option ℕ) (ns : List ℕ) (h : Hole) (t : Bool) (x y : Statements) → t ≡ has_loop (h ∷ []) → (t ≡ true → leaving y ≡ ns) →
+    Some (entry_at f k a p (holding h y)) ≡ option_map (held h (ends_of y)) (cond t (option_map (breaking ns) (Some (entry_at f k a p (holding h x)))) (Some (entry_at f k a p (holding h x))))
+rebroken_held f k a p ns (Then b n c e r) true x y i q = cc
+rebroken_held f k a p ns (Then b n c e r) false x y i q = refl
+rebroken_held f k a p ns (Else b n c t r) true x y i q = cc
+rebroken_held f k a p ns (Else b n c t r) false x y i q = refl
+rebroken_held f k a p ns (Body b n c r) true x y i q = ap (λ ls. Some (record (entry_at f k a p (While n c y)) { breaks = ls })) (q refl)
+rebroken_held f k a p ns (Body b n c r) false x y i q = cc
 
 abbrev is_while : Statement → Bool
 is_while (Simple n a) = false
@@ -58,7 +57,7 @@ is_while (While n c b) = true
 pub some_is : (n m : ℕ) → is (Some n) m ≡ true → n ≡ m
 some_is n m h = grind (arith, nat_tests)
 
-module _ (ps qs : List Procedure) (p : Procedure) (gs : List Hole) (h : Hole) (before olds news behind : Statements) where
+module _ (ps qs : List Procedure) (p : Procedure) (gs : List Hole) (h : Hole) (before olds news behind : Statements) (breaks : List ℕ) where
   abbrev hs : List Hole
   hs = gs ++ h ∷ []
 
@@ -78,9 +77,9 @@ module _ (ps qs : List Procedure) (p : Procedure) (gs : List Hole) (h : Hole) (b
       ∙ ap (entry_of (entries_of (ps ++ with_body p (plug gs (fill h x)) ∷ qs))) (sym (holding_number h x))
       ∙ holder_found ps qs p gs h x (subst (λ (os : List Procedure). Distinct (program_numbers os)) (whole x) once)
 
-  -- what is told of the breaks of the loop around
+  -- what is told of the breaks of the loop around, in the new program
   abbrev pub Told : Type 0
-  Told = (m : ℕ) (x : Entry) → loop_of None hs ≡ Some m → entry_of (entries_of O) m ≡ Some x → AreTold (numbers olds) (leaving news) x.breaks
+  Told = (m : ℕ) (y : Entry) → loop_of None hs ≡ Some m → entry_of (entries_of N) m ≡ Some y → y.breaks ≡ breaks
 
   -- The statement that has the block is the loop around it only where it is a loop.
   module _ (old : Distinct (program_numbers O)) where
@@ -117,7 +116,7 @@ module _ (ps qs : List Procedure) (p : Procedure) (gs : List Hole) (h : Hole) (b
         go false i true t = absurd (no_loop_there i t)
 
   pub holds : Distinct (program_numbers O) → Distinct (program_numbers N) → Told → (m : ℕ) → is (last_holder hs) m ≡ true →
-      entry_of (entries_of N) m ≡ option_map (held h (ends_of (between before behind news))) (rebroken (loop_of None hs) (numbers olds) (leaving news) (entry_of (entries_of O)) m)
+      entry_of (entries_of N) m ≡ option_map (held h (ends_of (between before behind news))) (rebroken (loop_of None hs) breaks (entry_of (entries_of O)) m)
   holds old new told m e =
       let same : holder h ≡ m = some_is (holder h) m (ap (λ o. is o m) (sym (holder_last gs h)) ∙ e) in
       let f = frame_at ps p in
@@ -127,13 +126,12 @@ module _ (ps qs : List Procedure) (p : Procedure) (gs : List Hole) (h : Hole) (b
       let x = between before behind olds in
       let y = between before behind news in
       let t = is (loop_of None hs) m in
-      let once : Distinct (numbers x) = deep_once hs x (own_distinct ps (with_body p (plug hs x)) qs old) in
       let was : entry_of (entries_of O) m ≡ Some (entry_at f k a b (holding h x)) = ap (entry_of (entries_of O)) (sym same) ∙ shown x old in
+      let now : entry_of (entries_of N) m ≡ Some (entry_at f k a b (holding h y)) = ap (entry_of (entries_of N)) (sym same) ∙ shown y new in
       let here : t ≡ has_loop (h ∷ []) = ap (is (loop_of None hs)) (sym same) ∙ loop_here old in
-      ap (entry_of (entries_of N)) (sym same)
-      ∙ shown y new
-      ∙ rebroken_held f k a b (numbers olds) (leaving news) h t x y here (λ i. gained before olds news behind [] refl once (told_breaks h f k a b x (sym here ∙ i) (told m (entry_at f k a b (holding h x)) (some_loop_at i) was)))
-      ∙ ap (λ o. option_map (held h (ends_of y)) (cond t (option_map (breaking (numbers olds) (leaving news)) o) o)) (sym was)
+      now
+      ∙ rebroken_held f k a b breaks h t x y here (λ i. told_breaks h f k a b y (sym here ∙ i) (told m (entry_at f k a b (holding h y)) (some_loop_at i) now))
+      ∙ ap (λ o. option_map (held h (ends_of y)) (cond t (option_map (breaking breaks) o) o)) (sym was)
     where
       some_loop_at : is (loop_of None hs) m ≡ true → loop_of None hs ≡ Some m
       some_loop_at i = from (loop_of None hs) i
@@ -142,21 +140,21 @@ module _ (ps qs : List Procedure) (p : Procedure) (gs : List Hole) (h : Hole) (b
           from None i = cc
           from (Some n) i = ap Some (some_is n m i)
 
-      told_breaks : (h : Hole) (f : Frame) (k : Context) (a b : Option ℕ) (x : Statements) → has_loop (h ∷ []) ≡ true → AreTold (numbers olds) (leaving news) (entry_at f k a b (holding h x)).breaks → AreTold (numbers olds) (leaving news) (leaving x)
-      told_breaks (Then v n c e r) f k a b x i w = absurd cc
-      told_breaks (Else v n c t r) f k a b x i w = absurd cc
-      told_breaks (Body v n c r) f k a b x i w = w
+      told_breaks : (h : Hole) (f : Frame) (k : Context) (a b : Option ℕ) (y : Statements) → has_loop (h ∷ []) ≡ true → (entry_at f k a b (holding h y)).breaks ≡ breaks → leaving y ≡ breaks
+      told_breaks (Then v n c e r) f k a b y i w = absurd cc
+      told_breaks (Else v n c t r) f k a b y i w = absurd cc
+      told_breaks (Body v n c r) f k a b y i w = w
 
   -- The table after an edit of a block of a statement.
   pub edit_table : Distinct (program_numbers O) → Distinct (program_numbers N) → Apart (numbers olds) (numbers news) → Told → (m : ℕ) →
-      entry_of (entries_of N) m ≡ spliced (the_splice ps qs p hs before olds news behind) (held h (ends_of (between before behind news))) (entry_of (entries_of O)) m
-  edit_table old new apart told m = table_is ps qs p hs before olds news behind old new apart told (held h (ends_of (between before behind news))) (holds old new told) m
+      entry_of (entries_of N) m ≡ spliced (the_splice ps qs p hs before olds news behind breaks) (held h (ends_of (between before behind news))) (entry_of (entries_of O)) m
+  edit_table old new apart told m = table_is ps qs p hs before olds news behind breaks old new apart told (held h (ends_of (between before behind news))) (holds old new told) m
 
 -- The same of a block that is the body of a procedure: no statement has it.
-pub edit_body_table : (ps qs : List Procedure) (p : Procedure) (before olds news behind : Statements) → let O = old_program p [] before olds news behind ps qs in let N = new_program p [] before olds news behind ps qs in
+pub edit_body_table : (ps qs : List Procedure) (p : Procedure) (before olds news behind : Statements) (breaks : List ℕ) → let O = old_program p [] before olds news behind ps qs in let N = new_program p [] before olds news behind ps qs in
     Distinct (program_numbers O) → Distinct (program_numbers N) → Apart (numbers olds) (numbers news) → (m : ℕ) →
-    entry_of (entries_of N) m ≡ spliced (the_splice ps qs p [] before olds news behind) (λ x. x) (entry_of (entries_of O)) m
-edit_body_table ps qs p before olds news behind old new apart m = table_is ps qs p [] before olds news behind old new apart (λ n x l w. cc) (λ x. x) (λ n e. absurd (no e)) m
+    entry_of (entries_of N) m ≡ spliced (the_splice ps qs p [] before olds news behind breaks) (λ x. x) (entry_of (entries_of O)) m
+edit_body_table ps qs p before olds news behind breaks old new apart m = table_is ps qs p [] before olds news behind breaks old new apart (λ n x l w. cc) (λ x. x) (λ n e. absurd (no e)) m
   where
     no : false ≡ true → ⊥
     no e = cc

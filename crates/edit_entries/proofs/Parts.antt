@@ -21,7 +21,7 @@ use Rattle.imp_check.specs.declared.entry.Which.TheVariants as of
 use Rattle.imp_check.specs.declared.fault.Fault.TheVariants.{Statements as TooManyStatements, Nesting}
 use Rattle.edit_entries.specs.Gaps.{are_quiet, are_closed, closed_at, lone, or_new, ends_with, ends_in, holder_of, held_in, head_with, heads_in, gap_splice}
 use Rattle.edit_entries.specs.Holes.{Hole, Then, Else, Body, plug, holder, in_loop, loop_of, between, with_body}
-use Rattle.edit_entries.specs.Spliced.{is, rebroken, spliced, breaking, AreTold}
+use Rattle.edit_entries.specs.Spliced.{is, rebroken, spliced, breaking}
 use Rattle.edit_entries.proofs.Breaks.{looped, loop_found, loop_with, context_head, holder_last, none_leaves}
 use Rattle.edit_entries.proofs.Closed.{closed_quiet, closed_leaving, closed_fault}
 use Rattle.edit_entries.proofs.Exchange.{context_depth}
@@ -138,50 +138,50 @@ module _ (ps qs : List Procedure) (p : Procedure) (before olds news behind : Sta
   had_ends (Body v n d r) f c o u x = refl
 
   -- .. that may have other breaks
-  held_rebroken : (h : Hole) (t : Bool) (x : Entry) → ends_in (which_of h) x ≡ ends_of (between before behind olds) →
-      option_map (held h (ends_of (between before behind news))) (cond t (option_map (breaking (numbers olds) (leaving news)) (Some x)) (Some x)) ≡ option_map (held_in (around_of h) E) (cond t (option_map (breaking (numbers olds) (leaving news)) (Some x)) (Some x))
-  held_rebroken h true x q = ap Some (held_is h (breaking (numbers olds) (leaving news) x) (kept_ends h ∙ q))
+  held_rebroken : (breaks : List ℕ) (h : Hole) (t : Bool) (x : Entry) → ends_in (which_of h) x ≡ ends_of (between before behind olds) →
+      option_map (held h (ends_of (between before behind news))) (cond t (option_map (breaking breaks) (Some x)) (Some x)) ≡ option_map (held_in (around_of h) E) (cond t (option_map (breaking breaks) (Some x)) (Some x))
+  held_rebroken breaks h true x q = ap Some (held_is h (breaking breaks x) (kept_ends h ∙ q))
     where
-      kept_ends : (h : Hole) → ends_in (which_of h) (breaking (numbers olds) (leaving news) x) ≡ ends_in (which_of h) x
+      kept_ends : (h : Hole) → ends_in (which_of h) (breaking breaks x) ≡ ends_in (which_of h) x
       kept_ends (Then v n c e r) = refl
       kept_ends (Else v n c e r) = refl
       kept_ends (Body v n c r) = refl
-  held_rebroken h false x q = ap Some (held_is h x q)
+  held_rebroken breaks h false x q = ap Some (held_is h x q)
 
-  -- what is told of the breaks of the loop around
-  abbrev pub Told : List Hole → Type 0
-  Told hs = (m : ℕ) (x : Entry) → (k hs).head ≡ Some m → entry_of (entries_of (O hs)) m ≡ Some x → AreTold (numbers olds) (leaving news) x.breaks
+  -- what is told of the breaks of the loop around, in the new program
+  abbrev pub Told : List Hole → (breaks : List ℕ) → Type 0
+  Told hs breaks = (m : ℕ) (y : Entry) → (k hs).head ≡ Some m → entry_of (entries_of (N hs)) m ≡ Some y → y.breaks ≡ breaks
 
-  module _ (apart : Apart (numbers olds) (numbers news)) where
+  module _ (breaks : List ℕ) (apart : Apart (numbers olds) (numbers news)) where
     abbrev Tabled : List Hole → Type 0
-    Tabled hs = Distinct (program_numbers (O hs)) → Distinct (program_numbers (N hs)) → Told hs → (m : ℕ) →
-        entry_of (entries_of (N hs)) m ≡ spliced (gap_splice (frame_at ps p) (k hs) a b (numbers olds) news) (held_in (k hs).around E) (entry_of (entries_of (O hs))) m
+    Tabled hs = Distinct (program_numbers (O hs)) → Distinct (program_numbers (N hs)) → Told hs breaks → (m : ℕ) →
+        entry_of (entries_of (N hs)) m ≡ spliced (gap_splice (frame_at ps p) (k hs) a b (numbers olds) news breaks) (held_in (k hs).around E) (entry_of (entries_of (O hs))) m
 
     tabled_in : (gs : List Hole) (h : Hole) → Tabled (gs ++ h ∷ [])
     tabled_in gs h old new told m =
         let hs : List Hole = gs ++ h ∷ [] in
-        let known = λ (n : ℕ) (x : Entry) (l : loop_of None hs ≡ Some n) (w : entry_of (entries_of (O hs)) n ≡ Some x). told n x (context_head (context_at (length ps)) hs ∙ l) w in
+        let known = λ (n : ℕ) (x : Entry) (l : loop_of None hs ≡ Some n) (w : entry_of (entries_of (N hs)) n ≡ Some x). told n x (context_head (context_at (length ps)) hs ∙ l) w in
         let at = entry_of (entries_of (O hs)) in
         let c = block_entries (frame_at ps p) (k hs) a b news in
-        table_is ps qs p hs before olds news behind old new apart known (held_in (around_of h) E) (holding_is known) m
-        ∙ ap (λ o. spliced (record { gone = numbers olds; come = c; come_numbers = numbers news; front = a; next = b; holder = o; loop = loop_of None hs; leaving = leaving news; first = first_or news b; last = last_or news a }) (held_in (around_of h) E) at m) (holder_last gs h)
-        ∙ ap (λ o. spliced (record { gone = numbers olds; come = c; come_numbers = numbers news; front = a; next = b; holder = holder_of o; loop = loop_of None hs; leaving = leaving news; first = first_or news b; last = last_or news a }) (held_in o E) at m) (sym (around_last (context_at (length ps)) gs h))
-        ∙ ap (λ o. spliced (record { gone = numbers olds; come = c; come_numbers = numbers news; front = a; next = b; holder = holder_of (k hs).around; loop = o; leaving = leaving news; first = first_or news b; last = last_or news a }) (held_in (k hs).around E) at m) (sym (context_head (context_at (length ps)) hs))
+        table_is ps qs p hs before olds news behind breaks old new apart known (held_in (around_of h) E) (holding_is known) m
+        ∙ ap (λ o. spliced (record { gone = numbers olds; come = c; come_numbers = numbers news; front = a; next = b; holder = o; loop = loop_of None hs; breaks = breaks; first = first_or news b; last = last_or news a }) (held_in (around_of h) E) at m) (holder_last gs h)
+        ∙ ap (λ o. spliced (record { gone = numbers olds; come = c; come_numbers = numbers news; front = a; next = b; holder = holder_of o; loop = loop_of None hs; breaks = breaks; first = first_or news b; last = last_or news a }) (held_in o E) at m) (sym (around_last (context_at (length ps)) gs h))
+        ∙ ap (λ o. spliced (record { gone = numbers olds; come = c; come_numbers = numbers news; front = a; next = b; holder = holder_of (k hs).around; loop = o; breaks = breaks; first = first_or news b; last = last_or news a }) (held_in (k hs).around E) at m) (sym (context_head (context_at (length ps)) hs))
       where
-        holding_is : ((n : ℕ) (x : Entry) → loop_of None (gs ++ h ∷ []) ≡ Some n → entry_of (entries_of (O (gs ++ h ∷ []))) n ≡ Some x → AreTold (numbers olds) (leaving news) x.breaks) → (n : ℕ) → is (last_holder (gs ++ h ∷ [])) n ≡ true → entry_of (entries_of (N (gs ++ h ∷ []))) n ≡ option_map (held_in (around_of h) E) (rebroken (loop_of None (gs ++ h ∷ [])) (numbers olds) (leaving news) (entry_of (entries_of (O (gs ++ h ∷ [])))) n)
+        holding_is : ((n : ℕ) (x : Entry) → loop_of None (gs ++ h ∷ []) ≡ Some n → entry_of (entries_of (N (gs ++ h ∷ []))) n ≡ Some x → x.breaks ≡ breaks) → (n : ℕ) → is (last_holder (gs ++ h ∷ [])) n ≡ true → entry_of (entries_of (N (gs ++ h ∷ []))) n ≡ option_map (held_in (around_of h) E) (rebroken (loop_of None (gs ++ h ∷ [])) breaks (entry_of (entries_of (O (gs ++ h ∷ [])))) n)
         holding_is known n e =
             let x = entry_at (frame_at ps p) (context_of (context_at (length ps)) gs) (last_or (around_before h) None) (first_or (around_behind h) None) (holding h (between before behind olds)) in
             let s : holder h ≡ n = some_is (holder h) n (ap (λ o. is o n) (sym (holder_last gs h)) ∙ e) in
-            let w : entry_of (entries_of (O (gs ++ h ∷ []))) n ≡ Some x = ap (entry_of (entries_of (O (gs ++ h ∷ [])))) (sym s) ∙ shown ps qs p gs h before olds news behind (between before behind olds) old in
+            let w : entry_of (entries_of (O (gs ++ h ∷ []))) n ≡ Some x = ap (entry_of (entries_of (O (gs ++ h ∷ [])))) (sym s) ∙ shown ps qs p gs h before olds news behind breaks (between before behind olds) old in
             let t = is (loop_of None (gs ++ h ∷ [])) n in
-            holds ps qs p gs h before olds news behind old new known n e
-            ∙ ap (λ o. option_map (held h (ends_of (between before behind news))) (cond t (option_map (breaking (numbers olds) (leaving news)) o) o)) w
-            ∙ held_rebroken h t x (had_ends h (frame_at ps p) (context_of (context_at (length ps)) gs) (last_or (around_before h) None) (first_or (around_behind h) None) (between before behind olds))
-            ∙ ap (λ o. option_map (held_in (around_of h) E) (cond t (option_map (breaking (numbers olds) (leaving news)) o) o)) (sym w)
+            holds ps qs p gs h before olds news behind breaks old new known n e
+            ∙ ap (λ o. option_map (held h (ends_of (between before behind news))) (cond t (option_map (breaking breaks) o) o)) w
+            ∙ held_rebroken breaks h t x (had_ends h (frame_at ps p) (context_of (context_at (length ps)) gs) (last_or (around_before h) None) (first_or (around_behind h) None) (between before behind olds))
+            ∙ ap (λ o. option_map (held_in (around_of h) E) (cond t (option_map (breaking breaks) o) o)) (sym w)
 
     -- Entries.
     pub gap_table : (hs : List Hole) → Tabled hs
-    gap_table hs = by_inmost Tabled (λ old new told m. edit_body_table ps qs p before olds news behind old new apart m) tabled_in hs
+    gap_table hs = by_inmost Tabled (λ old new told m. edit_body_table ps qs p before olds news behind breaks old new apart m) tabled_in hs
 
   -- Procedures.
   abbrev Headed : List Hole → Type 0
@@ -260,7 +260,7 @@ module _ (ps qs : List Procedure) (p : Procedure) (before olds news behind : Sta
       has_in gs h once n e =
           let q : Some (holder h) ≡ Some n = sym (ap holder_of (around_last (context_at (length ps)) gs h)) ∙ e in
           let s : holder h ≡ n = cc in
-          subst (λ m. Has m (program_numbers (O (gs ++ h ∷ [])))) s (known_has (holder h) (O (gs ++ h ∷ [])) _ (shown ps qs p gs h before olds news behind (between before behind olds) once))
+          subst (λ m. Has m (program_numbers (O (gs ++ h ∷ [])))) s (known_has (holder h) (O (gs ++ h ∷ [])) _ (shown ps qs p gs h before olds news behind [] (between before behind olds) once))
 
   -- .. and so is the loop around it.
   pub loop_has : (hs : List Hole) → Distinct (program_numbers (O hs)) → (n : ℕ) → (k hs).head ≡ Some n → Has n (program_numbers (O hs))

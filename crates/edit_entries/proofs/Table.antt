@@ -1,5 +1,5 @@
 -- The table of a program after an edit of a block is that of before, changed at the statements that go and come, at their two
--- neighbours, at the statement that has the block, and at the loop around it whose breaks go.
+-- neighbours, at the statement that has the block, and at the loop around it, which has other breaks.
 use Rattle.std.proofs.lemmas.Bool.Decides.{nat_tests}
 use Rattle.std.proofs.Common.{◌≡◌, ℕ, ◌==◌, inl, inr, cond, List, [], ◌∷◌, ◌++◌, length, Option, Some, None, Bool, true, false, refl, sym, ap, ◌∙◌, subst, arith}
 use Rattle.std.specs.Option.{option_map}
@@ -8,9 +8,9 @@ use Rattle.imp_slots.specs.Fits.{Absent, Distinct}
 use Rattle.imp_check.specs.Faults.{first}
 use Rattle.imp_check.specs.Programs.{has}
 use Rattle.imp_check.specs.declared.entry.Entry.{Entry}
-use Rattle.imp_check.specs.Parts.{ends_of, first_or, last_or, leaving}
+use Rattle.imp_check.specs.Parts.{ends_of, first_or, last_or}
 use Rattle.imp_check.specs.Entries.{block_entries, procedure_entries, entries_from, entries_of, entry_of, frame_at, context_at}
-use Rattle.edit_entries.specs.Spliced.{is, Splice, spliced, rebroken, breaking, AreTold, with_next, with_front}
+use Rattle.edit_entries.specs.Spliced.{is, Splice, spliced, rebroken, breaking, with_next, with_front}
 use Rattle.edit_entries.specs.Holes.{append, Hole, Body, plug, loop_of, between}
 use Rattle.edit_entries.proofs.Others.{entry_append}
 use Rattle.edit_entries.proofs.Stay.{Away, last_holder, others_stay, left_absent, right_absent, block_gone}
@@ -19,7 +19,7 @@ use Rattle.imp_check.proofs.RebuildLemmas.{In, entry_numbers, block_numbers}
 use Rattle.edit_entries.proofs.Touched.{context_of, part_found, front_found, next_found}
 use Rattle.edit_entries.proofs.Located.{Has}
 use Rattle.edit_entries.proofs.Numbers.{around_edit, has_true, has_false, middle_alone, both_absent, Apart}
-use Rattle.edit_entries.proofs.Breaks.{Looped, looped, loop_found, loop_with, loop_once, gained, rebroken_loop, ends_plugged, holder_last}
+use Rattle.edit_entries.proofs.Breaks.{Looped, looped, loop_found, loop_with, rebroken_loop, ends_plugged, holder_last}
 
 is_some : (o : Option ℕ) (m : ℕ) → is o m ≡ true → o ≡ Some m
 is_some None m h = cc
@@ -75,7 +75,7 @@ pub first_is : (b : Statements) (m : ℕ) → first_or b None ≡ Some m → Fir
 first_is Ends m e = absurd cc
 first_is (Starts s ss) m e = record { stmt = s; behind = ss; is = refl; number = some_inj (number_of s) m e }
 
-module _ (ps qs : List Procedure) (p : Procedure) (hs : List Hole) (before olds news behind : Statements) where
+module _ (ps qs : List Procedure) (p : Procedure) (hs : List Hole) (before olds news behind : Statements) (breaks : List ℕ) where
   abbrev O : List Procedure
   O = old_program p hs before olds news behind ps qs
 
@@ -91,13 +91,13 @@ module _ (ps qs : List Procedure) (p : Procedure) (hs : List Hole) (before olds 
     next = first_or behind None;
     holder = last_holder hs;
     loop = loop_of None hs;
-    leaving = leaving news;
+    breaks = breaks;
     first = first_or news (first_or behind None);
     last = last_or news (last_or before None);
   }
 
-  module _ (old_once : Distinct (program_numbers O)) (new_once : Distinct (program_numbers N)) (apart : Apart (numbers olds) (numbers news)) (told : (m : ℕ) (x : Entry) → loop_of None hs ≡ Some m → entry_of (entries_of O) m ≡ Some x → AreTold (numbers olds) (leaving news) x.breaks) (held : Entry → Entry)
-      (holds : (m : ℕ) → is (last_holder hs) m ≡ true → entry_of (entries_of N) m ≡ option_map held (rebroken (loop_of None hs) (numbers olds) (leaving news) (entry_of (entries_of O)) m)) where
+  module _ (old_once : Distinct (program_numbers O)) (new_once : Distinct (program_numbers N)) (apart : Apart (numbers olds) (numbers news)) (told : (m : ℕ) (y : Entry) → loop_of None hs ≡ Some m → entry_of (entries_of N) m ≡ Some y → y.breaks ≡ breaks) (held : Entry → Entry)
+      (holds : (m : ℕ) → is (last_holder hs) m ≡ true → entry_of (entries_of N) m ≡ option_map held (rebroken (loop_of None hs) breaks (entry_of (entries_of O)) m)) where
     gone : (m : ℕ) → has (numbers olds) m ≡ true → entry_of (entries_of N) m ≡ None
     gone m h =
         let a = around_edit ps qs p hs before behind in
@@ -128,17 +128,17 @@ module _ (ps qs : List Procedure) (p : Procedure) (hs : List Hole) (before olds 
         ∙ next_found ps qs p hs before news behind new_once l.behind l.stmt l.is
         ∙ ap (option_map (with_front the_splice.last)) (sym (next_found ps qs p hs before olds behind old_once l.behind l.stmt l.is) ∙ ap (entry_of (entries_of O)) l.number)
 
-    -- the loop around the block loses the breaks that go, and gets those that come
-    loses : (m : ℕ) → is (loop_of None hs) m ≡ true → is (last_holder hs) m ≡ false → entry_of (entries_of N) m ≡ option_map (breaking (numbers olds) (leaving news)) (entry_of (entries_of O) m)
+    -- the loop around the block has the breaks that are told
+    loses : (m : ℕ) → is (loop_of None hs) m ≡ true → is (last_holder hs) m ≡ false → entry_of (entries_of N) m ≡ option_map (breaking breaks) (entry_of (entries_of O) m)
     loses m i h =
         let l = looped hs m (is_some (loop_of None hs) m i) in
         let x = between before behind olds in
         let y = between before behind news in
         loop_found ps qs p hs m l y new_once
         ∙ ap Some (go l)
-        ∙ ap (option_map (breaking (numbers olds) (leaving news))) (sym (loop_found ps qs p hs m l x old_once))
+        ∙ ap (option_map (breaking breaks)) (sym (loop_found ps qs p hs m l x old_once))
       where
-        by_inner : (l : Looped hs m) (gs : List Hole) → l.inner ≡ gs → loop_with ps qs p hs m l (between before behind news) ≡ breaking (numbers olds) (leaving news) (loop_with ps qs p hs m l (between before behind olds))
+        by_inner : (l : Looped hs m) (gs : List Hole) → l.inner ≡ gs → loop_with ps qs p hs m l (between before behind news) ≡ breaking breaks (loop_with ps qs p hs m l (between before behind olds))
         by_inner l [] e =
             let t : is (Some m) m ≡ true = grind (arith, nat_tests) in
             let last : last_holder hs ≡ Some m = ap last_holder l.is ∙ ap (λ gs. last_holder (l.outer ++ Body l.before m l.condition l.behind ∷ gs)) e ∙ holder_last l.outer (Body l.before m l.condition l.behind) in
@@ -147,11 +147,11 @@ module _ (ps qs : List Procedure) (p : Procedure) (hs : List Hole) (before olds 
         by_inner l (g ∷ gs) e =
             let x = between before behind olds in
             let y = between before behind news in
-            rebroken_loop (frame_at ps p) (context_of (context_at (length ps)) l.outer) (last_or l.before None) (first_or l.behind None) m l.condition (numbers olds) (leaving news) (plug l.inner x) (plug l.inner y)
+            rebroken_loop (frame_at ps p) (context_of (context_at (length ps)) l.outer) (last_or l.before None) (first_or l.behind None) m l.condition breaks (plug l.inner x) (plug l.inner y)
             (ap (λ z. ends_of (plug z y)) e ∙ ends_plugged g gs x y ∙ ap (λ z. ends_of (plug z x)) (sym e))
-            (gained before olds news behind l.inner l.plain (loop_once ps qs p hs m l x old_once) (told m (loop_with ps qs p hs m l x) (is_some (loop_of None hs) m i) (loop_found ps qs p hs m l x old_once)))
+            (told m (loop_with ps qs p hs m l y) (is_some (loop_of None hs) m i) (loop_found ps qs p hs m l y new_once))
 
-        go : (l : Looped hs m) → loop_with ps qs p hs m l (between before behind news) ≡ breaking (numbers olds) (leaving news) (loop_with ps qs p hs m l (between before behind olds))
+        go : (l : Looped hs m) → loop_with ps qs p hs m l (between before behind news) ≡ breaking breaks (loop_with ps qs p hs m l (between before behind olds))
         go l = by_inner l l.inner refl
 
     -- The new table is the old one, spliced.
@@ -162,31 +162,31 @@ module _ (ps qs : List Procedure) (p : Procedure) (hs : List Hole) (before olds 
         t = entry_of (entries_of N) m
 
         by_loop : (b : Bool) → is (loop_of None hs) m ≡ b → is (last_holder hs) m ≡ false → Away m hs before olds news behind →
-            entry_of (entries_of N) m ≡ cond b (option_map (breaking (numbers olds) (leaving news)) (entry_of (entries_of O) m)) (entry_of (entries_of O) m)
+            entry_of (entries_of N) m ≡ cond b (option_map (breaking breaks) (entry_of (entries_of O) m)) (entry_of (entries_of O) m)
         by_loop true i e a = loses m i e
         by_loop false i e a = sym (others_stay p hs before olds news behind m a ps qs i)
 
         by_holder : (b : Bool) → is (last_holder hs) m ≡ b → has (numbers olds) m ≡ false → has (numbers news) m ≡ false → is (last_or before None) m ≡ false → is (first_or behind None) m ≡ false →
-            entry_of (entries_of N) m ≡ cond b (option_map held (rebroken (loop_of None hs) (numbers olds) (leaving news) (entry_of (entries_of O)) m)) (rebroken (loop_of None hs) (numbers olds) (leaving news) (entry_of (entries_of O)) m)
+            entry_of (entries_of N) m ≡ cond b (option_map held (rebroken (loop_of None hs) breaks (entry_of (entries_of O)) m)) (rebroken (loop_of None hs) breaks (entry_of (entries_of O)) m)
         by_holder true e g c f n = holds m e
         by_holder false e g c f n = by_loop (is (loop_of None hs) m) refl e (record { not_gone = has_false m (numbers olds) g; not_new = has_false m (numbers news) c; not_front = f; not_next = n; not_holder = e })
 
         by_next : (b : Bool) → is (first_or behind None) m ≡ b → has (numbers olds) m ≡ false → has (numbers news) m ≡ false → is (last_or before None) m ≡ false →
-            entry_of (entries_of N) m ≡ cond b (option_map (with_front the_splice.last) (entry_of (entries_of O) m)) (cond (is (last_holder hs) m) (option_map held (rebroken (loop_of None hs) (numbers olds) (leaving news) (entry_of (entries_of O)) m)) (rebroken (loop_of None hs) (numbers olds) (leaving news) (entry_of (entries_of O)) m))
+            entry_of (entries_of N) m ≡ cond b (option_map (with_front the_splice.last) (entry_of (entries_of O) m)) (cond (is (last_holder hs) m) (option_map held (rebroken (loop_of None hs) breaks (entry_of (entries_of O)) m)) (rebroken (loop_of None hs) breaks (entry_of (entries_of O)) m))
         by_next true e g c f = in_back m e
         by_next false e g c f = by_holder (is (last_holder hs) m) refl g c f e
 
         by_front : (b : Bool) → is (last_or before None) m ≡ b → has (numbers olds) m ≡ false → has (numbers news) m ≡ false →
-            entry_of (entries_of N) m ≡ cond b (option_map (with_next the_splice.first) (entry_of (entries_of O) m)) (cond (is (first_or behind None) m) (option_map (with_front the_splice.last) (entry_of (entries_of O) m)) (cond (is (last_holder hs) m) (option_map held (rebroken (loop_of None hs) (numbers olds) (leaving news) (entry_of (entries_of O)) m)) (rebroken (loop_of None hs) (numbers olds) (leaving news) (entry_of (entries_of O)) m)))
+            entry_of (entries_of N) m ≡ cond b (option_map (with_next the_splice.first) (entry_of (entries_of O) m)) (cond (is (first_or behind None) m) (option_map (with_front the_splice.last) (entry_of (entries_of O) m)) (cond (is (last_holder hs) m) (option_map held (rebroken (loop_of None hs) breaks (entry_of (entries_of O)) m)) (rebroken (loop_of None hs) breaks (entry_of (entries_of O)) m)))
         by_front true e g c = in_front m e
         by_front false e g c = by_next (is (first_or behind None) m) refl g c e
 
         by_come : (b : Bool) → has (numbers news) m ≡ b → has (numbers olds) m ≡ false →
-            entry_of (entries_of N) m ≡ cond b (entry_of the_splice.come m) (cond (is (last_or before None) m) (option_map (with_next the_splice.first) (entry_of (entries_of O) m)) (cond (is (first_or behind None) m) (option_map (with_front the_splice.last) (entry_of (entries_of O) m)) (cond (is (last_holder hs) m) (option_map held (rebroken (loop_of None hs) (numbers olds) (leaving news) (entry_of (entries_of O)) m)) (rebroken (loop_of None hs) (numbers olds) (leaving news) (entry_of (entries_of O)) m))))
+            entry_of (entries_of N) m ≡ cond b (entry_of the_splice.come m) (cond (is (last_or before None) m) (option_map (with_next the_splice.first) (entry_of (entries_of O) m)) (cond (is (first_or behind None) m) (option_map (with_front the_splice.last) (entry_of (entries_of O) m)) (cond (is (last_holder hs) m) (option_map held (rebroken (loop_of None hs) breaks (entry_of (entries_of O)) m)) (rebroken (loop_of None hs) breaks (entry_of (entries_of O)) m))))
         by_come true e g = come m e
         by_come false e g = by_front (is (last_or before None) m) refl g e
 
         by_gone : (b : Bool) → has (numbers olds) m ≡ b →
-            entry_of (entries_of N) m ≡ cond b None (cond (has (numbers news) m) (entry_of the_splice.come m) (cond (is (last_or before None) m) (option_map (with_next the_splice.first) (entry_of (entries_of O) m)) (cond (is (first_or behind None) m) (option_map (with_front the_splice.last) (entry_of (entries_of O) m)) (cond (is (last_holder hs) m) (option_map held (rebroken (loop_of None hs) (numbers olds) (leaving news) (entry_of (entries_of O)) m)) (rebroken (loop_of None hs) (numbers olds) (leaving news) (entry_of (entries_of O)) m)))))
+            entry_of (entries_of N) m ≡ cond b None (cond (has (numbers news) m) (entry_of the_splice.come m) (cond (is (last_or before None) m) (option_map (with_next the_splice.first) (entry_of (entries_of O) m)) (cond (is (first_or behind None) m) (option_map (with_front the_splice.last) (entry_of (entries_of O) m)) (cond (is (last_holder hs) m) (option_map held (rebroken (loop_of None hs) breaks (entry_of (entries_of O)) m)) (rebroken (loop_of None hs) breaks (entry_of (entries_of O)) m)))))
         by_gone true e = gone m e
         by_gone false e = by_come (has (numbers news) m) refl e

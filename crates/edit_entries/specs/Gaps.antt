@@ -4,7 +4,7 @@ use Rattle.imp_syntax.specs.Plain.{Statement, Simple, Break, Call, If, While, St
 use Rattle.imp_syntax.specs.declared.words.Declaration.{Declaration}
 use Rattle.imp_check.specs.Slots.{Frame}
 use Rattle.imp_check.specs.Statements.{Scope}
-use Rattle.imp_check.specs.Parts.{first_or, last_or, leaving}
+use Rattle.imp_check.specs.Parts.{first_or, last_or}
 use Rattle.imp_check.specs.Entries.{block_entries}
 use Rattle.imp_check.specs.declared.entry.Around.{Around}
 use Rattle.imp_check.specs.declared.entry.BlockEnds.{BlockEnds}
@@ -89,9 +89,9 @@ abbrev pub heads_in : Option Around → List Head → (place : ℕ) → (ends : 
 heads_in None hs place ends = head_with hs place ends
 heads_in (Some w) hs place ends = hs
 
--- These statements come between two of a block, and those of these numbers go.
-abbrev pub gap_splice : Frame → Context → (front next : Option ℕ) → (gone : List ℕ) → Statements → Splice
-gap_splice f k front next gone news = record {
+-- These statements come between two of a block, and those of these numbers go; the loop around then has these breaks.
+abbrev pub gap_splice : Frame → Context → (front next : Option ℕ) → (gone : List ℕ) → Statements → (breaks : List ℕ) → Splice
+gap_splice f k front next gone news breaks = record {
   gone = gone;
   come = block_entries f k front next news;
   come_numbers = numbers news;
@@ -99,7 +99,7 @@ gap_splice f k front next gone news = record {
   next = next;
   holder = holder_of k.around;
   loop = k.head;
-  leaving = leaving news;
+  breaks = breaks;
   first = first_or news next;
   last = last_or news front;
 }

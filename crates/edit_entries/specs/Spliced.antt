@@ -1,5 +1,5 @@
 -- What is known of statements after an edit of a block, from what was known before.
-use Rattle.std.specs.Prelude.{◌≡◌, ◌⊎◌, ℕ, List, [], ◌∷◌, ◌++◌, Option, Some, None, Bool, false, cond, ◌==◌}
+use Rattle.std.specs.Prelude.{ℕ, List, [], ◌∷◌, ◌++◌, take, drop, Option, Some, None, Bool, false, cond, ◌==◌}
 use Rattle.std.specs.Option.{option_map}
 use Rattle.imp_check.specs.Programs.{has}
 use Rattle.imp_check.specs.declared.entry.Entry.{Entry}
@@ -22,16 +22,16 @@ abbrev pub left_of : (gone : List ℕ) → List ℕ → List ℕ
 left_of gone [] = []
 left_of gone (n ∷ ns) = cond (has gone n) (left_of gone ns) (n ∷ left_of gone ns)
 
--- a loop with these, and with those that come behind them; where both are there, the places of those that come are not told
-abbrev pub breaking : (gone come : List ℕ) → Entry → Entry
-breaking gone come x = record x { breaks = left_of gone x.breaks ++ come }
+-- these come behind the first ones of those that are left
+abbrev pub among : (before : ℕ) → (come left : List ℕ) → List ℕ
+among before come left = take before left ++ (come ++ drop before left)
 
-abbrev pub rebroken : (loop : Option ℕ) → (gone come : List ℕ) → (ℕ → Option Entry) → ℕ → Option Entry
-rebroken loop gone come at m = cond (is loop m) (option_map (breaking gone come) (at m)) (at m)
+-- a loop with these breaks
+abbrev pub breaking : (breaks : List ℕ) → Entry → Entry
+breaking breaks x = record x { breaks = breaks }
 
--- none come, or none are left
-abbrev pub AreTold : (gone come breaks : List ℕ) → Type 0
-AreTold gone come breaks = (come ≡ []) ⊎ (left_of gone breaks ≡ [])
+abbrev pub rebroken : (loop : Option ℕ) → (breaks : List ℕ) → (ℕ → Option Entry) → ℕ → Option Entry
+rebroken loop breaks at m = cond (is loop m) (option_map (breaking breaks) (at m)) (at m)
 
 -- An edit of a block: which statements go, what comes, between which two and in whose block they stand.
 pub record Splice : Type 0 where
@@ -41,9 +41,9 @@ pub record Splice : Type 0 where
   pub front : Option ℕ
   pub next : Option ℕ
   pub holder : Option ℕ
-  -- the innermost loop around them, and the breaks that come and leave it
+  -- the innermost loop around them, and the breaks that it then has
   pub loop : Option ℕ
-  pub leaving : List ℕ
+  pub breaks : List ℕ
   -- what is then behind the one in front, and in front of the one behind
   pub first : Option ℕ
   pub last : Option ℕ
@@ -54,5 +54,5 @@ spliced e held at m =
     (cond (has e.come_numbers m) (entry_of e.come m)
     (cond (is e.front m) (option_map (with_next e.first) (at m))
     (cond (is e.next m) (option_map (with_front e.last) (at m))
-    (cond (is e.holder m) (option_map held (rebroken e.loop e.gone e.leaving at m))
-    (rebroken e.loop e.gone e.leaving at m)))))
+    (cond (is e.holder m) (option_map held (rebroken e.loop e.breaks at m))
+    (rebroken e.loop e.breaks at m)))))
