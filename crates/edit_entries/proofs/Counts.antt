@@ -72,7 +72,7 @@ alike_at [] p q qs h c = (h, c, alike_self qs)
 alike_at (x ∷ ps) p q qs h c = (refl, λ g. refl, alike_at ps p q qs h c)
 
 -- How many statements.
-count_append : (xs ys : Statements) → block_count (append xs ys) ≡ block_count xs + block_count ys
+pub count_append : (xs ys : Statements) → block_count (append xs ys) ≡ block_count xs + block_count ys
 count_append Ends ys = omega arith
 count_append (Starts s xs) ys = omega (arith, count_append xs ys)
 
@@ -81,7 +81,7 @@ count_filled (Then b n c e r) x y = omega (arith, count_append b (Starts (If n c
 count_filled (Else b n c t r) x y = omega (arith, count_append b (Starts (If n c t x) r), count_append b (Starts (If n c t y) r))
 count_filled (Body b n c r) x y = omega (arith, count_append b (Starts (While n c x) r), count_append b (Starts (While n c y) r))
 
-count_plug : (hs : List Hole) (x y : Statements) → block_count (plug hs x) + block_count y ≡ block_count (plug hs y) + block_count x
+pub count_plug : (hs : List Hole) (x y : Statements) → block_count (plug hs x) + block_count y ≡ block_count (plug hs y) + block_count x
 count_plug [] x y = omega arith
 count_plug (h ∷ hs) x y = omega (arith, count_filled h (plug hs x) (plug hs y), count_plug hs x y)
 
@@ -97,7 +97,7 @@ count_edited hs before olds news behind =
     )
 
 -- A block in holes has no fewer statements than the block.
-count_least : (hs : List Hole) (x : Statements) → block_count x ≤ block_count (plug hs x)
+pub count_least : (hs : List Hole) (x : Statements) → block_count x ≤ block_count (plug hs x)
 count_least [] x = omega arith
 count_least (Then b n c e r ∷ hs) x = omega (arith, count_append b (Starts (If n c (plug hs x) e) r), count_least hs x)
 count_least (Else b n c t r ∷ hs) x = omega (arith, count_append b (Starts (If n c t (plug hs x)) r), count_least hs x)

@@ -59,15 +59,15 @@ ends_changed before behind olds news =
     ∙ ap (ends_with (last_or before None) (first_or behind None) news) (sym (ends_between before behind olds))
 
 -- The block that a hole is.
-abbrev which_of : Hole → Which
+abbrev pub which_of : Hole → Which
 which_of (Then b n c e r) = of.Then
 which_of (Else b n c t r) = of.Else
 which_of (Body b n c r) = of.Body
 
-abbrev around_of : Hole → Option Around
+abbrev pub around_of : Hole → Option Around
 around_of h = Some (record { stmt = holder h; which = which_of h })
 
-around_last : (k : Context) (gs : List Hole) (h : Hole) → (context_of k (gs ++ h ∷ [])).around ≡ around_of h
+pub around_last : (k : Context) (gs : List Hole) (h : Hole) → (context_of k (gs ++ h ∷ [])).around ≡ around_of h
 around_last k [] (Then b n c e r) = refl
 around_last k [] (Else b n c t r) = refl
 around_last k [] (Body b n c r) = refl
@@ -87,12 +87,12 @@ closed_in (Else v n c t r ∷ hs) o i b e = closed_in hs o i b e
 closed_in (Body v n c r ∷ hs) o i b e = closed_in hs (Some n) true b refl
 
 -- Holes are none, or there is a last one.
-record Inmost (hs : List Hole) : Type 0 where
-  outer : List Hole
-  inner : Hole
-  is : hs ≡ outer ++ inner ∷ []
+pub record Inmost (hs : List Hole) : Type 0 where
+  pub outer : List Hole
+  pub inner : Hole
+  pub is : hs ≡ outer ++ inner ∷ []
 
-inmost : (hs : List Hole) → (hs ≡ []) ⊎ Inmost hs
+pub inmost : (hs : List Hole) → (hs ≡ []) ⊎ Inmost hs
 inmost [] = inl refl
 inmost (h ∷ hs) = go (inmost hs)
   where

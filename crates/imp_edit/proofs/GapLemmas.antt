@@ -77,7 +77,7 @@ shallow n P e z u k =
     let q : e.context.depth ≡ (context_of (context_at (length s.front)) s.place.holes).depth = ap (λ (x : Entry). x.context.depth) t.entry in
     omega (arith, d, q)
 
-append_again : (xs ys zs : Statements) → append (append xs ys) zs ≡ append xs (append ys zs)
+pub append_again : (xs ys zs : Statements) → append (append xs ys) zs ≡ append xs (append ys zs)
 append_again Ends ys zs = refl
 append_again (Starts s xs) ys zs = ap (Starts s) (append_again xs ys zs)
 

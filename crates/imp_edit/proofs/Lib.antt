@@ -14,5 +14,6 @@ pub mod PutLemmas
 pub mod QuietLemmas
 pub mod GapLemmas
 pub mod SpliceLemmas
+pub mod BreakLemmas
 pub mod ComingLemmas
 pub mod SpliceMade

@@ -16,7 +16,6 @@ use Rattle.imp_check.specs.declared.entry.Head.{Head}
 use Rattle.imp_check.specs.declared.fault.Found.{Found}
 use Rattle.imp_check.proofs.RebuildLemmas.{entry_numbers}
 use Rattle.edit_entries.specs.Gaps.{head_with, heads_in, holder_of}
-use Rattle.edit_entries.specs.Spliced.{breaking, left_of}
 use Rattle.edit_entries.proofs.Others.{entry_append}
 use Rattle.imp_edit.specs.Gaps.{IsBelow}
 use Rattle.imp_edit.specs.Refusals.{IsRefusal}
@@ -28,10 +27,6 @@ none_fall i j d h l = absurd (omega arith)
 
 pub none_within : (b : ℕ) → AreWithin b []
 none_within b = record { falling = none_fall; below = λ i d l. absurd (omega arith) }
-
--- Where no break goes and none comes, those of a loop stay.
-pub breaks_stay : (gone come : List ℕ) (x : Entry) → come ≡ [] → left_of gone x.breaks ≡ x.breaks → breaking gone come x ≡ x
-breaks_stay gone come x e h = ap (λ ns. record x { breaks = left_of gone x.breaks ++ ns }) e ∙ ap (λ ns. record x { breaks = ns }) (append-nil (left_of gone x.breaks) ∙ h)
 
 -- The last statement of a block, by its place.
 pub last_there : (b : Statements) (o : Option ℕ) (i : ℕ) (s : Statement) → i ≡ length (statements_of b) - 1 → Some s ≡ slice_get (statements_of b) i → Some (number_of s) ≡ last_or b o

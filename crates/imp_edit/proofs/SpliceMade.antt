@@ -10,7 +10,7 @@ use Rattle.imp_check.specs.Entries.{entries_of, entry_of, frame_at, context_at, 
 use Rattle.imp_check.specs.Faults.{first, unless, at, in_procedure}
 use Rattle.imp_check.specs.Fine.{IsFine}
 use Rattle.imp_check.specs.Names.{variables}
-use Rattle.imp_check.specs.Parts.{first_or, last_or, leaving}
+use Rattle.imp_check.specs.Parts.{first_or, last_or}
 use Rattle.imp_check.specs.Programs.{AreNumbered, block_count, program_count, nesting, name_of, last_of, variables_fault, check_fault}
 use Rattle.imp_check.specs.Slots.{code_in, layout_in}
 use Rattle.imp_check.specs.Statements.{block_fault}
@@ -20,24 +20,26 @@ use Rattle.imp_check.specs.declared.entry.Head.{Head}
 use Rattle.imp_check.specs.declared.fault.Fault.TheVariants.{Statements as TooManyStatements, Nesting}
 use Rattle.edit_entries.specs.Gaps.{are_quiet, are_closed, closed_at, ends_with, holder_of, held_in, heads_in, gap_splice, lone}
 use Rattle.edit_entries.specs.Holes.{Hole, in_loop}
-use Rattle.edit_entries.specs.Spliced.{AreTold, spliced}
+use Rattle.edit_entries.specs.Spliced.{spliced}
 use Rattle.edit_entries.proofs.Breaks.{context_head}
 use Rattle.edit_entries.proofs.Closed.{closed_quiet}
 use Rattle.edit_entries.proofs.Exchange.{faultless}
 use Rattle.edit_entries.proofs.Located.{Has}
 use Rattle.edit_entries.proofs.Numbers.{Apart}
-use Rattle.edit_entries.proofs.Parts.{Told, closed_in, gap_table, gap_heads, gap_fault, gap_sites, gap_fits, front_has, next_has, old_has, holder_has, loop_has}
+use Rattle.edit_entries.proofs.Parts.{closed_in, gap_table, gap_heads, gap_fault, gap_sites, gap_fits, front_has, next_has, old_has, holder_has, loop_has}
 use Rattle.edit_entries.proofs.Programs.{old_one, old_program, new_program, news_count}
 use Rattle.edit_entries.proofs.Quiet.{numbers_count, quiet_entries}
 use Rattle.edit_entries.proofs.Standing.{all_has, context_proc, own_head}
 use Rattle.edit_entries.proofs.Touched.{context_of}
 use Rattle.imp_edit.specs.Edited.{edited, brought, uses, next_after, counting, Continues}
-use Rattle.imp_edit.specs.Gaps.{AreBelow, BreaksTold, IsBelow, IsSplice, count_with, entries_with, gap_of, splice_fault}
+use Rattle.imp_edit.specs.Breaks.{loop_breaks}
+use Rattle.imp_edit.specs.Gaps.{AreBelow, IsBelow, IsSplice, count_with, entries_with, gap_of, splice_fault}
 use Rattle.imp_edit.specs.Refusals.{IsRefusal, site_refusal}
 use Rattle.imp_edit.specs.Short.{IsMade}
 use Rattle.imp_edit.specs.declared.error.EditError.{EditError}
 use Rattle.imp_edit.specs.declared.error.EditError.TheVariants.{Fault}
 use Rattle.imp_edit.specs.declared.gap.Gap.{Gap}
+use Rattle.imp_edit.proofs.BreakLemmas.{breaks_told}
 use Rattle.imp_edit.proofs.GapLemmas.{GapPart, gap_part}
 use Rattle.imp_edit.proofs.Once.{never_absent, counting_low, counting_high, never_below}
 
@@ -65,9 +67,9 @@ module _ (p : Procedure) (hs : List Hole) (before olds behind : Statements) (ps 
         ∙ ap (λ c. first (in_procedure (name_of (last_of O)) (at 0 (first (unless (nat_lt (count_with O g news) 10001) TooManyStatements) (unless (nat_lt (c.depth + nesting news) 33) Nesting)))) (in_procedure p.name (block_fault (lone (variables p)) true news))) (sym context)
 
     -- What is known of the statements.
-    module _ (old : Distinct (program_numbers O)) (new : Distinct (program_numbers N)) (apart : Apart (numbers olds) (numbers news)) (told : BreaksTold O g news) where
-      told_in : Told ps qs p before olds news behind hs
-      told_in m x l w = subst (λ ns. AreTold ns (leaving news) x.breaks) gone (told m x (ap (λ z. z.head) context ∙ l) w)
+    module _ (old : Distinct (program_numbers O)) (new : Distinct (program_numbers N)) (apart : Apart (numbers olds) (numbers news)) where
+      abbrev breaks : List ℕ
+      breaks = loop_breaks O g news
 
       entries_are : (m : ℕ) → entry_of (entries_of N) m ≡ entries_with O h g news m
       entries_are m =
@@ -75,12 +77,12 @@ module _ (p : Procedure) (hs : List Hole) (before olds behind : Statements) (ps 
           let a = last_or before None in
           let b = first_or behind None in
           let at = entry_of (entries_of O) in
-          gap_table ps qs p before olds news behind apart hs old new told_in m
-          ∙ ap (λ (es : List Entry). spliced (record (gap_splice (frame_at ps p) k a b (numbers olds) news) { come = es }) (held_in k.around (ends_with a b news)) at m) (quiet_entries (layout_in p) ps [] k a b news (closed_quiet (in_loop false hs) news closed))
-          ∙ ap (λ ns. spliced (gap_splice (frame_at [] p) k a b ns news) (held_in k.around (ends_with a b news)) at m) (sym gone)
-          ∙ ap (λ z. spliced (gap_splice (frame_at [] p) z a b g.gone news) (held_in z.around (ends_with a b news)) at m) (sym context)
-          ∙ ap (λ z. spliced (gap_splice (frame_at [] p) g.context z b g.gone news) (held_in g.context.around (ends_with z b news)) at m) (sym in_front)
-          ∙ ap (λ z. spliced (gap_splice (frame_at [] p) g.context g.front z g.gone news) (held_in g.context.around (ends_with g.front z news)) at m) (sym in_back)
+          gap_table ps qs p before olds news behind breaks apart hs old new (breaks_told ps qs p hs before olds behind news g context in_front gone old new) m
+          ∙ ap (λ (es : List Entry). spliced (record (gap_splice (frame_at ps p) k a b (numbers olds) news breaks) { come = es }) (held_in k.around (ends_with a b news)) at m) (quiet_entries (layout_in p) ps [] k a b news (closed_quiet (in_loop false hs) news closed))
+          ∙ ap (λ ns. spliced (gap_splice (frame_at [] p) k a b ns news breaks) (held_in k.around (ends_with a b news)) at m) (sym gone)
+          ∙ ap (λ z. spliced (gap_splice (frame_at [] p) z a b g.gone news breaks) (held_in z.around (ends_with a b news)) at m) (sym context)
+          ∙ ap (λ z. spliced (gap_splice (frame_at [] p) g.context z b g.gone news breaks) (held_in g.context.around (ends_with z b news)) at m) (sym in_front)
+          ∙ ap (λ z. spliced (gap_splice (frame_at [] p) g.context g.front z g.gone news breaks) (held_in g.context.around (ends_with g.front z news)) at m) (sym in_back)
 
     heads_are : heads_of N ≡ heads_in g.context.around (heads_of O) g.context.proc (ends_with g.front g.next news)
     heads_are =
@@ -116,11 +118,11 @@ module _ (p : Procedure) (hs : List Hole) (before olds behind : Statements) (ps 
       }
 
     -- The change makes the new program.
-    pub spliced_made : IsFine O → AreNumbered N → Apart (numbers olds) (numbers news) → BreaksTold O g news → (next : ℕ) (b : ℕ) → All (λ (n : ℕ). n < next) (program_numbers O) → next ≤ b → All (λ (n : ℕ). n < b) (numbers news) →
+    pub spliced_made : IsFine O → AreNumbered N → Apart (numbers olds) (numbers news) → (next : ℕ) (b : ℕ) → All (λ (n : ℕ). n < next) (program_numbers O) → next ≤ b → All (λ (n : ℕ). n < b) (numbers news) →
         FitsCode [] (layout_in p) (code_in (frame_at [] p) news) → splice_fault O h g news ≡ None → (change : Change) → IsSplice O h g news change → IsMade O N b change
-    spliced_made fine numbered apart told next b low more come fits none change s = record {
+    spliced_made fine numbered apart next b low more come fits none change s = record {
       makes = record {
-        entries = λ m. entries_are fine.numbered.once numbered.once apart told m ∙ sym (s.entries m);
+        entries = λ m. entries_are fine.numbered.once numbered.once apart m ∙ sym (s.entries m);
         heads = heads_are ∙ sym s.heads;
         counted = s.counted ∙ counts ∙ sym (news_count p hs before olds news behind ps qs);
         sites = gap_sites ps qs p before olds news behind hs quiet closed ∙ ap (λ (o : Option (List (List ℕ))). unwrap_or o (sites_of O)) (sym s.sites);
@@ -189,13 +191,13 @@ module _ (e : Edit) (P : List Procedure) (g : Gap) (h : Head) (fine : IsFine P) 
       come : All (λ (n : ℕ). n < next_after e next) (numbers (brought e))
       come = subst (λ (ns : List ℕ). All (λ (n : ℕ). n < next_after e next) ns) (sym continues) (never_below (next_after e next) (counting next (uses e)) (λ m k. counting_high next (uses e) m k))
 
-      pub gap_made : AreNumbered (edited e P) → BreaksTold P g (brought e) → FitsCode [] (layout_in h.bare) (code_in (frame_at [] h.bare) (brought e)) → splice_fault P h g (brought e) ≡ None → (change : Change) → IsSplice P h g (brought e) change → IsMade P (edited e P) (next_after e next) change
-      gap_made numbered told fits none change s =
+      pub gap_made : AreNumbered (edited e P) → FitsCode [] (layout_in h.bare) (code_in (frame_at [] h.bare) (brought e)) → splice_fault P h g (brought e) ≡ None → (change : Change) → IsSplice P h g (brought e) change → IsMade P (edited e P) (next_after e next) change
+      gap_made numbered fits none change s =
           let new = new_program part.own part.holes part.before part.olds (brought e) part.behind part.front part.back in
           let splice : IsSplice whole (head_of own) g (brought e) change = subst (λ (z : Head). IsSplice whole z g (brought e) change) head_is (subst (λ (os : List Procedure). IsSplice os h g (brought e) change) part.is s) in
           let fit : FitsCode [] (layout_in part.own) (code_in (frame_at [] part.own) (brought e)) = subst (λ (z : Head). FitsCode [] (layout_in z.bare) (code_in (frame_at [] z.bare) (brought e))) head_is fits in
           let no : splice_fault whole (head_of own) g (brought e) ≡ None = ap (λ (z : Head). splice_fault whole z g (brought e)) (sym head_is) ∙ ap (λ (os : List Procedure). splice_fault os h g (brought e)) (sym part.is) ∙ none in
           let made : IsMade whole new (next_after e next) change =
           spliced_made part.own part.holes part.before part.olds part.behind part.front part.back (brought e) part.quiet closed g part.context part.in_front part.in_back part.gone
-          fine_whole (subst AreNumbered part.becomes numbered) apart (subst (λ (os : List Procedure). BreaksTold os g (brought e)) part.is told) next (next_after e next) low_whole (omega arith) come fit no change splice in
+          fine_whole (subst AreNumbered part.becomes numbered) apart next (next_after e next) low_whole (omega arith) come fit no change splice in
           subst (λ (os : List Procedure). IsMade P os (next_after e next) change) (sym part.becomes) (subst (λ (os : List Procedure). IsMade os new (next_after e next) change) (sym part.is) made)

@@ -11,7 +11,6 @@ use Rattle.imp_check.specs.Changes.{AreWithin, overlay}
 use Rattle.imp_check.specs.Entries.{inside, inside_loop, context_at, entries_of, entry_of, frame_at, heads_of}
 use Rattle.imp_check.specs.Faults.{first, unless, at, in_procedure}
 use Rattle.imp_check.specs.Names.{named_in, variables}
-use Rattle.imp_check.specs.Parts.{leaving}
 use Rattle.imp_check.specs.Programs.{block_count, program_count, nesting, name_of, last_of}
 use Rattle.imp_check.specs.Statements.{block_fault}
 use Rattle.imp_check.specs.declared.change.Change.{Change}
@@ -22,7 +21,8 @@ use Rattle.imp_check.specs.declared.entry.Which.TheVariants as which
 use Rattle.imp_check.specs.declared.fault.Fault.TheVariants.{Statements as TooManyStatements, Nesting}
 use Rattle.imp_check.specs.declared.fault.Found.{Found}
 use Rattle.edit_entries.specs.Gaps.{ends_with, holder_of, held_in, heads_in, gap_splice, lone}
-use Rattle.edit_entries.specs.Spliced.{AreTold, spliced}
+use Rattle.edit_entries.specs.Spliced.{spliced}
+use Rattle.imp_edit.specs.Breaks.{loop_breaks}
 use Rattle.imp_edit.specs.Quiet.{part_numbers, part_quiet}
 use Rattle.imp_edit.specs.declared.gap.Gap.{Gap}
 
@@ -92,11 +92,7 @@ splice_fault ps h g news = first (size_fault ps g news) (in_procedure h.bare.nam
 
 -- what is then known of the statements
 abbrev pub entries_with : List Procedure → Head → Gap → Statements → ℕ → Option Entry
-entries_with ps h g news = spliced (gap_splice (frame_at [] h.bare) g.context g.front g.next g.gone news) (held_in g.context.around (ends_with g.front g.next news)) (entry_of (entries_of ps))
-
--- It is told where the breaks that come stand among those of the loop around.
-abbrev pub BreaksTold : List Procedure → Gap → Statements → Type 0
-BreaksTold ps g news = (m : ℕ) (x : Entry) → g.context.head ≡ Some m → entry_of (entries_of ps) m ≡ Some x → AreTold g.gone (leaving news) x.breaks
+entries_with ps h g news = spliced (gap_splice (frame_at [] h.bare) g.context g.front g.next g.gone news (loop_breaks ps g news)) (held_in g.context.around (ends_with g.front g.next news)) (entry_of (entries_of ps))
 
 -- a number, if there is one, is below a bound
 abbrev pub IsBelow : ℕ → Option ℕ → Type 0

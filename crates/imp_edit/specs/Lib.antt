@@ -1,4 +1,5 @@
 pub mod Alone
+pub mod Breaks
 pub mod Changes
 pub mod Edited
 pub mod Gaps

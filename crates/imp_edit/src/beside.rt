@@ -6,12 +6,13 @@ ghost use Rattle.imp_syntax.specs.Plain.{Statements};
 ghost use Rattle.imp_check.specs.Changes.{AreFalling, AreWithin, overlay};
 ghost use Rattle.imp_check.specs.Entries.{block_entries, entries_of, entry_of, frame_at};
 ghost use Rattle.imp_check.specs.Faults.{first};
-ghost use Rattle.imp_check.specs.Parts.{first_or, last_or, leaving};
+ghost use Rattle.imp_check.specs.Parts.{first_or, last_or};
 ghost use Rattle.imp_check.specs.Programs.{has};
 ghost use Rattle.imp_check.specs.declared.entry.BlockEnds.{BlockEnds};
 ghost use Rattle.imp_check.specs.declared.entry.Entry.{Entry};
 ghost use Rattle.edit_entries.specs.Gaps.{ends_in, ends_with, held_in, holder_of, with_ends};
 ghost use Rattle.edit_entries.specs.Spliced.{is, rebroken, with_front, with_next};
+ghost use Rattle.imp_edit.specs.Breaks.{loop_breaks};
 ghost use Rattle.imp_edit.specs.Gaps.{AreBelow, IsBelow, entries_with};
 
 use crate::alone::form_again;
@@ -116,7 +117,7 @@ fn holding(
     gap: &Gap,
     news: &Block,
 ) -> Result<Place, Memory>
-    ensures is { IfOk result (λ place. place ≡ option_map (held_in (Some around) (ends_with gap.now.front gap.now.next news.now)) (rebroken gap.now.context.head gap.now.gone (leaving news.now) (entry_of (entries_of table.now.program)) around.stmt)) }
+    ensures is { IfOk result (λ place. place ≡ option_map (held_in (Some around) (ends_with gap.now.front gap.now.next news.now)) (rebroken gap.now.context.head (loop_breaks table.now.program gap.now news.now) (entry_of (entries_of table.now.program)) around.stmt)) }
 {
     match rebroken(alloc, table, gap, news, around.stmt)? {
         Some(entry) => Place::of(alloc, with_ends(entry, around.which, gap, news)),
@@ -133,7 +134,7 @@ pub(crate) fn ends_stay(gap: &Gap) -> bool
 
 /// The changes of the loop around the place and of the statement that has the block.
 fn around_puts(alloc: Global, table: &Table, gap: &Gap, news: &Block) -> Result<Vec<Put>, Memory>
-    ensures are { IfOk result (λ puts. (m : ℕ) → overlay puts.items (entry_of (entries_of table.now.program)) m ≡ cond (is (holder_of gap.now.context.around) m) (option_map (held_in gap.now.context.around (ends_with gap.now.front gap.now.next news.now)) (rebroken gap.now.context.head gap.now.gone (leaving news.now) (entry_of (entries_of table.now.program)) m)) (rebroken gap.now.context.head gap.now.gone (leaving news.now) (entry_of (entries_of table.now.program)) m)) }
+    ensures are { IfOk result (λ puts. (m : ℕ) → overlay puts.items (entry_of (entries_of table.now.program)) m ≡ cond (is (holder_of gap.now.context.around) m) (option_map (held_in gap.now.context.around (ends_with gap.now.front gap.now.next news.now)) (rebroken gap.now.context.head (loop_breaks table.now.program gap.now news.now) (entry_of (entries_of table.now.program)) m)) (rebroken gap.now.context.head (loop_breaks table.now.program gap.now news.now) (entry_of (entries_of table.now.program)) m)) }
     ensures falling { IfOk result (λ puts. AreFalling puts.items) }
     ensures within { IfOk result (λ puts. (b : ℕ) → IsBelow b gap.now.context.head → IsBelow b (holder_of gap.now.context.around) → AreWithin b puts.items) }
 {
@@ -225,8 +226,9 @@ fn put_gone(gone: &[StmtId], puts: &mut Vec<Put>) -> Result<(), Memory>
     Ok(())
 }
 
-/// All entries that change, where these come. It takes time in proportion to those that come and go, and to the breaks of
-/// the loop around them for each of those that go.
+/// All entries that change, where these come. It takes time in proportion to those that come and go, to the breaks of the
+/// loop around them for each of those that go, and, where a break comes to a loop that keeps others, to the statements of
+/// that loop.
 pub(crate) fn puts_of(
     alloc: Global,
     table: &Table,

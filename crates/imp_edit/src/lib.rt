@@ -26,6 +26,7 @@ mod breaks;
 mod coming;
 mod error;
 mod gap;
+mod leaving;
 mod numbers;
 mod procedures;
 mod puts;

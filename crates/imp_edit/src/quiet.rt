@@ -23,7 +23,7 @@ pub(crate) fn is_call(stmt: &Stmt) -> bool
 }
 
 /// What stands at a number, if so many more statements there are.
-fn next_in(table: &Table, most: u32, at: Option<StmtId>) -> Option<&Entry>
+pub(crate) fn next_in(table: &Table, most: u32, at: Option<StmtId>) -> Option<&Entry>
     ensures is { option_copied result ≡ next_in (entry_of (entries_of table.now.program)) most at }
 {
     if most == 0 {

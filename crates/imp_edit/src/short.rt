@@ -17,7 +17,6 @@ ghost use Rattle.imp_edit.specs.Short.{IsMade};
 use crate::alone::{condition_alone, form_alone};
 use crate::beside::entry_again;
 use crate::blocks::closed_at;
-use crate::breaks::are_told;
 use crate::error::EditError;
 use crate::gap::{Gap, gap_of};
 use crate::splicing::splice;
@@ -27,13 +26,14 @@ use plain_values::{Items, Memory};
 use std::alloc::Global;
 
 /// The change of an edit that gives a statement another condition, puts statements at a place in which no call stands, or
-/// takes a statement away in which no call stands; `None` for other edits, and where a break that comes has no loop or
-/// leaves one that keeps other breaks: then the change is found from the whole program.
+/// takes a statement away in which no call stands; `None` for other edits, and where a break that comes has no loop: then
+/// the change is found from the whole program.
 ///
 /// Another condition takes time in proportion to the condition, the breaks of the statement and the square of the
 /// procedure's variables. Statements take time in proportion to the statements that come, with those inside them, and to
 /// the square of the procedure's variables for each, to those that go and to the breaks of the loop around them for each,
-/// and, at the start or the end of a procedure, to the number of procedures.
+/// to the statements of that loop where a break comes to it and it keeps others, and, at the start or the end of a
+/// procedure, to the number of procedures.
 ///
 /// # Errors
 ///
@@ -64,7 +64,7 @@ pub(crate) fn short_change(
 }
 
 /// The change of an edit that puts statements at this place, and takes away what goes; `None` where a call stands in what
-/// comes, or a break that has no loop there or leaves one that keeps other breaks.
+/// comes, or a break that has no loop there.
 fn gap_change(
     alloc: Global,
     table: &Table,
@@ -83,9 +83,6 @@ fn gap_change(
     table.procs();
     let news = brought(alloc, edit)?;
     if !closed_at(gap.context.head, &news) {
-        return Ok(None);
-    }
-    if !are_told(table, gap, &news) {
         return Ok(None);
     }
     let Some(head) = table.view().head(gap.context.proc) else {

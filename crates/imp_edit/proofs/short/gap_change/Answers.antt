@@ -7,7 +7,7 @@ use Rattle.imp_check.specs.Entries.{frame_at, heads_of}
 use Rattle.edit_entries.specs.Gaps.{closed_at}
 use Rattle.edit_entries.proofs.Closed.{quiet_at}
 use Rattle.imp_edit.specs.Edited.{brought}
-use Rattle.imp_edit.specs.Gaps.{BreaksTold, IsSplice, splice_fault}
+use Rattle.imp_edit.specs.Gaps.{IsSplice, splice_fault}
 use Rattle.imp_edit.specs.Refusals.{IsRefusal}
 use Rattle.imp_edit.specs.declared.error.EditError.TheVariants.{Fault}
 use Rattle.imp_edit.proofs.GuardLemmas.{fine_of}
@@ -48,7 +48,6 @@ returns-in-Ok-clause-made c =
     gap_made d P g h (fine_of P c.procs.ensures.faultless c.procs.ensures.numbered c.procs.ensures.fit) c.requires.site c.requires.here
     (ap (λ (os : List Procedure). slice_get (heads_of os) g.context.proc) (sym c.view.ensures.is) ∙ sym c.in-Some.ensures.is)
     closed c.args.next c.requires.below c.requires.continues c.requires.numbered
-    (subst (λ (b : Statements). BreaksTold P g b) is (c.are_told.ensures.told c.if-not-are_told.false))
     (subst (λ (b : Statements). FitsCode [] (layout_in h.bare) (code_in (frame_at [] h.bare) b)) is c.in-Ok.ensures.fit)
     (ap (splice_fault P h g) (sym is) ∙ c.in-Ok.ensures.faultless)
     c.in-Ok.change
