@@ -16,7 +16,7 @@ use Rattle.imp_check.specs.declared.entry.Which.TheVariants as which
 use Rattle.imp_check.proofs.RebuildLemmas.{in_left, in_right, Known, known_left, known_right}
 use Rattle.edit_entries.specs.Holes.{append, Hole, Then, Else, Body, fill, plug, holder, between, with_body}
 use Rattle.edit_entries.specs.Spliced.{among, breaking, is, left_of, rebroken}
-use Rattle.edit_entries.proofs.Breaks.{in_front, Looped, looped, loop_found, loop_with, loop_gained, plug_parts, context_head}
+use Rattle.edit_entries.proofs.Breaks.{among_all, among_none, in_front, Looped, looped, loop_found, loop_with, loop_gained, plug_parts, context_head}
 use Rattle.edit_entries.proofs.Counts.{count_append, count_least, count_plug}
 use Rattle.edit_entries.proofs.Filled.{has_loop}
 use Rattle.edit_entries.proofs.Others.{last_append, leaving_append}
@@ -61,6 +61,14 @@ count_step at (suc left) w o e h =
 pub count_none : (at : ℕ → Option Entry) (left : ℕ) (w : Option Around) (o : Option ℕ) → above at left w o ≡ None → front_count at left w o ≡ 0
 count_none at zero w o h = refl
 count_none at (suc left) w o h = ap (counted (front_count at left) (passed (leaving_from at left) w o)) h
+
+-- Where none are left, or none come, it does not matter where they come.
+pub none_left : (before : ℕ) (come left : List ℕ) → (length left == 0) ≡ true → come ++ left ≡ among before come left
+none_left before come [] h = append-nil come ∙ sym (among_all before come [] refl)
+none_left before come (n ∷ ns) h = absurd (grind (arith, nat_tests))
+
+pub none_come : (before : ℕ) (come left : List ℕ) → come ≡ [] → come ++ left ≡ among before come left
+none_come before come left e = ap (λ ns. ns ++ left) e ∙ sym (among_none before come left e)
 
 -- The breaks that the loop then has.
 module _ (ps : List Procedure) (g : Gap) (news : Statements) where

@@ -228,7 +228,7 @@ fn put_gone(gone: &[StmtId], puts: &mut Vec<Put>) -> Result<(), Memory>
 
 /// All entries that change, where these come. It takes time in proportion to those that come and go, to the breaks of the
 /// loop around them for each of those that go, and, where a break comes to a loop that keeps others, to the statements of
-/// that loop.
+/// that loop in front of the place.
 pub(crate) fn puts_of(
     alloc: Global,
     table: &Table,

@@ -55,7 +55,8 @@ fn add_all(numbers: &[StmtId], all: &mut Items<StmtId>) -> Result<(), Memory>
     Ok(())
 }
 
-/// How many of the breaks that are left stand in front of those that come, if any are left and any come.
+/// How many of the breaks that are left stand in front of those that come, where any are left and any come. Then it takes
+/// time in proportion to the statements of the loop in front of the place.
 fn count_before(
     alloc: Global,
     table: &Table,
@@ -65,7 +66,10 @@ fn count_before(
 ) -> Result<usize, Memory>
     ensures is { IfOk result (λ before. among before (leaving news.now) left.now ≡ among (front_count (entry_of (entries_of table.now.program)) (suc (program_count table.now.program)) gap.now.context.around gap.now.front) (leaving news.now) left.now) }
 {
-    if left.is_empty() || are_closed(false, news) {
+    if left.is_empty() {
+        return Ok(0);
+    }
+    if are_closed(false, news) {
         return Ok(0);
     }
     front_count(alloc, table, gap)

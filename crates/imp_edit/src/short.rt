@@ -32,8 +32,8 @@ use std::alloc::Global;
 /// Another condition takes time in proportion to the condition, the breaks of the statement and the square of the
 /// procedure's variables. Statements take time in proportion to the statements that come, with those inside them, and to
 /// the square of the procedure's variables for each, to those that go and to the breaks of the loop around them for each,
-/// to the statements of that loop where a break comes to it and it keeps others, and, at the start or the end of a
-/// procedure, to the number of procedures.
+/// to the statements of that loop in front of the place where a break comes to it and it keeps others, and, at the start or
+/// the end of a procedure, to the number of procedures.
 ///
 /// # Errors
 ///
