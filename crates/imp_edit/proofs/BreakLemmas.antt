@@ -4,7 +4,7 @@ use Rattle.std.proofs.Common.{◌≡◌, ℕ, zero, suc, ◌+◌, ◌-◌, ◌<�
 use Rattle.std.specs.Option.{option_map}
 use Rattle.imp_syntax.specs.Plain.{Condition, Statement, Simple, Break, Call, If, While, Statements, Ends, Starts, Procedure, number_of, numbers, program_numbers}
 use Rattle.imp_slots.specs.Fits.{Distinct}
-use Rattle.imp_check.specs.Entries.{inside, inside_loop, entry_at, entries_of, entry_of, frame_at, context_at, statement_entries, block_entries}
+use Rattle.imp_check.specs.Entries.{inside, entry_at, entries_of, entry_of, frame_at, context_at, statement_entries, block_entries}
 use Rattle.imp_check.specs.Parts.{part_of, first_or, last_or, leaving_in, leaving}
 use Rattle.imp_check.specs.Programs.{block_count, program_count}
 use Rattle.imp_check.specs.Rebuilt.{next_in}
@@ -13,8 +13,8 @@ use Rattle.imp_check.specs.declared.entry.Around.{Around}
 use Rattle.imp_check.specs.declared.entry.Context.{Context}
 use Rattle.imp_check.specs.declared.entry.Entry.{Entry}
 use Rattle.imp_check.specs.declared.entry.Which.TheVariants as which
-use Rattle.imp_check.proofs.RebuildLemmas.{in_left, in_right, Known, known_left, known_right}
-use Rattle.edit_entries.specs.Holes.{append, Hole, Then, Else, Body, fill, plug, holder, between, with_body}
+use Rattle.imp_check.proofs.RebuildLemmas.{in_left, Known, known_left, known_right}
+use Rattle.edit_entries.specs.Holes.{append, Hole, Then, Else, Body, fill, plug, between, with_body}
 use Rattle.edit_entries.specs.Spliced.{among, breaking, is, left_of, rebroken}
 use Rattle.edit_entries.proofs.Breaks.{among_all, among_none, in_front, Looped, looped, loop_found, loop_with, loop_gained, plug_parts, context_head}
 use Rattle.edit_entries.proofs.Counts.{count_append, count_least, count_plug}
@@ -23,7 +23,7 @@ use Rattle.edit_entries.proofs.Others.{last_append, leaving_append}
 use Rattle.edit_entries.proofs.Parts.{around_of, around_last, inmost, Inmost}
 use Rattle.edit_entries.proofs.Programs.{old_program, new_program}
 use Rattle.edit_entries.proofs.Touched.{context_of, own_in, part_found, plug_last}
-use Rattle.imp_edit.specs.Breaks.{above, breaks_of, breaks_with, counted, front_count, known_at, leaving_from, leaving_on, leaving_part, loop_breaks, passed, passed_in, unless_body}
+use Rattle.imp_edit.specs.Breaks.{above, breaks_of, breaks_with, counted, front_count, known_at, leaving_from, leaving_on, leaving_part, loop_breaks, passed}
 use Rattle.imp_edit.specs.declared.gap.Gap.{Gap}
 use Rattle.imp_edit.proofs.GapLemmas.{append_again}
 use Rattle.imp_edit.proofs.QuietLemmas.{own_count}
