@@ -30,17 +30,15 @@ fn matrix_of(
     Ok(matrix)
 }
 
-// The bound at a pair after closing; None where the matrix is Empty.
+// The bound at a pair of the matrix of these bounds after closing; None where that is Empty.
 fn closed_bound(
     alloc: Global,
-    matrix: &Matrix,
+    kinds: [bool; 2],
+    bounds: &[(usize, usize, i128)],
     i: usize,
     j: usize,
-) -> Result<Option<Option<i128>>, Memory>
-    requires diagonal { IsZeroAtMost (nodes matrix.now) (entry matrix.now) }
-    requires within { AreWithin (nodes matrix.now) (2 ^ 70) (entry matrix.now) }
-{
-    match close(alloc, matrix)? {
+) -> Result<Option<Option<i128>>, Memory> {
+    match close(alloc, &matrix_of(alloc, kinds, bounds)?)? {
         Closed::Empty => Ok(None),
         Closed::Matrix(closed) => {
             let nodes = 2 * closed.kinds().len();
@@ -53,83 +51,88 @@ fn closed_bound(
     }
 }
 
-// Worked by hand: the kinds, the bounds, a pair, and the bound there after closing, or None
-// for Empty.
+// Kinds, bounds, a pair, and the bound there after closing, or None for Empty.
+type Case = (
+    [bool; 2],
+    [(usize, usize, i128); 2],
+    usize,
+    usize,
+    Option<Option<i128>>,
+);
+
+const WORKED_BY_HAND: [Case; 13] = [
+    // A negative cycle: x1 <= x0 - 1 and x0 <= x1.
+    ([false, false], [(0, 2, -1), (2, 0, 0)], 0, 0, None),
+    // 2 x0 is 1, which only tightening refuses.
+    ([false, false], [(1, 0, 1), (0, 1, -1)], 0, 0, None),
+    // 2 x0 <= 7 is tightened to 6.
+    ([false, false], [(1, 0, 7), (3, 2, 4)], 1, 0, Some(Some(6))),
+    // x0 <= 3 and x1 <= 2, so x0 + x1 <= 5.
+    ([false, false], [(1, 0, 7), (3, 2, 4)], 1, 2, Some(Some(5))),
+    // x0 <= 2 and x1 <= x0 + 3, so 2 x1 <= 10.
+    ([false, false], [(1, 0, 4), (0, 2, 3)], 3, 2, Some(Some(10))),
+    // x0 <= -1 is in order for an int, and not for a length.
+    (
+        [false, false],
+        [(1, 0, -2), (1, 0, 9)],
+        1,
+        0,
+        Some(Some(-2)),
+    ),
+    ([true, false], [(1, 0, -2), (1, 0, 9)], 1, 0, None),
+    // A length of 1,000,000, and one of 1,000,001.
+    (
+        [true, false],
+        [(0, 1, -2000000), (1, 0, 2000000)],
+        0,
+        1,
+        Some(Some(-2000000)),
+    ),
+    (
+        [true, false],
+        [(0, 1, -2000002), (1, 0, 2000002)],
+        0,
+        1,
+        None,
+    ),
+    // x1 - x0 <= 2^64 - 1 stays, and 2^64 becomes none.
+    (
+        [false, false],
+        [(0, 2, 18446744073709551615), (0, 2, LIMIT)],
+        0,
+        2,
+        Some(Some(18446744073709551615)),
+    ),
+    (
+        [false, false],
+        [(0, 2, 18446744073709551616), (0, 2, LIMIT)],
+        0,
+        2,
+        Some(None),
+    ),
+    // x1 - x0 <= -2^64 stays, and below that nothing is left.
+    (
+        [false, false],
+        [(0, 2, -18446744073709551616), (0, 2, 0)],
+        0,
+        2,
+        Some(Some(-18446744073709551616)),
+    ),
+    (
+        [false, false],
+        [(0, 2, -18446744073709551617), (0, 2, 0)],
+        0,
+        2,
+        None,
+    ),
+];
+
 #[test]
 fn closes_matrices_worked_by_hand(rt: HostRuntime) -> Result<(), Fail> {
     let alloc = rt.alloc();
-    for (kinds, bounds, i, j, wanted) in [
-        // A negative cycle: x1 <= x0 - 1 and x0 <= x1.
-        ([false, false], [(0, 2, -1), (2, 0, 0)], 0, 0, None),
-        // 2 x0 is 1, which only tightening refuses.
-        ([false, false], [(1, 0, 1), (0, 1, -1)], 0, 0, None),
-        // 2 x0 <= 7 is tightened to 6.
-        ([false, false], [(1, 0, 7), (3, 2, 4)], 1, 0, Some(Some(6))),
-        // x0 <= 3 and x1 <= 2, so x0 + x1 <= 5.
-        ([false, false], [(1, 0, 7), (3, 2, 4)], 1, 2, Some(Some(5))),
-        // x0 <= 2 and x1 <= x0 + 3, so 2 x1 <= 10.
-        ([false, false], [(1, 0, 4), (0, 2, 3)], 3, 2, Some(Some(10))),
-        // x0 <= -1 is in order for an int, and not for a length.
-        (
-            [false, false],
-            [(1, 0, -2), (1, 0, 9)],
-            1,
-            0,
-            Some(Some(-2)),
-        ),
-        ([true, false], [(1, 0, -2), (1, 0, 9)], 1, 0, None),
-        // A length of 1,000,000, and one of 1,000,001.
-        (
-            [true, false],
-            [(0, 1, -2000000), (1, 0, 2000000)],
-            0,
-            1,
-            Some(Some(-2000000)),
-        ),
-        (
-            [true, false],
-            [(0, 1, -2000002), (1, 0, 2000002)],
-            0,
-            1,
-            None,
-        ),
-        // x1 - x0 <= 2^64 - 1 stays, and 2^64 becomes none.
-        (
-            [false, false],
-            [(0, 2, 18446744073709551615), (0, 2, LIMIT)],
-            0,
-            2,
-            Some(Some(18446744073709551615)),
-        ),
-        (
-            [false, false],
-            [(0, 2, 18446744073709551616), (0, 2, LIMIT)],
-            0,
-            2,
-            Some(None),
-        ),
-        // x1 - x0 <= -2^64 stays, and below that nothing is left.
-        (
-            [false, false],
-            [(0, 2, -18446744073709551616), (0, 2, 0)],
-            0,
-            2,
-            Some(Some(-18446744073709551616)),
-        ),
-        (
-            [false, false],
-            [(0, 2, -18446744073709551617), (0, 2, 0)],
-            0,
-            2,
-            None,
-        ),
-    ] {
-        let matrix = matrix_of(alloc, kinds, &bounds)?;
-        assert_eq!(rt;
-            closed_bound(alloc, &matrix, i, j)?,
-            wanted,
-            "at {i}, {j} with {bounds:?}"
-        );
+    for (kinds, bounds, i, j, wanted) in &WORKED_BY_HAND {
+        let closed = closed_bound(alloc, *kinds, bounds, *i, *j)?;
+        assert_eq!(rt; closed, *wanted, "at {i}, {j} with {bounds:?}");
     }
     Ok(())
 }

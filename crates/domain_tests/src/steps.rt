@@ -3,11 +3,34 @@
 ghost use Rattle.std.specs.Prelude.{◌≡◌, [], ◌∷◌, IfOk};
 ghost use Rattle.shape_graph.specs.Shape.{shape_of};
 
-use plain_values::Memory;
 use shape_graph::{Atom, Graph, Row};
 use shape_steps::*;
 use std::alloc::Global;
 use std::test::Fail;
+
+// A single cell.
+const CELL: [Atom; 1] = [Atom {
+    many: false,
+    target: None,
+}];
+
+// A list of one or more cells.
+const LIST: [Atom; 1] = [Atom {
+    many: true,
+    target: None,
+}];
+
+// A cell in front of a list.
+const CELL_AND_LIST: [Atom; 2] = [
+    Atom {
+        many: false,
+        target: Some(1),
+    },
+    Atom {
+        many: true,
+        target: None,
+    },
+];
 
 // The graph with one frame of two slots.
 fn pair(
@@ -18,55 +41,92 @@ fn pair(
 ) -> Result<Graph, Fail>
     ensures pair { IfOk result (λ graph. graph ≡ shape_of ((first ∷ second ∷ []) ∷ []) atoms.now) }
 {
-    let mut slots = Vec::new(alloc);
-    slots.push(first)?;
-    slots.push(second)?;
-    let mut frames = Vec::new(alloc);
-    frames.push(Row::from_slots(slots))?;
+    let slots = Vec::from_slice(alloc, &[first, second])?;
+    let frames = vec![in alloc; Row::from_slots(slots)]?;
     match Graph::try_from_parts(frames, Vec::from_slice(alloc, atoms)?) {
         Some(graph) => Ok(graph),
         None => Err("a target past the nodes".into()),
     }
 }
 
+// Whether a graph is that with one frame of two slots.
+fn is_pair(
+    alloc: Global,
+    graph: &Graph,
+    first: Option<usize>,
+    second: Option<usize>,
+    atoms: &[Atom],
+) -> Result<bool, Fail> {
+    Ok(*graph == pair(alloc, first, second, atoms)?)
+}
+
 #[test]
-fn exposes(rt: HostRuntime) -> Result<(), Fail> {
+fn exposes_lists(rt: HostRuntime) -> Result<(), Fail> {
     let a = rt.alloc();
-    let graphs = expose(a, &pair(a, Some(0), None, &[Atom::seg(None)])?, 0)?;
+    let graphs = expose(a, &pair(a, Some(0), None, &LIST)?, 0)?;
     assert_eq!(rt; graphs.len(), 2);
-    assert!(rt; graphs[0] == pair(a, Some(0), None, &[Atom::one(None)])?);
-    assert!(rt; graphs[1] == pair(a, Some(0), None, &[Atom::one(Some(1)), Atom::seg(None)])?);
-    let graphs = expose(a, &pair(a, Some(0), None, &[Atom::one(None)])?, 0)?;
+    assert!(rt; is_pair(a, &graphs[0], Some(0), None, &CELL)?);
+    assert!(rt; is_pair(a, &graphs[1], Some(0), None, &CELL_AND_LIST)?);
+    Ok(())
+}
+
+#[test]
+fn exposes_cells(rt: HostRuntime) -> Result<(), Fail> {
+    let a = rt.alloc();
+    let graphs = expose(a, &pair(a, Some(0), None, &CELL)?, 0)?;
     assert_eq!(rt; graphs.len(), 1);
-    assert!(rt; graphs[0] == pair(a, Some(0), None, &[Atom::one(None)])?);
+    assert!(rt; is_pair(a, &graphs[0], Some(0), None, &CELL)?);
     Ok(())
 }
 
+// p = q, p = q.next
 #[test]
-fn sets_slots_and_nodes(rt: HostRuntime) -> Result<(), Fail> {
+fn sets_slots(rt: HostRuntime) -> Result<(), Fail> {
     let a = rt.alloc();
-    let chain = pair(a, Some(0), None, &[Atom::one(Some(1)), Atom::seg(None)])?;
-    // p = q, p = q.next
-    let copied = pair(a, Some(0), Some(0), &[Atom::one(Some(1)), Atom::seg(None)])?;
-    assert!(rt; forget(a, &chain, 1, Some(0))? == copied);
-    let read = pair(a, Some(0), Some(1), &[Atom::one(Some(1)), Atom::seg(None)])?;
-    assert!(rt; forget(a, &chain, 1, Some(1))? == read);
-    // p.next = p
-    let written = pair(a, Some(0), None, &[Atom::one(Some(0)), Atom::seg(None)])?;
-    assert!(rt; set_next(a, &chain, 0, Some(0))? == written);
-    // q = new
+    let chain = pair(a, Some(0), None, &CELL_AND_LIST)?;
+    for target in 0..2 {
+        let set = forget(a, &chain, 1, Some(target))?;
+        assert!(rt;
+            is_pair(a, &set, Some(0), Some(target), &CELL_AND_LIST)?,
+            "{target}"
+        );
+    }
+    Ok(())
+}
+
+// p.next = p
+#[test]
+fn sets_nodes(rt: HostRuntime) -> Result<(), Fail> {
+    let a = rt.alloc();
+    let written = set_next(a, &pair(a, Some(0), None, &CELL_AND_LIST)?, 0, Some(0))?;
+    let atoms = [Atom::one(Some(0)), Atom::seg(None)];
+    assert!(rt; is_pair(a, &written, Some(0), None, &atoms)?);
+    Ok(())
+}
+
+// q = new
+#[test]
+fn adds_cells(rt: HostRuntime) -> Result<(), Fail> {
+    let a = rt.alloc();
+    let added = new_cell(a, &pair(a, Some(0), None, &CELL_AND_LIST)?, 1)?;
     let atoms = [Atom::one(Some(1)), Atom::seg(None), Atom::one(None)];
-    assert!(rt; new_cell(a, &chain, 1)? == pair(a, Some(0), Some(2), &atoms)?);
+    assert!(rt; is_pair(a, &added, Some(0), Some(2), &atoms)?);
     Ok(())
 }
 
 #[test]
-fn adds_and_removes_frames(rt: HostRuntime) -> Result<(), Fail> {
+fn adds_frames(rt: HostRuntime) -> Result<(), Fail> {
     let a = rt.alloc();
-    let caller = pair(a, Some(0), None, &[Atom::seg(None)])?;
-    let called = push_frame(a, &caller, &[None])?;
+    let called = push_frame(a, &pair(a, Some(0), None, &LIST)?, &[None])?;
     assert_eq!(rt; called.frames().len(), 2);
     assert!(rt; called.frames()[1].as_slice() == [None].as_slice());
-    assert!(rt; pop_frame(a, &called, 1)? == caller);
+    Ok(())
+}
+
+#[test]
+fn removes_frames(rt: HostRuntime) -> Result<(), Fail> {
+    let a = rt.alloc();
+    let called = push_frame(a, &pair(a, Some(0), None, &LIST)?, &[None])?;
+    assert!(rt; is_pair(a, &pop_frame(a, &called, 1)?, Some(0), None, &LIST)?);
     Ok(())
 }

@@ -8,12 +8,15 @@ use portable_states::Portable;
 use std::alloc::Global;
 use std::test::Fail;
 
-/// The int `i`, and the array `a` where there is one.
-fn numbers(alloc: Global, has_array: bool) -> Result<[Layout; 1], Fail> {
+/// A number named `i`, and one named `a`, which is an array.
+const NUMBERS: [(&str, bool); 2] = [("i", false), ("a", true)];
+
+/// The first of the numbers, or both.
+fn numbers(alloc: Global, count: usize) -> Result<[Layout; 1], Fail> {
     let mut numbers = Items::new(alloc);
-    numbers.push(NumericSlot::new(Text::from_slice(alloc, b"i")?, false))?;
-    if has_array {
-        numbers.push(NumericSlot::new(Text::from_slice(alloc, b"a")?, true))?;
+    for (name, is_array) in NUMBERS.iter().take(count) {
+        let name = Text::from_slice(alloc, name.as_bytes())?;
+        numbers.push(NumericSlot::new(name, *is_array))?;
     }
     Ok([Layout::new(alloc, numbers, Items::new(alloc))?])
 }
@@ -66,16 +69,19 @@ fn is_below<D: Portable>(
 
 #[test]
 fn intervals_come_back(rt: HostRuntime) -> Result<(), Fail> {
-    let layouts = numbers(rt.alloc(), true)?;
+    let layouts = numbers(rt.alloc(), 2)?;
     for text in ["0", "1 -5 7 0 1000000"] {
-        assert!(rt; comes_back(rt.alloc(), &Interval, &layouts, text)?);
+        assert!(rt;
+            comes_back(rt.alloc(), &Interval, &layouts, text)?,
+            "{text}"
+        );
     }
     Ok(())
 }
 
 #[test]
 fn intervals_are_refused(rt: HostRuntime) -> Result<(), Fail> {
-    let layouts = numbers(rt.alloc(), true)?;
+    let layouts = numbers(rt.alloc(), 2)?;
     for text in [
         "",
         "2",
@@ -86,61 +92,70 @@ fn intervals_are_refused(rt: HostRuntime) -> Result<(), Fail> {
         "1 0 0 0 1000001",
         "1 n 0 0 0",
     ] {
-        assert!(rt; is_refused(rt.alloc(), &Interval, &layouts, text)?);
+        assert!(rt;
+            is_refused(rt.alloc(), &Interval, &layouts, text)?,
+            "{text}"
+        );
     }
     Ok(())
 }
 
 #[test]
 fn intervals_are_ordered(rt: HostRuntime) -> Result<(), Fail> {
-    let layouts = numbers(rt.alloc(), false)?;
-    assert!(rt; is_below(rt.alloc(), &Interval, &layouts, "1 0 5", "1 -1 5")?);
-    assert!(rt; is_below(rt.alloc(), &Interval, &layouts, "0", "1 0 5")?);
-    assert!(rt; !is_below(rt.alloc(), &Interval, &layouts, "1 -1 5", "1 0 5")?);
+    let layouts = numbers(rt.alloc(), 1)?;
+    for (left, right, below) in [
+        ("1 0 5", "1 -1 5", true),
+        ("0", "1 0 5", true),
+        ("1 -1 5", "1 0 5", false),
+    ] {
+        let found = is_below(rt.alloc(), &Interval, &layouts, left, right)?;
+        assert!(rt; found == below, "{left} and {right}");
+    }
     Ok(())
 }
 
 #[test]
 fn octagons_come_back(rt: HostRuntime) -> Result<(), Fail> {
-    let layouts = numbers(rt.alloc(), false)?;
-    for text in [
-        "0",
-        "1 0 n 10 0",
-        "1 0 -18446744073709551616 18446744073709551615 0",
+    for (count, text) in [
+        (1, "0"),
+        (1, "1 0 n 10 0"),
+        (1, "1 0 -18446744073709551616 18446744073709551615 0"),
+        (2, "1 0 n 3 n n 0 n n n n 0 n n 3 n 0"),
     ] {
-        assert!(rt; comes_back(rt.alloc(), &Octagon, &layouts, text)?);
+        let layouts = numbers(rt.alloc(), count)?;
+        assert!(rt; comes_back(rt.alloc(), &Octagon, &layouts, text)?, "{text}");
     }
-    let layouts = numbers(rt.alloc(), true)?;
-    let text = "1 0 n 3 n n 0 n n n n 0 n n 3 n 0";
-    assert!(rt; comes_back(rt.alloc(), &Octagon, &layouts, text)?);
     Ok(())
 }
 
 #[test]
 fn octagons_are_refused(rt: HostRuntime) -> Result<(), Fail> {
-    let layouts = numbers(rt.alloc(), false)?;
-    for text in [
-        "1",
-        "1 0 n 10",
-        "1 0 n 10 1",
-        "1 n n 10 n",
-        "1 0 n 18446744073709551616 0",
+    for (count, text) in [
+        (1, "1"),
+        (1, "1 0 n 10"),
+        (1, "1 0 n 10 1"),
+        (1, "1 n n 10 n"),
+        (1, "1 0 n 18446744073709551616 0"),
+        (2, "1 0 n 3 n n 0 n n n n 0 n n 4 n 0"),
     ] {
-        assert!(rt; is_refused(rt.alloc(), &Octagon, &layouts, text)?);
+        let layouts = numbers(rt.alloc(), count)?;
+        assert!(rt; is_refused(rt.alloc(), &Octagon, &layouts, text)?, "{text}");
     }
-    let layouts = numbers(rt.alloc(), true)?;
-    let text = "1 0 n 3 n n 0 n n n n 0 n n 4 n 0";
-    assert!(rt; is_refused(rt.alloc(), &Octagon, &layouts, text)?);
     Ok(())
 }
 
 /// The left state is closed: bounds that no number keeps make it Empty.
 #[test]
 fn octagons_are_ordered(rt: HostRuntime) -> Result<(), Fail> {
-    let layouts = numbers(rt.alloc(), false)?;
-    assert!(rt; is_below(rt.alloc(), &Octagon, &layouts, "1 0 n 10 0", "1 0 n 12 0")?);
-    assert!(rt; is_below(rt.alloc(), &Octagon, &layouts, "1 0 -12 10 0", "0")?);
-    assert!(rt; !is_below(rt.alloc(), &Octagon, &layouts, "1 0 n 12 0", "1 0 n 10 0")?);
+    let layouts = numbers(rt.alloc(), 1)?;
+    for (left, right, below) in [
+        ("1 0 n 10 0", "1 0 n 12 0", true),
+        ("1 0 -12 10 0", "0", true),
+        ("1 0 n 12 0", "1 0 n 10 0", false),
+    ] {
+        let found = is_below(rt.alloc(), &Octagon, &layouts, left, right)?;
+        assert!(rt; found == below, "{left} and {right}");
+    }
     Ok(())
 }
 
@@ -148,7 +163,7 @@ fn octagons_are_ordered(rt: HostRuntime) -> Result<(), Fail> {
 fn segments_come_back(rt: HostRuntime) -> Result<(), Fail> {
     let layouts = link(rt.alloc())?;
     for text in ["0", "2", "1 1 0 0", "1 1 1 1 1 0", "1 2 0 0 1 1 0 1"] {
-        assert!(rt; comes_back(rt.alloc(), &ListSeg, &layouts, text)?);
+        assert!(rt; comes_back(rt.alloc(), &ListSeg, &layouts, text)?, "{text}");
     }
     Ok(())
 }
@@ -165,7 +180,7 @@ fn segments_are_refused(rt: HostRuntime) -> Result<(), Fail> {
         "1 2 0 0 0 0",
         "1 1 1 0",
     ] {
-        assert!(rt; is_refused(rt.alloc(), &ListSeg, &layouts, text)?);
+        assert!(rt; is_refused(rt.alloc(), &ListSeg, &layouts, text)?, "{text}");
     }
     Ok(())
 }
@@ -173,9 +188,14 @@ fn segments_are_refused(rt: HostRuntime) -> Result<(), Fail> {
 #[test]
 fn segments_are_ordered(rt: HostRuntime) -> Result<(), Fail> {
     let layouts = link(rt.alloc())?;
-    assert!(rt; is_below(rt.alloc(), &ListSeg, &layouts, "1 1 0 0", "1 2 0 0 1 1 0 0")?);
-    assert!(rt; is_below(rt.alloc(), &ListSeg, &layouts, "2", "2")?);
-    assert!(rt; !is_below(rt.alloc(), &ListSeg, &layouts, "1 1 1 1 0 0", "1 1 0 0")?);
-    assert!(rt; !is_below(rt.alloc(), &ListSeg, &layouts, "2", "1 1 0 0")?);
+    for (left, right, below) in [
+        ("1 1 0 0", "1 2 0 0 1 1 0 0", true),
+        ("2", "2", true),
+        ("1 1 1 1 0 0", "1 1 0 0", false),
+        ("2", "1 1 0 0", false),
+    ] {
+        let found = is_below(rt.alloc(), &ListSeg, &layouts, left, right)?;
+        assert!(rt; found == below, "{left} and {right}");
+    }
     Ok(())
 }
