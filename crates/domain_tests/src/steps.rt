@@ -6,6 +6,7 @@ ghost use Rattle.shape_graph.specs.Shape.{shape_of};
 use shape_graph::{Atom, Graph, Row};
 use shape_steps::*;
 use std::alloc::Global;
+use std::process::Abort;
 use std::test::Fail;
 
 // A single cell.
@@ -49,34 +50,34 @@ fn pair(
     }
 }
 
-// Whether a graph is that with one frame of two slots.
-fn is_pair(
+// Asserts that a graph is that with one frame of two slots.
+fn expect_pair(
+    rt: &impl Abort,
     alloc: Global,
     graph: &Graph,
-    first: Option<usize>,
-    second: Option<usize>,
+    slots: (Option<usize>, Option<usize>),
     atoms: &[Atom],
-) -> Result<bool, Fail> {
-    Ok(*graph == pair(alloc, first, second, atoms)?)
+) -> Result<(), Fail> {
+    let wanted = pair(alloc, slots.0, slots.1, atoms)?;
+    assert!(rt; *graph == wanted, "{slots:?} {atoms:?}");
+    Ok(())
 }
 
 #[test]
 fn exposes_lists(rt: HostRuntime) -> Result<(), Fail> {
     let a = rt.alloc();
     let graphs = expose(a, &pair(a, Some(0), None, &LIST)?, 0)?;
-    assert_eq!(rt; graphs.len(), 2);
-    assert!(rt; is_pair(a, &graphs[0], Some(0), None, &CELL)?);
-    assert!(rt; is_pair(a, &graphs[1], Some(0), None, &CELL_AND_LIST)?);
-    Ok(())
+    assert!(rt; graphs.len() == 2);
+    expect_pair(&rt, a, &graphs[0], (Some(0), None), &CELL)?;
+    expect_pair(&rt, a, &graphs[1], (Some(0), None), &CELL_AND_LIST)
 }
 
 #[test]
 fn exposes_cells(rt: HostRuntime) -> Result<(), Fail> {
     let a = rt.alloc();
     let graphs = expose(a, &pair(a, Some(0), None, &CELL)?, 0)?;
-    assert_eq!(rt; graphs.len(), 1);
-    assert!(rt; is_pair(a, &graphs[0], Some(0), None, &CELL)?);
-    Ok(())
+    assert!(rt; graphs.len() == 1);
+    expect_pair(&rt, a, &graphs[0], (Some(0), None), &CELL)
 }
 
 // p = q, p = q.next
@@ -86,10 +87,7 @@ fn sets_slots(rt: HostRuntime) -> Result<(), Fail> {
     let chain = pair(a, Some(0), None, &CELL_AND_LIST)?;
     for target in 0..2 {
         let set = forget(a, &chain, 1, Some(target))?;
-        assert!(rt;
-            is_pair(a, &set, Some(0), Some(target), &CELL_AND_LIST)?,
-            "{target}"
-        );
+        expect_pair(&rt, a, &set, (Some(0), Some(target)), &CELL_AND_LIST)?;
     }
     Ok(())
 }
@@ -100,8 +98,7 @@ fn sets_nodes(rt: HostRuntime) -> Result<(), Fail> {
     let a = rt.alloc();
     let written = set_next(a, &pair(a, Some(0), None, &CELL_AND_LIST)?, 0, Some(0))?;
     let atoms = [Atom::one(Some(0)), Atom::seg(None)];
-    assert!(rt; is_pair(a, &written, Some(0), None, &atoms)?);
-    Ok(())
+    expect_pair(&rt, a, &written, (Some(0), None), &atoms)
 }
 
 // q = new
@@ -110,15 +107,14 @@ fn adds_cells(rt: HostRuntime) -> Result<(), Fail> {
     let a = rt.alloc();
     let added = new_cell(a, &pair(a, Some(0), None, &CELL_AND_LIST)?, 1)?;
     let atoms = [Atom::one(Some(1)), Atom::seg(None), Atom::one(None)];
-    assert!(rt; is_pair(a, &added, Some(0), Some(2), &atoms)?);
-    Ok(())
+    expect_pair(&rt, a, &added, (Some(0), Some(2)), &atoms)
 }
 
 #[test]
 fn adds_frames(rt: HostRuntime) -> Result<(), Fail> {
     let a = rt.alloc();
     let called = push_frame(a, &pair(a, Some(0), None, &LIST)?, &[None])?;
-    assert_eq!(rt; called.frames().len(), 2);
+    assert!(rt; called.frames().len() == 2);
     assert!(rt; called.frames()[1].as_slice() == [None].as_slice());
     Ok(())
 }
@@ -127,6 +123,5 @@ fn adds_frames(rt: HostRuntime) -> Result<(), Fail> {
 fn removes_frames(rt: HostRuntime) -> Result<(), Fail> {
     let a = rt.alloc();
     let called = push_frame(a, &pair(a, Some(0), None, &LIST)?, &[None])?;
-    assert!(rt; is_pair(a, &pop_frame(a, &called, 1)?, Some(0), None, &LIST)?);
-    Ok(())
+    expect_pair(&rt, a, &pop_frame(a, &called, 1)?, (Some(0), None), &LIST)
 }

@@ -6,6 +6,7 @@ use imp_slots::{Layout, NumericSlot};
 use plain_values::{Items, Text};
 use portable_states::Portable;
 use std::alloc::Global;
+use std::process::Abort;
 use std::test::Fail;
 
 /// A number named `i`, and one named `a`, which is an array.
@@ -41,15 +42,6 @@ fn comes_back<D: Portable>(
     }
 }
 
-fn is_refused<D: Portable>(
-    alloc: Global,
-    dom: &D,
-    layouts: &[Layout],
-    text: &str,
-) -> Result<bool, Fail> {
-    Ok(dom.take(alloc, layouts, text.as_bytes())?.is_none())
-}
-
 /// Whether the left text is taken and that of a state below the right one's.
 fn is_below<D: Portable>(
     alloc: Global,
@@ -67,22 +59,61 @@ fn is_below<D: Portable>(
     }
 }
 
-#[test]
-fn intervals_come_back(rt: HostRuntime) -> Result<(), Fail> {
-    let layouts = numbers(rt.alloc(), 2)?;
-    for text in ["0", "1 -5 7 0 1000000"] {
-        assert!(rt;
-            comes_back(rt.alloc(), &Interval, &layouts, text)?,
-            "{text}"
-        );
+/// Asserts that each text is taken, and put again as it was.
+fn expect_back<D: Portable>(
+    rt: &impl Abort,
+    alloc: Global,
+    dom: &D,
+    layouts: &[Layout],
+    texts: &[&str],
+) -> Result<(), Fail> {
+    for text in texts {
+        assert!(rt; comes_back(alloc, dom, layouts, text)?, "{text}");
+    }
+    Ok(())
+}
+
+/// Asserts that no text is taken.
+fn expect_refused<D: Portable>(
+    rt: &impl Abort,
+    alloc: Global,
+    dom: &D,
+    layouts: &[Layout],
+    texts: &[&str],
+) -> Result<(), Fail> {
+    for text in texts {
+        let taken = dom.take(alloc, layouts, text.as_bytes())?;
+        assert!(rt; taken.is_none(), "{text}");
+    }
+    Ok(())
+}
+
+/// Asserts of each two texts whether the left one's state is below the right one's.
+fn expect_order<D: Portable>(
+    rt: &impl Abort,
+    alloc: Global,
+    dom: &D,
+    layouts: &[Layout],
+    pairs: &[(&str, &str, bool)],
+) -> Result<(), Fail> {
+    for (left, right, below) in pairs {
+        let found = is_below(alloc, dom, layouts, left, right)?;
+        assert!(rt; found == *below, "{left} and {right}");
     }
     Ok(())
 }
 
 #[test]
+fn intervals_come_back(rt: HostRuntime) -> Result<(), Fail> {
+    let layouts = numbers(rt.alloc(), 2)?;
+    let texts = ["0", "1 -5 7 0 1000000"];
+    expect_back(&rt, rt.alloc(), &Interval, &layouts, &texts)
+}
+
+#[test]
 fn intervals_are_refused(rt: HostRuntime) -> Result<(), Fail> {
     let layouts = numbers(rt.alloc(), 2)?;
-    for text in [
+    let texts = [
         "",
         "2",
         "-0",
@@ -91,111 +122,93 @@ fn intervals_are_refused(rt: HostRuntime) -> Result<(), Fail> {
         "1 7 -5 0 0",
         "1 0 0 0 1000001",
         "1 n 0 0 0",
-    ] {
-        assert!(rt;
-            is_refused(rt.alloc(), &Interval, &layouts, text)?,
-            "{text}"
-        );
-    }
-    Ok(())
+    ];
+    expect_refused(&rt, rt.alloc(), &Interval, &layouts, &texts)
 }
 
 #[test]
 fn intervals_are_ordered(rt: HostRuntime) -> Result<(), Fail> {
     let layouts = numbers(rt.alloc(), 1)?;
-    for (left, right, below) in [
+    let pairs = [
         ("1 0 5", "1 -1 5", true),
         ("0", "1 0 5", true),
         ("1 -1 5", "1 0 5", false),
-    ] {
-        let found = is_below(rt.alloc(), &Interval, &layouts, left, right)?;
-        assert!(rt; found == below, "{left} and {right}");
-    }
-    Ok(())
+    ];
+    expect_order(&rt, rt.alloc(), &Interval, &layouts, &pairs)
 }
 
 #[test]
 fn octagons_come_back(rt: HostRuntime) -> Result<(), Fail> {
-    for (count, text) in [
-        (1, "0"),
-        (1, "1 0 n 10 0"),
-        (1, "1 0 -18446744073709551616 18446744073709551615 0"),
-        (2, "1 0 n 3 n n 0 n n n n 0 n n 3 n 0"),
-    ] {
-        let layouts = numbers(rt.alloc(), count)?;
-        assert!(rt; comes_back(rt.alloc(), &Octagon, &layouts, text)?, "{text}");
-    }
-    Ok(())
+    let layouts = numbers(rt.alloc(), 1)?;
+    let texts = [
+        "0",
+        "1 0 n 10 0",
+        "1 0 -18446744073709551616 18446744073709551615 0",
+    ];
+    expect_back(&rt, rt.alloc(), &Octagon, &layouts, &texts)?;
+    let layouts = numbers(rt.alloc(), 2)?;
+    let texts = ["1 0 n 3 n n 0 n n n n 0 n n 3 n 0"];
+    expect_back(&rt, rt.alloc(), &Octagon, &layouts, &texts)
 }
 
 #[test]
 fn octagons_are_refused(rt: HostRuntime) -> Result<(), Fail> {
-    for (count, text) in [
-        (1, "1"),
-        (1, "1 0 n 10"),
-        (1, "1 0 n 10 1"),
-        (1, "1 n n 10 n"),
-        (1, "1 0 n 18446744073709551616 0"),
-        (2, "1 0 n 3 n n 0 n n n n 0 n n 4 n 0"),
-    ] {
-        let layouts = numbers(rt.alloc(), count)?;
-        assert!(rt; is_refused(rt.alloc(), &Octagon, &layouts, text)?, "{text}");
-    }
-    Ok(())
+    let layouts = numbers(rt.alloc(), 1)?;
+    let texts = [
+        "1",
+        "1 0 n 10",
+        "1 0 n 10 1",
+        "1 n n 10 n",
+        "1 0 n 18446744073709551616 0",
+    ];
+    expect_refused(&rt, rt.alloc(), &Octagon, &layouts, &texts)?;
+    let layouts = numbers(rt.alloc(), 2)?;
+    let texts = ["1 0 n 3 n n 0 n n n n 0 n n 4 n 0"];
+    expect_refused(&rt, rt.alloc(), &Octagon, &layouts, &texts)
 }
 
 /// The left state is closed: bounds that no number keeps make it Empty.
 #[test]
 fn octagons_are_ordered(rt: HostRuntime) -> Result<(), Fail> {
     let layouts = numbers(rt.alloc(), 1)?;
-    for (left, right, below) in [
+    let pairs = [
         ("1 0 n 10 0", "1 0 n 12 0", true),
         ("1 0 -12 10 0", "0", true),
         ("1 0 n 12 0", "1 0 n 10 0", false),
-    ] {
-        let found = is_below(rt.alloc(), &Octagon, &layouts, left, right)?;
-        assert!(rt; found == below, "{left} and {right}");
-    }
-    Ok(())
+    ];
+    expect_order(&rt, rt.alloc(), &Octagon, &layouts, &pairs)
 }
 
 #[test]
 fn segments_come_back(rt: HostRuntime) -> Result<(), Fail> {
     let layouts = link(rt.alloc())?;
-    for text in ["0", "2", "1 1 0 0", "1 1 1 1 1 0", "1 2 0 0 1 1 0 1"] {
-        assert!(rt; comes_back(rt.alloc(), &ListSeg, &layouts, text)?, "{text}");
-    }
-    Ok(())
+    let texts = ["0", "2", "1 1 0 0", "1 1 1 1 1 0", "1 2 0 0 1 1 0 1"];
+    expect_back(&rt, rt.alloc(), &ListSeg, &layouts, &texts)
 }
 
 /// No graph, a node that no slot reaches, a node that is no anchor, graphs that do not rise.
 #[test]
 fn segments_are_refused(rt: HostRuntime) -> Result<(), Fail> {
     let layouts = link(rt.alloc())?;
-    for text in [
+    let texts = [
         "1 0",
         "1 1 0 1 0 0",
         "1 1 1 2 0 2 0 0",
         "1 2 1 1 0 0 0 0",
         "1 2 0 0 0 0",
         "1 1 1 0",
-    ] {
-        assert!(rt; is_refused(rt.alloc(), &ListSeg, &layouts, text)?, "{text}");
-    }
-    Ok(())
+    ];
+    expect_refused(&rt, rt.alloc(), &ListSeg, &layouts, &texts)
 }
 
 #[test]
 fn segments_are_ordered(rt: HostRuntime) -> Result<(), Fail> {
     let layouts = link(rt.alloc())?;
-    for (left, right, below) in [
+    let pairs = [
         ("1 1 0 0", "1 2 0 0 1 1 0 0", true),
         ("2", "2", true),
         ("1 1 1 1 0 0", "1 1 0 0", false),
         ("2", "1 1 0 0", false),
-    ] {
-        let found = is_below(rt.alloc(), &ListSeg, &layouts, left, right)?;
-        assert!(rt; found == below, "{left} and {right}");
-    }
-    Ok(())
+    ];
+    expect_order(&rt, rt.alloc(), &ListSeg, &layouts, &pairs)
 }
