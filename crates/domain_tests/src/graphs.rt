@@ -27,32 +27,32 @@ macro_rules! seg {
 }
 
 /// What is drawn, and what it folds to.
-const FOLDED: [(&str, Drawing, Drawing); 9] = [
+const FOLDED: [(Drawing, Drawing); 9] = [
+    // a single cell stays One
     (
-        "a single cell stays One",
         (&[&[Some(0)]], &[one!(None)]),
         (&[&[Some(0)]], &[one!(None)]),
     ),
+    // two cells become a Seg
     (
-        "two cells become a Seg",
         (&[&[Some(1)]], &[one!(None), one!(Some(0))]),
         (&[&[Some(0)]], &[seg!(None)]),
     ),
+    // a Seg stays one
     (
-        "a Seg stays one",
         (&[&[Some(0)]], &[seg!(None)]),
         (&[&[Some(0)]], &[seg!(None)]),
     ),
+    // two slots reach one list at different cells
     (
-        "two slots reach one list at different cells",
         (
             &[&[Some(0), Some(2)]],
             &[one!(Some(1)), one!(Some(2)), one!(None)],
         ),
         (&[&[Some(0), Some(1)]], &[seg!(Some(1)), one!(None)]),
     ),
+    // two lists share a tail
     (
-        "two lists share a tail",
         (
             &[&[Some(3), Some(1)]],
             &[seg!(None), one!(Some(2)), one!(Some(0)), one!(Some(0))],
@@ -62,29 +62,29 @@ const FOLDED: [(&str, Drawing, Drawing); 9] = [
             &[one!(Some(1)), seg!(None), seg!(Some(1))],
         ),
     ),
+    // a cycle begins at its slot
     (
-        "a cycle begins at its slot",
         (&[&[Some(0)]], &[one!(Some(1)), one!(Some(0))]),
         (&[&[Some(0)]], &[seg!(Some(0))]),
     ),
+    // a cycle is entered from outside
     (
-        "a cycle is entered from outside",
         (
             &[&[None, Some(2)]],
             &[one!(Some(1)), one!(Some(0)), one!(Some(1))],
         ),
         (&[&[None, Some(0)]], &[one!(Some(1)), seg!(Some(1))]),
     ),
+    // node 0 is not reached and points to node 1, which is then no anchor
     (
-        "node 0 is not reached and points to node 1, which is then no anchor",
         (
             &[&[Some(2)], &[None]],
             &[one!(Some(1)), one!(None), one!(Some(1))],
         ),
         (&[&[Some(0)], &[None]], &[seg!(None)]),
     ),
+    // the first frame's slots number first
     (
-        "the first frame's slots number first",
         (&[&[Some(1)], &[Some(0), None]], &[one!(None), seg!(None)]),
         (&[&[Some(0)], &[Some(1), None]], &[seg!(None), one!(None)]),
     ),
@@ -116,8 +116,8 @@ fn folds_to(alloc: Global, drawn: &Drawing, want: &Drawing) -> Result<bool, Fail
 
 #[test]
 fn folds(rt: HostRuntime) -> Result<(), Fail> {
-    for (case, drawn, want) in &FOLDED {
-        assert!(rt; folds_to(rt.alloc(), drawn, want)?, "{case}");
+    for (drawn, want) in &FOLDED {
+        assert!(rt; folds_to(rt.alloc(), drawn, want)?, "{drawn:?}");
     }
     Ok(())
 }
@@ -136,21 +136,32 @@ fn refuses_a_target_past_the_nodes(rt: HostRuntime) -> Result<(), Fail> {
     Ok(())
 }
 
-const NIL: Drawing = (&[&[None]], &[seg!(None)]);
+/// Slots before atoms, nil before a node, One before Seg.
+const ORDERED: [(Drawing, Drawing); 2] = [
+    (
+        (&[&[None]], &[seg!(None)]),
+        (&[&[Some(0)]], &[one!(Some(0))]),
+    ),
+    (
+        (&[&[Some(0)]], &[one!(Some(0))]),
+        (&[&[Some(0)]], &[seg!(None)]),
+    ),
+];
 
-const ONE: Drawing = (&[&[Some(0)]], &[one!(Some(0))]);
+// Whether the first graph is less than the second.
+fn is_less(alloc: Global, drawn: &Drawing, other: &Drawing) -> Result<bool, Fail> {
+    Ok(graph_of(alloc, drawn)? < graph_of(alloc, other)?)
+}
 
-const SEG: Drawing = (&[&[Some(0)]], &[seg!(None)]);
-
-// Slots before atoms, nil before a node, One before Seg.
 #[test]
 fn orders(rt: HostRuntime) -> Result<(), Fail> {
-    let a = rt.alloc();
-    let one = graph_of(a, &ONE)?;
-    assert!(rt; graph_of(a, &NIL)? < one);
-    assert!(rt; one < graph_of(a, &SEG)?);
+    for (drawn, other) in &ORDERED {
+        assert!(rt; is_less(rt.alloc(), drawn, other)?, "{drawn:?}");
+    }
     Ok(())
 }
+
+const SEG: Drawing = (&[&[Some(0)]], &[seg!(None)]);
 
 #[test]
 fn copies(rt: HostRuntime) -> Result<(), Fail> {
