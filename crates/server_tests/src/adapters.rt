@@ -5,6 +5,7 @@ use io_edge::{
     NamedFile, OutputSink, Sink, Source, SureFiles, SureSink, SureSource,
 };
 use std::alloc::Global;
+use std::process::Abort;
 use std::test::Fail;
 use std::{fs, io};
 
@@ -17,17 +18,38 @@ fn failing(alloc: Global, call: u64) -> Result<FaultPlan, Fail> {
     Ok(FaultPlan::new(vec![in alloc; call]?))
 }
 
+/// Asserts what a load gives, and how many calls failed so far.
+fn expect_load<F: Files>(
+    rt: &impl Abort,
+    alloc: Global,
+    files: &mut F,
+    load: (&str, usize),
+    wanted: Result<&[u8], LoadFault>,
+    faults: u64,
+) {
+    let (name, limit) = load;
+    match files.load(alloc, name, limit) {
+        Ok(bytes) => assert!(rt; wanted == Ok(bytes.as_slice()), "{name} {limit}: {bytes:?}"),
+        Err(fault) => assert!(rt; wanted == Err(fault), "{name} {limit}: {fault:?}"),
+    }
+    assert_eq!(rt; files.fault_count(), faults, "{name} {limit}");
+}
+
 #[test]
 fn files_in_memory(rt: HostRuntime) -> Result<(), Fail> {
     let alloc = rt.alloc();
     let mut files = MemFiles::new(named(alloc, "a", b"xyz")?, failing(alloc, 1)?);
-    assert_eq!(rt; files.load(alloc, "a", 3)?.as_slice(), b"xyz".as_slice());
-    assert_eq!(rt; files.load(alloc, "a", 3).err(), Some(LoadFault::Failed));
-    assert_eq!(rt; files.fault_count(), 1);
-    assert_eq!(rt; files.load(alloc, "a", 2).err(), Some(LoadFault::TooLong));
-    assert_eq!(rt; files.load(alloc, "b", 3).err(), Some(LoadFault::Absent));
-    let mut sure = SureFiles::new(named(alloc, "a", b"xyz")?);
-    assert_eq!(rt; sure.load(alloc, "a", 3)?.as_slice(), b"xyz".as_slice());
+    expect_load(&rt, alloc, &mut files, ("a", 3), Ok(b"xyz"), 0);
+    expect_load(&rt, alloc, &mut files, ("a", 3), Err(LoadFault::Failed), 1);
+    expect_load(&rt, alloc, &mut files, ("a", 2), Err(LoadFault::TooLong), 1);
+    expect_load(&rt, alloc, &mut files, ("b", 3), Err(LoadFault::Absent), 1);
+    Ok(())
+}
+
+#[test]
+fn sure_files_in_memory(rt: HostRuntime) -> Result<(), Fail> {
+    let mut files = SureFiles::new(named(rt.alloc(), "a", b"xyz")?);
+    expect_load(&rt, rt.alloc(), &mut files, ("a", 3), Ok(b"xyz"), 0);
     Ok(())
 }
 
@@ -36,13 +58,19 @@ fn source_in_memory(rt: HostRuntime) -> Result<(), Fail> {
     let alloc = rt.alloc();
     let mut buffer = [0u8; 4];
     let mut source = MemSource::new(b"abc".to_vec(alloc)?, 2, failing(alloc, 1)?);
-    assert_eq!(rt; source.read(&mut buffer), Ok(2));
-    assert_eq!(rt; source.read(&mut buffer), Err(Failed));
-    assert_eq!(rt; source.read(&mut buffer), Ok(1));
+    for wanted in [Ok(2), Err(Failed), Ok(1)] {
+        assert_eq!(rt; source.read(&mut buffer), wanted);
+    }
     assert_eq!(rt; buffer[0], b'c');
     assert_eq!(rt; source.read(&mut buffer), Ok(0));
-    let mut sure = SureSource::new(b"abc".to_vec(alloc)?);
-    assert_eq!(rt; sure.read(&mut buffer), Ok(3));
+    Ok(())
+}
+
+#[test]
+fn sure_source_in_memory(rt: HostRuntime) -> Result<(), Fail> {
+    let mut buffer = [0u8; 4];
+    let mut source = SureSource::new(b"abc".to_vec(rt.alloc())?);
+    assert_eq!(rt; source.read(&mut buffer), Ok(3));
     Ok(())
 }
 
@@ -50,37 +78,47 @@ fn source_in_memory(rt: HostRuntime) -> Result<(), Fail> {
 fn sink_in_memory(rt: HostRuntime) -> Result<(), Fail> {
     let alloc = rt.alloc();
     let mut sink = MemSink::new(alloc, 2, failing(alloc, 1)?);
-    assert_eq!(rt; sink.write(b"abc"), Ok(2));
-    assert_eq!(rt; sink.write(b"c"), Err(Failed));
-    assert_eq!(rt; sink.write(b"c"), Ok(1));
+    for (bytes, wanted) in [("abc", Ok(2)), ("c", Err(Failed)), ("c", Ok(1))] {
+        assert_eq!(rt; sink.write(bytes.as_bytes()), wanted);
+    }
     assert_eq!(rt; sink.bytes(), b"abc".as_slice());
-    assert_eq!(rt; SureSink.write(b"abc"), Ok(3));
     Ok(())
 }
 
 #[test]
-fn real_edge(rt: HostRuntime) -> Result<(), Fail> {
+fn sure_sink(rt: HostRuntime) {
+    assert_eq!(rt; SureSink.write(b"abc"), Ok(3));
+}
+
+#[test]
+fn real_files(rt: HostRuntime) -> Result<(), Fail> {
     let alloc = rt.alloc();
-    fs::write(&rt, "io_edge_test.txt", b"hello")?;
+    let name = "io_edge_test.txt";
+    fs::write(&rt, name, b"hello")?;
     let mut files = DiskFiles::new(&rt);
-    assert_eq!(rt;
-        files.load(alloc, "io_edge_test.txt", 5)?.as_slice(),
-        b"hello".as_slice()
+    expect_load(&rt, alloc, &mut files, (name, 5), Ok(b"hello"), 0);
+    expect_load(
+        &rt,
+        alloc,
+        &mut files,
+        (name, 4),
+        Err(LoadFault::TooLong),
+        0,
     );
-    assert_eq!(rt;
-        files.load(alloc, "io_edge_test.txt", 4).err(),
-        Some(LoadFault::TooLong)
-    );
-    fs::remove_file(&rt, "io_edge_test.txt")?;
-    assert_eq!(rt;
-        files.load(alloc, "io_edge_test.txt", 5).err(),
-        Some(LoadFault::Failed)
-    );
-    assert_eq!(rt; files.fault_count(), 1);
+    fs::remove_file(&rt, name)?;
+    expect_load(&rt, alloc, &mut files, (name, 5), Err(LoadFault::Failed), 1);
+    Ok(())
+}
+
+#[test]
+fn real_output(rt: HostRuntime) {
     let mut sink = OutputSink::new(io::writer(&rt));
     assert_eq!(rt; sink.write(b"hello\n"), Ok(6));
+}
+
+#[test]
+fn real_input(rt: HostRuntime) {
     let mut source = InputSource::new(rt.reader());
     let mut buffer = [0u8; 4];
     assert_eq!(rt; source.read(&mut buffer), Ok(0));
-    Ok(())
 }

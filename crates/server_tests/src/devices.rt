@@ -1,6 +1,6 @@
 //! Devices that move few bytes a call, devices that fail, and a file that is too long.
-use crate::table::{failing, folder, served, status, words_of};
-use io_edge::{FaultPlan, MemSink, MemSource};
+use crate::table::{Devices, SURE, ran, served};
+use std::alloc::Global;
 use std::test::Fail;
 
 const SERVE: &str = "daig serve --widening plain f";
@@ -44,6 +44,20 @@ fn first_lines(text: &[u8], count: usize) -> &[u8] {
     text
 }
 
+/// The replies to the lines that end within so many bytes.
+fn replies_within(read: usize) -> &'static [u8] {
+    first_lines(REPLIES, lines_in(&LINES[..read.min(LINES.len())]))
+}
+
+/// The source with so many spaces behind it.
+fn padded_source(alloc: Global, spaces: usize) -> Result<Vec<u8>, Fail> {
+    let mut source = SOURCE.to_vec(alloc)?;
+    for _ in 0..spaces {
+        source.push(b' ')?;
+    }
+    Ok(source)
+}
+
 /// Whatever pieces the bytes come and go in, they are the same; a last line needs no LF.
 #[test]
 fn small_pieces(rt: HostRuntime) -> Result<(), Fail> {
@@ -62,19 +76,16 @@ fn small_pieces(rt: HostRuntime) -> Result<(), Fail> {
 /// Each read of a script fails in turn: there are the replies to the lines whose LF came, and 4.
 #[test]
 fn failing_reads(rt: HostRuntime) -> Result<(), Fail> {
-    let alloc = rt.alloc();
-    let words = words_of(alloc, SERVE)?;
     for most in PIECES {
         for call in 0..=LINES.len().div_ceil(most) {
-            let read = call.saturating_mul(most).min(LINES.len());
-            let wanted = first_lines(REPLIES, lines_in(&LINES[..read]));
-            let mut files = folder(alloc, SOURCE, FaultPlan::none(alloc))?;
-            let plan = failing(alloc, &[call as u64])?;
-            let mut script = MemSource::new(LINES.to_vec(alloc)?, most, plan);
-            let mut out = MemSink::new(alloc, 100, FaultPlan::none(alloc));
-            let code = status(alloc, words.as_slice(), &mut files, &mut script, &mut out);
-            assert_eq!(rt; code, 4, "{most} {call}");
-            assert_eq!(rt; out.bytes(), wanted, "{most} {call}");
+            let devices = Devices {
+                most_read: most,
+                failing_reads: &[call as u64],
+                ..SURE
+            };
+            let (code, bytes) = ran(rt.alloc(), SERVE, SOURCE, LINES, &devices)?;
+            let wanted = replies_within(call.saturating_mul(most));
+            assert_eq!(rt; (code, bytes.as_slice()), (4, wanted), "{most} {call}");
         }
     }
     Ok(())
@@ -83,16 +94,16 @@ fn failing_reads(rt: HostRuntime) -> Result<(), Fail> {
 /// Each write of a sink fails in turn: a prefix went out, and 5 comes.
 #[test]
 fn failing_writes(rt: HostRuntime) -> Result<(), Fail> {
-    let alloc = rt.alloc();
-    let words = words_of(alloc, SERVE)?;
     for most in PIECES {
         for call in 0..REPLIES.len().div_ceil(most) {
-            let mut files = folder(alloc, SOURCE, FaultPlan::none(alloc))?;
-            let mut script = MemSource::new(LINES.to_vec(alloc)?, 100, FaultPlan::none(alloc));
-            let mut out = MemSink::new(alloc, most, failing(alloc, &[call as u64])?);
-            let code = status(alloc, words.as_slice(), &mut files, &mut script, &mut out);
+            let devices = Devices {
+                most_written: most,
+                failing_writes: &[call as u64],
+                ..SURE
+            };
+            let (code, bytes) = ran(rt.alloc(), SERVE, SOURCE, LINES, &devices)?;
             assert_eq!(rt; code, 5, "{most} {call}");
-            assert!(rt; REPLIES.starts_with(out.bytes()), "{most} {call}");
+            assert!(rt; REPLIES.starts_with(bytes.as_slice()), "{most} {call}");
         }
     }
     Ok(())
@@ -101,21 +112,16 @@ fn failing_writes(rt: HostRuntime) -> Result<(), Fail> {
 /// A file that cannot be loaded, one of the most bytes, and one of a byte more.
 #[test]
 fn files(rt: HostRuntime) -> Result<(), Fail> {
-    let alloc = rt.alloc();
-    let words = words_of(alloc, SERVE)?;
     let room: usize = 1_048_576;
     let pad = room.saturating_sub(SOURCE.len());
-    for (pad, calls, code) in [(0, 0, 7), (pad, 1, 0), (pad.saturating_add(1), 1, 9)] {
-        let mut source = SOURCE.to_vec(alloc)?;
-        for _ in 0..pad {
-            source.push(b' ')?;
-        }
-        let mut files = folder(alloc, source.as_slice(), failing(alloc, &[calls])?)?;
-        let mut script = MemSource::new(Vec::new(alloc), 1, FaultPlan::none(alloc));
-        let mut out = MemSink::new(alloc, 1, FaultPlan::none(alloc));
-        let given = status(alloc, words.as_slice(), &mut files, &mut script, &mut out);
-        assert_eq!(rt; given, code);
-        assert_eq!(rt; out.bytes(), b"".as_slice());
+    for (pad, call, wanted) in [(0, 0, 7), (pad, 1, 0), (pad.saturating_add(1), 1, 9)] {
+        let source = padded_source(rt.alloc(), pad)?;
+        let devices = Devices {
+            failing_loads: &[call],
+            ..SURE
+        };
+        let (code, bytes) = ran(rt.alloc(), SERVE, source.as_slice(), b"", &devices)?;
+        assert_eq!(rt; (code, bytes.len()), (wanted, 0), "{pad}");
     }
     Ok(())
 }
@@ -123,16 +129,15 @@ fn files(rt: HostRuntime) -> Result<(), Fail> {
 /// Each load fails in turn where a certificate is checked; then none: the source is no certificate.
 #[test]
 fn certificates(rt: HostRuntime) -> Result<(), Fail> {
-    let alloc = rt.alloc();
-    let words = words_of(alloc, "daig verify f f")?;
     let line = b"{\"line\":1,\"verify\":\"no\"}\n".as_slice();
-    for (call, code, wanted) in [(0, 7, b"".as_slice()), (1, 7, b"".as_slice()), (2, 0, line)] {
-        let mut files = folder(alloc, SOURCE, failing(alloc, &[call])?)?;
-        let mut script = MemSource::new(Vec::new(alloc), 1, FaultPlan::none(alloc));
-        let mut out = MemSink::new(alloc, 1, FaultPlan::none(alloc));
-        let given = status(alloc, words.as_slice(), &mut files, &mut script, &mut out);
-        assert_eq!(rt; given, code, "{call}");
-        assert_eq!(rt; out.bytes(), wanted, "{call}");
+    for (call, wanted, told) in [(0, 7, b"".as_slice()), (1, 7, b"".as_slice()), (2, 0, line)] {
+        let devices = Devices {
+            failing_loads: &[call],
+            ..SURE
+        };
+        let (code, bytes) = ran(rt.alloc(), "daig verify f f", SOURCE, b"", &devices)?;
+        assert_eq!(rt; code, wanted, "{call}");
+        assert_eq!(rt; bytes.as_slice(), told, "{call}");
     }
     Ok(())
 }

@@ -18,15 +18,56 @@ pub(crate) fn words_of(alloc: Global, line: &str) -> Result<Vec<String>, Fail> {
     Ok(words)
 }
 
-/// A folder with the one file `f`.
-pub(crate) fn folder(alloc: Global, source: &[u8], plan: FaultPlan) -> Result<MemFiles, Fail> {
-    let file = NamedFile::new(String::from_str(alloc, "f")?, source.to_vec(alloc)?);
-    Ok(MemFiles::new(vec![in alloc; file]?, plan))
+/// How many bytes devices in memory move a call, and which of their calls fail.
+#[derive(Clone, Copy)]
+pub(crate) struct Devices<'a> {
+    pub(crate) most_read: usize,
+    pub(crate) most_written: usize,
+    pub(crate) failing_loads: &'a [u64],
+    pub(crate) failing_reads: &'a [u64],
+    pub(crate) failing_writes: &'a [u64],
 }
 
+/// Devices that do not fail.
+pub(crate) const SURE: Devices<'static> = Devices {
+    most_read: 100,
+    most_written: 100,
+    failing_loads: &[],
+    failing_reads: &[],
+    failing_writes: &[],
+};
+
 /// The calls of these numbers fail.
-pub(crate) fn failing(alloc: Global, calls: &[u64]) -> Result<FaultPlan, Fail> {
+fn failing(alloc: Global, calls: &[u64]) -> Result<FaultPlan, Fail> {
     Ok(FaultPlan::new(calls.to_vec(alloc)?))
+}
+
+/// The one file `f`.
+fn named(alloc: Global, source: &[u8]) -> Result<Vec<NamedFile>, Fail> {
+    let file = NamedFile::new(String::from_str(alloc, "f")?, source.to_vec(alloc)?);
+    Ok(vec![in alloc; file]?)
+}
+
+/// A folder with the one file `f`.
+fn folder(alloc: Global, source: &[u8], devices: &Devices<'_>) -> Result<MemFiles, Fail> {
+    let loads = failing(alloc, devices.failing_loads)?;
+    Ok(MemFiles::new(named(alloc, source)?, loads))
+}
+
+/// The source of a script.
+fn source_of(alloc: Global, script: &[u8], devices: &Devices<'_>) -> Result<MemSource, Fail>
+    requires some { 0 < devices.now.most_read }
+{
+    let reads = failing(alloc, devices.failing_reads)?;
+    Ok(MemSource::new(script.to_vec(alloc)?, devices.most_read, reads))
+}
+
+/// An empty sink.
+fn sink(alloc: Global, devices: &Devices<'_>) -> Result<MemSink, Fail>
+    requires some { 0 < devices.now.most_written }
+{
+    let writes = failing(alloc, devices.failing_writes)?;
+    Ok(MemSink::new(alloc, devices.most_written, writes))
 }
 
 /// The status of a run that counts nothing.
@@ -47,7 +88,7 @@ fn counted<F: Files, I: Source, O: Sink, L: Ledger>(
 }
 
 /// The status of a run.
-pub(crate) fn status<F: Files, I: Source, O: Sink>(
+fn status<F: Files, I: Source, O: Sink>(
     alloc: Global,
     words: &[String],
     files: &mut F,
@@ -55,6 +96,25 @@ pub(crate) fn status<F: Files, I: Source, O: Sink>(
     out: &mut O,
 ) -> u8 {
     counted::<F, I, O, Brand>(alloc, words, files, script, out, Blank::new(1))
+}
+
+/// The status and the bytes of a run with such devices.
+pub(crate) fn ran(
+    alloc: Global,
+    words: &str,
+    source: &[u8],
+    script: &[u8],
+    devices: &Devices<'_>,
+) -> Result<(u8, Vec<u8>), Fail>
+    requires reads { 0 < devices.now.most_read }
+    requires writes { 0 < devices.now.most_written }
+{
+    let words = words_of(alloc, words)?;
+    let mut files = folder(alloc, source, devices)?;
+    let mut script = source_of(alloc, script, devices)?;
+    let mut out = sink(alloc, devices)?;
+    let status = status(alloc, words.as_slice(), &mut files, &mut script, &mut out);
+    Ok((status, out.bytes().to_vec(alloc)?))
 }
 
 /// The status and the bytes of a run whose script and sink move at most `most` bytes a call.
@@ -67,12 +127,12 @@ pub(crate) fn served(
 ) -> Result<(u8, Vec<u8>), Fail>
     requires some { 0 < most }
 {
-    let words = words_of(alloc, words)?;
-    let mut files = folder(alloc, source, FaultPlan::none(alloc))?;
-    let mut script = MemSource::new(script.to_vec(alloc)?, most, FaultPlan::none(alloc));
-    let mut out = MemSink::new(alloc, most, FaultPlan::none(alloc));
-    let status = status(alloc, words.as_slice(), &mut files, &mut script, &mut out);
-    Ok((status, out.bytes().to_vec(alloc)?))
+    let devices = Devices {
+        most_read: most,
+        most_written: most,
+        ..SURE
+    };
+    ran(alloc, words, source, script, &devices)
 }
 
 /// The line with spaces up to this length, LF, and the line once more.
