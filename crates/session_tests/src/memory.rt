@@ -1,9 +1,11 @@
 //! What stands after want of memory.
 ghost use Rattle.std.specs.Prelude.{◌≡◌, ◌<◌};
+ghost use Rattle.daig_session.specs.Holds.{IsReady};
 
 use crate::failing::Failing;
 use crate::scripts::{Line, Setup, play, started, told};
-use domain_laws::Steps;
+use daig_session::Session;
+use domain_laws::{Domain, Steps};
 use std::alloc::Global;
 use std::marker::Brand;
 use std::process::Abort;
@@ -18,8 +20,24 @@ const PLAIN: Setup<'static> = Setup {
     memo: 1024,
 };
 
-/// A query whose operation of this number fails, with its cost; and the same query again, with its cost and the cells that
-/// the first one kept.
+/// A query with its cost; and the same query again, with its cost and the cells that the first one kept.
+fn queried_twice<D: Domain, L: Ledger>(
+    alloc: Global,
+    session: &mut Session<D>,
+    steps: &mut Steps<L>,
+) -> Result<String, Fail>
+    requires ready { IsReady (D.operations session.old.engine.domain) session.old.engine.store session.old.book }
+{
+    let query = Line::After(3);
+    let first = play(alloc, session, query, steps)?;
+    let none = session.cost();
+    let kept = session.kept_count() as u64;
+    let again = play(alloc, session, query, steps)?;
+    let all = session.cost().saturating_add(kept);
+    Ok(format!(in alloc; "{first} {none}; {again} {all}")?)
+}
+
+/// What two queries tell of a session whose operation of this number fails.
 fn counted<L: Ledger>(alloc: Global, blank: Blank, number: u32) -> Result<String, Fail>
     requires name { blank.name ≡ L.name }
     requires parts { blank.parts ≡ L.parts }
@@ -27,13 +45,7 @@ fn counted<L: Ledger>(alloc: Global, blank: Blank, number: u32) -> Result<String
 {
     let mut steps = Steps::<L>::new(blank);
     let mut session = started(alloc, Failing::at(number), PLAIN)?;
-    let query = Line::After(3);
-    let first = play(alloc, &mut session, query, &mut steps)?;
-    let none = session.cost();
-    let kept = session.kept_count() as u64;
-    let again = play(alloc, &mut session, query, &mut steps)?;
-    let all = session.cost().saturating_add(kept);
-    Ok(format!(in alloc; "{first} {none}; {again} {all}")?)
+    queried_twice(alloc, &mut session, &mut steps)
 }
 
 fn asked_again(alloc: Global, number: u32) -> Result<String, Fail> {
@@ -44,7 +56,11 @@ fn asked_again(alloc: Global, number: u32) -> Result<String, Fail> {
 fn query_fills_the_rest(rt: HostRuntime) -> Result<(), Fail> {
     for number in 1..12 {
         let found = asked_again(rt.alloc(), number)?;
-        assert_eq!(rt; found.as_str(), "Memory 0; i=[10,max] n=[10,10] 11");
+        assert_eq!(rt;
+            found.as_str(),
+            "Memory 0; i=[10,max] n=[10,10] 11",
+            "{number}"
+        );
     }
     let found = asked_again(rt.alloc(), 13)?;
     assert_eq!(rt;
@@ -59,7 +75,11 @@ fn ticket_stays_open(rt: HostRuntime) -> Result<(), Fail> {
     let script = [Line::Ask(3), Line::Step(1, 100), Line::Step(1, 100)];
     for number in 1..12 {
         let found = told(rt.alloc(), Failing::at(number), PLAIN, &script)?;
-        assert_eq!(rt; found.as_str(), "ticket 1; Memory; i=[10,max] n=[10,10]; ");
+        assert_eq!(rt;
+            found.as_str(),
+            "ticket 1; Memory; i=[10,max] n=[10,10]; ",
+            "{number}"
+        );
     }
     Ok(())
 }
