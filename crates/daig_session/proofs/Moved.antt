@@ -1,5 +1,5 @@
 -- Moves to other programs.
-use Rattle.std.proofs.Common.{◌≡◌, ℕ, ◌<◌, ◌≤◌, Bool, true, false, List, [], ◌∷◌, map, take, filter, length, inl, inr, refl, sym, ap, subst, ◌∙◌, arith}
+use Rattle.std.proofs.Common.{◌≡◌, ℕ, ◌<◌, ◌≤◌, Bool, true, false, Err, List, [], ◌∷◌, map, take, filter, length, inl, inr, refl, sym, ap, subst, ◌∙◌, arith}
 use Rattle.imp_syntax.specs.Plain.{Procedure}
 use Rattle.imp_syntax.specs.declared.edit.Edit.{Edit}
 use Rattle.imp_check.specs.Fine.{IsFine}
@@ -41,6 +41,9 @@ use Rattle.daig_session.specs.Books.{flow_in, machine_of, AreBelow, AreBehind, A
 use Rattle.daig_session.specs.Going.{AreWaiting}
 use Rattle.daig_session.specs.Holds.{Holds, IsReady}
 use Rattle.daig_session.specs.Moves.{Empties, IsMoving, IsMovingTo, IsPlanned, Leaves}
+use Rattle.daig_session.specs.Turns.{Goes, IsStopped}
+use Rattle.daig_session.specs.declared.error.UndoError.{UndoError}
+use Rattle.daig_session.specs.declared.error.UndoError.TheVariants as undo_error
 use Rattle.daig_session.proofs.Ordered.{below_more, behind_more, behind_take, turned_order}
 use Rattle.daig_session.proofs.TicketLemmas.{tickets_anew}
 use Rattle.daig_session.proofs.Waiting.{waiting_anew}
@@ -218,3 +221,8 @@ moving_order store e old (p ∷ ps) m h = h.empties.removes.order
 -- a move to the first of some programs
 pub first_move : {S : Type 0} (store : Store S) (e : Engine) (old p : List Procedure) (ps side : List (List Procedure)) (m : Moving) → p ∷ ps ≡ side → IsMovingTo store e old side m → IsMoving store e old p m
 first_move store e old p ps side m is h = subst (λ z. IsMovingTo store e old z m) (sym is) h
+
+-- Where there is no move, the machine stands as it did.
+pub stopped_goes : (m : Machine) (stands : Machine → Type 0) (side : List (List Procedure)) (there : Machine) (e : UndoError) → IsStopped side e → stands m → Goes m stands side there (Err e)
+stopped_goes m stands side there undo_error.Nothing w s = (w, s)
+stopped_goes m stands side there undo_error.Memory w s = s

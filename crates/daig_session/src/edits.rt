@@ -78,9 +78,10 @@ impl<D: Domain> Session<D> {
     /// next one on, in the order of the text. Nothing is changed until [`Prepared::commit`]; where it is dropped, nothing
     /// is changed at all.
     ///
-    /// It takes the time of [`apply`], which for simple statements and conditions does not grow with the program, and time
-    /// in proportion to the cells of the statements that the edit changes, to the cells that it empties with their inputs,
-    /// and to the different numbers of the procedure; where a number comes or goes and is a threshold, to the procedure.
+    /// It takes the time of [`apply`], which for conditions and for statements without calls does not grow with the program,
+    /// and time in proportion to the cells of the statements that the edit changes, to the cells that it empties with their
+    /// inputs, where other numbers come than go to the different numbers of the procedure, and where a loop comes or goes, or
+    /// a number that is a threshold, to the loops of the procedure.
     ///
     /// # Errors
     ///

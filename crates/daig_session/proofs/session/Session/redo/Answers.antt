@@ -1,8 +1,9 @@
-use Rattle.std.proofs.Common.{◌<◌, length, sym, ap, subst, ◌∙◌}
+use Rattle.std.proofs.Common.{◌≡◌, ◌<◌, length, Err, rules, sym, ap, subst, ◌∙◌}
 use Rattle.session_machine.specs.Machine.{Machine}
 use Rattle.session_machine.specs.Turns.{redone}
 use Rattle.daig_session.specs.Holds.{Holds, IsReady}
-use Rattle.daig_session.proofs.Moved.{first_move, moving_order, moving_some, redo_apart, redo_holds, redo_ready}
+use Rattle.daig_session.specs.Turns.{Goes, IsStopped}
+use Rattle.daig_session.proofs.Moved.{first_move, moving_order, moving_some, stopped_goes, redo_apart, redo_holds, redo_ready}
 use Rattle.daig_session.proofs.session.Session.redo.Goals as goal
 
 pub nearest_move-requires-clause-leads : goal.nearest_move-requires-clause-leads
@@ -40,3 +41,21 @@ returns-clause-goes g c = λ m h.
       turned.next_is ∙ ap (λ (z : Machine). z.next) h.is,
       subst (λ d. Holds (ops d) c.leave.new.engine.store after (redone (ops s.engine.domain) m)) (sym c.leave.ensures.domain) (redo_holds (ops s.engine.domain) s.engine.store c.leave.new.engine.store s.book after c.requires.ready c.forth.ensures.future turned left m h),
     )
+
+pub returns-clause-next_ticket : goal.returns-clause-next_ticket
+returns-clause-next_ticket g c =
+    let s = c.args.self.now in
+    let after = c.forth.new.self in
+    let move = first_move s.engine.store s.book.setting.engine s.book.history.now after.history.now after.history.future s.book.history.future c.in_ok-setting.field-0 c.forth.ensures.future (c.in_ok-setting.ensures.moving s.book.history.future c.ahead.ensures.is) in
+    let turned = c.forth.ensures.turned move.set in
+    turned.next_ticket
+
+pub returns-in_err-setting-clause-goes : goal.returns-in_err-setting-clause-goes
+returns-in_err-setting-clause-goes g c = λ m h.
+    let s = c.args.self.now in
+    let ops = g.D.Domain.operations in
+    let stands = Holds (ops s.engine.domain) s.engine.store s.book in
+    let r = c.in_err-setting.field-0.0 in
+    let e : c.from_residual.result ≡ Err r = search rules in
+    let stopped = subst (λ (z : Machine). IsStopped z.future r) h.is (c.in_err-setting.ensures.stopped s.book.history.future c.ahead.ensures.is) in
+    subst (Goes m stands m.future (redone (ops s.engine.domain) m)) (sym e) (stopped_goes m stands m.future (redone (ops s.engine.domain) m) r stopped h)
