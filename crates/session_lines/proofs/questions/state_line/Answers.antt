@@ -21,8 +21,8 @@ returns-in-Ok-clause-turn g c = λ m h.
     (subst (λ (d : g.row.D.Denot). Writes c.value_line.result (λ v. v.items) (answer_reply (g.D.Domain.operations d) (layout_at (routines_of m.program) at) a)) c.query.ensures.domain
     (c.value_line.ensures.line (asked dom at c.args.query.now.string m) a is.1 is.0))
 
-pub returns-in-Err-clause-turn : goal.returns-in-Err-clause-turn
-returns-in-Err-clause-turn g c = λ m h.
+pub returns-clause-turn : goal.returns-clause-turn
+returns-clause-turn g c = λ m h.
     let dom = g.D.Domain.operations c.args.session.now.engine.domain in
     let query = c.args.query.now in
     let stands = Holds (g.D.Domain.operations c.query.new.self.engine.domain) c.query.new.self.engine.store c.query.new.self.book in
@@ -30,8 +30,8 @@ returns-in-Err-clause-turn g c = λ m h.
     let fails : Fails dom m stands query.at query.string c.in-Err.error = subst (λ (s : List ℕ). Fails dom m stands query.at s c.in-Err.error) string (c.in-Err.ensures.answers m h) in
     unanswered_follows dom m stands query (state_turn dom query m) (λ why is. ap (λ a. state_by dom query a m) is) c.unanswered_line.result (λ v. v.items) c.in-Err.error fails c.unanswered_line.ensures.tells
 
-pub returns-in-Err-clause-between : goal.returns-in-Err-clause-between
-returns-in-Err-clause-between g c = λ m h.
+pub returns-clause-between : goal.returns-clause-between
+returns-clause-between g c = λ m h.
     let dom = g.D.Domain.operations c.args.session.now.engine.domain in
     let query = c.args.query.now in
     let stands = Holds (g.D.Domain.operations c.query.new.self.engine.domain) c.query.new.self.engine.store c.query.new.self.book in

@@ -26,8 +26,8 @@ returns-in-Ok-clause-between g c = λ m h.
     let is : Explains dom m stands at c.args.query.now.string (Ok c.in-Ok.stmts) = subst (λ (s : List ℕ). Explains dom m stands at s (Ok c.in-Ok.stmts)) string (c.in-Ok.ensures.explains m h) in
     halted_after c.line_of.result (missing_at dom at c.args.query.now.string m) (why_turn dom c.args.query.now m) m stands (r.Why c.in-Ok.stmts) (why_answered dom m stands c.args.query.now c.in-Ok.stmts is)
 
-pub returns-in-Err-clause-turn : goal.returns-in-Err-clause-turn
-returns-in-Err-clause-turn g c = λ m h.
+pub returns-clause-turn : goal.returns-clause-turn
+returns-clause-turn g c = λ m h.
     let dom = g.D.Domain.operations c.args.session.now.engine.domain in
     let query = c.args.query.now in
     let stands = Holds (g.D.Domain.operations c.why.new.self.engine.domain) c.why.new.self.engine.store c.why.new.self.book in
@@ -35,8 +35,8 @@ returns-in-Err-clause-turn g c = λ m h.
     let fails : Fails dom m stands query.at query.string c.in-Err.error = subst (λ (s : List ℕ). Fails dom m stands query.at s c.in-Err.error) string (c.in-Err.ensures.explains m h) in
     unanswered_follows dom m stands query (why_turn dom query m) (λ why is. ap (λ a. why_by dom query a m) is) c.unanswered_line.result (λ v. v.items) c.in-Err.error fails c.unanswered_line.ensures.tells
 
-pub returns-in-Err-clause-between : goal.returns-in-Err-clause-between
-returns-in-Err-clause-between g c = λ m h.
+pub returns-clause-between : goal.returns-clause-between
+returns-clause-between g c = λ m h.
     let dom = g.D.Domain.operations c.args.session.now.engine.domain in
     let query = c.args.query.now in
     let stands = Holds (g.D.Domain.operations c.why.new.self.engine.domain) c.why.new.self.engine.store c.why.new.self.book in
