@@ -1,14 +1,11 @@
 //! The ranges of expressions.
 ghost use Rattle.std.specs.Prelude.{◌≡◌, ◌<◌, ◌^◌, pos, false};
-ghost use Rattle.interval_meaning.specs.Ranges.{slot_at, range_at, range_of, operation, extremes};
+ghost use Rattle.interval_meaning.specs.Ranges.{slot_at, range_at, range_of, extremes};
 
 use crate::SlotRange;
 use imp_slots::{SlotExpr, SlotExprNode};
-use imp_syntax::Operator;
 use num_bounds::Range;
-
-/// The greatest length of an array.
-pub const LONGEST: i64 = 1_000_000;
+use numeric_slots::{LONGEST, operate};
 
 /// The full range.
 pub fn full() -> Range
@@ -58,20 +55,8 @@ fn literal(n: u64) -> Range
     Range::from_ends(n, n)
 }
 
-fn operate(operator: Operator, a: Range, b: Range) -> Option<Range>
-    ensures exact { result ≡ operation operator a b }
-{
-    match operator {
-        Operator::Add => a.add(b),
-        Operator::Subtract => a.sub(b),
-        Operator::Multiply => a.mul(b),
-        Operator::Divide => a.quot(b),
-        Operator::Remainder => a.rem(b),
-    }
-}
-
 /// The range of an expression, or `None` where it has no value.
-#[tactic(auto, unfolding(interval_meaning::specs::Ranges::range_of))]
+#[tactic(auto, unfolding(numeric_slots::specs::Ranges::range_by))]
 pub fn evaluate(slots: &[SlotRange], expr: &SlotExpr) -> Option<Range>
     ensures exact { result ≡ range_of slots.now expr.now }
 {

@@ -11,7 +11,7 @@ ghost use Rattle.interval_meaning.specs.Ranges as ranges;
 ghost use Rattle.interval_meaning.specs.Operations as operations;
 
 use crate::compare::{empty, related, side, with_range, within};
-use crate::evaluate::{LONGEST, evaluate, full, range};
+use crate::evaluate::{evaluate, full, range};
 use crate::guards::{assumed, copied};
 use crate::state::Kept;
 use crate::{IntervalState, SlotRange};
@@ -19,10 +19,11 @@ use domain_laws::Verdict;
 use imp_slots::{SlotAction, SlotExpr, SlotStmt};
 use imp_syntax::Relation;
 use num_bounds::Range;
+use numeric_slots::LONGEST;
 use std::alloc::{AllocError, Global};
 
 /// `0 <= e`
-#[tactic(auto, unfolding(interval_meaning::specs::Ranges::range_of))]
+#[tactic(auto, unfolding(numeric_slots::specs::Ranges::range_by))]
 fn not_below_zero(e: &SlotExpr, slots: Vec<SlotRange>) -> IntervalState
     ensures exact { result ≡ operations.compare_ranges relations.AtMost (Literal 0) e.now slots.items }
 {
@@ -40,7 +41,7 @@ fn not_below_zero(e: &SlotExpr, slots: Vec<SlotRange>) -> IntervalState
 }
 
 /// `e < len a`
-#[tactic(auto, unfolding(interval_meaning::specs::Ranges::range_of))]
+#[tactic(auto, unfolding(numeric_slots::specs::Ranges::range_by))]
 fn below_length(a: u32, e: &SlotExpr, slots: Vec<SlotRange>) -> IntervalState
     ensures exact { result ≡ operations.compare_ranges relations.Less e.now (Length a) slots.items }
 {

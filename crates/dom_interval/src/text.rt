@@ -1,60 +1,13 @@
 //! The text of a state.
-ghost use Rattle.std.specs.Prelude.{◌≡◌, ◌++◌, IfOk, OnOk};
+ghost use Rattle.std.specs.Prelude.{◌≡◌, IfOk};
 ghost use Rattle.interval_meaning.specs.Text as texts;
 
 use crate::state::Kept;
 use crate::{IntervalState, SlotRange};
 use imp_slots::{Layout, NumericSlot};
-use itoa::Buffer;
+use numeric_slots::{put_range, put_space};
 use plain_values::{Memory, Text};
 use std::alloc::Global;
-
-fn put_space(text: &mut Text, slot: usize) -> Result<(), Memory>
-    ensures value { OnOk result (text.new ≡ text.old ++ texts.space_at slot) }
-{
-    if slot > 0 {
-        text.push(b' ')?;
-    }
-    Ok(())
-}
-
-#[tactic(auto, unfolding(interval_meaning::specs::Text::end_text))]
-fn put_end(text: &mut Text, end: i64) -> Result<(), Memory>
-    ensures value { OnOk result (text.new ≡ text.old ++ texts.end_text end) }
-{
-    if end == i64::MAX {
-        return text.append(b"max");
-    }
-    if end == i64::MIN {
-        return text.append(b"min");
-    }
-    let mut buffer = Buffer::new();
-    text.append(buffer.format(end).as_bytes())
-}
-
-fn put_array_mark(text: &mut Text, is_array: bool) -> Result<(), Memory>
-    ensures value { OnOk result (text.new ≡ text.old ++ texts.array_mark is_array) }
-{
-    if is_array {
-        text.push(b'#')?;
-    }
-    Ok(())
-}
-
-/// `x=[lo,hi]`
-#[tactic(auto, unfolding(interval_meaning::specs::Text::slot_text), using(crate::proofs::Written::slot_joined))]
-fn put_slot(text: &mut Text, number: &NumericSlot, slot: SlotRange) -> Result<(), Memory>
-    ensures value { OnOk result (text.new ≡ text.old ++ texts.slot_text number.now slot) }
-{
-    put_array_mark(text, number.is_array())?;
-    text.append(number.name().as_slice())?;
-    text.append(b"=[")?;
-    put_end(text, slot.range.lo())?;
-    text.append(b",")?;
-    put_end(text, slot.range.hi())?;
-    text.append(b"]")?;
-    Ok(())
-}
 
 /// The slots, with one space between; `any` where there are none.
 fn slots_text(alloc: Global, numbers: &[NumericSlot], slots: &[SlotRange]) -> Result<Text, Memory>
@@ -69,7 +22,7 @@ fn slots_text(alloc: Global, numbers: &[NumericSlot], slots: &[SlotRange]) -> Re
             break;
         }
         put_space(&mut text, slot)?;
-        put_slot(&mut text, number, slots[slot])?;
+        put_range(&mut text, number, slots[slot].range)?;
     }
     Ok(text)
 }

@@ -22,7 +22,7 @@ use num_bounds::Range;
 use std::alloc::{AllocError, Global};
 
 /// `0 > e`
-#[tactic(auto, unfolding(interval_meaning::specs::Ranges::range_of))]
+#[tactic(auto, unfolding(numeric_slots::specs::Ranges::range_by))]
 fn below_zero(e: &SlotExpr, slots: Vec<SlotRange>) -> IntervalState
     ensures exact { result ≡ operations.compare_ranges relations.Greater (Literal 0) e.now slots.items }
 {
@@ -40,7 +40,7 @@ fn below_zero(e: &SlotExpr, slots: Vec<SlotRange>) -> IntervalState
 }
 
 /// `e >= len a`
-#[tactic(auto, unfolding(interval_meaning::specs::Ranges::range_of))]
+#[tactic(auto, unfolding(numeric_slots::specs::Ranges::range_by))]
 fn past_length(a: u32, e: &SlotExpr, slots: Vec<SlotRange>) -> IntervalState
     ensures exact { result ≡ operations.compare_ranges relations.AtLeast e.now (Length a) slots.items }
 {

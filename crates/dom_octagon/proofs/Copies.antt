@@ -1,32 +1,16 @@
 -- The slots of a frame that is entered: those that are copied keep the triangle law of the caller's matrix.
-use Rattle.std.specs.Prelude.{◌≡◌, ℕ, ◌<◌, ◌≤◌, ◌+◌, ◌*◌, ◌/◌, ◌%◌, eqb, ℤ, pos, neg_ℤ, ◌+ℤ◌, ◌-ℤ◌, ◌≤ℤ◌, Option, Some, None, Bool, true, false, if◌then◌else◌, List, [], ◌∷◌, length, slice_get, ◌⊎◌, refl}
-use Rattle.std.proofs.Common.{arith, suc, zero, ap, sym, ◌∙◌, subst, inl, inr}
+use Rattle.std.specs.Prelude.{◌≡◌, ℕ, ◌+◌, ◌*◌, ◌/◌, ◌%◌, ℤ, pos, Option, Some, None, List, slice_get, refl}
+use Rattle.std.proofs.Common.{arith, ap, sym, ◌∙◌, subst, inl, inr}
 use Rattle.std.proofs.lemmas.Bool.{cases_eq, cases_lt, eq-eqb, ne_eqb}
 use Rattle.std.proofs.lemmas.Int.{ints}
 use Rattle.dbm_core.proofs.HalfLemmas.{entry-outside}
-use Rattle.dbm_core.proofs.TableLemmas.{tables-have_entries}
-use Rattle.dbm_core.proofs.WeightLemmas.{AtMost-trans, add_weight-mono}
-use Rattle.dbm_core.specs.Half.{HalfMatrix, HasEntries, IsMatrix, entry, nodes}
-use Rattle.dbm_core.specs.Limits.{HasZeroDiagonal}
-use Rattle.dbm_core.specs.Nodes.{flip}
-use Rattle.dbm_core.specs.Operations.{lowered}
-use Rattle.dbm_core.specs.Tables.{matrix_of}
+use Rattle.dbm_core.specs.Half.{HalfMatrix, IsMatrix, entry, nodes}
 use Rattle.dbm_core.specs.Weights.{AtMost, add_weight}
-use Rattle.dbm_incremental.proofs.BlockLemmas.{single-triangles}
 use Rattle.dbm_incremental.proofs.KeepLemmas.{closed-diagonal}
-use Rattle.dbm_incremental.proofs.MoveLemmas.{blocks-triangular}
 use Rattle.dbm_incremental.specs.ClosedMatrices.{IsClosed, IsWhole}
-use Rattle.num_bounds.specs.Bounds.{Bounds}
-use Rattle.octagon_meaning.proofs.Calls.{entered-coherent}
-use Rattle.octagon_meaning.proofs.Exact.{range-outside}
 use Rattle.octagon_meaning.specs.declared.source.Source.{Source}
 use Rattle.octagon_meaning.specs.declared.source.Source.TheVariants.{FromSlot, InRange}
-use Rattle.octagon_meaning.specs.Matrices.{is_beyond, meets_end, meets_range, with_greatest}
-use Rattle.octagon_meaning.specs.Operations.{copied, entered, meet_sources}
-use Rattle.dom_octagon.proofs.Bounds.{bound-entries}
-use Rattle.dom_octagon.proofs.Triangles.{entries-obey, even-node, odd-node, single-least, single-miss, twice}
-use Rattle.dom_octagon.specs.Limits.{ObeysTriangles}
-use Rattle.dom_octagon.specs.Lists.{AreOrdered}
+use Rattle.octagon_meaning.specs.Operations.{copied, entered}
 
 -- ---- the sources of slots
 

@@ -1,20 +1,18 @@
 -- A frame that is entered obeys the triangle law where the caller's matrix does: the slots that are copied keep it, those of no
 -- source are 0, and each that has a range stands alone.
-use Rattle.std.specs.Prelude.{◌≡◌, ℕ, ◌<◌, ◌≤◌, ◌+◌, ◌*◌, ◌/◌, ◌%◌, eqb, ℤ, pos, neg_ℤ, ◌+ℤ◌, ◌-ℤ◌, ◌≤ℤ◌, Option, Some, None, Bool, true, false, if◌then◌else◌, List, [], ◌∷◌, length, slice_get, ◌⊎◌, refl}
+use Rattle.std.specs.Prelude.{◌≡◌, ℕ, ◌<◌, ◌≤◌, ◌+◌, ◌*◌, ◌/◌, ℤ, pos, neg_ℤ, ◌+ℤ◌, ◌≤ℤ◌, Option, Some, None, Bool, true, false, if◌then◌else◌, List, [], ◌∷◌, length, slice_get, refl}
 use Rattle.std.proofs.Common.{arith, suc, zero, ap, sym, ◌∙◌, subst, inl, inr}
-use Rattle.std.proofs.lemmas.Bool.{cases_eq, cases_lt, eq-eqb, ne_eqb}
+use Rattle.std.proofs.lemmas.Bool.{cases_eq, cases_lt}
 use Rattle.std.proofs.lemmas.Int.{ints}
-use Rattle.dbm_core.proofs.HalfLemmas.{entry-outside}
 use Rattle.dbm_core.proofs.TableLemmas.{tables-have_entries}
 use Rattle.dbm_core.proofs.WeightLemmas.{AtMost-trans, add_weight-mono}
-use Rattle.dbm_core.specs.Half.{HalfMatrix, HasEntries, IsMatrix, entry, nodes}
+use Rattle.dbm_core.specs.Half.{HalfMatrix, HasEntries, IsMatrix, entry}
 use Rattle.dbm_core.specs.Limits.{HasZeroDiagonal}
 use Rattle.dbm_core.specs.Nodes.{flip}
 use Rattle.dbm_core.specs.Operations.{lowered}
 use Rattle.dbm_core.specs.Tables.{matrix_of}
 use Rattle.dbm_core.specs.Weights.{AtMost, add_weight}
 use Rattle.dbm_incremental.proofs.BlockLemmas.{single-triangles}
-use Rattle.dbm_incremental.proofs.KeepLemmas.{closed-diagonal}
 use Rattle.dbm_incremental.proofs.MoveLemmas.{blocks-triangular}
 use Rattle.dbm_incremental.specs.ClosedMatrices.{IsClosed, IsWhole}
 use Rattle.num_bounds.specs.Bounds.{Bounds}
@@ -26,7 +24,7 @@ use Rattle.octagon_meaning.specs.Matrices.{is_beyond, meets_end, meets_range, wi
 use Rattle.octagon_meaning.specs.Operations.{copied, entered, meet_sources}
 use Rattle.dom_octagon.proofs.Bounds.{bound-entries}
 use Rattle.dom_octagon.proofs.Copies.{IsRanged, add_zero, block, copied-none, copies-triangular, copy-block, entered-copied, entered-same, range-block, source_block, zero-block}
-use Rattle.dom_octagon.proofs.Triangles.{entries-obey, even-node, odd-node, single-least, single-miss, twice}
+use Rattle.dom_octagon.proofs.Triangles.{entries-obey, even-node, odd-node, single-least, single-miss}
 use Rattle.dom_octagon.specs.Limits.{ObeysTriangles}
 use Rattle.dom_octagon.specs.Lists.{AreOrdered}
 

@@ -6,7 +6,7 @@ use Rattle.dbm_core.specs.Half.{HalfMatrix, IsMatrix, entry, nodes}
 use Rattle.dbm_core.specs.Limits.{IsLimited, IsZeroAtMost}
 use Rattle.dbm_close.specs.CloseOf.{close_of}
 use Rattle.dbm_close.specs.declared.closed.Closed.{Closed}
-use Rattle.dbm_close.specs.declared.closed.Closed.TheVariants.{Empty, Matrix}
+use Rattle.dbm_close.specs.declared.closed.Closed.TheVariants.{Matrix}
 use Rattle.dbm_incremental.proofs.LawLemmas.{close_of-closed, closed-limited, closed-same}
 use Rattle.dbm_incremental.specs.Answers.{IsClosedAnswer}
 use Rattle.dbm_incremental.specs.ClosedMatrices.{IsClosed}

@@ -1,7 +1,7 @@
 -- What an assignment makes of a closed matrix obeys the triangle law where the matrix does, and has its bounds on other slots.
-use Rattle.std.specs.Prelude.{◌≡◌, ℕ, ◌<◌, ◌≤◌, ◌+◌, ◌*◌, ◌/◌, ◌%◌, ◌||◌, ℤ, pos, neg_ℤ, ◌+ℤ◌, ◌-ℤ◌, ◌≤ℤ◌, Option, Some, None, Bool, true, false, cond, if◌then◌else◌, List, length, ◌⊎◌, refl}
+use Rattle.std.specs.Prelude.{◌≡◌, ℕ, ◌<◌, ◌≤◌, ◌+◌, ◌*◌, ◌/◌, ◌%◌, ◌||◌, ℤ, pos, neg_ℤ, ◌+ℤ◌, ◌-ℤ◌, ◌≤ℤ◌, Option, Some, None, Bool, true, false, if◌then◌else◌, List, length, refl}
 use Rattle.std.proofs.Common.{arith, ap, sym, ◌∙◌, subst, inl, inr}
-use Rattle.std.proofs.lemmas.Bool.{cases_eq, cases_lt, eq-eqb, ne_eqb}
+use Rattle.std.proofs.lemmas.Bool.{cases_lt, eq-eqb, ne_eqb}
 use Rattle.std.proofs.lemmas.Int.{ints}
 use Rattle.dbm_core.proofs.HalfLemmas.{HasEntries-from_kept, entry-coherent}
 use Rattle.dbm_core.proofs.LowerLemmas.{either_first, either_none}
@@ -12,7 +12,7 @@ use Rattle.dbm_core.proofs.WeightLemmas.{AtMost-trans, add_weight-mono, least-gr
 use Rattle.dbm_core.specs.Half.{HalfMatrix, HasEntries, IsMatrix, entry, nodes, row_width}
 use Rattle.dbm_core.specs.Limits.{HasZeroDiagonal}
 use Rattle.dbm_core.specs.Nodes.{IsCoherent, IsOfSlot, flip}
-use Rattle.dbm_core.specs.Operations.{forgotten, is_pair, lowered}
+use Rattle.dbm_core.specs.Operations.{forgotten, lowered}
 use Rattle.dbm_core.specs.Weights.{AtMost, add_weight}
 use Rattle.dbm_incremental.proofs.BlockLemmas.{ranged-weights}
 use Rattle.dbm_incremental.proofs.KeepLemmas.{closed-diagonal, forget-closed, forget-whole, forgotten-free, forgotten-kept, in_slot}
@@ -25,7 +25,7 @@ use Rattle.octagon_meaning.proofs.Exact.{bound-outside, range-outside}
 use Rattle.octagon_meaning.proofs.Matrices.{shift-flip, shifted-coherent, turned-below, turned-flip}
 use Rattle.octagon_meaning.specs.declared.form.Form.TheVariants.{Constant}
 use Rattle.octagon_meaning.specs.Forms.{slot_form}
-use Rattle.octagon_meaning.specs.Matrices.{carried, is_beyond, meets_end, meets_range, shift, shifted, turned, with_bound, with_equation, with_greatest, without}
+use Rattle.octagon_meaning.specs.Matrices.{carried, is_beyond, meets_end, meets_range, shift, shifted, turned, with_equation, with_greatest, without}
 use Rattle.dom_octagon.proofs.Bounds.{bound-entries, without-entries}
 use Rattle.dom_octagon.specs.Limits.{ChangesOnly, ObeysTriangles}
 

@@ -1,13 +1,13 @@
 -- Casts of numbers of 64 bits, and the ends of ranges.
-use Rattle.std.proofs.Common.{◌≡◌, ◌∙◌, ap, sym, subst, ℕ, ◌<◌, ◌≤◌, ◌*◌, ◌+◌, ◌^◌, ℤ, pos, neg_ℤ, ◌≤ℤ◌, FitsSigned, to_z, of_z, w64, Bool, true, false, length, slice_index_or, Option, Some, None, arith, inl, inr}
+use Rattle.std.proofs.Common.{◌≡◌, sym, subst, ℕ, ◌<◌, ◌≤◌, ◌*◌, ◌+◌, ℤ, pos, neg_ℤ, ◌≤ℤ◌, FitsSigned, to_z, of_z, w64, Bool, true, false, length, slice_index_or, Option, Some, None, arith, inl, inr}
 use Rattle.std.proofs.lemmas.Bool.{cases_lt}
 use Rattle.std.specs.Int.{int_max, int_min, int_div_euclid}
 use Rattle.std.proofs.lemmas.Int.{to_z-of_z, ints, clamps}
 use mir.Syntax.{w128}
-use Rattle.dbm_core.specs.Half.{HalfMatrix, IsMatrix, entry, nodes}
+use Rattle.dbm_core.specs.Half.{HalfMatrix, IsMatrix, entry}
 use Rattle.dbm_close.specs.Close.{slot_high, slot_low}
 use Rattle.dbm_close.specs.Steps.{extreme_high, extreme_low, range_high, range_low}
-use Rattle.num_bounds.specs.Bounds.{Bounds, IsRange, least, greatest}
+use Rattle.num_bounds.specs.Bounds.{IsRange, least, greatest}
 use Rattle.octagon_meaning.specs.Ranges.{range_at}
 use Rattle.octagon_meaning.proofs.Ranges.{range_at-outside}
 use Rattle.dom_octagon.specs.Limits.{IsTight}

@@ -1,9 +1,6 @@
 -- Texts, piece by piece.
 use Rattle.std.proofs.Common.{◌≡◌, ℕ, List, ◌++◌, append_assoc}
 
-pub range_joined : (t x a lo b hi d : List ℕ) → (((((t ++ x) ++ a) ++ lo) ++ b) ++ hi) ++ d ≡ t ++ (((((x ++ a) ++ lo) ++ b) ++ hi) ++ d)
-range_joined t x a lo b hi d = simp append_assoc
-
 pub bound_joined : (t s p b q l c : List ℕ) → (((((t ++ s) ++ p) ++ b) ++ q) ++ l) ++ c ≡ t ++ (((((s ++ p) ++ b) ++ q) ++ l) ++ c)
 bound_joined t s p b q l c = simp append_assoc
 

@@ -1,5 +1,5 @@
 -- Bounds added to a matrix.
-use Rattle.std.specs.Prelude.{ℕ, ◌<◌, ◌^◌, Option, Some, None, List, [], ◌∷◌}
+use Rattle.std.specs.Prelude.{◌^◌, Option, Some, None, List, [], ◌∷◌}
 use Rattle.dbm_core.specs.Half.{HalfMatrix}
 use Rattle.dbm_core.specs.Limits.{IsWithin}
 use Rattle.dbm_incremental.specs.declared.bounds.Bound.{Bound}

@@ -1,7 +1,7 @@
 -- What code knows of the numbers of a matrix: so closing is asked of small bounds alone, and no sum leaves 128 bits.
 use Rattle.std.specs.Prelude.{◌≡◌, ℕ, ◌<◌, ◌^◌, Option, Some, None}
 use Rattle.dbm_core.specs.Half.{HalfMatrix, entry, nodes}
-use Rattle.dbm_core.specs.Limits.{AreWithin, HasZeroDiagonal, IsLimited, IsWithin, IsZeroAtMost}
+use Rattle.dbm_core.specs.Limits.{AreWithin, HasZeroDiagonal, IsLimited, IsZeroAtMost}
 use Rattle.dbm_close.specs.Close.{HasNoEmptyRange}
 use Rattle.dbm_incremental.specs.ClosedMatrices.{AgreesBut, IsClosed, IsWhole}
 use Rattle.octagon_meaning.specs.Claims.{IsSmallForm}

@@ -1,10 +1,9 @@
 //! The ranges and the linear forms of expressions.
 ghost use Rattle.std.specs.Prelude.{◌≡◌, ◌<◌, ◌^◌, pos, Some, IfSome, option_map};
 ghost use Rattle.dbm_core.specs.Limits.{IsWithin};
-ghost use Rattle.num_bounds.specs.Bounds.{IsRange};
 ghost use Rattle.octagon_meaning.specs.Claims.{constant_of};
 ghost use Rattle.octagon_meaning.specs.Forms as forms;
-ghost use Rattle.octagon_meaning.specs.Ranges.{operation, range_at, range_of};
+ghost use Rattle.octagon_meaning.specs.Ranges.{range_at, range_of};
 ghost use Rattle.octagon_meaning.specs.declared.form.Form.TheVariants.{Constant};
 ghost use Rattle.dom_octagon.specs.Limits.{HasShortNode, HasShortNodeIf, IsGoodForm, IsTight};
 
@@ -13,6 +12,7 @@ use dbm_core::{Matrix, other_sign};
 use imp_slots::{SlotExpr, SlotExprNode};
 use imp_syntax::Operator;
 use num_bounds::Range;
+use numeric_slots::operate;
 use octagon_meaning::Form;
 
 /// What is known of an expression that has a range: it, and the linear form, if there is one.
@@ -123,19 +123,6 @@ fn combined_if(operator: Operator, a: Option<Form>, b: Option<Form>) -> Option<F
     }
 }
 
-fn operate(operator: Operator, a: Range, b: Range) -> Option<Range>
-    ensures exact { result ≡ operation operator a b }
-    ensures range { IfSome result IsRange }
-{
-    match operator {
-        Operator::Add => a.add(b),
-        Operator::Subtract => a.sub(b),
-        Operator::Multiply => a.mul(b),
-        Operator::Divide => a.quot(b),
-        Operator::Remainder => a.rem(b),
-    }
-}
-
 fn literal(n: u64) -> Valued
     requires small { n < 2 ^ 63 }
     ensures range { result.range ≡ record { lo = pos n; hi = pos n } }
@@ -165,7 +152,7 @@ fn known(m: &Matrix, e: &SlotExpr, range: Range, form: Option<Form>) -> Valued
 }
 
 /// What is known of an expression over a closed matrix, or `None` where it has no value.
-#[tactic(auto, unfolding(octagon_meaning::specs::Ranges::range_of, octagon_meaning::specs::Forms::form_of))]
+#[tactic(auto, unfolding(numeric_slots::specs::Ranges::range_by, octagon_meaning::specs::Forms::form_of))]
 pub fn evaluate(m: &Matrix, e: &SlotExpr) -> Option<Valued>
     requires tight { IsTight m.now }
     ensures range { option_map (λ v. v.range) result ≡ range_of m.now e.now }

@@ -15,7 +15,7 @@ use plain_values::Memory;
 use std::alloc::Global;
 
 /// What comparing 0 with an index leaves.
-#[tactic(auto, unfolding(octagon_meaning::specs::Operations::compare, octagon_meaning::specs::Ranges::range_of, octagon_meaning::specs::Forms::form_of))]
+#[tactic(auto, unfolding(octagon_meaning::specs::Operations::compare, numeric_slots::specs::Ranges::range_by, octagon_meaning::specs::Forms::form_of))]
 pub fn zero_and(
     alloc: Global,
     relation: Relation,
@@ -42,7 +42,7 @@ pub fn zero_and(
 }
 
 /// What comparing an index with an array's length leaves.
-#[tactic(auto, unfolding(octagon_meaning::specs::Operations::compare, octagon_meaning::specs::Ranges::range_of, octagon_meaning::specs::Forms::form_of))]
+#[tactic(auto, unfolding(octagon_meaning::specs::Operations::compare, numeric_slots::specs::Ranges::range_by, octagon_meaning::specs::Forms::form_of))]
 pub fn and_length(
     alloc: Global,
     relation: Relation,

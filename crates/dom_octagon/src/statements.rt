@@ -20,11 +20,9 @@ use crate::matrices::meet_range;
 use dbm_core::Matrix;
 use imp_slots::{SlotAction, SlotExpr, SlotStmt};
 use imp_syntax::Relation;
+use numeric_slots::LONGEST;
 use plain_values::Memory;
 use std::alloc::Global;
-
-/// The greatest length of an array.
-const LONGEST: i64 = 1_000_000;
 
 /// `0 <= e && e < len a`
 #[tactic(auto, unfolding(octagon_meaning::specs::Operations::assume))]

@@ -13,55 +13,9 @@ use crate::evaluate::range;
 use dbm_core::{Matrix, other_sign};
 use imp_slots::{Layout, NumericSlot};
 use itoa::Buffer;
-use num_bounds::Range;
+use numeric_slots::{put_name, put_range, put_space};
 use plain_values::{Memory, Text};
 use std::alloc::Global;
-
-fn put_space(text: &mut Text, slot: usize) -> Result<(), Memory>
-    ensures value { OnOk result (text.new ≡ text.old ++ texts.space_at slot) }
-{
-    if slot > 0 {
-        text.push(b' ')?;
-    }
-    Ok(())
-}
-
-#[tactic(auto, unfolding(octagon_meaning::specs::Text::end_text))]
-fn put_end(text: &mut Text, end: i64) -> Result<(), Memory>
-    ensures value { OnOk result (text.new ≡ text.old ++ texts.end_text end) }
-{
-    if end == i64::MAX {
-        return text.append(b"max");
-    }
-    if end == i64::MIN {
-        return text.append(b"min");
-    }
-    let mut buffer = Buffer::new();
-    text.append(buffer.format(end).as_bytes())
-}
-
-fn put_name(text: &mut Text, number: &NumericSlot) -> Result<(), Memory>
-    ensures value { OnOk result (text.new ≡ text.old ++ texts.name_text number.now) }
-{
-    if number.is_array() {
-        text.push(b'#')?;
-    }
-    text.append(number.name().as_slice())
-}
-
-/// `x=[lo,hi]`
-#[tactic(auto, unfolding(octagon_meaning::specs::Text::range_text), using(crate::proofs::Written::range_joined))]
-fn put_range(text: &mut Text, number: &NumericSlot, range: Range) -> Result<(), Memory>
-    ensures value { OnOk result (text.new ≡ text.old ++ texts.range_text number.now range) }
-{
-    put_name(text, number)?;
-    text.append(b"=[")?;
-    put_end(text, range.lo())?;
-    text.append(b",")?;
-    put_end(text, range.hi())?;
-    text.append(b"]")?;
-    Ok(())
-}
 
 /// The ranges of the slots from this one on.
 #[tactic(auto, using(crate::proofs::Written::three_joined))]

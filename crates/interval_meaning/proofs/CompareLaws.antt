@@ -1,5 +1,5 @@
 -- Comparisons, joins and guards: what a state describes stays described, and states that fit stay so.
-use Rattle.std.proofs.Common.{◌≡◌, ◌≢◌, refl, sym, ap, ◌∙◌, subst, ℕ, ℤ, pos, ◌≤ℤ◌, ◌<ℤ◌, ◌+ℤ◌, ◌-ℤ◌, int_le, int_lt, Bool, true, false, not, ◌&&◌, List, [], ◌∷◌, map, length, Option, Some, None, IfSome, arith, if◌then◌else◌}
+use Rattle.std.proofs.Common.{◌≡◌, ◌≢◌, refl, sym, ap, ◌∙◌, subst, ℕ, ℤ, pos, ◌≤ℤ◌, ◌<ℤ◌, ◌+ℤ◌, ◌-ℤ◌, int_le, int_lt, Bool, true, false, not, ◌&&◌, List, [], ◌∷◌, map, Option, Some, None, IfSome, arith, if◌then◌else◌}
 use Rattle.std.proofs.lemmas.Int.{ints, clamps}
 use Rattle.std.proofs.lemmas.Bool.{and_parts}
 use Rattle.std.proofs.lemmas.Bool.Decides.{Decides-int_eq}
@@ -10,7 +10,7 @@ use Rattle.imp_syntax.specs.declared.words.Relation.{Relation}
 use Rattle.imp_syntax.specs.declared.words.Relation.TheVariants.{Equal, NotEqual, Less, AtMost, Greater, AtLeast}
 use Rattle.imp_slots.specs.Plain.{Numeric, Layout, Term, Literal, Slot, Length, Negative, Binary, Guard}
 use Rattle.imp_slots.specs.Fits.{fits_term, fits_guard}
-use Rattle.concrete_sem.specs.Values.{Number, Variables, Gives, as_int, as_array, number_at}
+use Rattle.concrete_sem.specs.Values.{Number, Variables, Gives, number_at}
 use Rattle.concrete_sem.specs.Evaluation.{value_of, truth_of, relates}
 use Rattle.concrete_sem.specs.Proper.{IsNumber}
 use Rattle.domain_laws.specs.Guards.{Compares, Tells}
@@ -19,11 +19,13 @@ use Rattle.num_bounds.specs.Bounds.{Bounds, IsRange, Within as Lies, least, grea
 use Rattle.num_bounds.specs.Operations.{cut_of, hull_of}
 use Rattle.num_bounds.specs.Meaning.{Covers}
 use Rattle.num_bounds.proofs.Ends.{cut-covers, between-left}
+use Rattle.numeric_slots.specs.Measures.{measure}
+use Rattle.numeric_slots.proofs.Slots.{slot-measure, length-measure}
 use Rattle.interval_meaning.specs.State.{Intervals, Empty, Within}
 use Rattle.interval_meaning.specs.Ranges.{slot_at, range_at, with_range, range_of}
 use Rattle.interval_meaning.specs.Operations.{needs, after, side_of, cut_side, cut_both, less, at_most, equal, is_single, lose_end, not_equal, related, compare, compare_ranges, compare_links, hull_slot, join, assume}
-use Rattle.interval_meaning.specs.Covers.{measure, Holds}
-use Rattle.interval_meaning.proofs.SlotLaws.{FitsSlot, FitsRange, at-fits, at-holds, set-fits, cut-holds, int-at, array-at}
+use Rattle.interval_meaning.specs.Covers.{Holds}
+use Rattle.interval_meaning.proofs.SlotLaws.{FitsSlot, FitsRange, at-fits, at-holds, set-fits, cut-holds}
 use Rattle.interval_meaning.proofs.RangeLaws.{range_of-covers, range_of-range}
 use Rattle.interval_meaning.specs.declared.slot_range.SlotRange.{SlotRange}
 
@@ -110,14 +112,11 @@ abbrev IsSide : Variables → Option ℕ → ℤ → Type 0
 IsSide v None z = Unit {0}
 IsSide v (Some x) z = measure (number_at v x) ≡ z
 
-gives-same : {A : Type 0} {a b : A} → Gives a ≡ Gives b → a ≡ b
-gives-same h = cc
-
 side_of-is : (l : Layout) (v : Variables) (t : Term) (z : ℤ) → fits_term l t ≡ true → AllZip IsNumber l.numbers v.numbers → value_of v t ≡ Gives z → IsSide v (side_of t) z
 unfolding value_of fits_term
 side_of-is l v (Literal n) z f k g = tt
-side_of-is l v (Slot x) z f k g = let i = int-at l.numbers v.numbers x k f in ap measure i.1 ∙ sym (ap as_int i.1) ∙ gives-same g
-side_of-is l v (Length a) z f k g = let i = array-at l.numbers v.numbers a k f in ap measure i.1 ∙ sym (ap (λ n. pos (length (as_array n))) i.1) ∙ gives-same g
+side_of-is l v (Slot x) z f k g = slot-measure l v x z k f g
+side_of-is l v (Length a) z f k g = length-measure l v a z k f g
 side_of-is l v (Negative t) z f k g = tt
 side_of-is l v (Binary o a b) z f k g = tt
 

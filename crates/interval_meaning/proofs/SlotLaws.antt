@@ -1,17 +1,17 @@
 -- Slots that fit a layout, and slots that hold the values of a frame.
-use Rattle.std.proofs.Common.{◌≡◌, refl, sym, ◌∙◌, ℕ, zero, suc, ◌<◌, ◌≤◌, ◌^◌, ℤ, pos, negsuc, ◌≤ℤ◌, int_le, Bool, true, false, not, ◌&&◌, List, [], ◌∷◌, length, slice_get, slice_index_or, slice_set, Some, None, arith}
+use Rattle.std.proofs.Common.{◌≡◌, refl, sym, ◌∙◌, ℕ, zero, suc, ℤ, pos, ◌≤ℤ◌, int_le, Bool, true, false, ◌&&◌, List, [], ◌∷◌, slice_get, slice_index_or, slice_set, None, arith}
 use Rattle.std.proofs.lemmas.Int.{ints}
 use Rattle.std.proofs.lemmas.Bool.{and_parts, and_from}
 use Rattle.std.specs.List.{AllZip}
-use borrow.Author.Tests.{ltb-true}
 use Rattle.imp_slots.specs.Plain.{Numeric}
 use Rattle.imp_slots.specs.Fits.{is_kind}
-use Rattle.concrete_sem.specs.Values.{Number, Int, Array, is_word, IsWord}
-use Rattle.concrete_sem.specs.Proper.{IsNumber}
+use Rattle.concrete_sem.specs.Values.{Number, Int}
 use Rattle.num_bounds.specs.Bounds.{Bounds, IsRange, Within as Lies}
+use Rattle.numeric_slots.specs.Measures.{measure}
+use Rattle.numeric_slots.proofs.Slots.{kind-is}
 use Rattle.interval_meaning.specs.State.{bool_same}
 use Rattle.interval_meaning.specs.Ranges.{extremes, slot_at, range_at, with_range, full}
-use Rattle.interval_meaning.specs.Covers.{measure, Holds, fits_slot, fits_slots}
+use Rattle.interval_meaning.specs.Covers.{Holds, fits_slot, fits_slots}
 use Rattle.interval_meaning.specs.declared.slot_range.SlotRange.{SlotRange}
 
 pub le-true : (a b : ℤ) → int_le a b ≡ true → a ≤ℤ b
@@ -90,14 +90,6 @@ at-fits (k ∷ ks) [] x h = absurd h
 at-fits (k ∷ ks) (r ∷ rs) zero h = h.0.1
 at-fits (k ∷ ks) (r ∷ rs) (suc x) h = at-fits ks rs x h.1
 
-pub kind-is : (b : Bool) (k : Numeric) → is_kind b (Some k) ≡ true → k.is_array ≡ b
-kind-is true k h = h
-kind-is false k h = by k.is_array h
-  where
-    by : (c : Bool) → not c ≡ true → c ≡ false
-    by true e = cc
-    by false e = refl
-
 pub kind-none : (b : Bool) → is_kind b None ≡ true → ⊥
 kind-none true h = cc
 kind-none false h = cc
@@ -140,22 +132,3 @@ set-holds [] (n ∷ ns) x r m h w = absurd h
 set-holds (s ∷ rs) [] x r m h w = absurd h
 set-holds (s ∷ rs) (n ∷ ns) zero r m h w = (w, h.1)
 set-holds (s ∷ rs) (n ∷ ns) (suc x) r m h w = (h.0, set-holds rs ns x r m h.1 w)
-
--- what an int slot holds, and an array slot
-pub int-at : (ks : List Numeric) (ns : List Number) (x : ℕ) → AllZip IsNumber ks ns → is_kind false (slice_get ks x) ≡ true → (z : ℤ) × (slice_index_or ns x (Int (pos 0)) ≡ Int z) × IsWord z
-int-at [] ns x h e = cc
-int-at (k ∷ ks) [] x h e = absurd h
-int-at (k ∷ ks) (Int z ∷ ns) zero h e = (z, refl, h.0.1)
-int-at (k ∷ ks) (Array zs ∷ ns) zero h e = let c : k.is_array ≡ false = kind-is false k e in let d : k.is_array ≡ true = h.0.0 in let f : false ≡ true = sym c ∙ d in cc
-int-at (k ∷ ks) (n ∷ ns) (suc x) h e = int-at ks ns x h.1 e
-
-pub array-at : (ks : List Numeric) (ns : List Number) (x : ℕ) → AllZip IsNumber ks ns → is_kind true (slice_get ks x) ≡ true → (zs : List ℤ) × (slice_index_or ns x (Int (pos 0)) ≡ Array zs) × (length zs ≤ 1000000)
-array-at [] ns x h e = cc
-array-at (k ∷ ks) [] x h e = absurd h
-array-at (k ∷ ks) (Array zs ∷ ns) zero h e = (zs, refl, h.0.1)
-array-at (k ∷ ks) (Int z ∷ ns) zero h e = let c : k.is_array ≡ true = kind-is true k e in let d : k.is_array ≡ false = h.0.0 in let f : false ≡ true = sym d ∙ c in cc
-array-at (k ∷ ks) (n ∷ ns) (suc x) h e = array-at ks ns x h.1 e
-
-pub word-fits : (z : ℤ) → is_word z ≡ true → IsWord z
-word-fits (pos n) h = let lt : n < 2 ^ 63 = ltb-true n (2 ^ 63) h in omega (arith, ints)
-word-fits (negsuc n) h = let lt : n < 2 ^ 63 = ltb-true n (2 ^ 63) h in omega (arith, ints)

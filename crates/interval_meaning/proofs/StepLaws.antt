@@ -1,14 +1,12 @@
 -- Simple statements: what a state describes stays described, and states that fit stay so.
-use Rattle.std.proofs.Common.{◌≡◌, refl, sym, ap, ◌∙◌, subst, ℕ, zero, suc, ◌≤◌, nat_lt, nat_le, ℤ, pos, negsuc, ◌≤ℤ◌, Bool, true, false, ◌&&◌, List, [], ◌∷◌, length, replicate, slice_get, slice_index_or, slice_set, All, Option, Some, None, IfSome, arith, if◌then◌else◌}
+use Rattle.std.proofs.Common.{◌≡◌, refl, sym, ap, ◌∙◌, subst, ℕ, zero, suc, ℤ, pos, negsuc, Bool, true, false, ◌&&◌, List, [], ◌∷◌, length, slice_get, slice_index_or, slice_set, All, Option, Some, None, IfSome, arith, if◌then◌else◌}
 use Rattle.std.proofs.lemmas.Int.{ints, clamps}
 use Rattle.std.proofs.lemmas.Bool.{and_parts}
-use Rattle.std.proofs.lemmas.List.{length-set, length-replicate}
-use Rattle.std.proofs.lemmas.Bool.Decides.{nat_tests}
 use Rattle.std.specs.Int.{int_max, int_min}
 use Rattle.std.specs.List.{AllZip}
 use Rattle.imp_slots.specs.Plain.{Numeric, Layout, Effect, Skip, Assert, SetInt, Input, ReadElement, ReadItem, MakeArray, CopyArray, WriteElement, SetNull, MakeCell, CopyLink, ReadNext, WriteNext, WriteItem, Act, DoBreak, Does}
 use Rattle.imp_slots.specs.Fits.{fits_term, fits_effect, is_int, is_array, is_link, is_kind}
-use Rattle.analysis_words.specs.declared.fault.FaultKind.TheVariants.{Length as TooLong, Index, Null, Assert as Failed}
+use Rattle.analysis_words.specs.declared.fault.FaultKind.TheVariants.{Index, Null, Assert as Failed}
 use Rattle.concrete_sem.specs.Values.{Number, Int, Array, Variables, Cell, Heap, Gives, Faults, andthen, given_or, as_array, number_at, array_at, link_at, with_number, with_link, IsWord}
 use Rattle.concrete_sem.specs.Evaluation.{value_of, truth_of}
 use Rattle.concrete_sem.specs.Effects.{effect_of, new_array, element, with_element, cell_of, take_input, with_cell}
@@ -21,22 +19,18 @@ use Rattle.domain_laws.proofs.CheckLaws.{andthen-gives, FitsCheck, check-passed,
 use Rattle.num_bounds.specs.Bounds.{Bounds, IsRange, Within as Lies}
 use Rattle.num_bounds.specs.Operations.{cut_of}
 use Rattle.num_bounds.proofs.Ends.{cut-covers, between-left}
+use Rattle.numeric_slots.specs.Measures.{measure, longest}
+use Rattle.numeric_slots.proofs.Changes.{held, new_array-length, with_element-length}
+use Rattle.numeric_slots.proofs.Slots.{array-at}
+use Rattle.numeric_slots.proofs.Words.{gives-same}
 use Rattle.interval_meaning.specs.State.{Intervals, Empty, Within}
-use Rattle.interval_meaning.specs.Ranges.{longest, full, range_at, with_range, range_of}
+use Rattle.interval_meaning.specs.Ranges.{full, range_at, with_range, range_of}
 use Rattle.interval_meaning.specs.Operations.{after, assume, does, post}
-use Rattle.interval_meaning.specs.Covers.{measure, Holds}
-use Rattle.interval_meaning.proofs.SlotLaws.{FitsSlot, FitsRange, range-fits, at-fits, at-kind, at-holds, set-fits, set-holds, array-at}
+use Rattle.interval_meaning.specs.Covers.{Holds}
+use Rattle.interval_meaning.proofs.SlotLaws.{FitsSlot, FitsRange, range-fits, at-fits, at-kind, at-holds, set-fits, set-holds}
 use Rattle.interval_meaning.proofs.RangeLaws.{range_of-covers, range_of-range}
 use Rattle.interval_meaning.proofs.CompareLaws.{FitsState, Describes, after-fits, needs-fits, needs-describes, assume-fits, assume-describes}
 use Rattle.interval_meaning.specs.declared.slot_range.SlotRange.{SlotRange}
-
-gives-same : {A : Type 0} {a b : A} → Gives a ≡ Gives b → a ≡ b
-gives-same h = cc
-
--- a claim that holds goes on
-held : (b : Bool) (m n : Heap × Variables) → (if b then Gives m else Faults Failed) ≡ Gives n → Gives m ≡ Gives n
-held true m n h = h
-held false m n h = cc
 
 -- A slot of this kind gets a range that fits the kind.
 kind-set : (b : Bool) (l : Layout) (rs : List SlotRange) (x : ℕ) (r : Bounds) → is_kind b (slice_get l.numbers x) ≡ true → FitsRange b r → AllZip FitsSlot l.numbers rs → AllZip FitsSlot l.numbers (with_range rs x r)
@@ -123,25 +117,6 @@ array-words (k ∷ ks) [] a h = absurd h
 array-words (k ∷ ks) (Int z ∷ ns) zero h = λ k d lt. absurd (omega arith)
 array-words (k ∷ ks) (Array zs ∷ ns) zero h = h.0.2
 array-words (k ∷ ks) (n ∷ ns) (suc a) h = array-words ks ns a h.1
-
-new_array-length : (n : ℤ) (zs : List ℤ) → new_array n ≡ Gives zs → (pos (length zs) ≡ n) × (pos 0 ≤ℤ n) × (n ≤ℤ longest)
-new_array-length (pos n) zs h = by (nat_le n 1000000) refl h
-  where
-    by : (b : Bool) → nat_le n 1000000 ≡ b → (if b then Gives (replicate n (pos 0)) else Faults TooLong) ≡ Gives zs → (pos (length zs) ≡ pos n) × (pos 0 ≤ℤ pos n) × (pos n ≤ℤ longest)
-    by true e f =
-        let k : n ≤ 1000000 = grind (arith, nat_tests) in
-        let w : length zs ≡ n = ap length (sym (gives-same f)) ∙ length-replicate n (pos 0) in
-        (ap pos w, omega (arith, ints), omega (arith, ints))
-    by false e f = cc
-new_array-length (negsuc n) zs h = cc
-
-with_element-length : (zs : List ℤ) (i z : ℤ) (ys : List ℤ) → with_element zs i z ≡ Gives ys → length ys ≡ length zs
-with_element-length zs (pos k) z ys h = by (nat_lt k (length zs)) h
-  where
-    by : (b : Bool) → (if b then Gives (slice_set zs k z) else Faults Index) ≡ Gives ys → length ys ≡ length zs
-    by true f = ap length (sym (gives-same f)) ∙ length-set zs k z
-    by false f = cc
-with_element-length zs (negsuc k) z ys h = cc
 
 -- a variable gets a value of the same measure
 same-holds : (rs : List SlotRange) (ns : List Number) (x : ℕ) (m : Number) → measure m ≡ measure (slice_index_or ns x (Int (pos 0))) → AllZip Holds rs ns → AllZip Holds rs (slice_set ns x m)

@@ -9,7 +9,8 @@ use Rattle.num_bounds.specs.Bounds.{Bounds}
 use Rattle.interval_meaning.specs.State.{Intervals, Empty, Within}
 use Rattle.interval_meaning.specs.Ranges.{extremes}
 use Rattle.interval_meaning.specs.Widening.{mark_below, mark_above, widen_range, widen_slot, widen}
-use Rattle.interval_meaning.specs.Covers.{measure, Holds}
+use Rattle.numeric_slots.specs.Measures.{measure}
+use Rattle.interval_meaning.specs.Covers.{Holds}
 use Rattle.interval_meaning.proofs.SlotLaws.{FitsSlot, FitsRange, le-true}
 use Rattle.interval_meaning.proofs.CompareLaws.{FitsState, Describes, zip-fits, zip-left, zip-right}
 use Rattle.interval_meaning.specs.declared.slot_range.SlotRange.{SlotRange}

@@ -1,18 +1,15 @@
 -- Which configurations a state describes, and which states fit the layouts of frames.
-use Rattle.std.specs.Prelude.{Bool, true, false, ◌&&◌, ℤ, pos, int_le, List, [], ◌∷◌, length}
+use Rattle.std.specs.Prelude.{Bool, true, false, ◌&&◌, int_le, List, [], ◌∷◌}
 use Rattle.std.specs.List.{AllZip}
 use Rattle.imp_slots.specs.Plain.{Numeric, Layout}
-use Rattle.concrete_sem.specs.Values.{Number, Int, Array, Variables, Heap}
+use Rattle.concrete_sem.specs.Values.{Number, Variables, Heap}
 use Rattle.num_bounds.specs.Bounds.{Within as Lies}
+use Rattle.numeric_slots.specs.Measures.{measure}
 use Rattle.interval_meaning.specs.State.{Intervals, Empty, Within, bool_same}
 use Rattle.interval_meaning.specs.Ranges.{extremes}
 use Rattle.interval_meaning.specs.declared.slot_range.SlotRange.{SlotRange}
 
--- what the range of a slot speaks of: an int, or the length of an array
-abbrev pub measure : Number → ℤ
-measure (Int z) = z
-measure (Array zs) = pos (length zs)
-
+-- what the slot measures lies in its range
 abbrev pub Holds : SlotRange → Number → Type 0
 Holds s n = Lies (measure n) s.range
 

@@ -11,7 +11,9 @@ use Rattle.domain_laws.specs.Checks.{check_of}
 use Rattle.domain_laws.specs.Guards.{assumed, past_check, verdict_by}
 use Rattle.analysis_words.specs.declared.verdict.Verdict.{Verdict}
 use Rattle.interval_meaning.specs.State.{Intervals, Empty, Within}
-use Rattle.interval_meaning.specs.Ranges.{longest, full, range_at, with_range, if_range, range_of}
+use Rattle.numeric_slots.specs.Measures.{longest}
+use Rattle.numeric_slots.specs.Ranges.{if_range}
+use Rattle.interval_meaning.specs.Ranges.{full, range_at, with_range, range_of}
 use Rattle.interval_meaning.specs.declared.slot_range.SlotRange.{SlotRange}
 
 -- Empty where a range is needed and there is none

@@ -10,7 +10,8 @@ use Rattle.cert_meaning.specs.Portable.{IsSoundOrder, HasUpperBounds}
 use Rattle.interval_meaning.specs.State.{Intervals, Empty, Within}
 use Rattle.interval_meaning.specs.Operations.{join}
 use Rattle.interval_meaning.specs.Widening.{widen}
-use Rattle.interval_meaning.specs.Covers.{measure, Holds, covers, fits}
+use Rattle.numeric_slots.specs.Measures.{measure}
+use Rattle.interval_meaning.specs.Covers.{Holds, covers, fits}
 use Rattle.interval_meaning.specs.Domain.{intervals}
 use Rattle.interval_meaning.specs.declared.slot_range.SlotRange.{SlotRange}
 use Rattle.interval_meaning.proofs.SlotLaws.{FitsSlot, le-true, true-le, fits_slots-true}

@@ -25,16 +25,20 @@ use Rattle.dbm_core.specs.Valuations.{IsSatisfiedBy, Meets, node_value}
 use Rattle.dbm_core.specs.Weights.{AtMost}
 use Rattle.dbm_close.specs.Laws.{AreInSlots}
 use Rattle.dbm_close.specs.declared.closed.Closed.{Closed}
+use Rattle.numeric_slots.specs.Measures.{measure}
+use Rattle.numeric_slots.specs.Ranges.{if_range}
+use Rattle.numeric_slots.proofs.Slots.{slot-measure, length-measure}
+use Rattle.numeric_slots.proofs.Words.{gives-same}
 use Rattle.octagon_meaning.specs.declared.source.Source.{Source}
 use Rattle.octagon_meaning.specs.declared.source.Source.TheVariants.{FromSlot, InRange}
-use Rattle.octagon_meaning.specs.Covers.{measure, values}
+use Rattle.octagon_meaning.specs.Covers.{values}
 use Rattle.octagon_meaning.specs.Matrices.{meets_range, without}
 use Rattle.octagon_meaning.specs.Operations.{kinds_of, in_front, source_of, with_source, sources, copied, entered, meet_sources, entered_by, enter, init, returned, leave}
-use Rattle.octagon_meaning.specs.Ranges.{if_range, range_at, range_of}
+use Rattle.octagon_meaning.specs.Ranges.{range_at, range_of}
 use Rattle.octagon_meaning.specs.States.{closed}
 use Rattle.octagon_meaning.proofs.Fitting.{Ready, FitsMatrix, FitsState, Describes, fits-ready, kinds_few, close-fits, close-describes, closed-fits, closed-describes, after-fits, after-describes}
 use Rattle.octagon_meaning.proofs.Matrices.{table-ready, table-satisfied, range-ready, range-satisfied, without-ready, without-satisfied}
-use Rattle.octagon_meaning.proofs.Ranges.{AreProper, proper, gives-same, range_at-covers, range_of-covers, slot-measure, length-measure}
+use Rattle.octagon_meaning.proofs.Ranges.{AreProper, proper, range_at-covers, range_of-covers}
 use Rattle.octagon_meaning.proofs.Steps.{others-agree, set-value}
 
 -- ---- all slots 0

@@ -1,27 +1,18 @@
 -- The ranges and the linear forms of expressions hold their values.
-use Rattle.std.proofs.Common.{◌≡◌, ◌≢◌, refl, sym, ap, ◌∙◌, subst, ℕ, zero, suc, ◌<◌, ◌≤◌, ◌^◌, ◌*◌, ◌+◌, ℤ, pos, negsuc, ◌≤ℤ◌, ◌+ℤ◌, ◌-ℤ◌, ◌*ℤ◌, neg_ℤ, int_div, int_rem, Bool, true, false, not, List, [], ◌∷◌, length, map, take, slice_get, slice_index_or, Option, Some, None, arith, if◌then◌else◌, inl, inr}
+use Rattle.std.proofs.Common.{◌≡◌, refl, sym, ap, ◌∙◌, subst, ℕ, zero, suc, ◌≤◌, ◌*◌, ◌+◌, ℤ, pos, ◌≤ℤ◌, ◌+ℤ◌, ◌-ℤ◌, neg_ℤ, Bool, true, false, List, [], ◌∷◌, length, map, take, slice_index_or, Option, Some, None, arith, inl, inr}
 use Rattle.std.proofs.lemmas.Int.{ints}
 use Rattle.std.proofs.lemmas.Bool.{and_parts, cases_lt}
-use Rattle.std.proofs.lemmas.Bool.Decides.{Decides-int_eq}
-use Rattle.std.specs.Ordering.{int_eq}
 use Rattle.std.specs.List.{AllZip}
-use borrow.Author.Tests.{ltb-true}
 use Rattle.imp_syntax.specs.declared.words.Operator.{Operator}
 use Rattle.imp_syntax.specs.declared.words.Operator.TheVariants.{Add, Subtract, Multiply, Divide, Remainder}
 use Rattle.imp_slots.specs.Plain.{Numeric, Layout, Term, Literal, Slot, Length, Negative, Binary}
-use Rattle.imp_slots.specs.Fits.{fits_term, is_kind}
-use Rattle.analysis_words.specs.declared.fault.FaultKind.TheVariants.{Overflow, Zero}
-use Rattle.concrete_sem.specs.Values.{Number, Int, Array, Variables, Gives, Faults, andthen, as_int, as_array, number_at, is_word, IsWord}
-use Rattle.concrete_sem.specs.Evaluation.{value_of, word as word_of, quotient, combine}
+use Rattle.imp_slots.specs.Fits.{fits_term}
+use Rattle.concrete_sem.specs.Values.{Number, Int, Array, Variables, Gives, andthen}
+use Rattle.concrete_sem.specs.Evaluation.{value_of, word as word_of, combine}
 use Rattle.concrete_sem.specs.Proper.{IsNumber}
 use Rattle.domain_laws.proofs.CheckLaws.{andthen-gives}
-use Rattle.num_bounds.specs.Bounds.{Bounds, Within as Lies, least, greatest}
-use Rattle.num_bounds.specs.Operations.{word, word_if, sums, differences, negations, products, quotients, remainders}
+use Rattle.num_bounds.specs.Bounds.{Within as Lies, least, greatest}
 use Rattle.num_bounds.specs.Meaning.{Covers}
-use Rattle.num_bounds.proofs.Sums.{sums-sound, differences-sound, negations-sound}
-use Rattle.num_bounds.proofs.Products.{products-sound}
-use Rattle.num_bounds.proofs.Quotients.{quotients-sound}
-use Rattle.num_bounds.proofs.Remainders.{remainders-sound}
 use Rattle.dbm_core.proofs.HalfLemmas.{entry-outside}
 use Rattle.dbm_core.proofs.ValuationLemmas.{node_value-flip}
 use Rattle.dbm_core.specs.Half.{HalfMatrix, IsMatrix, entry}
@@ -30,17 +21,18 @@ use Rattle.dbm_core.specs.Valuations.{IsSatisfiedBy, node_value}
 use Rattle.dbm_close.proofs.LawLemmas.{range-sound}
 use Rattle.dbm_close.specs.Laws.{AreInSlots}
 use Rattle.dbm_close.specs.Steps.{extreme_high, extreme_low}
+use Rattle.numeric_slots.specs.Measures.{measure}
+use Rattle.numeric_slots.proofs.Expressions.{range_by-covers}
+use Rattle.numeric_slots.proofs.Slots.{slot-measure, length-measure}
+use Rattle.numeric_slots.proofs.Words.{gives-same, word-gives}
 use Rattle.octagon_meaning.specs.declared.form.Form.{Form}
 use Rattle.octagon_meaning.specs.declared.form.Form.TheVariants.{Constant, Node}
-use Rattle.octagon_meaning.specs.Covers.{measure, values}
+use Rattle.octagon_meaning.specs.Covers.{values}
 use Rattle.octagon_meaning.specs.Forms.{combined_form, form_of, if_form, negated, sum_form}
 use Rattle.octagon_meaning.specs.Operations.{kinds_of}
-use Rattle.octagon_meaning.specs.Ranges.{if_range, operation, range_at, range_of}
+use Rattle.octagon_meaning.specs.Ranges.{range_at, range_of}
 use Rattle.octagon_meaning.proofs.Fitting.{FitsMatrix}
 use Rattle.octagon_meaning.proofs.Matrices.{HasValue, form_value, slot-value}
-
-pub gives-same : {A : Type 0} {a b : A} → Gives a ≡ Gives b → a ≡ b
-gives-same h = cc
 
 -- ---- the values of slots
 
@@ -68,29 +60,6 @@ words [] (x ∷ ns) h k = absurd h
 words (m ∷ ks) [] h k = absurd h
 words (m ∷ ks) (x ∷ ns) h zero = value-word m x h.0
 words (m ∷ ks) (x ∷ ns) h (suc k) = words ks ns h.1 k
-
-kind-is : (b : Bool) (k : Numeric) → is_kind b (Some k) ≡ true → k.is_array ≡ b
-kind-is true k h = h
-kind-is false k h = by k.is_array h
-  where
-    by : (c : Bool) → not c ≡ true → c ≡ false
-    by true e = cc
-    by false e = refl
-
--- what an int slot holds, and an array slot
-pub int-at : (ks : List Numeric) (ns : List Number) (x : ℕ) → AllZip IsNumber ks ns → is_kind false (slice_get ks x) ≡ true → (z : ℤ) × (slice_index_or ns x (Int (pos 0)) ≡ Int z) × IsWord z
-int-at [] ns x h e = cc
-int-at (k ∷ ks) [] x h e = absurd h
-int-at (k ∷ ks) (Int z ∷ ns) zero h e = (z, refl, h.0.1)
-int-at (k ∷ ks) (Array zs ∷ ns) zero h e = let c : k.is_array ≡ false = kind-is false k e in let d : k.is_array ≡ true = h.0.0 in let f : false ≡ true = sym c ∙ d in cc
-int-at (k ∷ ks) (n ∷ ns) (suc x) h e = int-at ks ns x h.1 e
-
-pub array-at : (ks : List Numeric) (ns : List Number) (x : ℕ) → AllZip IsNumber ks ns → is_kind true (slice_get ks x) ≡ true → (zs : List ℤ) × (slice_index_or ns x (Int (pos 0)) ≡ Array zs) × (length zs ≤ 1000000)
-array-at [] ns x h e = cc
-array-at (k ∷ ks) [] x h e = absurd h
-array-at (k ∷ ks) (Array zs ∷ ns) zero h e = (zs, refl, h.0.1)
-array-at (k ∷ ks) (Int z ∷ ns) zero h e = let c : k.is_array ≡ true = kind-is true k e in let d : k.is_array ≡ false = h.0.0 in let f : false ≡ true = sym d ∙ c in cc
-array-at (k ∷ ks) (n ∷ ns) (suc x) h e = array-at ks ns x h.1 e
 
 -- ---- the ranges of slots
 
@@ -124,66 +93,9 @@ range_at-covers kinds m x h a s k = elim (cases_lt k (length m.kinds)) [
 
 -- ---- the ranges of expressions
 
-word-fits : (z : ℤ) → is_word z ≡ true → IsWord z
-word-fits (pos n) h = let lt : n < 2 ^ 63 = ltb-true n (2 ^ 63) h in omega (arith, ints)
-word-fits (negsuc n) h = let lt : n < 2 ^ 63 = ltb-true n (2 ^ 63) h in omega (arith, ints)
-
--- what gives a word gives the number itself, which is one
-pub word-gives : (z w : ℤ) → word_of z ≡ Gives w → (w ≡ z) × IsWord z
-word-gives z w h = by (is_word z) refl h
-  where
-    by : (b : Bool) → is_word z ≡ b → (if b then Gives z else Faults Overflow) ≡ Gives w → (w ≡ z) × IsWord z
-    by true e f = (sym (gives-same f), word-fits z e)
-    by false e f = cc
-
-quotient-gives : (x y w : ℤ) → quotient x y ≡ Gives w → (w ≡ int_div x y) × IsWord (int_div x y) × (y ≢ pos 0)
-quotient-gives x y w h = by (int_eq y (pos 0)) refl h
-  where
-    by : (b : Bool) → int_eq y (pos 0) ≡ b → (if b then Faults Zero else word_of (int_div x y)) ≡ Gives w → (w ≡ int_div x y) × IsWord (int_div x y) × (y ≢ pos 0)
-    by true e f = cc
-    by false e f = let p = word-gives (int_div x y) w f in (p.0, p.1, λ z. let t : int_eq y (pos 0) ≡ true = (Decides-int_eq y (pos 0)).1 z in let u : true ≡ false = sym t ∙ e in cc)
-
-covers-same : (r : Option Bounds) (w z : ℤ) → w ≡ z → Covers r z → Covers r w
-covers-same r w z e h = subst (λ x. Covers r x) (sym e) h
-
-operation-covers : (o : Operator) (a b : Bounds) (x y z : ℤ) → Lies x a → Lies y b → combine o x y ≡ Gives z → Covers (operation o a b) z
-operation-covers Add a b x y z p q h = let w = word-gives (x +ℤ y) z h in covers-same (word (sums a b)) z (x +ℤ y) w.0 (sums-sound a b x y p q w.1)
-operation-covers Subtract a b x y z p q h = let w = word-gives (x -ℤ y) z h in covers-same (word (differences a b)) z (x -ℤ y) w.0 (differences-sound a b x y p q w.1)
-operation-covers Multiply a b x y z p q h = let w = word-gives (x *ℤ y) z h in covers-same (word (products a b)) z (x *ℤ y) w.0 (products-sound a b x y p q w.1)
-operation-covers Divide a b x y z p q h = let w = quotient-gives x y z h in covers-same (word_if (quotients a b)) z (int_div x y) w.0 (quotients-sound a b x y p q w.2 w.1)
-operation-covers Remainder a b x y z p q h =
-    let g = andthen-gives (quotient x y) (λ k. Gives (int_rem x y)) z h in
-    let w = quotient-gives x y g.0 g.1 in
-    covers-same (remainders a b) z (int_rem x y) (sym (gives-same g.2)) (remainders-sound a b x y p q w.2)
-
-if_range-covers : (r : Option Bounds) (f : Bounds → Option Bounds) (x z : ℤ) → Covers r x → ((a : Bounds) → Lies x a → Covers (f a) z) → Covers (if_range r f) z
-if_range-covers None f x z h g = absurd h
-if_range-covers (Some a) f x z h g = g a h
-
-pub slot-measure : (l : Layout) (v : Variables) (x : ℕ) (z : ℤ) → AllZip IsNumber l.numbers v.numbers → is_kind false (slice_get l.numbers x) ≡ true → Gives (as_int (number_at v x)) ≡ Gives z → values v x ≡ z
-slot-measure l v x z k f g = let i = int-at l.numbers v.numbers x k f in ap measure i.1 ∙ sym (ap as_int i.1) ∙ gives-same g
-
-pub length-measure : (l : Layout) (v : Variables) (a : ℕ) (z : ℤ) → AllZip IsNumber l.numbers v.numbers → is_kind true (slice_get l.numbers a) ≡ true → Gives (pos (length (as_array (number_at v a)))) ≡ Gives z → values v a ≡ z
-length-measure l v a z k f g = let i = array-at l.numbers v.numbers a k f in ap measure i.1 ∙ sym (ap (λ n. pos (length (as_array n))) i.1) ∙ gives-same g
-
 -- where each slot's value lies in its range, the range of an expression holds its value
 pub range_of-covers : (l : Layout) (m : HalfMatrix) (v : Variables) (t : Term) (z : ℤ) → fits_term l t ≡ true → AllZip IsNumber l.numbers v.numbers → ((k : ℕ) → Lies (values v k) (range_at m k)) → value_of v t ≡ Gives z → Covers (range_of m t) z
-unfolding range_of value_of fits_term
-range_of-covers l m v (Literal n) z f k h g = let e : pos n ≡ z = gives-same g in (omega (arith, ints), omega (arith, ints))
-range_of-covers l m v (Slot x) z f k h g = subst (λ y. Lies y (range_at m x)) (slot-measure l v x z k f g) (h x)
-range_of-covers l m v (Length a) z f k h g = subst (λ y. Lies y (range_at m a)) (length-measure l v a z k f g) (h a)
-range_of-covers l m v (Negative t) z f k h g =
-    let x = andthen-gives (value_of v t) (λ y. word_of (neg_ℤ y)) z g in
-    let w = word-gives (neg_ℤ x.0) z x.2 in
-    if_range-covers (range_of m t) (λ r. word (negations r)) x.0 z (range_of-covers l m v t x.0 f k h x.1)
-    (λ a p. covers-same (word (negations a)) z (neg_ℤ x.0) w.0 (negations-sound a x.0 p w.1))
-range_of-covers l m v (Binary o a b) z f k h g =
-    let p = and_parts (fits_term l a) (fits_term l b) f in
-    let x = andthen-gives (value_of v a) (λ y. andthen (value_of v b) (λ y2. combine o y y2)) z g in
-    let y = andthen-gives (value_of v b) (λ y2. combine o x.0 y2) z x.2 in
-    if_range-covers (range_of m a) (λ r. if_range (range_of m b) (operation o r)) x.0 z (range_of-covers l m v a x.0 p.0 k h x.1)
-    (λ r q. if_range-covers (range_of m b) (operation o r) y.0 z (range_of-covers l m v b y.0 p.1 k h y.1)
-    (λ s w. operation-covers o r s x.0 y.0 z q w y.2))
+range_of-covers l m v t z f k h g = range_by-covers l (range_at m) v t z f k h g
 
 -- ---- linear forms
 

@@ -12,11 +12,12 @@ use Rattle.dbm_core.proofs.NodeLemmas.{flip-flip, flip-even}
 use Rattle.dbm_core.specs.Half.{HalfMatrix}
 use Rattle.dbm_core.specs.Limits.{IsWithin}
 use Rattle.dbm_core.specs.Nodes.{flip}
+use Rattle.numeric_slots.specs.Ranges.{if_range, operation, range_by}
 use Rattle.octagon_meaning.specs.declared.form.Form.{Form}
 use Rattle.octagon_meaning.specs.declared.form.Form.TheVariants.{Constant, Node}
 use Rattle.octagon_meaning.specs.Claims.{FormsAreSmall, IsSmallForm}
 use Rattle.octagon_meaning.specs.Forms.{combined_form, form_of, if_form, negated, slot_form, sum_form}
-use Rattle.octagon_meaning.specs.Ranges.{if_range, operation, range_at, range_of}
+use Rattle.octagon_meaning.specs.Ranges.{range_at, range_of}
 
 -- the greatest value of a node of m; the least of it is the negative of the greatest of the other node
 abbrev node_high : HalfMatrix → ℕ → ℤ
@@ -150,7 +151,7 @@ one-follows m (Some r) None p = none-follows m (word (negations r))
 one-follows m (Some r) (Some c) p = word-follows m (negations r) (Some (negated c)) (negated-follows m r c p)
 
 follows : (m : HalfMatrix) (t : Term) → FollowsIf m (range_of m t) (form_of t)
-unfolding range_of form_of
+unfolding range_by form_of
 follows m (Literal n) = (omega (arith, ints), omega (arith, ints))
 follows m (Slot x) = slot-follows m x
 follows m (Length a) = slot-follows m a

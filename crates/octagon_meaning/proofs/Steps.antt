@@ -1,13 +1,10 @@
 -- Simple statements: what a state describes stays described, and states that fit stay so.
-use Rattle.std.proofs.Common.{◌≡◌, ◌≢◌, refl, sym, ap, ◌∙◌, subst, ℕ, zero, suc, ◌<◌, ◌≤◌, nat_le, nat_lt, ℤ, pos, negsuc, ◌≤ℤ◌, Bool, true, false, ◌&&◌, List, [], ◌∷◌, length, replicate, slice_get, slice_index_or, slice_set, Option, Some, None, arith, if◌then◌else◌, inl, inr, get_or-set_other, get_or-set_same}
-use Rattle.std.proofs.lemmas.Int.{ints}
+use Rattle.std.proofs.Common.{◌≡◌, ◌≢◌, refl, sym, ap, ◌∙◌, subst, ℕ, zero, suc, ◌<◌, ℤ, pos, Bool, true, false, ◌&&◌, List, [], ◌∷◌, length, slice_get, slice_index_or, slice_set, Option, Some, None, arith, if◌then◌else◌, inl, inr, get_or-set_other, get_or-set_same}
 use Rattle.std.proofs.lemmas.Bool.{and_parts, cases_eq}
-use Rattle.std.proofs.lemmas.List.{length-set, length-replicate}
-use Rattle.std.proofs.lemmas.Bool.Decides.{nat_tests}
 use Rattle.std.specs.List.{AllZip}
 use Rattle.imp_slots.specs.Plain.{Numeric, Layout, Effect, Skip, Assert, SetInt, Input, ReadElement, ReadItem, MakeArray, CopyArray, WriteElement, SetNull, MakeCell, CopyLink, ReadNext, WriteNext, WriteItem, Act, DoBreak, Does}
 use Rattle.imp_slots.specs.Fits.{fits_term, fits_effect, is_int, is_array, is_link, is_kind}
-use Rattle.analysis_words.specs.declared.fault.FaultKind.TheVariants.{Length as TooLong, Index, Assert as Failed}
+use Rattle.analysis_words.specs.declared.fault.FaultKind.TheVariants.{Assert as Failed}
 use Rattle.concrete_sem.specs.Values.{Number, Int, Array, Variables, Heap, Gives, Faults, andthen, as_array, array_at, link_at, with_number, with_link}
 use Rattle.concrete_sem.specs.Evaluation.{value_of, truth_of}
 use Rattle.concrete_sem.specs.Effects.{effect_of, new_array, element, with_element, cell_of, take_input, with_cell}
@@ -25,16 +22,20 @@ use Rattle.dbm_core.specs.Valuations.{AgreeButAt, IsSatisfiedBy}
 use Rattle.dbm_close.specs.CloseOf.{close_of}
 use Rattle.dbm_close.specs.Laws.{AreInSlots}
 use Rattle.dbm_close.specs.declared.closed.Closed.{Closed}
-use Rattle.octagon_meaning.specs.Covers.{measure, values}
+use Rattle.numeric_slots.specs.Measures.{measure, longest}
+use Rattle.numeric_slots.proofs.Changes.{held, new_array-length, with_element-length}
+use Rattle.numeric_slots.proofs.Slots.{array-at}
+use Rattle.numeric_slots.proofs.Words.{gives-same}
+use Rattle.octagon_meaning.specs.Covers.{values}
 use Rattle.octagon_meaning.specs.Forms.{form_of, slot_form}
 use Rattle.octagon_meaning.specs.Matrices.{assigned, meets_range, without}
 use Rattle.octagon_meaning.specs.Operations.{kinds_of, assume, does, post}
-use Rattle.octagon_meaning.specs.Ranges.{longest, range_at, range_of}
+use Rattle.octagon_meaning.specs.Ranges.{range_at, range_of}
 use Rattle.octagon_meaning.specs.States.{closed}
 use Rattle.octagon_meaning.proofs.Fitting.{Ready, FitsMatrix, FitsState, Describes, fits-ready, close-fits, close-describes, closed-fits, closed-describes, after-fits, after-describes}
 use Rattle.octagon_meaning.proofs.Guards.{assume-fits, assume-describes, needs-fits, needs-describes}
 use Rattle.octagon_meaning.proofs.Matrices.{assigned-ready, assigned-satisfied, range-ready, range-satisfied, without-ready, without-satisfied, slot-value}
-use Rattle.octagon_meaning.proofs.Ranges.{gives-same, proper, range_at-covers, range_of-covers, form_of-value, array-at}
+use Rattle.octagon_meaning.proofs.Ranges.{proper, range_at-covers, range_of-covers, form_of-value}
 
 -- ---- states that fit
 
@@ -68,30 +69,6 @@ post-fits l (Does e) s f h = after-fits (kinds_of l.numbers) (kinds_of l.numbers
     (closed-fits (kinds_of l.numbers) (past_check assume (check_of e) s) (past_check-fits l (check_of e) s (check-fits l e f) h)) (λ m k. does-fits (kinds_of l.numbers) e m k)
 
 -- ---- values behind a statement
-
--- a claim that holds goes on
-held : (b : Bool) (m n : Heap × Variables) → (if b then Gives m else Faults Failed) ≡ Gives n → Gives m ≡ Gives n
-held true m n h = h
-held false m n h = cc
-
-new_array-length : (n : ℤ) (zs : List ℤ) → new_array n ≡ Gives zs → (pos (length zs) ≡ n) × (pos 0 ≤ℤ n) × (n ≤ℤ longest)
-new_array-length (pos n) zs h = by (nat_le n 1000000) refl h
-  where
-    by : (b : Bool) → nat_le n 1000000 ≡ b → (if b then Gives (replicate n (pos 0)) else Faults TooLong) ≡ Gives zs → (pos (length zs) ≡ pos n) × (pos 0 ≤ℤ pos n) × (pos n ≤ℤ longest)
-    by true e f =
-        let k : n ≤ 1000000 = grind (arith, nat_tests) in
-        let w : length zs ≡ n = ap length (sym (gives-same f)) ∙ length-replicate n (pos 0) in
-        (ap pos w, omega (arith, ints), omega (arith, ints))
-    by false e f = cc
-new_array-length (negsuc n) zs h = cc
-
-with_element-length : (zs : List ℤ) (i z : ℤ) (ys : List ℤ) → with_element zs i z ≡ Gives ys → length ys ≡ length zs
-with_element-length zs (pos k) z ys h = by (nat_lt k (length zs)) h
-  where
-    by : (b : Bool) → (if b then Gives (slice_set zs k z) else Faults Index) ≡ Gives ys → length ys ≡ length zs
-    by true f = ap length (sym (gives-same f)) ∙ length-set zs k z
-    by false f = cc
-with_element-length zs (negsuc k) z ys h = cc
 
 -- slot x gets another value, the others keep theirs
 pub others-agree : (v : Variables) (x : ℕ) (n : Number) → AgreeButAt x (values v) (values (with_number v x n))

@@ -10,14 +10,11 @@ use Rattle.dbm_close.specs.CloseOf.{some_below}
 use Rattle.dbm_close.specs.declared.closed.Closed.{Closed}
 use Rattle.dbm_close.specs.declared.closed.Closed.TheVariants.{Empty, Matrix}
 use Rattle.imp_slots.specs.Plain.{Layout}
-use Rattle.concrete_sem.specs.Values.{Number, Int, Array, Variables, Heap, number_at}
+use Rattle.concrete_sem.specs.Values.{Variables, Heap, number_at}
+use Rattle.numeric_slots.specs.Measures.{measure}
 use Rattle.octagon_meaning.specs.Operations.{kinds_of}
 
--- what a slot speaks of: an int, or the length of an array
-abbrev pub measure : Number → ℤ
-measure (Int z) = z
-measure (Array zs) = pos (length zs)
-
+-- what the slots of a frame measure
 abbrev pub values : Variables → ℕ → ℤ
 values v k = measure (number_at v k)
 

@@ -17,12 +17,14 @@ use Rattle.num_bounds.specs.Operations.{cut_of}
 use Rattle.domain_laws.specs.Checks.{check_of}
 use Rattle.domain_laws.specs.Guards.{assumed, past_check, verdict_by}
 use Rattle.analysis_words.specs.declared.verdict.Verdict.{Verdict}
+use Rattle.numeric_slots.specs.Measures.{longest}
+use Rattle.numeric_slots.specs.Ranges.{if_range}
 use Rattle.octagon_meaning.specs.declared.form.Form.{Form}
 use Rattle.octagon_meaning.specs.declared.source.Source.{Source}
 use Rattle.octagon_meaning.specs.declared.source.Source.TheVariants.{FromSlot, InRange}
 use Rattle.octagon_meaning.specs.Forms.{form_of, slot_form}
 use Rattle.octagon_meaning.specs.Matrices.{assigned, meets_range, side_at_least, side_at_most, with_difference, without}
-use Rattle.octagon_meaning.specs.Ranges.{if_range, longest, range_at, range_of}
+use Rattle.octagon_meaning.specs.Ranges.{range_at, range_of}
 use Rattle.octagon_meaning.specs.States.{after, closed, dead}
 
 -- Empty where a range is needed and there is none

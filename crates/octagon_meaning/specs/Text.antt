@@ -1,5 +1,5 @@
 -- The text of a state: the ranges of its closed slots, then the bounds on two slots that these do not give.
-use Rattle.std.specs.Prelude.{ℕ, zero, suc, ◌+◌, ◌*◌, ℤ, pos, negsuc, nat_eq, int_lt, Bool, true, false, List, [], ◌∷◌, ◌++◌, codes, if◌then◌else◌, Option, Some, None}
+use Rattle.std.specs.Prelude.{ℕ, ◌+◌, ◌*◌, ℤ, int_lt, Bool, true, false, List, [], ◌∷◌, ◌++◌, codes, if◌then◌else◌, Option, Some, None}
 use Rattle.std.specs.Fmt.{signed_decimal}
 use Rattle.dbm_core.specs.Half.{HalfMatrix, entry}
 use Rattle.dbm_core.specs.Nodes.{flip}
@@ -8,27 +8,9 @@ use Rattle.dbm_close.specs.Steps.{half}
 use Rattle.dbm_close.specs.declared.closed.Closed.{Closed}
 use Rattle.dbm_close.specs.declared.closed.Closed.TheVariants.{Empty, Matrix}
 use Rattle.imp_slots.specs.Plain.{Numeric, Layout}
-use Rattle.num_bounds.specs.Bounds.{Bounds}
+use Rattle.numeric_slots.specs.Texts.{name_text, range_text, space_at}
 use Rattle.octagon_meaning.specs.Ranges.{range_at}
 use Rattle.octagon_meaning.specs.States.{closed}
-
--- a number in decimal, but `max` for 2^63 - 1 and `min` for -2^63
-unfoldable pub end_text : ℤ → List ℕ
-end_text (pos n) = if nat_eq n 9223372036854775807 then codes "max" else signed_decimal (pos n)
-end_text (negsuc n) = if nat_eq n 9223372036854775807 then codes "min" else signed_decimal (negsuc n)
-
--- a slot's name, that of an array with `#` in front
-abbrev pub name_text : Numeric → List ℕ
-name_text k = (if k.is_array then codes "#" else []) ++ k.name
-
--- `x=[lo,hi]`
-unfoldable pub range_text : Numeric → Bounds → List ℕ
-range_text k r = name_text k ++ codes "=[" ++ end_text r.lo ++ codes "," ++ end_text r.hi ++ codes "]"
-
--- a space in front of each slot but the first
-abbrev pub space_at : ℕ → List ℕ
-space_at zero = []
-space_at (suc k) = codes " "
 
 -- the ranges of the slots from slot n on
 abbrev pub ranges_text : HalfMatrix → ℕ → List Numeric → List ℕ

@@ -1,5 +1,5 @@
-use Rattle.std.specs.Prelude.{◌≡◌, ◌<◌, ◌*◌}
-use Rattle.std.proofs.Common.{arith, ap, length, sym, subst, ◌∙◌}
+use Rattle.std.specs.Prelude.{◌≡◌}
+use Rattle.std.proofs.Common.{arith, ap, length, sym, ◌∙◌}
 use Rattle.std.proofs.lemmas.Int.{to_z-of_z}
 use mir.Syntax.{w128}
 use Rattle.dbm_core.proofs.HalfLemmas.{entry-coherent}

@@ -1,9 +1,6 @@
-use Rattle.std.specs.Prelude.{IfOk, ◌≡◌, ◌^◌, Result, Ok, Err}
-use Rattle.std.proofs.Common.{arith}
-use Rattle.dbm_core.proofs.LimitLemmas.{zero-at_most}
+use Rattle.std.specs.Prelude.{◌≡◌, ◌^◌}
 use Rattle.dbm_core.proofs.ValuationLemmas.{entries-if_ok-then}
-use Rattle.dbm_close.proofs.RoundLemmas.{AreWithin-more}
-use Rattle.dbm_core.specs.Half.{HalfMatrix, HasEntries, entry, nodes}
+use Rattle.dbm_core.specs.Half.{HasEntries, entry}
 use Rattle.dbm_core.specs.Limits.{IsLimited}
 use Rattle.dbm_core.specs.Operations.{forgotten}
 use Rattle.octagon_meaning.proofs.Exact.{without-is}

@@ -1,4 +1,4 @@
-use Rattle.std.specs.Prelude.{IfOk, ◌≡◌, ◌*◌, ℕ, Some, pos}
+use Rattle.std.specs.Prelude.{IfOk, ◌≡◌, ◌*◌, Some, pos}
 use Rattle.std.proofs.Common.{length}
 use Rattle.octagon_meaning.proofs.Calls.{zeros-coherent}
 use Rattle.dbm_core.specs.Tables.{matrix_of}

@@ -1,9 +1,5 @@
-use Rattle.std.proofs.Common.{◌≡◌, ◌<◌, ℕ, subst, sym, length, inl, inr}
-use Rattle.std.proofs.lemmas.Bool.{cases_lt}
-use Rattle.dbm_core.specs.Half.{entry}
-use Rattle.num_bounds.specs.Bounds.{IsRange}
+use Rattle.std.proofs.Common.{subst, sym}
 use Rattle.octagon_meaning.specs.Claims.{IsSmallForm}
-use Rattle.octagon_meaning.specs.Ranges.{range_at}
 use Rattle.octagon_meaning.proofs.Small.{forms-are_small}
 use Rattle.dom_octagon.proofs.Words.{ranges-are}
 use Rattle.dom_octagon.proofs.evaluate.known.Goals as goal

@@ -1,0 +1,5 @@
+pub mod Words
+pub mod Slots
+pub mod Changes
+pub mod Expressions
+pub mod Written

@@ -1,0 +1,4 @@
+pub mod Measures
+pub mod Ranges
+pub mod Texts
+pub mod Claims
