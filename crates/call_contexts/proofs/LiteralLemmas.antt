@@ -5,7 +5,7 @@ use Rattle.std.specs.Prelude.{if◌then◌else◌}
 use Rattle.std.specs.Option.{option_map}
 use Rattle.imp_syntax.specs.Plain.{Statements, Ends, Starts, Procedure, numbers}
 use Rattle.imp_syntax.specs.Plain as tree
-use Rattle.imp_slots.specs.Plain.{Effect, Routine}
+use Rattle.imp_slots.specs.Plain.{Effect}
 use Rattle.imp_slots.specs.Plain as plain
 use Rattle.imp_slots.specs.ActionViews.{effect_of, action_of}
 use Rattle.imp_check.specs.Slots.{Frame, code_in, routine_of, routines_from, routines_of, effect_in, guard_in}

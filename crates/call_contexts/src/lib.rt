@@ -16,11 +16,13 @@
 mod counts;
 mod differences;
 mod filtered;
+mod following;
 mod joining;
 mod literals;
 mod loops;
 mod marking;
 mod numbers;
+mod part;
 mod places;
 mod setting;
 mod table;

@@ -1,166 +1,28 @@
 //! How the loops of a program are interpreted.
-ghost use Rattle.std.specs.Prelude.{◌≡◌, ◌<◌, ◌++◌, ◌∷◌, [], ◌&&◌, ℕ, true, List, length, slice_get, IfOk, OnOk, Some};
-ghost use Rattle.std.specs.Bool.{OnTrue};
-ghost use Rattle.std.specs.BTreeSet.{contains};
-ghost use Rattle.std.specs.Ordering.{nat_cmp};
-ghost use Rattle.imp_syntax.specs.Plain.{Procedure};
+ghost use Rattle.std.specs.Prelude.{◌≡◌, ◌++◌, ◌∷◌, [], IfOk, OnOk};
 ghost use Rattle.imp_check.specs.Slots.{routines_of};
-ghost use Rattle.imp_check.specs.Entries.{entries_of, entry_of};
-ghost use Rattle.imp_check.specs.Fine.{IsFine};
-ghost use Rattle.imp_check.specs.Changes.{AreFalling, Makes};
-ghost use Rattle.call_contexts.specs.Settings.{engine_of, all_marks, setting_of, marks_at, loops_at, IsPart};
-ghost use Rattle.call_contexts.specs.Tallies.{all_tallies};
-ghost use Rattle.call_contexts.specs.Loops.{all_loops};
-ghost use Rattle.call_contexts.specs.Touches.{Brings, touches};
+ghost use Rattle.call_contexts.specs.Settings.{engine_of, setting_of, marks_at, loops_at};
 
-use crate::counts::Counts;
-use crate::differences::Differences;
 use crate::loops::Loops;
-use crate::marking::{marks, marks_of};
+use crate::part::{Marks, Part, Tally};
 use crate::table::procedure_count;
-use crate::tallying::{changed, tally};
-use crate::touched::touched_places;
-use imp_check::{Change, Put, Table, View};
+use imp_check::View;
 use imp_syntax::{ProcId, StmtId};
 use plain_values::{Items, Memory};
-use program_chains::{Widening, marks_rise};
-use std::alloc::{AllocError, Global};
-use std::collections::BTreeSet;
+use program_chains::Widening;
+use std::alloc::Global;
 use std::marker::Model;
-use std::rc::Rc;
-
-/// The marks of a procedure. Copies share them.
-#[derive(Drop)]
-struct Marks {
-    marks: Rc<Items<i64>>,
-}
-
-impl Model for Marks {
-    ghost use Rattle.std.specs.Prelude.{ℤ, List};
-    ghost use Rattle.std.specs.Coded.{coded_list, coded_ℤ};
-
-    ghost Value = { List ℤ };
-
-    ghost coded = { coded_list coded_ℤ };
-
-    ghost view = { λ a. a.marks.value };
-}
-
-impl Clone for Marks {
-    ghost is_clone = { λ m copy. copy ≡ m };
-
-    fn clone(&self) -> Result<Marks, AllocError> {
-        let marks = self.marks.clone()?;
-        Ok(Marks { marks })
-    }
-}
-
-impl Marks {
-    fn new(alloc: Global, marks: Items<i64>) -> Result<Marks, Memory>
-        ensures is { IfOk result (λ m. m ≡ marks) }
-    {
-        let marks = Rc::new(alloc, marks)?;
-        Ok(Marks { marks })
-    }
-
-    fn as_slice(&self) -> &[i64]
-        ensures is { result.now ≡ self.now }
-    {
-        self.marks.as_slice()
-    }
-}
-
-/// In how many statements of a procedure each of its numbers stands. Copies share it.
-#[derive(Drop)]
-struct Tally {
-    counts: Rc<Counts>,
-}
-
-impl Model for Tally {
-    ghost use Rattle.std.specs.Prelude.{ℕ, List};
-    ghost use Rattle.call_contexts.specs.Tallies.{tally_code};
-
-    ghost Value = { List (ℕ × ℕ) };
-
-    ghost coded = { tally_code };
-
-    ghost view = { λ a. a.counts.value };
-}
-
-impl Clone for Tally {
-    ghost is_clone = { λ t copy. copy ≡ t };
-
-    fn clone(&self) -> Result<Tally, AllocError> {
-        let counts = self.counts.clone()?;
-        Ok(Tally { counts })
-    }
-}
-
-impl Tally {
-    fn new(alloc: Global, counts: Counts) -> Result<Tally, Memory>
-        ensures is { IfOk result (λ t. t ≡ counts) }
-    {
-        let counts = Rc::new(alloc, counts)?;
-        Ok(Tally { counts })
-    }
-
-    fn counts(&self) -> &Counts
-        ensures is { result.now ≡ self.now }
-    {
-        &self.counts
-    }
-}
-
-/// The marks of a procedure, in how many of its statements each of its numbers stands, and its loops.
-#[derive(Drop)]
-struct Part {
-    marks: Marks,
-    tally: Tally,
-    loops: Loops,
-}
-
-impl Part {
-    /// The part of a procedure, made of its statements.
-    fn new(alloc: Global, widening: Widening, prog: &View<'_>, proc: ProcId) -> Result<Part, Memory>
-        requires there { proc < length prog.now }
-        ensures is { IfOk result (λ part. IsPart widening (routines_of prog.now) proc part.marks part.tally part.loops) }
-    {
-        let marks = Marks::new(alloc, marks(alloc, widening, prog, proc)?)?;
-        let tally = Tally::new(alloc, tally(alloc, widening, prog, proc)?)?;
-        let loops = Loops::new(alloc, prog, proc)?;
-        Ok(Part {
-            marks,
-            tally,
-            loops,
-        })
-    }
-
-    /// The part of these marks and this tally, which it shares, and of these loops.
-    fn shared(marks: &Marks, tally: &Tally, loops: Loops) -> Result<Part, Memory>
-        ensures marks { IfOk result (λ part. part.marks ≡ marks.now) }
-        ensures tally { IfOk result (λ part. part.tally ≡ tally.now) }
-        ensures loops { IfOk result (λ part. part.loops ≡ loops) }
-    {
-        let marks = marks.clone()?;
-        let tally = tally.clone()?;
-        Ok(Part {
-            marks,
-            tally,
-            loops,
-        })
-    }
-}
 
 /// How the loops of a program are interpreted: how often their iterates are made and how, with the
 /// marks of each procedure. It counts in how many statements of each procedure a number stands, so that it knows after a
 /// change whether the procedure still has the same numbers. It also knows the loops of each procedure.
 #[derive(Drop)]
 pub struct Setting {
-    budget: u32,
-    widening: Widening,
-    marks: Items<Marks>,
-    tallies: Items<Tally>,
-    loops: Items<Loops>,
+    pub(crate) budget: u32,
+    pub(crate) widening: Widening,
+    pub(crate) marks: Items<Marks>,
+    pub(crate) tallies: Items<Tally>,
+    pub(crate) loops: Items<Loops>,
 }
 
 impl Model for Setting {
@@ -175,7 +37,7 @@ impl Model for Setting {
 }
 
 /// A setting of no procedures yet.
-fn no_parts(alloc: Global, budget: u32, widening: Widening) -> Setting
+pub(crate) fn no_parts(alloc: Global, budget: u32, widening: Widening) -> Setting
     ensures is { result ≡ record { engine = engine_of budget widening; marks = []; tallies = []; loops = [] } }
 {
     Setting {
@@ -184,29 +46,6 @@ fn no_parts(alloc: Global, budget: u32, widening: Widening) -> Setting
         marks: Items::new(alloc),
         tallies: Items::new(alloc),
         loops: Items::new(alloc),
-    }
-}
-
-/// The loops of a procedure after a change, where these procedures are touched, and these were its loops.
-fn loops_over(
-    alloc: Global,
-    old: &View<'_>,
-    new: &View<'_>,
-    puts: &[Put],
-    touched: &BTreeSet<u32>,
-    proc: ProcId,
-    before: &Loops,
-) -> Result<Loops, Memory>
-    requires brings { Brings old.now new.now puts.now }
-    requires touched { (k : ℕ) → contains nat_cmp touched.now k ≡ touches (entry_of (entries_of old.now)) puts.now k }
-    requires before { slice_get (all_loops (routines_of old.now)) proc ≡ Some before.now }
-    requires there { proc < length new.now }
-    ensures are { IfOk result (λ loops. slice_get (all_loops (routines_of new.now)) proc ≡ Some loops) }
-{
-    if touched.contains(&proc.place()) {
-        before.after(alloc, old, new, puts, proc)
-    } else {
-        Ok(before.clone()?)
     }
 }
 
@@ -229,7 +68,7 @@ impl Setting {
     }
 
     /// Adds the part of one more procedure.
-    fn push(&mut self, part: Part) -> Result<(), Memory>
+    pub(crate) fn push(&mut self, part: Part) -> Result<(), Memory>
         ensures engine { self.new.engine ≡ self.old.engine }
         ensures marks { OnOk result (self.new.marks ≡ self.old.marks ++ part.marks ∷ []) }
         ensures tallies { OnOk result (self.new.tallies ≡ self.old.tallies ++ part.tally ∷ []) }
@@ -272,146 +111,5 @@ impl Setting {
             Some(loops) => loops.as_slice(),
             None => &[],
         }
-    }
-
-    /// The setting of the program that a change makes, where this is that of the program before it. Procedures that keep
-    /// the set of their numbers share their marks with this setting; the marks of others are made of the numbers that are
-    /// counted then. Procedures that keep their loops share these, and those where the numbers that come are those that go
-    /// share what is counted. It takes time linear in the change and in the number of procedures. Where other numbers come
-    /// than go, it also takes time linear in the different numbers of the procedure, times the logarithm of these where
-    /// their set changes; where loops come or go, in its loops, times the logarithm of these; and for a procedure more the
-    /// time of [`marks`]. It fails for want of memory alone.
-    pub fn after(&self, alloc: Global, table: &Table, change: &Change) -> Result<Setting, Memory>
-        ghost program: { List Procedure }
-        requires makes { Makes table.now.program change.now program }
-        requires fine { IsFine program }
-        requires falling { AreFalling change.now.entries.items }
-        requires before { self.now ≡ setting_of self.now.engine (routines_of table.now.program) }
-        ensures is { IfOk result (λ setting. setting ≡ setting_of self.now.engine (routines_of program)) }
-    {
-        let old = table.view();
-        let new = table.changed(change);
-        old.procs();
-        new.procs();
-        self.over(alloc, &old, &new, change.entries.as_slice())
-    }
-
-    /// The setting of a program that has these entries over those of the program before it.
-    fn over(
-        &self,
-        alloc: Global,
-        old: &View<'_>,
-        new: &View<'_>,
-        puts: &[Put],
-    ) -> Result<Setting, Memory>
-        requires brings { Brings old.now new.now puts.now }
-        requires before { self.now ≡ setting_of self.now.engine (routines_of old.now) }
-        ensures is { IfOk result (λ setting. setting ≡ setting_of self.now.engine (routines_of new.now)) }
-    {
-        let touched = touched_places(alloc, old, puts)?;
-        let mut setting = no_parts(alloc, self.budget, self.widening);
-        for place in 0..procedure_count(new) {
-            setting.push(self.part_over(alloc, old, new, puts, &touched, ProcId::new(place))?)?;
-        }
-        Ok(setting)
-    }
-
-    /// The part of a procedure of that program, where these procedures are touched.
-    fn part_over(
-        &self,
-        alloc: Global,
-        old: &View<'_>,
-        new: &View<'_>,
-        puts: &[Put],
-        touched: &BTreeSet<u32>,
-        proc: ProcId,
-    ) -> Result<Part, Memory>
-        requires brings { Brings old.now new.now puts.now }
-        requires before { self.now ≡ setting_of self.now.engine (routines_of old.now) }
-        requires touched { (k : ℕ) → contains nat_cmp touched.now k ≡ touches (entry_of (entries_of old.now)) puts.now k }
-        requires there { proc < length new.now }
-        ensures is { IfOk result (λ part. IsPart self.now.engine.widening (routines_of new.now) proc part.marks part.tally part.loops) }
-    {
-        let place = proc.place() as usize;
-        let (Some(marks), Some(tally), Some(before)) = (
-            self.marks.get(place),
-            self.tallies.get(place),
-            self.loops.get(place),
-        ) else {
-            return Part::new(alloc, self.widening, new, proc);
-        };
-        let loops = loops_over(alloc, old, new, puts, touched, proc, before)?;
-        if self.recounts(touched, proc) {
-            self.changed_part(alloc, old, new, puts, proc, marks, tally, loops)
-        } else {
-            Part::shared(marks, tally, loops)
-        }
-    }
-
-    /// Whether a procedure may have other marks, where these are touched.
-    fn recounts(&self, touched: &BTreeSet<u32>, proc: ProcId) -> bool
-        ensures is { result ≡ (self.now.engine.widening.thresholds && contains nat_cmp touched.now proc) }
-    {
-        self.widening.thresholds && touched.contains(&proc.place())
-    }
-
-    /// The part of a procedure that a change touches, where it had these marks and this tally, and has these loops.
-    fn changed_part(
-        &self,
-        alloc: Global,
-        old: &View<'_>,
-        new: &View<'_>,
-        puts: &[Put],
-        proc: ProcId,
-        before: &Marks,
-        tally: &Tally,
-        loops: Loops,
-    ) -> Result<Part, Memory>
-        requires brings { Brings old.now new.now puts.now }
-        requires thresholds { self.now.engine.widening.thresholds ≡ true }
-        requires marks { slice_get (all_marks self.now.engine.widening (routines_of old.now)) proc ≡ Some before.now }
-        requires tally { slice_get (all_tallies self.now.engine.widening (routines_of old.now)) proc ≡ Some tally.now }
-        requires loops { slice_get (all_loops (routines_of new.now)) proc ≡ Some loops }
-        requires there { proc < length new.now }
-        ensures is { IfOk result (λ part. IsPart self.now.engine.widening (routines_of new.now) proc part.marks part.tally part.loops) }
-    {
-        let differences = Differences::new(alloc, old, puts, proc)?;
-        if differences.are_none() {
-            return Part::shared(before, tally, loops);
-        }
-        let (lost, gained) = (differences.lost(), differences.gained());
-        let counts = changed(alloc, tally.counts(), lost, gained)?;
-        let is_kept = counts.has_same_numbers(tally.counts());
-        let marks = self.marks_over(alloc, new, proc, before, &counts, is_kept)?;
-        Ok(Part {
-            marks,
-            tally: Tally::new(alloc, counts)?,
-            loops,
-        })
-    }
-
-    /// The marks of a procedure that has these counts. They are those before where they are kept, and are else made of the
-    /// numbers that are counted.
-    fn marks_over(
-        &self,
-        alloc: Global,
-        new: &View<'_>,
-        proc: ProcId,
-        before: &Marks,
-        counts: &Counts,
-        is_kept: bool,
-    ) -> Result<Marks, Memory>
-        requires thresholds { self.now.engine.widening.thresholds ≡ true }
-        requires counts { slice_get (all_tallies self.now.engine.widening (routines_of new.now)) proc ≡ Some counts.now }
-        requires kept { OnTrue is_kept (slice_get (all_marks self.now.engine.widening (routines_of new.now)) proc ≡ Some before.now) }
-        ensures are { IfOk result (λ marks. slice_get (all_marks self.now.engine.widening (routines_of new.now)) proc ≡ Some marks) }
-    {
-        if is_kept {
-            return Ok(before.clone()?);
-        }
-        new.procs();
-        marks_rise();
-        let numbers = counts.numbers(alloc)?;
-        Marks::new(alloc, marks_of(alloc, numbers.as_slice())?)
     }
 }

@@ -3,7 +3,7 @@ use Rattle.std.specs.Bool.{OnTrue}
 use Rattle.std.specs.Map.{keys_of}
 use Rattle.std.specs.Prelude.{◌≡◌}
 use Rattle.imp_check.specs.Slots.{routines_of}
-use Rattle.call_contexts.specs.declared.setting.Part.{Part}
+use Rattle.call_contexts.specs.declared.part.Part.{Part}
 use Rattle.call_contexts.proofs.Parted.{tally_changed, marks_kept_if, made_of, part_same, shared_part}
 use Rattle.call_contexts.proofs.setting.Setting.changed_part.Goals as goal
 

@@ -3,7 +3,7 @@ use Rattle.std.specs.BTreeSet.{contains}
 use Rattle.std.specs.Ordering.{nat_cmp}
 use Rattle.imp_check.specs.Slots.{routines_of}
 use Rattle.call_contexts.specs.Settings.{Setting}
-use Rattle.call_contexts.specs.declared.setting.Part.{Part}
+use Rattle.call_contexts.specs.declared.part.Part.{Part}
 use Rattle.call_contexts.proofs.Parted.{part_kept, shared_part}
 use Rattle.call_contexts.proofs.setting.Setting.part_over.Goals as goal
 

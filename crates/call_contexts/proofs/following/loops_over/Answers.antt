@@ -2,7 +2,7 @@ use Rattle.std.proofs.Common.{Some, sym, ap, ◌∙◌}
 use Rattle.std.specs.BTreeSet.{contains}
 use Rattle.std.specs.Ordering.{nat_cmp}
 use Rattle.call_contexts.proofs.Looped.{untouched_loops}
-use Rattle.call_contexts.proofs.setting.loops_over.Goals as goal
+use Rattle.call_contexts.proofs.following.loops_over.Goals as goal
 
 pub returns-in_ok-clone : goal.returns-in_ok-clone
 returns-in_ok-clone c =
