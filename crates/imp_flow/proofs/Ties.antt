@@ -2,9 +2,7 @@
 use Rattle.std.proofs.lemmas.List.{length-append, reverse-reverse}
 use Rattle.std.proofs.Common.{◌≡◌, ℕ, zero, suc, ◌<◌, ◌==◌, ℤ, cond, List, [], ◌∷◌, ◌++◌, length, map, reverse, Option, Some, None, Bool, true, false, if◌then◌else◌, nat_lt, slice_get, refl, sym, ap, ◌∙◌, subst, arith, append_assoc, append-nil}
 use Rattle.std.specs.Option.{option_map}
-use Rattle.imp_slots.specs.Plain.{Guard, Invoke, Code, Stop, Simple, If, While, Call, Break, Routine}
-use Rattle.imp_slots.specs.Plain as plain
-use Rattle.imp_slots.specs.ActionViews.{effect_of, action_of}
+use Rattle.imp_slots.specs.Plain.{Guard, Code, Stop, Simple, If, While, Call, Break, Routine}
 use Rattle.program_chains.specs.Marks.{marks}
 use Rattle.batch_meaning.specs.Batch.{Engine}
 use Rattle.batch_meaning.specs.Places.{find, if_some, from}
@@ -22,6 +20,7 @@ use Rattle.cell_rows.specs.Targets.{Text, text, deeper, texts}
 use Rattle.cell_rows.specs.Flat.{Flat, flat_of, flat, stand_in, by_text, flat_row}
 use Rattle.imp_flow.specs.declared.node.Leave.{Leave}
 use Rattle.call_contexts.specs.Settings.{or_no_marks}
+use Rattle.call_contexts.proofs.LiteralLemmas.{effect_again}
 use Rattle.imp_flow.specs.Shapes.{Node}
 use Rattle.imp_flow.specs.Nodes.{leaving, body_end, shape_of, node_in, block_nodes, nodes_of, node_of}
 use Rattle.imp_flow.specs.NodeRows.{breaks_of, fronts_of, iterate_at, joined_at, where_so, joins_at, behind_loop, post_at, enter_at, branch_at, turn_at, next_at, fix_at, exit_at, leap_at}
@@ -183,23 +182,6 @@ find_node ps n (x ∷ xs) h =
     by_test (number x.1.text.code) n (λ c. cond c (Some (flat_entry x)) (node_of (map flat_entry xs) n) ≡ option_map flat_node (if n == x.0 then Some x.1 else find n xs))
     (λ e. by_test n x.0 (λ d. Some (flat_entry x) ≡ option_map flat_node (if d then Some x.1 else find n xs)) (λ k. refl) (λ k. absurd (k (sym (own ∙ e)))))
     (λ e. by_test n x.0 (λ d. node_of (map flat_entry xs) n ≡ option_map flat_node (if d then Some x.1 else find n xs)) (λ k. absurd (e (sym (k ∙ own)))) (λ k. rest))
-
-effect_again : (e : plain.Effect) → effect_of (action_of e) ≡ e
-effect_again plain.Skip = refl
-effect_again (plain.Assert c) = refl
-effect_again (plain.SetInt x e) = refl
-effect_again (plain.Input x) = refl
-effect_again (plain.ReadElement x a e) = refl
-effect_again (plain.ReadItem x q) = refl
-effect_again (plain.MakeArray a e) = refl
-effect_again (plain.CopyArray a b) = refl
-effect_again (plain.WriteElement a e f) = refl
-effect_again (plain.SetNull p) = refl
-effect_again (plain.MakeCell p) = refl
-effect_again (plain.CopyLink p q) = refl
-effect_again (plain.ReadNext p q) = refl
-effect_again (plain.WriteNext p q) = refl
-effect_again (plain.WriteItem p e) = refl
 
 module _ (engine : Engine) (w : List Frame) where
   abbrev B : Type 0
