@@ -1,5 +1,5 @@
 -- The statements of a block and what is known at them.
-use Rattle.std.specs.Prelude.{◌≡◌, ◌≢◌, ℕ, ℤ, List, [], ◌∷◌, ◌++◌, slice_get, Some, if◌then◌else◌}
+use Rattle.std.specs.Prelude.{◌≡◌, ◌≢◌, ℕ, ℤ, List, [], ◌∷◌, slice_get, Some, if◌then◌else◌}
 use Rattle.std.proofs.Common.{refl, sym, ap, subst}
 use Rattle.plain_values.proofs.Cases.{by_test, some_inj}
 use Rattle.plain_values.proofs.Members.{Member, here, there, in_left, in_right, Each, none_there, each_more, each_both, each_as, keys, keys_both}

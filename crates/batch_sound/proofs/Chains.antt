@@ -1,9 +1,9 @@
 -- Chains that runs take are among those of the program.
-use Rattle.std.specs.Prelude.{◌≡◌, ℕ, zero, suc, ◌+◌, List, [], ◌∷◌, ◌++◌, map, slice_get, Some, Bool, true, false, if◌then◌else◌}
+use Rattle.std.specs.Prelude.{◌≡◌, ℕ, zero, suc, ◌+◌, List, [], ◌∷◌, map, slice_get, Some, Bool, true, false, if◌then◌else◌}
 use Rattle.std.proofs.Common.{refl, sym, subst, arith}
 use Rattle.imp_slots.proofs.Distinct.{left_once, right_once}
 use Rattle.imp_slots.specs.Plain.{Routine, code_numbers}
-use Rattle.imp_slots.specs.Fits.{Absent, Distinct, routine_numbers}
+use Rattle.imp_slots.specs.Fits.{Distinct, routine_numbers}
 use Rattle.program_chains.specs.Chains.{calls_to, extended, through, ends_in, ending_in, has}
 use Rattle.plain_values.proofs.Cases.{by_test}
 use Rattle.plain_values.proofs.Members.{Member, here, there, in_left, in_right}

@@ -1,16 +1,15 @@
 -- What the functions of Names owe, over the steps and names that are kept.
-use Rattle.std.proofs.Common.{◌≡◌, ℕ, zero, suc, ◌≤◌, ◌<◌, List, [], ◌∷◌, ◌++◌, length, map, Bool, true, Option, Some, None, slice_get, IfSome, ◌⊎◌, ⊎_elim, inl, inr, refl, sym, ap, ap₂, ◌∙◌, subst, arith, length-append}
+use Rattle.std.proofs.Common.{◌≡◌, ℕ, zero, suc, ◌≤◌, ◌<◌, List, [], ◌∷◌, ◌++◌, length, map, Option, Some, None, slice_get, IfSome, ◌⊎◌, ⊎_elim, inl, inr, refl, sym, ap, ap₂, ◌∙◌, subst, arith, length-append}
 use Rattle.std.specs.Option.{option_map}
 use Rattle.std.proofs.lemmas.List.{length-map, map-append}
-use Rattle.std.proofs.lemmas.Option.{slice_get_within, slice_get-map}
+use Rattle.std.proofs.lemmas.Option.{slice_get-map}
 use Rattle.plain_values.proofs.Cases.{some_inj}
-use Rattle.state_table.specs.Numbers as table
 use Rattle.cell_names.specs.declared.frame.Frame.{Frame}
 use Rattle.cell_names.specs.declared.path.Step.{Step}
 use Rattle.cell_names.specs.declared.path.Name.{Name}
-use Rattle.cell_names.specs.Paths.{CellName, or_root, path_at, paths_from, paths_of, name_in}
-use Rattle.cell_names.specs.Known.{Known, known_of, KeepsNumbers, IsOnce, Adds, StepsWithin, NamesWithin, IsKept}
-use Rattle.cell_names.proofs.PathLemmas.{within, path_by, path-of-step, path-of-root, paths_of-length, path_at-kept, paths_from-append, append-keeps, append-last}
+use Rattle.cell_names.specs.Paths.{CellName, or_root, path_at, paths_of, name_in}
+use Rattle.cell_names.specs.Known.{Known, known_of, IsOnce, Adds, IsKept}
+use Rattle.cell_names.proofs.PathLemmas.{within, path_by, path-of-step, path-of-root, paths_of-length, path_at-kept, paths_from-append, append-keeps}
 use Rattle.cell_names.proofs.OnceLemmas.{step-of-path, paths-once, names-same}
 
 abbrev pub step_of : ℕ → Frame → Step

@@ -1,15 +1,14 @@
 -- Paths and names have one number.
-use Rattle.std.proofs.Common.{◌≡◌, ℕ, zero, suc, ◌≤◌, ◌<◌, List, [], ◌∷◌, ◌++◌, length, map, Bool, true, Option, Some, None, slice_get, IfSome, refl, sym, ap, ap₂, ◌∙◌, subst, arith, inl, inr}
-use Rattle.std.specs.Option.{option_map}
-use Rattle.std.proofs.lemmas.Option.{slice_get_within, slice_get-map}
+use Rattle.std.proofs.Common.{◌≡◌, ℕ, zero, suc, ◌≤◌, ◌<◌, List, [], ◌∷◌, length, Bool, true, Some, slice_get, refl, sym, ap, ap₂, ◌∙◌, arith}
+use Rattle.std.proofs.lemmas.Option.{slice_get_within}
 use Rattle.state_table.specs.Numbers as table
 use Rattle.cell_names.specs.declared.frame.Frame.{Frame}
 use Rattle.cell_names.specs.declared.frame.Point.{Point}
 use Rattle.cell_names.specs.declared.path.Step.{Step}
 use Rattle.cell_names.specs.declared.path.Name.{Name}
-use Rattle.cell_names.specs.Paths.{CellName, or_root, path_at, paths_from, paths_of, name_in}
-use Rattle.cell_names.specs.Known.{KeepsNumbers, IsOnce, Adds, StepsWithin, NamesWithin}
-use Rattle.cell_names.proofs.PathLemmas.{within, path_by, path-of-step, path-of-root, paths_of-length, path_at-kept, paths_from-append, append-keeps}
+use Rattle.cell_names.specs.Paths.{CellName, or_root, path_at, paths_of, name_in}
+use Rattle.cell_names.specs.Known.{IsOnce, StepsWithin}
+use Rattle.cell_names.proofs.PathLemmas.{within, path_by, path-of-step, path-of-root, paths_of-length}
 
 -- equal values have one place where they are told apart
 pub once_told : {A : Type 0} (eq : A → A → Bool) → (xs : List A) → table.AreOnce eq xs → ((x : A) → eq x x ≡ true) → IsOnce xs

@@ -1,5 +1,5 @@
 -- The paths and names that have numbers.
-use Rattle.std.specs.Prelude.{◌≡◌, ℕ, ◌≤◌, ◌<◌, List, [], ◌∷◌, ◌++◌, Some, slice_get, length, map, ◌⊎◌}
+use Rattle.std.specs.Prelude.{◌≡◌, ℕ, ◌≤◌, List, [], ◌∷◌, ◌++◌, Some, slice_get, length, map, ◌⊎◌}
 use Rattle.cell_names.specs.declared.frame.Frame.{Frame}
 use Rattle.cell_names.specs.declared.path.Name.{Name}
 use Rattle.cell_names.specs.declared.path.Step.{Step}

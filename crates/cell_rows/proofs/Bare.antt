@@ -12,7 +12,7 @@ use Rattle.cell_names.specs.declared.frame.Point.TheVariants.{Entry, Then, Else,
 use Rattle.cell_names.specs.Paths.{CellName}
 use Rattle.cell_rows.specs.Names.{Scope, name, Mark, mark, At, Algebra, Place, bare, breaks, break_numbers, place_of, leap_of, behind_it, inside, entry, level, level_of, start_of, in_call, in_loop, round_place, statement, follow, when, branch_mark, post_mark, next_mark, fix_mark, exit_mark, leap_mark, mark_at, mark_of, is_entry}
 use Rattle.cell_rows.specs.Rows as R
-use Rattle.cell_rows.specs.Rows.{Row, row_at, row, branch_row, post_row, next_row, fix_row, exit_row, leap_row, enter_row, turn_row, joins_row, loop_row}
+use Rattle.cell_rows.specs.Rows.{Row, row_at, branch_row, post_row, next_row, fix_row, exit_row, leap_row, enter_row, turn_row, loop_row}
 
 abbrev pub bare_mark : {V : Type 0} → Mark V → Mark (Unit {0})
 bare_mark m = mark m.point m.rank tt

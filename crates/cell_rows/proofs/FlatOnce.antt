@@ -1,6 +1,6 @@
 -- In a checked program each statement number stands in the table once.
 use Rattle.std.proofs.lemmas.List.{reverse-append, length-reverse}
-use Rattle.std.proofs.Common.{◌<◌, zero, suc, reverse, slice_get, Option, None, arith, append_assoc, append-nil, ◌≡◌, ℕ, List, [], ◌∷◌, ◌++◌, length, map, Some, refl, sym, ap, ◌∙◌, subst, ◌⊎◌, inl, inr}
+use Rattle.std.proofs.Common.{◌<◌, zero, suc, reverse, slice_get, Option, None, arith, append_assoc, append-nil, ◌≡◌, ℕ, List, [], ◌∷◌, ◌++◌, length, map, Some, refl, sym, ap, ◌∙◌, subst, inl, inr}
 use Rattle.imp_slots.proofs.Distinct.{not_in, left_once, right_once}
 use Rattle.imp_slots.specs.Plain.{Layout, Code, Stop, Simple, If, While, Call, Break, Routine, code_numbers}
 use Rattle.imp_slots.specs.Fits.{Absent, Distinct, FitsCall, FitsCode, IsChecked, routine_numbers}

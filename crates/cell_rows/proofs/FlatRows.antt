@@ -13,7 +13,7 @@ use Rattle.plain_values.proofs.Members.{Member, here, there, in_left, in_right, 
 use Rattle.batch_meaning.proofs.Places.{found}
 use Rattle.cell_rows.specs.Names.{Scope, scope_of, name, Mark, mark, Place, bare, number, entry, start_of, in_call, in_loop, iterate_point, round_place, statement, follow, when}
 use Rattle.cell_rows.specs.Rows as R
-use Rattle.cell_rows.specs.Rows.{Row, Init, One, Two, sites_of, row_at, branch_row, post_row, next_row, fix_row, exit_row, leap_row, enter_row, turn_row, loop_row, last_point}
+use Rattle.cell_rows.specs.Rows.{Row, Init, One, Two, row_at, branch_row, post_row, next_row, fix_row, exit_row, leap_row, enter_row, turn_row, loop_row, last_point}
 use Rattle.cell_rows.specs.Targets.{Text, text, deeper, texts}
 use Rattle.cell_rows.specs.Flat.{Flat, flat_of, flat, stand_in, by_text, flat_row}
 use Rattle.cell_rows.proofs.Lookup.{Stands, unstated, then_some}

@@ -20,7 +20,7 @@ use Rattle.batch_meaning.proofs.Places.{found_member}
 use Rattle.cell_rows.specs.Blocks.{iterate_at}
 use Rattle.cell_rows.specs.Names.{Scope, scope_of, name, Mark, mark, At, Algebra, Place, number, breaks, break_numbers, place_of, item, span, body_span, behind_it, inside, level_of, last, leaves, AllFine, start_of, in_call, in_loop, iterate_point, iterate_mark, round_place, statement, follow, when, branch_mark, post_mark, next_mark, fix_of, fix_mark, exit_of, exit_mark, leap_of, leap_mark, mark_at, mark_of, is_entry}
 use Rattle.cell_rows.specs.Rows as R
-use Rattle.cell_rows.specs.Rows.{next_operation, Unary, Posts, Assumes, Enters, Exits, Binary, JoinsBoth, Leaves, Widens, Row, Init, One, Two, Fixed as FixedRow, Joins, last_point, leave_points, joined_point, branch_row, post_row, next_row, fix_row, exit_row, leap_row, joins_row, loop_row, row_at, row}
+use Rattle.cell_rows.specs.Rows.{next_operation, Unary, Assumes, Enters, Exits, Binary, JoinsBoth, Leaves, Widens, Row, Init, One, Two, Fixed as FixedRow, Joins, last_point, leave_points, joined_point, branch_row, post_row, next_row, fix_row, exit_row, leap_row, joins_row, loop_row, row_at, row}
 use Rattle.cell_rows.specs.Cells.{Cell, cell, plain, with_one, joined_to, block, values, unary, binary, index_if, one_round, fix_value, leap_value}
 use Rattle.cell_rows.proofs.Levels.{Known, branch, known_before, known_last, known_leaves, known_more, known_rank, keyed, last_is, leaves_are, point_of}
 use Rattle.cell_rows.proofs.Lookup.{Fine, Stands, part_of, stated, fine, at_known, from_some}

@@ -13,7 +13,7 @@ use Rattle.cell_names.specs.declared.frame.Point.TheVariants.{Entry, Then, Else,
 use Rattle.plain_values.proofs.Members.{keys}
 use Rattle.cell_rows.specs.Names.{Scope, scope_of, name, mark, Place, bare, number, breaks, break_numbers, place_of, item, branch_point, span, body_span, last, start_of, in_call, iterate_point, when}
 use Rattle.cell_rows.specs.Rows as R
-use Rattle.cell_rows.specs.Rows.{next_operation, Row, Init, One, Two, Fixed as FixedRow, Joins, sites_of, last_point, leave_points, joined_point, branch_row, post_row, next_row, fix_row, exit_row, leap_row, enter_row, turn_row, joins_row, loop_row}
+use Rattle.cell_rows.specs.Rows.{next_operation, Row, Init, One, Two, Fixed as FixedRow, Joins, last_point, leave_points, joined_point, branch_row, post_row, next_row, fix_row, exit_row, leap_row, enter_row, turn_row, joins_row, loop_row}
 use Rattle.cell_rows.specs.Total.{spread, offset, base, total_rank, or_zero, front_of}
 use Rattle.cell_rows.proofs.BatchTie.{breaks_numbers, place_is, span_from}
 use Rattle.cell_rows.proofs.Levels.{known_rank, known_last, last_is}

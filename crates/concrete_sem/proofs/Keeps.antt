@@ -1,5 +1,5 @@
 -- Steps keep heaps and variables as the layouts say.
-use Rattle.std.specs.Prelude.{◌≡◌, ℕ, zero, suc, ◌<◌, ◌≤◌, nat_lt, nat_le, ℤ, pos, negsuc, List, [], ◌∷◌, ◌++◌, length, map, drop, replicate, slice_get, slice_index_or, slice_set, Option, Some, None, Bool, true, false, ◌&&◌, ◌||◌, if◌then◌else◌, All, ◌⊎◌}
+use Rattle.std.specs.Prelude.{◌≡◌, ℕ, zero, suc, ◌<◌, ◌≤◌, nat_lt, nat_le, ℤ, pos, negsuc, List, [], ◌∷◌, ◌++◌, length, map, drop, replicate, slice_get, slice_index_or, slice_set, Option, Some, None, Bool, true, false, ◌&&◌, if◌then◌else◌, All, ◌⊎◌}
 use Rattle.std.specs.List.{AllZip}
 use Rattle.std.proofs.Common.{refl, sym, ap, ◌∙◌, subst, inl, inr, arith}
 use Rattle.std.proofs.lemmas.Bool.Decides.{nat_tests}

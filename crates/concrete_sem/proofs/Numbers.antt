@@ -1,10 +1,9 @@
 -- What is evaluated in variables of a layout is an integer of 64 bits.
-use Rattle.std.specs.Prelude.{◌≡◌, ℕ, zero, suc, ◌^◌, ◌<◌, ◌≤◌, nat_lt, ℤ, pos, negsuc, ◌+ℤ◌, ◌-ℤ◌, ◌*ℤ◌, neg_ℤ, unsigned_abs, int_div, int_rem, List, [], ◌∷◌, length, slice_get, slice_index_or, slice_set, Option, Some, None, Bool, true, false, ◌&&◌, not, if◌then◌else◌, All}
+use Rattle.std.specs.Prelude.{◌≡◌, ℕ, zero, suc, ◌^◌, ◌<◌, ◌≤◌, ℤ, pos, negsuc, ◌+ℤ◌, ◌-ℤ◌, ◌*ℤ◌, neg_ℤ, unsigned_abs, int_div, int_rem, List, [], ◌∷◌, length, slice_get, slice_index_or, slice_set, Option, Some, None, Bool, true, false, not, if◌then◌else◌, All}
 use Rattle.std.specs.List.{AllZip}
 use Rattle.std.specs.Int.{w64}
 use Rattle.std.specs.Ordering.{int_eq}
 use Rattle.std.proofs.Common.{refl, sym, subst, arith}
-use Rattle.std.proofs.lemmas.Bool.Decides.{nat_tests}
 use Rattle.std.proofs.lemmas.Int.{rem_below, fits_signed_from_abs}
 use Rattle.std.proofs.lemmas.Bool.{and_parts, ltb-true}
 use Rattle.imp_slots.specs.Plain.{Numeric, Layout, Term, Literal, Slot, Length, Negative, Binary}

@@ -3,7 +3,7 @@ use Rattle.std.proofs.Common.{◌≡◌, ℕ, List, Some, sym, ap, subst, ◌∙
 use Rattle.imp_syntax.specs.declared.edit.Location.{Location}
 use Rattle.imp_slots.specs.Fits.{IsChecked}
 use Rattle.domain_laws.specs.Operations.{Operations}
-use Rattle.batch_meaning.specs.Answers.{answer, In, procedure_of}
+use Rattle.batch_meaning.specs.Answers.{In, procedure_of}
 use Rattle.cell_rows.specs.Targets.{Target, targets}
 use Rattle.imp_flow.specs.Plans.{Plan}
 use Rattle.named_cells.specs.Same.{same_name}

@@ -1,18 +1,18 @@
 -- Steps 2 to 5 in one pass, from half of each node's own bound.
-use Rattle.std.specs.Prelude.{◌≡◌, ℕ, ◌<◌, ◌*◌, ◌^◌, ℤ, pos, negsuc, neg_ℤ, ◌+ℤ◌, ◌-ℤ◌, ◌≤ℤ◌, Option, Some, None, true, false, cond, List, length, refl}
+use Rattle.std.specs.Prelude.{◌≡◌, ℕ, ◌<◌, ◌*◌, ℤ, pos, negsuc, ◌+ℤ◌, ◌-ℤ◌, ◌≤ℤ◌, Option, Some, None, true, false, cond, List, length, refl}
 use Rattle.std.specs.Int.{int_div_euclid, int_rem_euclid}
 use Rattle.std.proofs.Common.{arith, ap, sym, ◌∙◌, subst, inl, inr, get_or}
-use Rattle.std.proofs.lemmas.Bool.{cases_eq, cases_lt, eq-eqb, ne_eqb}
+use Rattle.std.proofs.lemmas.Bool.{cases_eq, eq-eqb, ne_eqb}
 use Rattle.std.proofs.lemmas.Int.{ints}
 use Rattle.dbm_close.proofs.StrongLemmas.{cut-coherent, strengthened-coherent, tightened-coherent}
-use Rattle.dbm_close.specs.Close.{closed_entry, IsContradictory, IsNotContradictory, IsNotTooLow, IsTooLow, strong}
+use Rattle.dbm_close.specs.Close.{closed_entry, IsContradictory, IsNotContradictory, strong}
 use Rattle.dbm_close.specs.Halves.{HasHalves, HasNegativeHalves, HasNoNegativeHalves, halved_bound}
 use Rattle.dbm_close.specs.Steps.{cut, even_down, half, tightened}
-use Rattle.dbm_core.proofs.HalfLemmas.{HasEntries-from_kept, entry-coherent, flip-kept}
+use Rattle.dbm_core.proofs.HalfLemmas.{HasEntries-from_kept, entry-coherent}
 use Rattle.dbm_core.proofs.NodeLemmas.{flip-below, flip-flip}
 use Rattle.dbm_core.proofs.WeightLemmas.{AtMost-both, AtMost-refl, AtMost-trans, add_weight-mono, least-cases, least-greatest, least-left, least-right}
 use Rattle.dbm_core.specs.Half.{HalfMatrix, HasEntries, IsMatrix, entry, nodes, row_width}
-use Rattle.dbm_core.specs.Nodes.{IsCoherent, flip, is_single}
+use Rattle.dbm_core.specs.Nodes.{flip, is_single}
 use Rattle.dbm_core.specs.Weights.{AtMost, add_weight, least}
 
 abbrev pub halved : ℤ → ℤ

@@ -1,16 +1,13 @@
 -- Steps 2 to 6 where they change the bounds on one slot alone.
-use Rattle.std.specs.Prelude.{◌≡◌, ℕ, ◌<◌, ◌+◌, ◌*◌, ◌/◌, ◌%◌, ◌^◌, ℤ, pos, negsuc, neg_ℤ, ◌≤ℤ◌, ◌<ℤ◌, Option, Some, None, Bool, true, false, cond, int_lt, ◌⊎◌, List, length, slice_index_or, refl}
+use Rattle.std.specs.Prelude.{◌≡◌, ℕ, ◌<◌, ◌+◌, ◌*◌, ◌/◌, ◌%◌, ◌^◌, ℤ, pos, negsuc, neg_ℤ, ◌≤ℤ◌, ◌<ℤ◌, Option, Some, None, Bool, false, ◌⊎◌, List, length, slice_index_or}
 use Rattle.std.proofs.Common.{arith, ap, sym, ◌∙◌, subst, inl, inr, get_or}
 use Rattle.std.proofs.lemmas.Bool.{cases_eq}
-use Rattle.std.proofs.lemmas.Int.{ints}
 use Rattle.dbm_close.proofs.FinishLemmas.{cut-high, cut-low}
 use Rattle.dbm_close.proofs.HalvesLemmas.{fused-consistent, fused-entries, halved_bound-strong, halves-contradictory, pair-halves}
 use Rattle.dbm_close.proofs.StrongLemmas.{strengthened-coherent, tightened-coherent}
 use Rattle.dbm_close.specs.Close.{HasEmptyRange, HasNoEmptyRange, IsContradictory, IsNotContradictory, IsNotTooLow, IsTooLow, closed_entry, slot_high, slot_low, strong}
-use Rattle.dbm_close.specs.Finish.{IsFinishedBut}
 use Rattle.dbm_close.specs.Halves.{HasHalves, HasLowPair, HasNoLowPair, halved_bound}
 use Rattle.dbm_close.specs.Steps.{cut, half, range_high, range_low, tightened}
-use Rattle.dbm_core.proofs.HalfLemmas.{entry-coherent}
 use Rattle.dbm_core.proofs.NodeLemmas.{flip-below, flip-even, flip-flip, flip-half, parity}
 use Rattle.dbm_core.proofs.SlotLemmas.{of_slot}
 use Rattle.dbm_core.proofs.WeightLemmas.{add_weight-comm}

@@ -2,7 +2,7 @@ use Rattle.std.specs.Prelude.{◌≡◌, ℕ, ◌<◌, ◌+◌, ◌*◌, ◌^◌
 use Rattle.std.proofs.Common.{arith, ap, sym, ◌∙◌, subst}
 use Rattle.std.proofs.lemmas.Int.{ints}
 use Rattle.dbm_close.proofs.RoundLemmas.{AreWithin-more, IsWithin-add, IsWithin-more}
-use Rattle.dbm_close.specs.Close.{HasEmptyRange, HasNoEmptyRange, IsContradictory, IsNotContradictory, IsNotTooLow, IsTooLow, closed_entry, slot_high, slot_low, strong}
+use Rattle.dbm_close.specs.Close.{HasEmptyRange, HasNoEmptyRange, IsContradictory, IsNotTooLow, IsTooLow, closed_entry, slot_high, slot_low, strong}
 use Rattle.dbm_close.specs.Steps.{cut, even_down, half, range_high, range_low, strengthened, tightened}
 use Rattle.dbm_core.proofs.NodeLemmas.{flip-below, flip-even, flip-flip, single-flip}
 use Rattle.dbm_core.proofs.WeightLemmas.{add_weight-comm, least-cases}

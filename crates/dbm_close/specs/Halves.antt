@@ -1,7 +1,6 @@
 -- Steps 2 to 5 at one entry, from half of each node's own bound.
 use Rattle.std.specs.Prelude.{◌≡◌, ℕ, ◌<◌, ◌+◌, ◌*◌, ◌^◌, ℤ, pos, negsuc, neg_ℤ, Option, Some, None, List, slice_index_or, ◌⊎◌}
 use Rattle.dbm_close.specs.Steps.{half}
-use Rattle.dbm_core.specs.Half.{row_width}
 use Rattle.dbm_core.specs.Nodes.{flip}
 use Rattle.dbm_core.specs.Weights.{AtMost, add_weight, least}
 

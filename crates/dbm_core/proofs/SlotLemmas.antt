@@ -1,9 +1,8 @@
 -- Kept entries of the pairs with a node of one slot, rewritten row by row; and the greater of two lists.
-use Rattle.std.specs.Prelude.{◌≡◌, ℕ, ◌<◌, ◌≤◌, ◌+◌, ◌*◌, ◌/◌, ◌||◌, ℤ, Option, None, ◌⊎◌, Bool, true, false, cond, eqb, ltb, List, length, slice_set, refl}
+use Rattle.std.specs.Prelude.{◌≡◌, ℕ, ◌<◌, ◌≤◌, ◌+◌, ◌*◌, ◌/◌, ℤ, Option, None, ◌⊎◌, Bool, true, false, cond, eqb, ltb, List, length, slice_set, refl}
 use Rattle.std.proofs.Common.{arith, ap, sym, subst, ◌∙◌, inl, inr, get_or, get_or-set_other, get_or-set_same}
 use Rattle.std.proofs.lemmas.Bool.{cases_eq, cases_lt, eq-eqb, ne_eqb}
-use Rattle.dbm_core.proofs.HalfLemmas.{entry-kept}
-use Rattle.dbm_core.proofs.LowerLemmas.{hits, same_place}
+use Rattle.dbm_core.proofs.LowerLemmas.{same_place}
 use Rattle.dbm_core.specs.Half.{HalfMatrix, HasEntries, IsMatrix, entry, nodes, row_start, row_width}
 use Rattle.dbm_core.specs.Nodes.{IsOfSlot, flip}
 use Rattle.dbm_core.specs.Operations.{forgotten, joined}

@@ -1,11 +1,10 @@
 -- Closing from the least weights, after a bound is lowered.
-use Rattle.std.specs.Prelude.{◌≡◌, ℕ, ◌<◌, ◌*◌, ◌^◌, ℤ, pos, negsuc, neg_ℤ, Option, Some, Bool, List, length}
+use Rattle.std.specs.Prelude.{◌≡◌, ℕ, ◌<◌, ◌*◌, ℤ, pos, negsuc, Option, Some, Bool, List, length}
 use Rattle.std.proofs.Common.{arith, ap, sym, ◌∙◌, subst, inl, inr}
 use Rattle.dbm_close.specs.declared.closed.Closed.{Closed}
 use Rattle.dbm_close.specs.declared.closed.Closed.TheVariants.{Empty, Matrix}
 use Rattle.dbm_close.proofs.StrongLemmas.{no_empty_range-agree}
 use Rattle.dbm_close.specs.Close.{HasNoEmptyRange, IsCloseOf, IsNotTooLow, closed_entry, strong}
-use Rattle.dbm_close.specs.Steps.{cut}
 use Rattle.dbm_close.specs.Finish.{IsFinishOf, IsFinishedTo}
 use Rattle.dbm_close.specs.Walks.{HasNegativeWalk, IsWalk, walk_weight}
 use Rattle.dbm_core.proofs.HalfLemmas.{entry-coherent}

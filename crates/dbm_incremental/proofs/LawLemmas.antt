@@ -1,5 +1,5 @@
 -- Closed matrices and the function of closing.
-use Rattle.std.specs.Prelude.{◌≡◌, ◌^◌}
+use Rattle.std.specs.Prelude.{◌^◌}
 use Rattle.std.proofs.Common.{sym, subst}
 use Rattle.dbm_close.proofs.CloseOfLemmas.{close_of-is, close_of-keeps, close_of-only}
 use Rattle.dbm_close.specs.Close.{IsCloseOf}

@@ -1,23 +1,18 @@
 -- Slots renamed, shifted and put beside each other; and closing what is strong already.
-use Rattle.std.specs.Prelude.{◌≡◌, ℕ, ◌<◌, ◌*◌, ◌^◌, ℤ, pos, negsuc, neg_ℤ, ◌+ℤ◌, ◌-ℤ◌, ◌≤ℤ◌, Option, Some, None, Bool, true, false, cond, int_lt, length, ◌⊎◌, refl}
+use Rattle.std.specs.Prelude.{◌≡◌, ℕ, ◌<◌, ◌*◌, ◌^◌, ℤ, pos, negsuc, neg_ℤ, ◌+ℤ◌, ◌-ℤ◌, ◌≤ℤ◌, Option, Some, None, Bool, true, false, cond, int_lt, length, refl}
 use Rattle.std.specs.Int.{int_div_euclid}
 use Rattle.std.proofs.Common.{arith, ap, sym, ◌∙◌, subst, inl, inr}
 use Rattle.std.proofs.lemmas.Bool.{cases_eq}
 use Rattle.std.proofs.lemmas.Int.{ints}
-use Rattle.dbm_close.proofs.StrongLemmas.{HasEntries-change, empty_range-agree, no_empty_range-agree, too_low-agree, in_range-agree}
-use Rattle.dbm_close.specs.Close.{HasEmptyRange, HasNoEmptyRange, IsCloseOf, IsNotContradictory, IsNotTooLow, IsTooLow, closed_entry, strong}
-use Rattle.dbm_close.specs.declared.closed.Closed.TheVariants.{Empty, Matrix}
-use Rattle.dbm_close.specs.Steps.{cut, even_down, half, tightened}
+use Rattle.dbm_close.specs.Close.{strong}
+use Rattle.dbm_close.specs.Steps.{cut, even_down, half}
 use Rattle.dbm_core.proofs.HalfLemmas.{entry-coherent}
 use Rattle.dbm_core.proofs.NodeLemmas.{flip-below, flip-flip}
-use Rattle.dbm_core.proofs.WeightLemmas.{AtMost-both, AtMost-refl}
-use Rattle.dbm_core.specs.Half.{HalfMatrix, HasEntries, entry, nodes}
+use Rattle.dbm_core.specs.Half.{HalfMatrix, entry, nodes}
 use Rattle.dbm_core.specs.Nodes.{flip}
 use Rattle.dbm_core.specs.Weights.{AtMost, add_weight}
-use Rattle.dbm_incremental.proofs.ClosedLemmas.{strong-above}
 use Rattle.dbm_incremental.proofs.KeepLemmas.{closed-diagonal}
-use Rattle.dbm_close.proofs.HalvesLemmas.{even-halves, half-double, own-behind, own-single, strong-entry}
-use Rattle.dbm_incremental.proofs.TriangleLemmas.{own-weights}
+use Rattle.dbm_close.proofs.HalvesLemmas.{even-halves, half-double}
 use Rattle.dbm_incremental.specs.ClosedMatrices.{IsClosed, IsStrong, IsWhole}
 use Rattle.dbm_incremental.specs.Triangles.{IsTriangular}
 

@@ -1,8 +1,7 @@
 -- What agrees with a closed matrix but at one slot: steps 2 to 6 change nothing else.
-use Rattle.std.specs.Prelude.{◌≡◌, ℕ, ◌<◌, ◌+◌, ◌*◌, ◌/◌, ◌^◌, ℤ, pos, negsuc, neg_ℤ, ◌+ℤ◌, ◌-ℤ◌, ◌≤ℤ◌, Option, Some, None, Bool, true, false, cond, int_lt, length, slice_index_or, ◌⊎◌, Result, Ok, Err, IfOk, refl}
+use Rattle.std.specs.Prelude.{◌≡◌, ℕ, ◌<◌, ◌+◌, ◌*◌, ◌/◌, ◌^◌, ℤ, pos, neg_ℤ, ◌+ℤ◌, ◌-ℤ◌, ◌≤ℤ◌, Option, Some, None, Bool, true, false, cond, int_lt, length, slice_index_or, refl}
 use Rattle.std.specs.Int.{int_rem_euclid}
 use Rattle.std.proofs.Common.{arith, ap, sym, ◌∙◌, subst, inl, inr}
-use Rattle.std.proofs.lemmas.Bool.{cases_eq, eq-eqb, ne_eqb}
 use Rattle.std.proofs.lemmas.Int.{ints}
 use Rattle.dbm_close.proofs.HalvesLemmas.{even-number, halved, strong-entry}
 use Rattle.dbm_close.specs.Close.{closed_entry, slot_high, slot_low, strong}
@@ -18,7 +17,7 @@ use Rattle.dbm_core.specs.Weights.{AtMost, add_weight, least}
 use Rattle.dbm_incremental.proofs.ClosedLemmas.{cut-above, strong-above}
 use Rattle.dbm_incremental.proofs.MoveLemmas.{whole-strong}
 use Rattle.dbm_incremental.proofs.StandLemmas.{node-other, shift-other, stood-strong}
-use Rattle.dbm_incremental.specs.ClosedMatrices.{AgreesBut, IsClosed, IsStrong, IsWhole}
+use Rattle.dbm_incremental.specs.ClosedMatrices.{IsClosed, IsStrong, IsWhole}
 use Rattle.dbm_incremental.specs.Equations.{stand_node, stand_shift, stood_entry}
 
 cut-twice : (a : Option ℤ) → cut (cut a) ≡ cut a

@@ -1,32 +1,19 @@
 -- Nodes that stand for others, and the entries between those: a slot that is another plus a number.
-use Rattle.std.specs.Prelude.{◌≡◌, ℕ, ◌<◌, ◌+◌, ◌*◌, ◌/◌, ◌%◌, ◌||◌, ◌^◌, ℤ, pos, neg_ℤ, ◌+ℤ◌, ◌-ℤ◌, Option, Some, None, Bool, true, false, eqb, [], length, ◌⊎◌, Result, Ok, Err, IfOk, refl}
+use Rattle.std.specs.Prelude.{◌≡◌, ℕ, ◌<◌, ◌+◌, ◌*◌, ◌/◌, ◌%◌, ◌||◌, ℤ, pos, neg_ℤ, ◌+ℤ◌, ◌-ℤ◌, Option, Some, None, Bool, true, false, eqb, [], refl}
 use Rattle.std.proofs.Common.{arith, ap, sym, ◌∙◌, subst, inl, inr}
 use Rattle.std.proofs.lemmas.Bool.{cases_eq, eq-eqb, ne_eqb}
 use Rattle.std.proofs.lemmas.Int.{ints}
-use Rattle.dbm_close.proofs.StrongLemmas.{HasEntries-change, empty_range-agree, in_range-agree, no_empty_range-agree, too_low-agree}
-use Rattle.dbm_close.specs.Close.{HasEmptyRange, HasNoEmptyRange, IsCloseOf, IsNotTooLow, IsTooLow, closed_entry, strong}
-use Rattle.dbm_close.specs.declared.closed.Closed.TheVariants.{Empty, Matrix}
-use Rattle.dbm_close.specs.Steps.{cut}
 use Rattle.dbm_core.proofs.NodeLemmas.{flip-below, flip-even, flip-flip, parity}
-use Rattle.dbm_core.proofs.WeightLemmas.{AtMost-refl, AtMost-trans}
-use Rattle.dbm_core.proofs.HalfLemmas.{entries-if_ok}
-use Rattle.dbm_core.proofs.LimitLemmas.{AreWithin-entries}
-use Rattle.dbm_close.proofs.RoundLemmas.{IsWithin-add, IsWithin-more}
-use Rattle.dbm_close.proofs.StrongLemmas.{cut-within}
-use Rattle.dbm_core.specs.Half.{HalfMatrix, HasEntries, IsMatrix, entry, nodes, row_width}
-use Rattle.dbm_core.specs.Limits.{AreWithin, IsWithin, AreAtMost, HasZeroDiagonal, IsZeroAtMost}
+use Rattle.dbm_core.proofs.WeightLemmas.{AtMost-refl}
+use Rattle.dbm_core.specs.Limits.{AreAtMost, IsZeroAtMost}
 use Rattle.dbm_core.specs.Nodes.{flip}
-use Rattle.dbm_core.specs.Operations.{forgotten, lowered}
 use Rattle.dbm_core.specs.Weights.{AtMost, add_weight}
 use Rattle.dbm_close.specs.Walks.{walk_weight}
-use Rattle.dbm_incremental.proofs.EndsLemmas.{same-sound}
-use Rattle.dbm_incremental.proofs.InsertLemmas.{below-lowered, lowered-first, lowered-second}
-use Rattle.dbm_core.proofs.LowerLemmas.{lowered-below}
-use Rattle.dbm_incremental.proofs.KeepLemmas.{forgotten-free, forgotten-kept, forgotten-same, in_slot}
+use Rattle.dbm_incremental.proofs.KeepLemmas.{in_slot}
 use Rattle.dbm_incremental.proofs.MoveLemmas.{moved, moved-strong, renamed-strong}
 use Rattle.dbm_incremental.proofs.TriangleLemmas.{IsReached, reached-edge, reached-sum, triangle-walk, weights-from_triangles}
-use Rattle.dbm_incremental.specs.ClosedMatrices.{IsClosed, IsStrong}
-use Rattle.dbm_incremental.specs.Equations.{equated, stand_node, stand_shift, stood_entry}
+use Rattle.dbm_incremental.specs.ClosedMatrices.{IsStrong}
+use Rattle.dbm_incremental.specs.Equations.{stand_node, stand_shift}
 use Rattle.dbm_incremental.specs.Triangles.{AreSoundWeights}
 
 -- ---- an equation: each node i stands for o i plus p i

@@ -8,7 +8,7 @@ use Rattle.dbm_close.proofs.StrongLemmas.{strengthened-coherent, tightened-coher
 use Rattle.dbm_close.specs.Close.{IsNotContradictory, strong}
 use Rattle.dbm_close.specs.Steps.{even_down, half, tightened}
 use Rattle.dbm_core.proofs.NodeLemmas.{flip-below, flip-flip}
-use Rattle.dbm_core.proofs.WeightLemmas.{AtMost-both, AtMost-refl, AtMost-trans, add_weight-assoc, add_weight-comm, add_weight-mono, least-greatest, least-left, least-right}
+use Rattle.dbm_core.proofs.WeightLemmas.{AtMost-both, AtMost-refl, AtMost-trans, add_weight-assoc, add_weight-comm, add_weight-mono, least-greatest, least-left}
 use Rattle.dbm_core.specs.Limits.{HasZeroDiagonal}
 use Rattle.dbm_core.specs.Nodes.{IsCoherent, flip}
 use Rattle.dbm_core.specs.Weights.{AtMost, add_weight, least}

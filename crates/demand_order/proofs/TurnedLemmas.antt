@@ -1,5 +1,5 @@
 -- The edges turned round: the order there is a plan of removal, and what it leaves is closed.
-use Rattle.std.proofs.Common.{◌≡◌, ℕ, ◌+◌, ◌<◌, ◌≤◌, Bool, true, false, not, ◌&&◌, List, refl, arith}
+use Rattle.std.proofs.Common.{◌≡◌, ℕ, ◌+◌, ◌<◌, ◌≤◌, Bool, true, false, not, List, refl, arith}
 use Rattle.std.proofs.lemmas.Bool.{and_parts, and_from, not-true}
 use Rattle.demand_order.specs.Order.{System, IsAcyclic, member}
 use Rattle.demand_order.specs.OrderLaws.{order, Needed, input, under, IsClosed}

@@ -8,7 +8,7 @@ use Rattle.imp_syntax.specs.declared.words.Declaration.{Declaration}
 use Rattle.imp_syntax.specs.declared.words.Kind.{Kind}
 use Rattle.imp_syntax.specs.declared.words.Kind.TheVariants.{Int, Array, List as OfLinks}
 use Rattle.imp_slots.specs.Fits as fits
-use Rattle.imp_slots.specs.Fits.{fits_term, fits_guard, fits_effect, fits_arguments, fits_returning, fits_invoke}
+use Rattle.imp_slots.specs.Fits.{fits_term, fits_effect, fits_arguments, fits_returning, fits_invoke}
 use Rattle.imp_slots.specs.Plain as slot
 use Rattle.imp_slots.specs.Plain.{Numeric}
 use Rattle.imp_check.specs.Names.{kind_of, is_int, is_array, is_link, variables, outcomes}

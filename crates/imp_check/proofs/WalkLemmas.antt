@@ -1,6 +1,6 @@
 -- The statements of a procedure are those that are found from one to the next.
 use Rattle.std.proofs.Common.{◌≡◌, ℕ, zero, suc, ◌-◌, ◌<◌, inl, inr, List, [], ◌∷◌, ◌++◌, length, take, slice_get, Option, Some, None, option_map, refl, sym, ap, ◌∙◌, subst, arith, append_assoc, append-nil}
-use Rattle.imp_syntax.specs.Plain.{Statements, Ends, Starts, Procedure, number_of, numbers_in, numbers, program_numbers}
+use Rattle.imp_syntax.specs.Plain.{Statements, Ends, Starts, Procedure, numbers}
 use Rattle.imp_syntax.specs.Plain as tree
 use Rattle.imp_slots.specs.Fits.{Distinct}
 use Rattle.imp_check.specs.Slots.{Frame}

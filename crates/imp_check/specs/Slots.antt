@@ -9,7 +9,7 @@ use Rattle.imp_syntax.specs.declared.words.Kind.{Kind}
 use Rattle.imp_syntax.specs.declared.words.Kind.TheVariants.{Int, Array, List as OfLinks}
 use Rattle.imp_syntax.specs.declared.words.Relation.{Relation}
 use Rattle.imp_syntax.specs.declared.words.Relation.TheVariants.{Equal, NotEqual, Less, AtMost, Greater, AtLeast}
-use Rattle.imp_slots.specs.Plain.{Numeric, Layout, Term, Guard, Effect, Argument, Entering, Returning, Invoke, Code, Routine}
+use Rattle.imp_slots.specs.Plain.{Numeric, Layout, Term, Guard, Effect, Argument, Returning, Invoke, Code, Routine}
 use Rattle.imp_slots.specs.Plain as slot
 use Rattle.imp_check.specs.Names.{place_named, variables}
 

@@ -30,7 +30,7 @@ use Rattle.call_contexts.specs.Places.{is_loop}
 use Rattle.call_contexts.proofs.Looped.{loop_there}
 use Rattle.cell_names.specs.declared.frame.Point.{Point}
 use Rattle.cell_names.specs.declared.frame.Point.TheVariants.{Entry, Body}
-use Rattle.imp_flow.specs.Shapes.{Node, Shape}
+use Rattle.imp_flow.specs.Shapes.{Shape}
 use Rattle.imp_flow.specs.Shapes as shape
 use Rattle.imp_flow.specs.Entered.{Table, behind_or, leave_at, front_in, front_point, end_of, end_in, branching, shape_from, known_in, node_by}
 use Rattle.imp_flow.specs.Plans.{Plan, plan_of, marks_at, loops_at}

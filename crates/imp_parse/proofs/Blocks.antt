@@ -20,7 +20,7 @@ use Rattle.imp_parse.specs.declared.error.Stopped.{Stopped}
 use Rattle.imp_parse.specs.Judged.{Fails}
 use Rattle.imp_parse.proofs.Exact.{Free, Exact, Both, both}
 use Rattle.imp_parse.proofs.Pack as packs
-use Rattle.imp_parse.proofs.Pack.{Layer, Calls, strictly, loosely, Pack, Strict, Loose, loose, Nothing, nothing, done, Follows, then, never, until, Arm, Dead, Live, Other, is_other, arm_reader, arm_lang, IsOther, Chosen, live, other, choose, strict_stops, Made, give, made_of, made, made_follows, nothing_is}
+use Rattle.imp_parse.proofs.Pack.{Layer, strictly, loosely, Pack, Strict, Loose, loose, Nothing, nothing, done, Follows, then, never, until, Arm, Dead, Live, Other, is_other, arm_reader, arm_lang, IsOther, live, other, choose, Made, give, made_of, made, nothing_is}
 use Rattle.imp_parse.proofs.Layers.{Turn, layer_exact}
 use Rattle.imp_parse.proofs.Chains.{or_first, or_second, free_less}
 use Rattle.imp_parse.proofs.ListLayers.{IsList, ends, more, Listing, layer, is_live, turn, goes_on, stops_by, is_done}

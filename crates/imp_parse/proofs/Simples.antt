@@ -7,7 +7,7 @@ use Rattle.imp_lex.specs.declared.token.Kind.{Kind}
 use Rattle.imp_lex.specs.declared.token.Kind.TheVariants as k
 use Rattle.imp_syntax.specs.declared.words.Operator.{Operator}
 use Rattle.imp_syntax.specs.Plain as plain
-use Rattle.imp_syntax.specs.Plain.{Expression, Literal, Operand, Condition, Statement, Simple, Break, Call}
+use Rattle.imp_syntax.specs.Plain.{Expression, Statement, Simple, Break, Call}
 use Rattle.imp_parse.specs.Language.{Opens}
 use Rattle.imp_parse.specs.Tables.{additive, multiplicative, same_mark}
 use Rattle.imp_parse.specs.Grammar.{IsExpression, sum, IsSum, sum_ends, sum_more, product, IsProduct, product_ends, product_more, negative, number, name, length_of, group}
@@ -16,7 +16,7 @@ use Rattle.imp_parse.specs.Reading.{product_at, sum_at}
 use Rattle.imp_parse.specs.StatementReading.{field_rhs_at, named_rhs_at, rhs_at, field_at, named_at, simple_at}
 use Rattle.imp_parse.proofs.Exact.{Free, Exact, both}
 use Rattle.imp_parse.proofs.Pack as packs
-use Rattle.imp_parse.proofs.Pack.{Layer, Calls, Pack, Strict, Loose, loose, Nothing, nothing, done, read, read_some, Follows, then, never, until, Arm, Dead, Live, Other, is_other, arm_lang, IsOther, Chosen, live, other, choose, strict_stops, Made, give, made_of, made, made_follows}
+use Rattle.imp_parse.proofs.Pack.{Layer, Calls, Strict, Loose, loose, nothing, done, read, read_some, Follows, then, never, until, Arm, Dead, Live, Other, is_other, arm_lang, IsOther, live, other, choose, strict_stops, Made, give, made_of, made, made_follows}
 use Rattle.imp_parse.proofs.Layers.{alone, no_calls, alone_exact}
 use Rattle.imp_parse.proofs.Chains.{high_on, low_follows, or_second}
 use Rattle.imp_parse.proofs.Singles.{mark, a_mark, named, a_name, mark_follows, ended, refused}

@@ -5,7 +5,7 @@ use Rattle.imp_lex.specs.declared.token.Word.TheVariants as word
 use Rattle.imp_lex.specs.declared.token.Kind.{Kind}
 use Rattle.imp_lex.specs.declared.token.Kind.TheVariants as k
 use Rattle.imp_syntax.specs.Plain as plain
-use Rattle.imp_syntax.specs.Plain.{Expression, Operand, Condition, Statement, Simple, Break, Call, If, While, Statements, Ends, block_of}
+use Rattle.imp_syntax.specs.Plain.{Operand, Statement, Simple, Break, Call, If, While, Statements, Ends, block_of}
 use Rattle.imp_parse.specs.Reader.{Unexpected, Read, ◌>>=◌, Steps, fix}
 use Rattle.imp_parse.specs.Reading.{mark_at, name_at, expression_at, product_at, sum_at, side_at, condition_at}
 use Rattle.imp_parse.specs.Lists.{Lists, list_step, with_front}

@@ -1,11 +1,11 @@
 -- Runs that end, and runs that go on.
-use Rattle.std.specs.Prelude.{◌≡◌, ℕ, zero, suc, ◌+◌, List, Bool, true, false, Option, Some, None}
-use Rattle.std.proofs.Common.{refl, sym, ap, ◌∙◌, arith}
+use Rattle.std.specs.Prelude.{◌≡◌, ℕ, zero, suc, ◌+◌, List, Bool, true, false, Some, None}
+use Rattle.std.proofs.Common.{refl, sym, ap, arith}
 use Rattle.plain_values.proofs.Cases.{some_inj}
 use Rattle.imp_slots.specs.Plain.{Routine}
-use Rattle.concrete_sem.specs.Steps.{Config, Step}
+use Rattle.concrete_sem.specs.Steps.{Config}
 use Rattle.concrete_sem.specs.Steps as steps
-use Rattle.concrete_sem.specs.Runs.{Run, ends, counted, run_from, run_on, end_with_no_fuel}
+use Rattle.concrete_sem.specs.Runs.{Run, ends, counted, run_from}
 use Rattle.imp_run.specs.declared.machine.Stepped.{Stepped}
 use Rattle.imp_run.specs.declared.machine.Stepped.TheVariants.{Next, Fault, NoInput, Ended}
 use Rattle.analysis_words.specs.declared.run_end.RunEnd.{RunEnd}

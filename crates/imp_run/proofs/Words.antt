@@ -1,7 +1,7 @@
 -- Results that fit 64 bits, and those that do not.
-use Rattle.std.specs.Prelude.{◌≡◌, ℕ, ◌^◌, ◌<◌, nat_lt, ℤ, pos, negsuc, FitsSigned, Bool, true, false, if◌then◌else◌}
+use Rattle.std.specs.Prelude.{◌≡◌, ◌^◌, ◌<◌, nat_lt, ℤ, pos, negsuc, FitsSigned, true, false}
 use Rattle.std.specs.Int.{w64}
-use Rattle.std.proofs.Common.{refl, sym, ap, arith}
+use Rattle.std.proofs.Common.{refl, arith}
 use Rattle.std.proofs.lemmas.Bool.Decides.{nat_tests}
 use Rattle.std.proofs.lemmas.Bool.{false_from_ne_true, ltb-true}
 use Rattle.analysis_words.specs.declared.fault.FaultKind.TheVariants.{Overflow}

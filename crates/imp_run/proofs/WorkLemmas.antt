@@ -1,6 +1,6 @@
 -- Items that are put on top of work.
 use Rattle.std.specs.Prelude.{◌≡◌, List, [], ◌∷◌, ◌++◌}
-use Rattle.std.proofs.Common.{refl, sym, ap, ◌∙◌}
+use Rattle.std.proofs.Common.{refl}
 use Rattle.imp_slots.specs.Plain.{Code}
 use Rattle.imp_slots.specs.BlockViews.{before_code}
 use Rattle.imp_slots.specs.declared.blocks.SlotNode.{SlotNode}

@@ -1,5 +1,5 @@
 -- The parts of a configuration in code, as plain data.
-use Rattle.std.specs.Prelude.{◌≡◌, ℕ, List, [], ◌∷◌, Option, Some, None}
+use Rattle.std.specs.Prelude.{◌≡◌, ℕ, List, [], ◌∷◌}
 use Rattle.concrete_sem.specs.Steps.{Work, Ret, Frame, In, Config, Step, step_frame, goes_on}
 use Rattle.concrete_sem.specs.Values.{Heap, Variables}
 use Rattle.imp_slots.specs.Plain.{Guard, Code, Routine}

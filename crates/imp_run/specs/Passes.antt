@@ -1,5 +1,5 @@
 -- Arguments that are passed one after another.
-use Rattle.std.specs.Prelude.{◌≡◌, List, [], ◌∷◌, ◌++◌, Result, Ok, Err}
+use Rattle.std.specs.Prelude.{◌≡◌, List, ◌∷◌, ◌++◌, Result, Ok, Err}
 use Rattle.imp_slots.specs.Plain.{Argument}
 use Rattle.concrete_sem.specs.Values.{Variables, Attempt, Gives, andthen}
 use Rattle.concrete_sem.specs.Passing.{passed}

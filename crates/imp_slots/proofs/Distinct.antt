@@ -1,5 +1,5 @@
 -- Lists in which each item stands once.
-use Rattle.std.specs.Prelude.{◌≡◌, List, [], ◌∷◌, ◌++◌}
+use Rattle.std.specs.Prelude.{List, [], ◌∷◌, ◌++◌}
 use Rattle.std.proofs.Common.{refl}
 use Rattle.plain_values.proofs.Members.{Member, here, there}
 use Rattle.imp_slots.specs.Fits.{Absent, Distinct}

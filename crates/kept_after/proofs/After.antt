@@ -1,5 +1,5 @@
 -- The test decides what is kept.
-use Rattle.std.proofs.Common.{reverse, ◌≡◌, Bool, true, false, ◌&&◌, List, Option, Some, None, refl, sym, ap, ◌∙◌, subst}
+use Rattle.std.proofs.Common.{reverse, ◌≡◌, Bool, true, Option, Some, None, refl, sym, ap, ◌∙◌, subst}
 use Rattle.std.specs.Prelude.{is_some}
 use Rattle.std.proofs.lemmas.Bool.{and_parts, and_from}
 use Rattle.std.specs.Bool.{Decides}
@@ -16,7 +16,7 @@ use Rattle.cell_rows.specs.Flat.{flat_row}
 use Rattle.cell_rows.specs.Claims.{HasName}
 use Rattle.kept_set.specs.Touched.{Edit, old_rows, old_system, asked, KeepsRow, IsTouched, AreCells, IsKept}
 use Rattle.kept_set.proofs.Right.{old_law}
-use Rattle.kept_after.specs.After.{same_rows, has_name, keeps_row, untouched, kept_after}
+use Rattle.kept_after.specs.After.{same_rows, keeps_row, untouched, kept_after}
 use Rattle.kept_after.proofs.Same.{operation_is}
 use Rattle.kept_after.proofs.Staying.{stays_decides}
 

@@ -1,12 +1,12 @@
 -- The test of two operations decides whether they are the same.
-use Rattle.std.proofs.Common.{◌≡◌, Bool, true, false, ◌&&◌, Option, refl, sym, ap, ◌∙◌, subst}
+use Rattle.std.proofs.Common.{◌≡◌, Bool, true, false, ◌&&◌, Option, refl, sym, ap, ◌∙◌}
 use Rattle.std.proofs.lemmas.Bool.{and_parts, and_from}
 use Rattle.std.specs.Bool.{Decides}
 use Rattle.std.specs.Cmp.Lexicographic.{pointwise, pointwise_decides}
 use Rattle.std.specs.Ordering.{int_eq}
 use Rattle.std.specs.Coded.{code_by}
 use Rattle.std.proofs.lemmas.Bool.Decides.{Decides-int_eq}
-use Rattle.plain_values.specs.Equal.{code_same, same, same_equal, same_Decides}
+use Rattle.plain_values.specs.Equal.{code_same, same, same_Decides}
 use base.Stored.{Coded, Gv}
 use denote.Struct.Codes.{itself}
 use Rattle.imp_slots.specs.Plain.{Returning}

@@ -1,8 +1,8 @@
 -- Going down the inputs finds what leads to no name that is not sound.
-use Rattle.std.proofs.Common.{◌≡◌, ℕ, zero, suc, ◌<◌, ◌≤◌, Bool, true, false, ◌&&◌, ◌||◌, List, [], ◌∷◌, refl, sym, ap, subst, ◌∙◌, inl, inr, arith}
+use Rattle.std.proofs.Common.{◌≡◌, ℕ, zero, suc, ◌≤◌, Bool, true, ◌&&◌, List, [], ◌∷◌, refl, sym, subst, inl, inr, arith}
 use Rattle.std.proofs.lemmas.Bool.{and_parts, and_from, or_left, or_right}
 use Rattle.std.specs.Bool.{Decides}
-use Rattle.plain_values.proofs.Cases.{by_bool, or_either}
+use Rattle.plain_values.proofs.Cases.{or_either}
 use Rattle.demand_order.specs.Order.{System, IsAcyclic, member}
 use Rattle.demand_order.specs.OrderLaws.{IsClosed}
 use Rattle.demand_order.specs.Leading.{LeadsTo, itself, through, Stays}

@@ -1,5 +1,5 @@
 -- What an edit keeps, as a test.
-use Rattle.std.specs.Prelude.{Bool, false, ◌&&◌, List, Option, Some, None, is_some, reverse}
+use Rattle.std.specs.Prelude.{Bool, false, ◌&&◌, Option, Some, None, is_some, reverse}
 use Rattle.std.specs.Cmp.Lexicographic.{pointwise}
 use Rattle.domain_laws.specs.Operations.{Operations}
 use Rattle.cell_names.specs.Paths.{CellName}

@@ -1,7 +1,6 @@
 -- Whether two operations of rows are the same.
 use Rattle.std.specs.Prelude.{Bool, true, false, ◌&&◌}
 use Rattle.std.specs.Cmp.Lexicographic.{pointwise}
-use Rattle.std.specs.Coded.{code_by}
 use Rattle.std.specs.Ordering.{int_eq}
 use Rattle.plain_values.specs.Equal.{code_same, same}
 use Rattle.imp_slots.specs.Codes.{guard_code}

@@ -1,24 +1,24 @@
 -- Entering and leaving calls, main's first state, and the last frame alone.
-use Rattle.std.proofs.Common.{◌≡◌, ℕ, suc, ◌<◌, ◌-◌, Bool, true, false, List, [], ◌∷◌, ◌++◌, ◌⊎◌, inl, inr, map, length, set, Option, None, Some, refl, sym, ◌∙◌, ap, subst, arith}
+use Rattle.std.proofs.Common.{◌≡◌, ℕ, suc, ◌<◌, ◌-◌, List, [], ◌∷◌, ◌++◌, inl, inr, map, length, Option, None, Some, refl, sym, ◌∙◌, ap, subst, arith}
 use Rattle.std.specs.List.{remove}
 use Rattle.std.proofs.lemmas.List.{length-map}
-use Rattle.imp_slots.specs.Plain.{Numeric, Layout, Argument, IntArgument, ArrayArgument, LinkArgument, Entering, Returning, NumericResult, LinkResult, Invoke}
-use Rattle.concrete_sem.specs.Values.{Int, Array, Variables, Cell, Heap, Attempt, Gives, andthen, array_at, link_at, with_link}
+use Rattle.imp_slots.specs.Plain.{Layout, Argument, IntArgument, ArrayArgument, LinkArgument, Entering, Returning, NumericResult, LinkResult}
+use Rattle.concrete_sem.specs.Values.{Int, Array, Variables, Gives, andthen, array_at, link_at, with_link}
 use Rattle.concrete_sem.specs.Evaluation.{value_of, side_at}
 use Rattle.concrete_sem.specs.Passing.{first_number, first_link, first_variables, passed, over, pass, back}
 use Rattle.domain_laws.proofs.CheckLaws.{andthen-gives}
-use Rattle.shape_graph.specs.Shape.{Shape, nodes, slots, shape_of, IsGraph, In}
-use Rattle.shape_graph.specs.Covers.{Covers, IsPlaced, start_of}
-use Rattle.shape_graph.specs.Folds.{IsFolded, InOrder}
-use Rattle.shape_steps.specs.Steps.{IsTarget, forget_of, push_frame_of, pop_frame_of, last_frame_of, leave_of, last_of, slot_of, argument_of, set_last}
+use Rattle.shape_graph.specs.Shape.{Shape, nodes, shape_of, IsGraph, In}
+use Rattle.shape_graph.specs.Covers.{Covers, start_of}
+use Rattle.shape_graph.specs.Folds.{InOrder}
+use Rattle.shape_steps.specs.Steps.{push_frame_of, pop_frame_of, last_frame_of, leave_of, slot_of, argument_of, set_last}
 use Rattle.shape_steps.proofs.Graphs.{IsGraph-forget, IsGraph-push, IsGraph-pop, IsGraph-last}
 use Rattle.shape_steps.proofs.Concrete.{slot-node, slot-ok, Covers-enter, Covers-pop, Covers-last, Covers-leave}
 use Rattle.listseg_meaning.specs.State.{Segments, Top, Graphs}
 use Rattle.listseg_meaning.specs.Operations.{each, init, link_arguments, entered, enter, returned, leave, shed}
-use Rattle.listseg_meaning.specs.Covers.{main_first, nexts, counts}
+use Rattle.listseg_meaning.specs.Covers.{main_first, counts}
 use Rattle.listseg_meaning.proofs.Frames.{set_last-push, last_of-push, slot_of-push, remove-push, set_last-counts, push-counts, pop-counts, last-counts}
-use Rattle.listseg_meaning.proofs.Fitting.{Framed, FitsGraph, FitGraphs, FitsState, each-fits}
-use Rattle.listseg_meaning.proofs.Covering.{Describes, OneCovers, each-describes}
+use Rattle.listseg_meaning.proofs.Fitting.{Framed, FitsGraph, FitsState, each-fits}
+use Rattle.listseg_meaning.proofs.Covering.{Describes, each-describes}
 use Rattle.listseg_meaning.proofs.Links.{side-is}
 
 -- one graph for each

@@ -1,5 +1,5 @@
 -- A join keeps its left side, or adds a graph, or is Top.
-use Rattle.std.proofs.Common.{◌≡◌, ℕ, ◌+◌, ◌-◌, ◌<◌, ◌≤◌, Bool, true, false, cond, List, [], ◌∷◌, ◌⊎◌, inl, inr, length, refl, sym, ap, subst, arith}
+use Rattle.std.proofs.Common.{◌≡◌, ℕ, ◌+◌, ◌-◌, ◌<◌, ◌≤◌, true, cond, List, [], ◌∷◌, ◌⊎◌, inl, inr, length, refl, sym, ap, subst, arith}
 use Rattle.std.specs.Prelude.{nat_le}
 use Rattle.std.specs.Ordering.{match_ordering}
 use Rattle.std.specs.declared.cmp.Ordering.{Ordering}

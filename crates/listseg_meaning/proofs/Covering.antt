@@ -1,7 +1,7 @@
 -- What states describe.
-use Rattle.std.proofs.Common.{◌≡◌, ℕ, Bool, true, false, cond, List, [], ◌∷◌, ◌⊎◌, inl, inr, map, Option, refl, sym, subst}
+use Rattle.std.proofs.Common.{◌≡◌, ℕ, Bool, true, cond, List, [], inl, inr, map, Option, sym, subst}
 use Rattle.std.specs.Prelude.{nat_le, length}
-use Rattle.std.specs.List.{filter, flat_map}
+use Rattle.std.specs.List.{flat_map}
 use Rattle.std.proofs.lemmas.Bool.{cases_Bool}
 use Rattle.shape_graph.specs.Shape.{Shape, IsGraph, In}
 use Rattle.shape_graph.specs.Covers.{Covers}

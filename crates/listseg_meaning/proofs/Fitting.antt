@@ -1,5 +1,5 @@
 -- States that fit, as facts.
-use Rattle.std.proofs.Common.{◌≡◌, ℕ, ◌≤◌, Bool, true, false, cond, leb, List, [], ◌∷◌, ◌++◌, ◌⊎◌, inl, inr, map, length, refl, sym, ◌∙◌, ap, subst, arith}
+use Rattle.std.proofs.Common.{◌≡◌, ℕ, ◌≤◌, Bool, true, false, cond, List, [], ◌∷◌, inl, inr, map, length, refl, sym, ◌∙◌, ap, subst, arith}
 use Rattle.std.specs.Prelude.{◌&&◌, nat_le, nat_eq}
 use Rattle.std.specs.List.{filter, flat_map}
 use Rattle.std.specs.Bool.{Decides}
@@ -12,7 +12,7 @@ use Rattle.shape_graph.specs.Shape.{Shape, IsGraph, In}
 use Rattle.shape_graph.specs.Folds.{Folds, IsFolded}
 use Rattle.shape_graph.proofs.Function.{fold_of, is_folded, fold_of-folds, fold_of-graph, fold_of-folded, is_folded-graph, is_folded-folded, folded-is_folded}
 use Rattle.listseg_meaning.specs.State.{Segments, Top, Graphs}
-use Rattle.listseg_meaning.specs.Sets.{put, union, rises, most, capped}
+use Rattle.listseg_meaning.specs.Sets.{union, rises, most, capped}
 use Rattle.listseg_meaning.specs.Operations.{collected, each, kept}
 use Rattle.listseg_meaning.specs.Covers.{counts, fits_graph, fit_graphs, fits}
 use Rattle.listseg_meaning.proofs.Members.{union-from, In-from_map, In-from_flat_map, In-from_filter}

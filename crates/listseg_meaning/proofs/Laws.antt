@@ -1,6 +1,6 @@
 -- The list segments are a domain.
-use Rattle.std.proofs.Common.{◌≡◌, refl, sym, ap, ◌∙◌, subst, ℕ, ℤ, Bool, true, false, List, [], ◌∷◌, Option, Some, None}
-use Rattle.imp_slots.specs.Plain.{Layout, Guard, Compare, CompareLinks, Not, And, Or, Effect, Skip, Assert, SetInt, Input, ReadElement, ReadItem, MakeArray, CopyArray, WriteElement, SetNull, MakeCell, CopyLink, ReadNext, WriteNext, WriteItem, Act, DoBreak, Does}
+use Rattle.std.proofs.Common.{◌≡◌, refl, sym, ap, ◌∙◌, subst, Bool, true, false, List, [], ◌∷◌, Option, Some, None}
+use Rattle.imp_slots.specs.Plain.{Layout, Guard, Compare, CompareLinks, Not, And, Or, Effect, Skip, Assert, SetInt, Input, ReadElement, ReadItem, MakeArray, CopyArray, WriteElement, SetNull, MakeCell, CopyLink, ReadNext, WriteNext, WriteItem, Does}
 use Rattle.imp_slots.specs.Fits.{fits_effect}
 use Rattle.concrete_sem.specs.Values.{Variables, Heap, Faults}
 use Rattle.concrete_sem.specs.Effects.{effect_of}
@@ -8,7 +8,7 @@ use Rattle.concrete_sem.specs.Proper.{IsProper}
 use Rattle.analysis_words.specs.declared.verdict.Verdict.TheVariants.{Dead, Safe}
 use Rattle.domain_laws.specs.Checks.{Check, check_of, checked_guard, fault_of}
 use Rattle.domain_laws.specs.Claims.{ChecksTo, FailsCheck}
-use Rattle.domain_laws.specs.Guards.{assumed, past_check, verdict_on}
+use Rattle.domain_laws.specs.Guards.{assumed, past_check}
 use Rattle.domain_laws.proofs.CheckLaws.{FitsCheck, check-failed, check-fits}
 use Rattle.domain_laws.proofs.GuardLaws.{verdict_by-dead, verdict_by-safe}
 use Rattle.domain_laws.specs.Laws.{Fitting, Laws, KeepsDead}
@@ -18,7 +18,7 @@ use Rattle.listseg_meaning.specs.Sets.{capped}
 use Rattle.listseg_meaning.specs.Covers.{main_first, nexts, counts, covers, fits}
 use Rattle.listseg_meaning.specs.Domain.{segments}
 use Rattle.listseg_meaning.proofs.StateLaws.{segments_Decides}
-use Rattle.listseg_meaning.proofs.Fitting.{FitsState, fits-state, state-fits}
+use Rattle.listseg_meaning.proofs.Fitting.{fits-state, state-fits}
 use Rattle.listseg_meaning.proofs.Covering.{Describes, join-left, join-right}
 use Rattle.listseg_meaning.proofs.Links.{join-fits, assume-fits, assume-describes}
 use Rattle.listseg_meaning.proofs.StepFits.{post-fits}

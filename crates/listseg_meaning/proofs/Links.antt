@@ -1,12 +1,12 @@
 -- What comparisons of links tell, and what assuming a guard keeps and describes.
-use Rattle.std.proofs.Common.{◌≡◌, ℕ, Bool, true, false, not, if◌then◌else◌, List, [], ◌∷◌, ◌++◌, ◌⊎◌, inl, inr, Option, None, Some, refl, sym, ◌∙◌, ap, subst}
-use Rattle.std.specs.Prelude.{◌↔◌, nat_eq}
+use Rattle.std.proofs.Common.{◌≡◌, ℕ, Bool, true, not, if◌then◌else◌, List, ◌∷◌, inl, inr, Option, None, Some, refl, sym, ◌∙◌, ap, subst}
+use Rattle.std.specs.Prelude.{◌↔◌}
 use Rattle.std.specs.Cmp.{both_ways}
 use Rattle.std.proofs.lemmas.Bool.Decides.{nat_tests}
 use Rattle.std.proofs.Common.{arith}
 use Rattle.imp_slots.specs.Plain.{Layout, Guard}
 use Rattle.imp_slots.specs.Fits.{fits_guard}
-use Rattle.concrete_sem.specs.Values.{Variables, Gives, link_at}
+use Rattle.concrete_sem.specs.Values.{Variables, Gives}
 use Rattle.concrete_sem.specs.Evaluation.{truth_of, same_link, side_at}
 use Rattle.domain_laws.specs.Guards.{Compares, Tells}
 use Rattle.domain_laws.proofs.GuardLaws.{assumed-fits, assumed-covers}
@@ -21,7 +21,7 @@ use Rattle.listseg_meaning.specs.Covers.{main_first}
 use Rattle.listseg_meaning.proofs.Members.{union-from}
 use Rattle.listseg_meaning.proofs.Rising.{union-rises}
 use Rattle.listseg_meaning.proofs.Frames.{slot_of-push}
-use Rattle.listseg_meaning.proofs.Fitting.{Framed, FitsState, capped-fits, kept-fits}
+use Rattle.listseg_meaning.proofs.Fitting.{FitsState, capped-fits, kept-fits}
 use Rattle.listseg_meaning.proofs.Covering.{Describes, kept-describes, join-left, join-right}
 
 same-is : (a b : Option ℕ) → same_link a b ≡ true → a ≡ b

@@ -1,10 +1,9 @@
 -- What a union has: the graphs of both parts, and no others.
-use Rattle.std.proofs.Common.{◌≡◌, ℕ, Bool, true, false, List, [], ◌∷◌, ◌++◌, ◌⊎◌, inl, inr, map, refl, sym, ◌∙◌, ap, subst, cond}
+use Rattle.std.proofs.Common.{◌≡◌, Bool, true, false, List, [], ◌∷◌, ◌++◌, ◌⊎◌, inl, inr, map, refl, sym, ◌∙◌, ap, subst, cond}
 use Rattle.std.specs.List.{filter, flat_map}
 use Rattle.std.specs.Ordering.{match_ordering}
 use Rattle.std.specs.declared.cmp.Ordering.{Ordering}
 use Rattle.std.specs.declared.cmp.Ordering.TheVariants.{Less, Equal, Greater}
-use Rattle.std.proofs.lemmas.Bool.{cases_Bool}
 use Rattle.shape_graph.specs.Shape.{Shape, In}
 use Rattle.shape_graph.specs.Order.{shape_cmp, shape_cmp-same}
 use Rattle.shape_graph.proofs.Lists.{In-append, In-left, In-right}

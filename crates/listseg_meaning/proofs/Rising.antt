@@ -1,6 +1,5 @@
 -- Lists of graphs in strict order stay so.
-use Rattle.std.proofs.Common.{◌≡◌, ℕ, ◌≤◌, Bool, true, false, cond, List, [], ◌∷◌, length, refl, sym, ◌∙◌, ap, subst, arith}
-use Rattle.std.specs.Prelude.{◌&&◌}
+use Rattle.std.proofs.Common.{◌≡◌, Bool, true, false, cond, List, [], ◌∷◌, refl, ◌∙◌, ap}
 use Rattle.std.specs.List.{filter}
 use Rattle.std.specs.Ordering.{match_ordering, ordering_reverse, is_lt}
 use Rattle.std.specs.declared.cmp.Ordering.{Ordering}

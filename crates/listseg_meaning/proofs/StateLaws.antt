@@ -1,5 +1,5 @@
 -- Equal states are the same, and feed a hasher the same.
-use Rattle.std.proofs.Common.{◌≡◌, refl, ap, subst, true, Bool}
+use Rattle.std.proofs.Common.{◌≡◌, refl, ap, subst, true}
 use Rattle.std.specs.Bool.{Decides}
 use Rattle.std.specs.Ordering.{eq_by_cmp}
 use Rattle.std.specs.Cmp.{IsEquivalence, IsPartialEquivalence, decided, partial_equiv_from_equiv}

@@ -1,20 +1,19 @@
 -- Steps on graphs keep frames and targets.
-use Rattle.std.proofs.Common.{◌≡◌, ℕ, ◌<◌, Bool, true, false, List, [], ◌∷◌, ◌⊎◌, inl, inr, map, length, Option, None, Some, refl, sym, ◌∙◌, ap, subst, arith}
+use Rattle.std.proofs.Common.{◌≡◌, ℕ, ◌<◌, true, List, [], ◌∷◌, inl, inr, map, length, Option, None, Some, refl, sym, ◌∙◌, ap, subst, arith}
 use Rattle.imp_slots.specs.Plain.{Layout, Effect, Skip, Assert, SetInt, Input, ReadElement, ReadItem, MakeArray, CopyArray, WriteElement, SetNull, MakeCell, CopyLink, ReadNext, WriteNext, WriteItem, Act, DoBreak, Does}
-use Rattle.imp_slots.specs.Fits.{fits_effect}
 use Rattle.domain_laws.specs.Checks.{Check, check_of, checked_guard}
 use Rattle.domain_laws.specs.Guards.{past_check}
 use Rattle.domain_laws.proofs.CheckLaws.{FitsCheck, check-fits}
 use Rattle.domain_laws.specs.Laws.{fits_act}
-use Rattle.shape_graph.specs.Shape.{Shape, nodes, target_at, IsGraph, In}
-use Rattle.shape_steps.specs.Steps.{IsTarget, set_last, forget_of, new_cell_of, set_next_of, expose_of, slot_of, read_of, write_of}
+use Rattle.shape_graph.specs.Shape.{Shape, nodes, target_at, In}
+use Rattle.shape_steps.specs.Steps.{IsTarget, forget_of, new_cell_of, set_next_of, expose_of, slot_of}
 use Rattle.shape_steps.proofs.Graphs.{IsGraph-forget, IsGraph-new, IsGraph-next, target-of}
 use Rattle.shape_steps.proofs.Concrete.{slot-node, slot-ok, IsExposed-all}
-use Rattle.listseg_meaning.specs.State.{Segments, Top, Graphs}
+use Rattle.listseg_meaning.specs.State.{Segments, Graphs}
 use Rattle.listseg_meaning.specs.Operations.{read_at, write_at, stepped, each, does, assume, post}
 use Rattle.listseg_meaning.proofs.Members.{In-from_map}
 use Rattle.listseg_meaning.proofs.Frames.{set_last-counts}
-use Rattle.listseg_meaning.proofs.Fitting.{Framed, FitGraphs, FitsState, each-fits}
+use Rattle.listseg_meaning.proofs.Fitting.{Framed, FitsState, each-fits}
 use Rattle.listseg_meaning.proofs.Links.{assume-fits}
 
 only : (ns : List ℕ) (g x : Shape) → Framed ns g → In x (g ∷ []) → Framed ns x

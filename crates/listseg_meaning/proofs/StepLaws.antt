@@ -1,28 +1,27 @@
 -- What a statement's effect makes of what a state describes, the statement's operation describes.
-use Rattle.std.proofs.Common.{◌≡◌, ℕ, zero, suc, ◌<◌, ℤ, pos, Bool, true, false, if◌then◌else◌, List, [], ◌∷◌, ◌++◌, inl, inr, map, length, set, Option, None, Some, refl, sym, ◌∙◌, ap, subst}
+use Rattle.std.proofs.Common.{◌≡◌, ℕ, zero, suc, ℤ, pos, Bool, true, false, if◌then◌else◌, List, [], ◌∷◌, ◌++◌, inl, map, length, set, Option, None, Some, refl, sym, ◌∙◌, ap, subst}
 use Rattle.std.specs.Prelude.{slice_get}
 use Rattle.std.proofs.lemmas.List.{length-map, map-append, map-set}
 use Rattle.imp_slots.specs.Plain.{Layout, Effect, Skip, Assert, SetInt, Input, ReadElement, ReadItem, MakeArray, CopyArray, WriteElement, SetNull, MakeCell, CopyLink, ReadNext, WriteNext, WriteItem, Does}
 use Rattle.imp_slots.specs.Fits.{fits_effect}
-use Rattle.analysis_words.specs.declared.fault.FaultKind.{FaultKind}
 use Rattle.analysis_words.specs.declared.fault.FaultKind.TheVariants.{Null, Assert as Failed}
-use Rattle.concrete_sem.specs.Values.{Int, Array, Variables, Cell, Heap, Attempt, Gives, Faults, LacksInput, andthen, given_or, array_at, link_at, with_number, with_link}
+use Rattle.concrete_sem.specs.Values.{Int, Array, Variables, Cell, Heap, Gives, Faults, andthen, given_or, array_at, link_at, with_number, with_link}
 use Rattle.concrete_sem.specs.Evaluation.{value_of, truth_of}
 use Rattle.concrete_sem.specs.Effects.{new_array, element, with_element, cell_of, with_cell, take_input, effect_of}
 use Rattle.domain_laws.specs.Checks.{Check, check_of, checked_guard}
 use Rattle.domain_laws.specs.Claims.{ChecksTo}
 use Rattle.domain_laws.specs.Guards.{past_check}
 use Rattle.domain_laws.proofs.CheckLaws.{andthen-gives, FitsCheck, check-passed, check-fits}
-use Rattle.shape_graph.specs.Shape.{Shape, IsGraph, In}
+use Rattle.shape_graph.specs.Shape.{Shape, IsGraph}
 use Rattle.shape_graph.specs.Covers.{Covers}
 use Rattle.shape_steps.specs.Steps.{set_last, AnyCovers, forget_of, new_cell_of, slot_of}
 use Rattle.shape_steps.proofs.Concrete.{slot-null, Covers-null, Covers-copy, Covers-new, Covers-read_any, Covers-write_any}
-use Rattle.listseg_meaning.specs.State.{Segments, Top, Graphs}
+use Rattle.listseg_meaning.specs.State.{Segments}
 use Rattle.listseg_meaning.specs.Operations.{read_at, write_at, stepped, each, does, assume, post}
 use Rattle.listseg_meaning.specs.Covers.{main_first, nexts}
 use Rattle.listseg_meaning.proofs.Frames.{set_last-push, slot_of-push}
-use Rattle.listseg_meaning.proofs.Fitting.{Framed, FitsState}
-use Rattle.listseg_meaning.proofs.Covering.{Describes, OneCovers, each-describes}
+use Rattle.listseg_meaning.proofs.Fitting.{FitsState}
+use Rattle.listseg_meaning.proofs.Covering.{Describes, each-describes}
 use Rattle.listseg_meaning.proofs.Links.{assume-describes}
 use Rattle.listseg_meaning.proofs.StepFits.{stepped-framed, past_check-fits}
 

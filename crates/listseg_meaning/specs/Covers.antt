@@ -1,5 +1,5 @@
 -- Which configurations a state describes, and which states fit the layouts of frames.
-use Rattle.std.specs.Prelude.{ℕ, nat_le, nat_eq, Bool, true, false, ◌&&◌, List, [], ◌∷◌, ◌++◌, length, map, Option}
+use Rattle.std.specs.Prelude.{ℕ, nat_le, nat_eq, Bool, true, ◌&&◌, List, [], ◌∷◌, ◌++◌, length, map, Option}
 use lib.Pointwise.{pointwise}
 use Rattle.imp_slots.specs.Plain.{Layout}
 use Rattle.concrete_sem.specs.Values.{Variables, Cell, Heap}

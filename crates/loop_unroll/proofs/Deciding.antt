@@ -1,5 +1,5 @@
 -- The last iterate decides, where the iterates stop at none before it.
-use Rattle.std.proofs.Common.{◌≡◌, ◌≢◌, ℕ, zero, suc, ◌<◌, Bool, true, false, ◌==◌, cond, ◌⊎◌, inl, inr, List, [], ◌∷◌, length, Option, Some, None, slice_get, get_or, option_map, is_some, ◌↔◌, refl, sym, ap, ◌∙◌, subst, arith, eq-eqb}
+use Rattle.std.proofs.Common.{◌≡◌, ℕ, zero, suc, ◌<◌, Bool, true, false, ◌==◌, cond, ◌⊎◌, inl, inr, List, [], ◌∷◌, length, Option, Some, None, slice_get, get_or, option_map, is_some, ◌↔◌, refl, sym, ap, ◌∙◌, subst, arith, eq-eqb}
 use Rattle.std.proofs.lemmas.Bool.Decides.{nat_tests}
 use Rattle.std.specs.Option.{option_and_then}
 use Rattle.daig_graph.specs.declared.value.Value.{Value}
@@ -10,7 +10,7 @@ use Rattle.std.specs.Bool.{Decides}
 use Rattle.std.specs.Ordering.{nat_cmp}
 use Rattle.std.specs.FinMap.{FinMap, get}
 use Rattle.daig_graph.specs.Cells.{Filled, AreCells}
-use Rattle.loop_unroll.specs.Iterates.{iterate_of, value_at, state_in, IsOver, IsOverValue, IsEqual, IsSpent, Stops, GoesOnTo, StopsWithin, ConvergesWithin, OverrunsWithin}
+use Rattle.loop_unroll.specs.Iterates.{iterate_of, value_at, state_in, IsOver, IsOverValue, IsEqual, IsSpent, Stops, GoesOnTo, OverrunsWithin}
 use Rattle.loop_unroll.specs.Stages.{IsStage, spent_or_open}
 
 no : {A : Type 0} → false ≡ true → A

@@ -1,5 +1,5 @@
 -- Entries that are results, and what looking up and keeping make of them.
-use Rattle.std.proofs.Common.{◌≡◌, ℕ, Bool, true, List, Option, Some, None, IfSome, Contains, ◌⊎◌, inl, inr, refl, sym, ap, ap₂, ◌∙◌, subst, slice_get, option_map}
+use Rattle.std.proofs.Common.{◌≡◌, ℕ, Bool, true, List, Option, Some, None, IfSome, Contains, ◌⊎◌, inl, inr, refl, sym, ap, ap₂, ◌∙◌, subst, option_map}
 use Rattle.std.specs.Map.{lookup}
 use Rattle.lru.specs.LruCache.{LruCache, promoted, put_entries}
 use Rattle.lru.proofs.CallerLemmas.{Contains-lookup, Contains-promoted, Contains-put_entries}

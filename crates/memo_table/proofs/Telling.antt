@@ -1,24 +1,20 @@
 -- Keys and operations that compare equal are equal.
-use Rattle.std.proofs.Common.{◌≡◌, ℕ, ℤ, Bool, true, false, ◌&&◌, List, [], ◌∷◌, Option, Some, None, nat_eq, ap, ap₂, ◌∙◌, sym, arith, refl}
+use Rattle.std.proofs.Common.{Bool, [], ◌∷◌, Some, None, nat_eq, ap, ap₂, ◌∙◌, sym, arith, refl}
 use Rattle.std.proofs.lemmas.Bool.Decides.{nat_tests}
 use Rattle.std.proofs.lemmas.Bool.{and_parts}
 use Rattle.std.specs.Option.{option_eq}
-use Rattle.std.specs.Bool.{Decides}
 use Rattle.std.specs.Cmp.{signed_Decides}
 use Rattle.std.specs.Ordering.{int_eq}
 use Rattle.std.specs.Cmp.Lexicographic.{pointwise}
 use Rattle.plain_values.specs.Claims.{IsDecided}
-use Rattle.plain_values.specs.Equal.{same, same_Decides}
+use Rattle.plain_values.specs.Equal.{same_Decides}
 use Rattle.state_table.specs.Numbers.{TellsApart}
 use Rattle.imp_slots.specs.Codes.{guard_code}
 use Rattle.imp_slots.specs.PartCodes.{layout_code, entering_code}
 use Rattle.imp_slots.specs.EnumCodes.{stmt_coded}
-use Rattle.imp_slots.specs.declared.calls.Returning.{Returning}
 use Rattle.imp_slots.specs.declared.calls.Returning.TheVariants.{Numeric, Link}
 use Rattle.imp_slots.specs.contracts.calls.ReturningPartialEq.TheImpl as returning_impl
-use Rattle.memo_table.specs.declared.operation.Operation.{Operation}
 use Rattle.memo_table.specs.declared.operation.Operation.TheVariants.{Init, Post, Assume, Enter, Join, Leave, Widen}
-use Rattle.memo_table.specs.declared.memo.Key.{Key}
 use Rattle.memo_table.specs.contracts.memo.KeyPartialEq.TheImpl as key_impl
 use Rattle.memo_table.specs.contracts.memo.KeyEq.TheImpl.Laws as key_laws
 use Rattle.memo_table.specs.contracts.operation.OperationPartialEq.TheImpl as operation_impl

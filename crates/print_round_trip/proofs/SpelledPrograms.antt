@@ -8,12 +8,12 @@ use Rattle.imp_syntax.specs.declared.words.Kind as kinds
 use Rattle.imp_syntax.specs.declared.words.Kind.TheVariants as v
 use Rattle.imp_syntax.specs.declared.words.Declaration.{Declaration}
 use Rattle.imp_syntax.specs.Plain as plain
-use Rattle.imp_syntax.specs.Plain.{Operand, Condition, Statement, Simple, Break, Call, If, While, Statements, Ends, Starts, Procedure, block_of, statements_of}
+use Rattle.imp_syntax.specs.Plain.{Operand, Condition, Statement, Simple, Break, Call, If, While, Statements, Ends, Starts, Procedure, statements_of}
 use Rattle.imp_syntax.specs.Blocks.{block_again}
 use Rattle.imp_parse.specs.Tables.{kind_of}
 use Rattle.imp_parse.specs.Grammar.{IsCondition}
 use Rattle.imp_parse.specs.Statements as g
-use Rattle.imp_parse.specs.Statements.{IsSides, IsArguments, IsInvoke, IsAssigned, IsSimple, IsStatement, IsBlock, IsStatements}
+use Rattle.imp_parse.specs.Statements.{IsSides, IsArguments, IsSimple, IsStatement, IsBlock, IsStatements}
 use Rattle.imp_parse.specs.Programs as q
 use Rattle.imp_parse.specs.Programs.{IsDeclaration, IsDeclarations, IsParameters, IsOutcome, IsLocals, IsProcedure, IsProcedures, IsProgram}
 use Rattle.imp_print.specs.Statements.{is_empty}

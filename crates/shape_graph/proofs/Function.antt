@@ -1,5 +1,5 @@
 -- Folding as a function, and the test of being folded.
-use Rattle.std.proofs.Common.{◌≡◌, ℕ, Bool, ◌⊎◌, inl, inr, true, [], refl, sym, ◌∙◌, ap, subst}
+use Rattle.std.proofs.Common.{◌≡◌, Bool, ◌⊎◌, inl, inr, true, [], refl, sym, subst}
 use Rattle.std.specs.Ordering.{eq_by_cmp}
 use Rattle.shape_graph.specs.Shape.{Shape, IsGraph, shape_of}
 use Rattle.shape_graph.specs.Folds.{Folds, IsFolded}

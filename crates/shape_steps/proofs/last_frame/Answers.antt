@@ -1,4 +1,4 @@
-use Rattle.std.proofs.Common.{◌≡◌, ◌∷◌, ◌++◌, [], ap, ◌∙◌}
+use Rattle.std.proofs.Common.{◌∷◌, ◌++◌, [], ap, ◌∙◌}
 use Rattle.shape_steps.specs.Steps.{last_of, last_frame_of}
 use Rattle.shape_steps.proofs.Graphs.{moved, IsGraph-last}
 use Rattle.shape_steps.proofs.last_frame.Goals as goal

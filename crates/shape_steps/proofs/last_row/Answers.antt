@@ -1,4 +1,4 @@
-use Rattle.std.proofs.Common.{arith, ◌≡◌, ◌<◌, ◌-◌, length, ◌∙◌}
+use Rattle.std.proofs.Common.{arith, ◌<◌, ◌-◌, length, ◌∙◌}
 use Rattle.std.proofs.lemmas.Result.{IfOk-weaker}
 use Rattle.std.proofs.lemmas.Bool.Decides.{nat_tests}
 use Rattle.shape_steps.proofs.Graphs.{last_of-is}

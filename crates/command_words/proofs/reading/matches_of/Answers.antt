@@ -1,6 +1,6 @@
-use Rattle.std.proofs.Common.{◌≡◌, ◌∙◌, true, refl, map, ap, subst, []}
+use Rattle.std.proofs.Common.{◌≡◌, ◌∙◌, refl, map, ap, subst, []}
 use Rattle.std.specs.String.{string_bytes}
-use Rattle.clap.specs.Simple.{HasMatchesOf, app_of, is_simple}
+use Rattle.clap.specs.Simple.{HasMatchesOf, app_of}
 use Rattle.clap.specs.Faults.{fault_of, is_simple_and_free}
 use Rattle.command_words.specs.Line.{daig_app}
 use Rattle.command_words.proofs.reading.matches_of.Goals as goal

@@ -1,5 +1,5 @@
-use Rattle.std.specs.Prelude.{◌≡◌, ◌*◌, ◌+◌, ◌^◌, None, Some, pos, negsuc}
-use Rattle.std.proofs.Common.{arith, ap, subst, sym, ◌∙◌, inl, inr, length, get_or}
+use Rattle.std.specs.Prelude.{◌≡◌, ◌*◌, Some, pos, negsuc}
+use Rattle.std.proofs.Common.{ap, subst, inl, inr, length}
 use Rattle.dbm_core.proofs.HalfLemmas.{entry-coherent}
 use Rattle.dbm_core.specs.Half.{HasEntries, entry, nodes}
 use Rattle.dbm_core.specs.Weights.{AtMost}

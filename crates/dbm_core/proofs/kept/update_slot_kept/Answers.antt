@@ -1,8 +1,7 @@
-use Rattle.std.proofs.Common.{arith, ◌≡◌, ◌<◌, ◌≤◌, ◌+◌, ◌*◌, ◌∙◌, ap, subst, sym, length, slice_set, length-set, get_or, None}
+use Rattle.std.proofs.Common.{arith, ◌≡◌, ◌<◌, ◌≤◌, ◌+◌, ◌∙◌, ap, subst, sym, length, slice_set, length-set, get_or, None}
 use Rattle.dbm_core.proofs.HalfLemmas.{place-within, row_start-double}
 use Rattle.dbm_core.proofs.SlotLemmas.{IsDone, IsDoneIn, IsRestIn, column-kept, done-set, first, here-set, rest-set}
 use Rattle.dbm_core.specs.Half.{row_start, row_width}
-use Rattle.dbm_core.specs.Nodes.{IsOfSlot}
 use Rattle.dbm_core.proofs.kept.update_slot_kept.Goals as goal
 
 pub slice_copy_out-bound : goal.slice_copy_out-bound

@@ -1,4 +1,4 @@
-use Rattle.std.proofs.Common.{◌≡◌, ◌+◌, ◌∙◌, Bool, Some, sym, ap, subst}
+use Rattle.std.proofs.Common.{◌+◌, ◌∙◌, Bool, sym, ap, subst}
 use Rattle.std.specs.Option.{option_copied}
 use Rattle.concrete_sem.specs.Steps.{Config}
 use Rattle.concrete_sem.specs.Runs.{Run, ends}

@@ -1,4 +1,4 @@
-use Rattle.std.proofs.Common.{◌≡◌, ◌+◌, ◌≤◌, ℕ}
+use Rattle.std.proofs.Common.{◌≡◌, ◌+◌, ◌≤◌}
 use Rattle.std.specs.Option.{option_copied}
 use Rattle.concrete_sem.specs.Runs.{run_from}
 use Rattle.imp_run.specs.Machine.{config_of}

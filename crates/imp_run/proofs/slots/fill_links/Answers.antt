@@ -1,4 +1,4 @@
-use Rattle.std.proofs.Common.{◌∙◌, ◌++◌, List, Option, ℕ, map, ap, sym, arith}
+use Rattle.std.proofs.Common.{◌∙◌, arith}
 use Rattle.concrete_sem.specs.Passing.{first_link}
 use Rattle.imp_run.proofs.SlotLemmas.{links-filled-end}
 use Rattle.imp_run.proofs.slots.fill_links.Goals as goal

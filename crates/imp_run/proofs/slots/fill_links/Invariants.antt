@@ -1,4 +1,4 @@
-use Rattle.std.proofs.Common.{◌≡◌, ◌++◌, take, length, map}
+use Rattle.std.proofs.Common.{◌≡◌, ◌++◌, take, map}
 use Rattle.concrete_sem.specs.Passing.{first_link}
 use Rattle.imp_run.proofs.slots.fill_links.Given as goal
 

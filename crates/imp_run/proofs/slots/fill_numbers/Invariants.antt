@@ -1,4 +1,4 @@
-use Rattle.std.proofs.Common.{◌≡◌, ◌++◌, take, length, map}
+use Rattle.std.proofs.Common.{◌≡◌, ◌++◌, take, map}
 use Rattle.concrete_sem.specs.Passing.{first_number}
 use Rattle.imp_run.specs.Slots.{number_of}
 use Rattle.imp_run.proofs.slots.fill_numbers.Given as goal

@@ -1,4 +1,4 @@
-use Rattle.std.proofs.Common.{◌≡◌, ℕ, suc, ◌-◌, get_or, sym, ap, ◌∙◌, subst, arith}
+use Rattle.std.proofs.Common.{◌≡◌, suc, ◌-◌, sym, subst, arith}
 use Rattle.std.specs.Bool.{Decides}
 use Rattle.loop_unroll.proofs.Deciding.{repeats-some, repeats-none, at_index}
 use Rattle.loop_unroll.proofs.stage.repeats.Goals as goal

@@ -1,4 +1,4 @@
-use Rattle.std.proofs.Common.{◌≡◌, ℕ, suc, ◌<◌, ◌-◌, length, Some, sym, ap, ◌∙◌, subst, arith}
+use Rattle.std.proofs.Common.{◌≡◌, suc, ◌-◌, length, Some, sym, ap, ◌∙◌, subst, arith}
 use Rattle.daig_graph.specs.declared.value.Value.{Value}
 use Rattle.loop_unroll.specs.declared.stage.Stage.{Stage}
 use Rattle.loop_unroll.specs.Iterates.{iterate_of, IsOverValue}

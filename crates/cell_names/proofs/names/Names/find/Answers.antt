@@ -1,5 +1,3 @@
-use Rattle.std.proofs.Common.{◌≡◌, Some, slice_get}
-use Rattle.cell_names.specs.Paths.{name_in}
 use Rattle.cell_names.proofs.Telling.{name_tells, name_self}
 use Rattle.cell_names.proofs.KeptLemmas.{if_some, known-name, known-found}
 use Rattle.cell_names.proofs.names.Names.find.Goals as goal

@@ -1,4 +1,4 @@
-use Rattle.std.proofs.Common.{◌≡◌, ℕ, List, Option, IfSome, sym, ap, subst, rules}
+use Rattle.std.proofs.Common.{◌≡◌, ℕ, sym, subst, rules}
 use Rattle.std.specs.Map.{lookup}
 use Rattle.lru.specs.LruCache.{LruCache, lru_cache, promoted}
 use Rattle.memo_table.specs.declared.memo.Key.{Key}

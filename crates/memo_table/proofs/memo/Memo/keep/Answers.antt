@@ -1,5 +1,5 @@
-use Rattle.std.proofs.Common.{◌≡◌, ℕ, List, sym, ap, ◌∙◌, subst}
-use Rattle.lru.specs.LruCache.{LruCache, lru_cache, put_entries}
+use Rattle.std.proofs.Common.{ℕ, sym, subst}
+use Rattle.lru.specs.LruCache.{LruCache, put_entries}
 use Rattle.memo_table.specs.declared.memo.Key.{Key}
 use Rattle.memo_table.specs.contracts.memo.KeyPartialEq.TheImpl as key_impl
 use Rattle.memo_table.specs.Results.{AreResults}

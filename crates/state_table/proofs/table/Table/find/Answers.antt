@@ -1,4 +1,4 @@
-use Rattle.std.proofs.Common.{◌≡◌, ◌∙◌, sym, subst, ap, Some, List, slice_get, position}
+use Rattle.std.proofs.Common.{◌∙◌, ap, slice_get, position}
 use Rattle.state_table.proofs.NumberLemmas.{distinct-once}
 use Rattle.state_table.proofs.FindLemmas.{position-once, found-same}
 use Rattle.state_table.proofs.table.Table.find.Goals as goal
