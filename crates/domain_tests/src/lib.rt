@@ -1,7 +1,9 @@
-//! Tests of what domains stand on: ranges, matrices and shape graphs drawn by hand.
+//! Tests of single crates: what domains stand on (ranges, matrices and shape graphs drawn by hand), and the adapters.
 //! They stand beside the crates that they test, since a crate with tests of its own is proved twice.
 #![tactic(auto)]
 
+#[cfg(test)]
+mod adapters;
 #[cfg(test)]
 mod bounds;
 #[cfg(test)]
