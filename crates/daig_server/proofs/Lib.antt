@@ -1,9 +1,6 @@
 pub mod FewLemmas
 pub mod LineLemmas
-pub mod ServeLemmas
-pub mod CertificateLemmas
 pub mod WordsLemmas
 pub mod TallyLemmas
-pub mod SourceLemmas
 pub mod ServedLemmas
 pub mod GeneratedLemmas

@@ -10,7 +10,7 @@ use Rattle.serde_json.specs.Written.{compact_text}
 use Rattle.request_json.specs.Replies.{object_of, reply_fields, reply_text}
 use Rattle.line_replies.specs.Texts.{long_reply}
 use Rattle.line_answers.specs.Lines.{Served, line_turn, server}
-use Rattle.daig_server.specs.Ends.{IsWholeLines, WroteWholeLines}
+use Rattle.server_jobs.specs.Ends.{IsWholeLines, WroteWholeLines}
 
 reply_whole : (reply : Reply) → IsWholeLines (reply_text reply)
 unfolding reply_text

@@ -8,7 +8,7 @@ use Rattle.line_answers.specs.Readings.{Readings}
 use Rattle.line_answers.specs.Turns.{Turn}
 use Rattle.line_answers.specs.Lines.{Served, line_turn, server}
 use Rattle.command_words.specs.declared.job.DomainName.{DomainName}
-use Rattle.daig_server.specs.Domains.{meaning_of, AnswersAs}
+use Rattle.server_jobs.specs.Domains.{meaning_of, AnswersAs}
 
 module _ {S A E : Type 0} (items : A → List ℕ) (dom : Operations S) (name : DomainName) (line : List ℕ) (old new : Machine → Type 0) (same : AnswersAs name dom) where
   pub reply_by : (r : Result A E) → ((readings : Readings) (m : Machine) → old m → IfOk r (λ v. Follows (line_turn readings dom line m) new (items v))) →

@@ -35,8 +35,8 @@ use Rattle.command_words.specs.declared.job.DomainName.{DomainName}
 use Rattle.script_loop.specs.Lines.{whole_lines}
 use Rattle.daig_gen.specs.Script.{script_of}
 use Rattle.line_answers.specs.Fine.{opening}
-use Rattle.daig_server.specs.Domains.{meaning_of}
-use Rattle.daig_server.specs.Output.{gen_bytes, served_after, tallied}
+use Rattle.server_jobs.specs.Domains.{meaning_of}
+use Rattle.server_jobs.specs.Output.{gen_bytes, served_after, tallied}
 
 pub after-append : {S : Type 0} (dom : Operations S) (xs ys : List (List ℕ)) (s : Served) → served_after dom (xs ++ ys) s ≡ served_after dom ys (served_after dom xs s)
 after-append dom [] ys s = refl

@@ -6,19 +6,18 @@ ghost use Rattle.script_loop.specs.Lines.{last_part, whole_lines};
 ghost use Rattle.line_answers.specs.Fine.{opening};
 ghost use Rattle.line_answers.specs.Lines.{Served, line_turn, server as machine};
 ghost use Rattle.line_answers.specs.Readings.{Readings};
-ghost use Rattle.daig_server.specs.Domains.{meaning_of};
-ghost use Rattle.daig_server.specs.Jobs.{engine_of};
-ghost use Rattle.daig_server.specs.Output.{gen_bytes, served_after, tallied};
-ghost use Rattle.daig_server.specs.Works.{IsNumbered};
+ghost use Rattle.server_jobs.specs.Domains.{meaning_of};
+ghost use Rattle.server_jobs.specs.Jobs.{engine_of};
+ghost use Rattle.server_jobs.specs.Output.{gen_bytes, served_after, tallied};
+ghost use Rattle.server_jobs.specs.Works.{IsNumbered};
 
-use crate::domains::Named;
 use crate::server::Server;
-use crate::task::Drawn;
 use command_words::Settings;
 use gen_summary::Tally;
 use imp_check::Table;
 use plain_values::Memory;
 use script_loop::Answerer;
+use server_jobs::{Drawn, Named};
 use std::alloc::Global;
 use std::sync::ledger::Ledger;
 use step_counter::Steps;
@@ -93,7 +92,7 @@ fn tally_lines<D: Named, L: Ledger>(
 }
 
 /// The summary of the generated script over the program. It fails for want of memory alone.
-#[tactic(auto, unfolding(crate::specs::Output::gen_bytes))]
+#[tactic(auto, unfolding(server_jobs::specs::Output::gen_bytes))]
 pub(crate) fn summary<D: Named, L: Ledger>(
     alloc: Global,
     domain: D,

@@ -1,28 +1,19 @@
 //! The server: from words, a file and a script to bytes and a status.
 //!
-//! [`serve`] is the top call. What it writes and answers is `output` of `specs/Output.antt`, a
+//! [`serve`] is the top call. What it writes and answers is `output` of `server_jobs`, a
 //! function of the words, the files and the script; for each status a clause says when it comes and
-//! what was written. Each line that is answered by a state is answered soundly, and so is each report
-//! (`specs/Sound.antt`).
+//! what was written. Each line that is answered by a state is answered soundly, and so is each report.
 //!
 //! A program is served by a session (`daig_session`), which keeps what it computed from line to line; by what the lines
 //! show it is the machine that holds the present program alone, is changed by accepted edits alone, and interprets the
-//! program from scratch at each question (`server` of `line_answers`), by the domain that the words name
-//! (`specs/Domains.antt`). A source is read by `source_of` of `specs/Sources.antt`. The listing and the report of `batch`
-//! come by batch interpretation alone. Certificates are written and checked by `cert_write` and `cert_check`.
+//! program from scratch at each question (`server` of `line_answers`), by the domain that the words name.
+//! Sources, the listing and the report of `batch`, and certificates need no session: they are `server_jobs`'.
 #![tactic(auto)]
 
-mod batch;
-mod certificates;
-mod domains;
 mod generated;
-mod refusing;
 mod run;
 mod server;
 mod serving;
-mod source;
-mod status;
-mod task;
 mod work;
 
 pub use line_answers::texts_are_read;

@@ -5,18 +5,13 @@ ghost use Rattle.io_edge.specs.Outside.{Rose, Lacks};
 ghost use Rattle.imp_syntax.specs.Plain.{Procedure};
 ghost use Rattle.script_loop.specs.Replies.{ReadToEnd, ReadBytes};
 ghost use Rattle.line_answers.specs.Readings.{Readings};
-ghost use Rattle.daig_server.specs.Sources.{source_of};
-ghost use Rattle.daig_server.specs.Jobs.{AsksToGenerate, AsksToServe, Serves};
-ghost use Rattle.daig_server.specs.Output.{file_output, generated_output, output, source_output, usage, IsProgram, LacksFile};
-ghost use Rattle.daig_server.specs.Ends.{Fits, Wrote};
-ghost use Rattle.daig_server.specs.Told.{asked, TellsFiles, TellsScript};
-ghost use Rattle.daig_server.specs.Works.{Remembers};
+ghost use Rattle.server_jobs.specs.Sources.{source_of};
+ghost use Rattle.server_jobs.specs.Jobs.{AsksToGenerate, AsksToServe, Serves};
+ghost use Rattle.server_jobs.specs.Output.{file_output, generated_output, output, source_output, usage, IsProgram, LacksFile};
+ghost use Rattle.server_jobs.specs.Ends.{Fits, Wrote};
+ghost use Rattle.server_jobs.specs.Told.{asked, TellsFiles, TellsScript};
+ghost use Rattle.server_jobs.specs.Works.{Remembers};
 
-use crate::certificates::run_certificate;
-use crate::refusing::refuse_source;
-use crate::source::{MOST_SOURCE, SourceError, read_source};
-use crate::status::Status;
-use crate::task::{CertTask, Drawn, Task};
 use crate::work::do_work;
 use command_words::{DomainName, Job, Settings, WordsError, read_words};
 use generated_sources::sources_are_accepted;
@@ -25,6 +20,10 @@ use io_edge::{Failed, Files, LoadFault, Sink, Source};
 use line_answers::texts_are_read;
 use program_chains::Widening;
 use script_loop::write_all;
+use server_jobs::{
+    CertTask, Drawn, MOST_SOURCE, SourceError, Status, Task, read_source, refuse_source,
+    run_certificate,
+};
 use std::alloc::Global;
 use std::sync::ledger::Ledger;
 use step_counter::Steps;
@@ -33,7 +32,7 @@ use step_counter::Steps;
 const USAGE: &[u8] = b"usage: daig serve|batch|gen [OPTIONS] [FILE]\n";
 
 /// Refuses the words.
-#[tactic(auto, unfolding(crate::specs::Output::usage))]
+#[tactic(auto, unfolding(server_jobs::specs::Output::usage))]
 fn refuse_words<O: Sink>(out: &mut O) -> Status
     ensures status { (result ≡ Status.Words) ⊎ (result ≡ Status.Sink) }
     ensures fits { Fits result 2 }

@@ -2,17 +2,17 @@
 ghost use Rattle.std.specs.Prelude.{◌≡◌, ◌<◌, ◌≤◌, ◌+◌, ◌^◌, IfOk};
 ghost use Rattle.session_machine.specs.Machine.{beginning, Machine};
 ghost use Rattle.daig_session.specs.Holds.{Holds, IsReady};
-ghost use Rattle.daig_server.specs.Jobs.{engine_of};
+ghost use Rattle.server_jobs.specs.Jobs.{engine_of};
 ghost use Rattle.line_answers.specs.Fine.{next_number};
-ghost use Rattle.daig_server.specs.Works.{IsNumbered};
+ghost use Rattle.server_jobs.specs.Works.{IsNumbered};
 
-use crate::domains::Named;
 use command_words::Settings;
 use daig_session::Session;
 use imp_check::Table;
 use line_replies::long_line;
 use plain_values::Memory;
 use script_loop::Answerer;
+use server_jobs::Named;
 use session_lines::answer_line;
 use std::alloc::Global;
 use std::sync::ledger::Ledger;
@@ -77,7 +77,7 @@ impl<D: Named> Answerer for Server<D> {
     ghost use Rattle.std.specs.Prelude.{◌≤◌, ◌+◌, ◌^◌};
     ghost use Rattle.daig_session.specs.Holds.{Holds, IsReady};
     ghost use Rattle.line_answers.specs.Lines.{Served, server};
-    ghost use Rattle.daig_server.specs.Domains.{meaning_of};
+    ghost use Rattle.server_jobs.specs.Domains.{meaning_of};
 
     ghost State = { Served };
 

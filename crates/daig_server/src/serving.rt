@@ -8,19 +8,18 @@ ghost use Rattle.command_words.specs.declared.job.SingleDomain.{SingleDomain as 
 ghost use Rattle.cert_lines.specs.Verify.{verified_line, Yes};
 ghost use Rattle.script_loop.specs.Replies.{ReadBytes, ReadToEnd};
 ghost use Rattle.line_answers.specs.Readings.{Readings};
-ghost use Rattle.daig_server.specs.Domains.{meaning_of};
-ghost use Rattle.daig_server.specs.Jobs.{AsksToGenerate, AsksToServe, domain_in, engine_in};
-ghost use Rattle.daig_server.specs.Output.{IsAccepted, IsProgram, LacksFile, output};
-ghost use Rattle.daig_server.specs.Sound.{AreRunsCovered, IsBatchSound, IsSoundAfter};
-ghost use Rattle.daig_server.specs.Ends.{Fits, IsStatus, Wrote, WroteAll, status_of};
-ghost use Rattle.daig_server.specs.Told.{asked, given, Tells, TellsFiles, Told};
+ghost use Rattle.server_jobs.specs.Domains.{meaning_of};
+ghost use Rattle.server_jobs.specs.Jobs.{AsksToGenerate, AsksToServe, domain_in, engine_in};
+ghost use Rattle.server_jobs.specs.Output.{IsAccepted, IsProgram, LacksFile, output};
+ghost use Rattle.server_jobs.specs.Sound.{AreRunsCovered, IsBatchSound, IsSoundAfter};
+ghost use Rattle.server_jobs.specs.Ends.{Fits, IsStatus, Wrote, WroteAll, status_of};
+ghost use Rattle.server_jobs.specs.Told.{asked, given, Tells, TellsFiles, Told};
 
-use crate::certificates::each_yes_is_sound;
-use crate::domains::named_domains_are_sound;
 use crate::run::run;
 use dom_interval::Interval;
 use io_edge::{Files, Sink, Source};
 use line_answers::machines_stay_fine;
+use server_jobs::{each_yes_is_sound, named_domains_are_sound};
 use std::alloc::Global;
 use std::sync::ledger::Ledger;
 use step_counter::Steps;

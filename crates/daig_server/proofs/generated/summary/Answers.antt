@@ -1,5 +1,5 @@
 use Rattle.std.proofs.Common.{◌∙◌, string_bytes}
-use Rattle.daig_server.specs.Jobs.{engine_of}
+use Rattle.server_jobs.specs.Jobs.{engine_of}
 use Rattle.daig_server.proofs.TallyLemmas.{summed}
 use Rattle.daig_server.proofs.generated.summary.Goals as goal
 

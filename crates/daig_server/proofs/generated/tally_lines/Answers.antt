@@ -2,8 +2,8 @@ use Rattle.std.proofs.Common.{◌∙◌, [], ◌∷◌, suc, take, slice_index_o
 use Rattle.gen_summary.specs.Summary.{nothing}
 use Rattle.script_loop.specs.Lines.{whole_lines}
 use Rattle.script_loop.proofs.LineLemmas.{lines_more, part_more}
-use Rattle.daig_server.specs.Domains.{meaning_of}
-use Rattle.daig_server.specs.Output.{served_after, tallied}
+use Rattle.server_jobs.specs.Domains.{meaning_of}
+use Rattle.server_jobs.specs.Output.{served_after, tallied}
 use Rattle.daig_server.proofs.TallyLemmas.{after-append, tallied-append}
 use Rattle.daig_server.proofs.generated.tally_lines.Goals as goal
 

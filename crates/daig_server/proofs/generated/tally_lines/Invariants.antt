@@ -3,8 +3,8 @@ use Rattle.gen_summary.specs.Summary.{nothing, IsWithin}
 use Rattle.daig_session.specs.Holds.{Holds, IsReady}
 use Rattle.script_loop.specs.Lines.{last_part, whole_lines}
 use Rattle.line_answers.specs.Lines.{Served}
-use Rattle.daig_server.specs.Domains.{meaning_of}
-use Rattle.daig_server.specs.Output.{served_after, tallied}
+use Rattle.server_jobs.specs.Domains.{meaning_of}
+use Rattle.server_jobs.specs.Output.{served_after, tallied}
 use Rattle.daig_server.proofs.generated.tally_lines.Given as goal
 
 -- the lines that end in the bytes so far are tallied

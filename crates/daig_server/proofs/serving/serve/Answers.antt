@@ -1,9 +1,9 @@
 use Rattle.std.proofs.Common.{◌∙◌, inl, inr}
-use Rattle.daig_server.specs.Jobs.{domain_in, engine_in}
-use Rattle.daig_server.specs.Told.{asked}
-use Rattle.daig_server.specs.declared.status.Status.TheVariants.{Done, Words, Script, Sink, Files, LongScript, LongFile}
-use Rattle.daig_server.proofs.CertificateLemmas.{yes_covers}
-use Rattle.daig_server.proofs.ServeLemmas.{accepted_read, ends_generated, ends_refused, file_read, named_by, same_status, told_by, wrote_complete, zero_accepted}
+use Rattle.server_jobs.specs.Jobs.{domain_in, engine_in}
+use Rattle.server_jobs.specs.Told.{asked}
+use Rattle.server_jobs.specs.declared.status.Status.TheVariants.{Done, Words, Script, Sink, Files, LongScript, LongFile}
+use Rattle.server_jobs.proofs.CertificateLemmas.{yes_covers}
+use Rattle.server_jobs.proofs.OutputLemmas.{accepted_read, ends_generated, ends_refused, file_read, named_by, same_status, told_by, wrote_complete, zero_accepted}
 use Rattle.daig_server.proofs.serving.serve.Goals as goal
 
 pub returns-clause-named : goal.returns-clause-named
