@@ -7,10 +7,7 @@ use Rattle.imp_syntax.specs.declared.words.Operator.{Operator}
 use Rattle.imp_syntax.specs.declared.words.Operator.TheVariants.{Add, Subtract, Multiply, Divide, Remainder}
 use Rattle.imp_syntax.specs.declared.words.Relation.{Relation}
 use Rattle.imp_syntax.specs.declared.words.Relation.TheVariants.{Equal, NotEqual, Less, AtMost, Greater, AtLeast}
-use Rattle.imp_slots.specs.Plain.{Numeric, Layout, Term, Literal, Slot, Length, Negative, Binary, Guard, Compare, CompareLinks, Not, And, Or, Effect, Skip, Assert, SetInt, Input, ReadElement, ReadItem, MakeArray, CopyArray, WriteElement, SetNull, MakeCell, CopyLink, ReadNext, WriteNext, WriteItem, Act, DoBreak, Does, Argument, IntArgument, ArrayArgument, LinkArgument, Entering, Returning, NumericResult, LinkResult, Invoke, Code, Stop, Simple, If, While, Call, Break, Routine}
-use Rattle.imp_slots.specs.BlockViews.{code_of, number_of}
-use Rattle.imp_slots.specs.declared.blocks.SlotNode.{SlotNode}
-use Rattle.imp_slots.specs.declared.blocks.SlotNode.TheVariants as nodes
+use Rattle.imp_slots.specs.Plain.{Numeric, Layout, Term, Literal, Slot, Length, Negative, Binary, Guard, Compare, CompareLinks, Not, And, Or, Effect, Skip, Assert, SetInt, Input, ReadElement, ReadItem, MakeArray, CopyArray, WriteElement, SetNull, MakeCell, CopyLink, ReadNext, WriteNext, WriteItem, Act, DoBreak, Does, Argument, IntArgument, ArrayArgument, LinkArgument, Entering}
 
 abbrev pub operator_tag : Operator → ℕ
 operator_tag Add = 4
@@ -84,30 +81,6 @@ argument_fed (LinkArgument p) = fed.u8 2 ++ slot_fed p
 abbrev pub entering_fed : Entering → List (List ℕ)
 entering_fed e = layout_fed e.layout ++ fed.slice argument_fed e.arguments
 
--- what is taken of a result, or nothing
-abbrev pub returning_fed : Option Returning → List (List ℕ)
-returning_fed None = fed.u8 0
-returning_fed (Some (NumericResult to from)) = (fed.u8 1 ++ fed.u32 to) ++ fed.u32 from
-returning_fed (Some (LinkResult to from)) = (fed.u8 2 ++ fed.u32 to) ++ fed.u32 from
-
-abbrev pub invoke_fed : Invoke → List (List ℕ)
-invoke_fed c = entering_fed c.entering ++ returning_fed c.returning
-
--- the numbers of the statements of a block itself
-abbrev pub own_numbers : Code → List ℕ
-own_numbers Stop = []
-own_numbers (Simple n e r) = n ∷ own_numbers r
-own_numbers (If n g t e r) = n ∷ own_numbers r
-own_numbers (While n g b r) = n ∷ own_numbers r
-own_numbers (Call n i q r) = n ∷ own_numbers r
-own_numbers (Break n r) = n ∷ own_numbers r
-
-abbrev pub code_fed : Code → List (List ℕ)
-code_fed c = fed.slice fed.u32 (own_numbers c)
-
-abbrev pub routine_fed : Routine → List (List ℕ)
-routine_fed r = (text_fed r.name ++ layout_fed r.layout) ++ code_fed r.code
-
 -- a mapped list feeds what the list feeds through the function
 flat_map-map : {A B : Type 0} (feed : B → List (List ℕ)) (f : A → B) (xs : List A) → flat_map (λ x. feed (f x)) xs ≡ flat_map feed (map f xs)
 flat_map-map feed f [] = refl
@@ -119,11 +92,3 @@ map_length f (x ∷ xs) = ap suc (map_length f xs)
 
 pub slice-map : {A B : Type 0} (feed : B → List (List ℕ)) (f : A → B) (xs : List A) → fed.slice (λ x. feed (f x)) xs ≡ fed.slice feed (map f xs)
 slice-map feed f xs = λ i. fed.usize (map_length f xs i) ++ flat_map-map feed f xs i
-
-pub map-number_of : (ss : List SlotNode) → map number_of ss ≡ own_numbers (code_of ss)
-map-number_of [] = refl
-map-number_of (nodes.Simple n a ∷ ss) = ap (λ ns. n ∷ ns) (map-number_of ss)
-map-number_of (nodes.If n c t e ∷ ss) = ap (λ ns. n ∷ ns) (map-number_of ss)
-map-number_of (nodes.While n c b ∷ ss) = ap (λ ns. n ∷ ns) (map-number_of ss)
-map-number_of (nodes.Call n i q ∷ ss) = ap (λ ns. n ∷ ns) (map-number_of ss)
-map-number_of (nodes.Break n ∷ ss) = ap (λ ns. n ∷ ns) (map-number_of ss)

@@ -4,12 +4,11 @@ ghost use Rattle.plain_values.specs.Equal.{same, same_equiv, same_per, code_same
 ghost use Rattle.imp_slots.specs.CallViews.{taken_of, argument_of};
 ghost use Rattle.imp_slots.specs.Codes.{term_code, guard_code};
 ghost use Rattle.imp_slots.specs.PartCodes.{numeric_code, numeric_to, layout_code, entering_code, argument_to, returning_to, invoke_code};
-ghost use Rattle.imp_slots.specs.BlockCodes.{code_code, routine_code};
-ghost use Rattle.imp_slots.specs.EnumCodes.{action_coded, stmt_coded, argument_coded, node_coded};
+ghost use Rattle.imp_slots.specs.EnumCodes.{action_coded, stmt_coded, argument_coded};
 
 use crate::{
-    Argument, Entering, Layout, NumericSlot, Returning, Routine, SlotAction, SlotBlock, SlotCall,
-    SlotCond, SlotCondNode, SlotExpr, SlotExprNode, SlotNode, SlotStmt,
+    Argument, Entering, Layout, NumericSlot, Returning, SlotAction, SlotCall, SlotCond,
+    SlotCondNode, SlotExpr, SlotExprNode, SlotStmt,
 };
 use plain_values::Text;
 
@@ -226,83 +225,4 @@ impl PartialEq for SlotCall {
 
 impl Eq for SlotCall {
     ghost laws = { same_equiv invoke_code };
-}
-
-impl PartialEq for SlotNode {
-    ghost eq = { same node_coded };
-
-    ghost laws = { same_per node_coded };
-
-    fn eq(&self, other: &SlotNode) -> bool {
-        nodes_same(self, other)
-    }
-}
-
-impl Eq for SlotNode {
-    ghost laws = { same_equiv node_coded };
-}
-
-#[cycle(blocks_same)]
-fn nodes_same(a: &SlotNode, b: &SlotNode) -> bool
-    ensures same { result ≡ same node_coded a.now b.now }
-{
-    match (a, b) {
-        (SlotNode::Simple(m, a), SlotNode::Simple(n, b)) => *m == *n && a == b,
-        (SlotNode::If(m, c, t, e), SlotNode::If(n, d, u, f)) => {
-            *m == *n && c == d && blocks_same(t, u) && blocks_same(e, f)
-        }
-        (SlotNode::While(m, c, a), SlotNode::While(n, d, b)) => {
-            *m == *n && c == d && blocks_same(a, b)
-        }
-        (SlotNode::Call(m, a, p), SlotNode::Call(n, b, q)) => *m == *n && a == b && *p == *q,
-        (SlotNode::Break(m), SlotNode::Break(n)) => *m == *n,
-        _ => false,
-    }
-}
-
-#[cycle(blocks_same)]
-fn blocks_same(a: &SlotBlock, b: &SlotBlock) -> bool
-    ensures same { result ≡ same code_code a.now b.now }
-{
-    let these = a.statements();
-    let those = b.statements();
-    if these.len() != those.len() {
-        return false;
-    }
-    for i in 0..these.len() {
-        if !nodes_same(&these[i], &those[i]) {
-            return false;
-        }
-    }
-    true
-}
-
-impl PartialEq for SlotBlock {
-    ghost eq = { same code_code };
-
-    ghost laws = { same_per code_code };
-
-    fn eq(&self, other: &SlotBlock) -> bool {
-        blocks_same(self, other)
-    }
-}
-
-impl Eq for SlotBlock {
-    ghost laws = { same_equiv code_code };
-}
-
-impl PartialEq for Routine {
-    ghost eq = { same routine_code };
-
-    ghost laws = { same_per routine_code };
-
-    fn eq(&self, other: &Routine) -> bool {
-        texts_same(self.name(), other.name())
-            && self.layout() == other.layout()
-            && self.body() == other.body()
-    }
-}
-
-impl Eq for Routine {
-    ghost laws = { same_equiv routine_code };
 }

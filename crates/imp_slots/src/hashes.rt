@@ -2,18 +2,16 @@
 ghost use Rattle.std.specs.Prelude.{◌≡◌, ◌++◌, fold, map};
 ghost use Rattle.std.specs.Hash as fed;
 ghost use Rattle.plain_values.specs.Equal.{same_fed};
-ghost use Rattle.imp_slots.specs.CallViews.{taken_of, argument_of};
-ghost use Rattle.imp_slots.specs.BlockViews.{number_of, code_of};
+ghost use Rattle.imp_slots.specs.CallViews.{argument_of};
 ghost use Rattle.imp_slots.specs.Codes.{term_code, guard_code};
-ghost use Rattle.imp_slots.specs.PartCodes.{numeric_code, layout_code, entering_code, invoke_code};
-ghost use Rattle.imp_slots.specs.BlockCodes.{code_code, routine_code};
-ghost use Rattle.imp_slots.specs.EnumCodes.{action_coded, stmt_coded, argument_coded, node_coded};
+ghost use Rattle.imp_slots.specs.PartCodes.{numeric_code, layout_code, entering_code};
+ghost use Rattle.imp_slots.specs.EnumCodes.{action_coded, stmt_coded, argument_coded};
 ghost use Rattle.imp_slots.specs.ActionViews.{effect_of, act_of};
-ghost use Rattle.imp_slots.specs.Hashes.{operator_tag, relation_tag, term_fed, slot_fed, guard_fed, effect_fed, act_fed, numeric_fed, layout_fed, argument_fed, entering_fed, returning_fed, invoke_fed, code_fed, routine_fed};
+ghost use Rattle.imp_slots.specs.Hashes.{operator_tag, relation_tag, term_fed, slot_fed, guard_fed, effect_fed, act_fed, numeric_fed, layout_fed, argument_fed, entering_fed};
 
 use crate::{
-    Argument, Entering, Layout, NumericSlot, Returning, Routine, SlotAction, SlotBlock, SlotCall,
-    SlotCond, SlotCondNode, SlotExpr, SlotExprNode, SlotNode, SlotStmt,
+    Argument, Entering, Layout, NumericSlot, SlotAction, SlotCond, SlotCondNode, SlotExpr,
+    SlotExprNode, SlotStmt,
 };
 use imp_syntax::{Operator, Relation};
 use std::hash::{Hash, Hasher};
@@ -261,72 +259,5 @@ impl Hash for Entering {
     fn hash<H: Hasher>(&self, state: &mut H) {
         self.layout().hash(state);
         hash_arguments(self.arguments(), state);
-    }
-}
-
-fn hash_taken<H: Hasher>(returning: Option<Returning>, state: &mut H)
-    ensures fed { state.new ≡ fold H.write state.old (returning_fed (taken_of returning)) }
-{
-    match returning {
-        None => state.write_u8(0),
-        Some(Returning::Numeric { to, from }) => {
-            hash_tag(1, to, state);
-            state.write_u32(from);
-        }
-        Some(Returning::Link { to, from }) => {
-            hash_tag(2, to, state);
-            state.write_u32(from);
-        }
-    }
-}
-
-impl Hash for SlotCall {
-    ghost hash_input = { invoke_fed };
-
-    ghost respects_eq = { same_fed invoke_code invoke_fed };
-
-    fn hash<H: Hasher>(&self, state: &mut H) {
-        self.entering().hash(state);
-        hash_taken(self.returning(), state);
-    }
-}
-
-/// A statement's hash is that of its number.
-impl Hash for SlotNode {
-    ghost hash_input = { λ s. fed.u32 (number_of s) };
-
-    ghost respects_eq = { same_fed node_coded (λ s. fed.u32 (number_of s)) };
-
-    fn hash<H: Hasher>(&self, state: &mut H) {
-        state.write_u32(self.number());
-    }
-}
-
-fn hash_statements<H: Hasher>(statements: &[SlotNode], state: &mut H)
-    ensures fed { state.new ≡ fold H.write state.old (code_fed (code_of statements.now)) }
-{
-    statements.hash(state);
-}
-
-/// A block's hash is that of the numbers of its own statements.
-impl Hash for SlotBlock {
-    ghost hash_input = { code_fed };
-
-    ghost respects_eq = { same_fed code_code code_fed };
-
-    fn hash<H: Hasher>(&self, state: &mut H) {
-        hash_statements(self.statements(), state);
-    }
-}
-
-impl Hash for Routine {
-    ghost hash_input = { routine_fed };
-
-    ghost respects_eq = { same_fed routine_code routine_fed };
-
-    fn hash<H: Hasher>(&self, state: &mut H) {
-        self.name().hash(state);
-        self.layout().hash(state);
-        self.body().hash(state);
     }
 }

@@ -10,10 +10,10 @@
 //! `specs/Sizes.antt` has their sizes, by which recursion through these readers ends, and
 //! `specs/BlockFalls.antt` that a statement is no larger than its block.
 //!
-//! Copies share: each takes constant time, but for [`NumericSlot`], whose name is copied. Equality
-//! decides identity, and takes time linear in the smaller of the two; hashes respect it, and take
-//! time linear in what is hashed, but for a block, whose hash is that of the numbers of its own
-//! statements. Readers take constant time.
+//! Copies share: each takes constant time, but for [`NumericSlot`], whose name is copied. Equality of
+//! expressions, conditions, simple statements, layouts and calls decides identity, and takes time linear
+//! in the smaller of the two; hashes respect it, and take time linear in what is hashed. Readers take
+//! constant time.
 #![tactic(auto)]
 
 mod actions;

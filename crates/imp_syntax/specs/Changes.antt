@@ -1,5 +1,5 @@
 -- Programs with one change.
-use Rattle.std.specs.Prelude.{ℕ, ◌+◌, ◌∷◌, ◌++◌, take, drop}
+use Rattle.std.specs.Prelude.{ℕ, ◌++◌, take, drop}
 use Rattle.imp_syntax.specs.Plain.{Condition, Statement, Simple, Break, Call, If, While, Statements, block_of, statements_of}
 
 -- an if or while with another condition, or the statement as it is
@@ -32,12 +32,6 @@ with_body (Call n x f es) u = Call n x f es
 with_body (If n c t e) u = If n c t e
 with_body (While n c b) u = While n c u
 
--- a block with another statement at a place, with further statements from a place on, without the statement at a place
-abbrev pub replaced : Statements → ℕ → Statement → Statements
-replaced b at s = block_of (take at (statements_of b) ++ s ∷ drop (at + 1) (statements_of b))
-
+-- a block with further statements from a place on
 abbrev pub inserted : Statements → ℕ → Statements → Statements
 inserted b at more = block_of (take at (statements_of b) ++ statements_of more ++ drop at (statements_of b))
-
-abbrev pub removed : Statements → ℕ → Statements
-removed b at = block_of (take at (statements_of b) ++ drop (at + 1) (statements_of b))

@@ -8,9 +8,8 @@
 //! which plain tree has a given outermost part. A literal is 0 to 2^63 - 1 by its type.
 //!
 //! Trees are shared by reference counts. A copy takes constant time and is equal to its source; a change
-//! (`with_replaced`, `with_condition`, `with_body` and the like, by the definitions of
-//! `specs/Changes.antt`) copies a list of pointers at most and shares all else. `==` decides whether
-//! two trees are the same ([`plain_values::codes_decide`]); it goes along the trees.
+//! (`with_inserted`, `with_condition`, `with_body` and the like, by the definitions of
+//! `specs/Changes.antt`) copies a list of pointers at most and shares all else.
 //! Of all calls only those that answer a `Result` allocate, and they fail for want of memory alone.
 //!
 //! # Recursion over trees
@@ -60,9 +59,6 @@
 mod action;
 mod cond;
 mod edit;
-mod equal;
-mod equal_procs;
-mod equal_stmts;
 mod expr;
 mod numbers;
 mod program;

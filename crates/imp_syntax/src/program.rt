@@ -1,5 +1,5 @@
 //! Procedures and programs.
-ghost use Rattle.std.specs.Prelude.{◌≡◌, ◌+◌, ◌<◌, ◌≤◌, [], ◌∷◌, ◌++◌, length, take, drop, IfOk, OnOk};
+ghost use Rattle.std.specs.Prelude.{◌≡◌, [], ◌∷◌, ◌++◌, IfOk};
 ghost use Rattle.std.specs.Option.{option_copied};
 
 use crate::{Block, Declaration};
@@ -173,55 +173,6 @@ impl Program {
     {
         self.procs.as_slice()
     }
-
-    /// The program with another procedure at a place. It copies a list of pointers, and fails for want of memory alone.
-    pub fn with_proc(&self, alloc: Global, at: usize, proc: Proc) -> Result<Program, Memory>
-        requires within { at < length self.now }
-        ensures is { IfOk result (λ p. p ≡ take at self.now ++ proc ∷ drop (at + 1) self.now) }
-    {
-        let procs = self.procs();
-        let mut all = Items::with_capacity(alloc, procs.len())?;
-        append(&mut all, &procs[..at])?;
-        all.push(proc)?;
-        append(&mut all, &procs[at + 1..])?;
-        Program::new(alloc, all)
-    }
-
-    /// The program with a further procedure, which stands at this place. It copies a list of pointers, and fails for
-    /// want of memory alone.
-    pub fn with_inserted(&self, alloc: Global, at: usize, proc: Proc) -> Result<Program, Memory>
-        requires within { at ≤ length self.now }
-        ensures is { IfOk result (λ p. p ≡ take at self.now ++ proc ∷ drop at self.now) }
-    {
-        let procs = self.procs();
-        let mut all = Items::with_capacity(alloc, procs.len())?;
-        append(&mut all, &procs[..at])?;
-        all.push(proc)?;
-        append(&mut all, &procs[at..])?;
-        Program::new(alloc, all)
-    }
-
-    /// The program without the procedure at a place. It copies a list of pointers, and fails for want of memory alone.
-    pub fn with_removed(&self, alloc: Global, at: usize) -> Result<Program, Memory>
-        requires within { at < length self.now }
-        ensures is { IfOk result (λ p. p ≡ take at self.now ++ drop (at + 1) self.now) }
-    {
-        let procs = self.procs();
-        let mut all = Items::with_capacity(alloc, procs.len())?;
-        append(&mut all, &procs[..at])?;
-        append(&mut all, &procs[at + 1..])?;
-        Program::new(alloc, all)
-    }
-}
-
-/// Adds procedures, shared with what they were.
-fn append(all: &mut Items<Proc>, procs: &[Proc]) -> Result<(), Memory>
-    ensures added { OnOk result (all.new ≡ all.old ++ procs.now) }
-{
-    for proc in procs {
-        all.push(proc.clone()?)?;
-    }
-    Ok(())
 }
 
 impl Clone for Program {

@@ -3,7 +3,7 @@ ghost use Rattle.std.specs.Prelude.{◌≡◌, ◌<◌, ◌≤◌, [], ◌++◌,
 ghost use Rattle.std.specs.Option.{option_copied};
 ghost use Rattle.imp_syntax.specs.Plain.{Ends, block_of, statements_of, number_of};
 ghost use Rattle.imp_syntax.specs.StmtViews.{statement_of};
-ghost use Rattle.imp_syntax.specs.Changes.{with_condition, with_then, with_else, with_body, replaced, inserted, removed};
+ghost use Rattle.imp_syntax.specs.Changes.{with_condition, with_then, with_else, with_body, inserted};
 
 use crate::{Action, Call, Cond, StmtId};
 use plain_values::{Items, Memory};
@@ -221,19 +221,6 @@ impl Block {
         self.as_slice().get(at)
     }
 
-    /// The block with another statement at a place. It copies a list of pointers, and fails for want of memory alone.
-    pub fn with_replaced(&self, alloc: Global, at: usize, stmt: Stmt) -> Result<Block, Memory>
-        requires within { at < length (statements_of self.now) }
-        ensures is { IfOk result (λ b. b ≡ replaced self.now at stmt) }
-    {
-        let stmts = self.as_slice();
-        let mut all = Items::with_capacity(alloc, stmts.len())?;
-        append(&mut all, &stmts[..at])?;
-        all.push(stmt)?;
-        append(&mut all, &stmts[at + 1..])?;
-        Block::new(alloc, all)
-    }
-
     /// The block with further statements, which begin at this place. It copies a list of pointers, and fails for want
     /// of memory alone.
     pub fn with_inserted(&self, alloc: Global, at: usize, more: &Block) -> Result<Block, Memory>
@@ -245,18 +232,6 @@ impl Block {
         append(&mut all, &stmts[..at])?;
         append(&mut all, more.as_slice())?;
         append(&mut all, &stmts[at..])?;
-        Block::new(alloc, all)
-    }
-
-    /// The block without the statement at a place. It copies a list of pointers, and fails for want of memory alone.
-    pub fn with_removed(&self, alloc: Global, at: usize) -> Result<Block, Memory>
-        requires within { at < length (statements_of self.now) }
-        ensures is { IfOk result (λ b. b ≡ removed self.now at) }
-    {
-        let stmts = self.as_slice();
-        let mut all = Items::with_capacity(alloc, stmts.len())?;
-        append(&mut all, &stmts[..at])?;
-        append(&mut all, &stmts[at + 1..])?;
         Block::new(alloc, all)
     }
 }

@@ -1,7 +1,0 @@
-use Rattle.std.proofs.Common.{◌∙◌}
-use Rattle.plain_values.specs.Equal.{list_same}
-use Rattle.imp_syntax.specs.ProgramCode.{declaration_to}
-use Rattle.imp_syntax.proofs.equal_procs.same_declarations.Goals as goal
-
-pub returns : goal.returns
-returns c = record { is = c.eq.ensures ∙ list_same declaration_to c.args.a.now c.args.b.now }
