@@ -1,31 +1,27 @@
 -- What is known in front of the statements of a procedure that have a check.
 use Rattle.std.proofs.Common.{ℕ, zero, suc, ◌≡◌, ◌+◌, ◌<◌, ◌≤◌, true, false, List, [], ◌∷◌, ◌++◌, length, drop, map, reverse, get_or, slice_get, option_map, Option, Some, None, MatchOption, Result, Ok, Err, IfOk, refl, sym, ap, subst, ◌∙◌, arith, append_assoc, add-one}
 use Rattle.std.specs.Prelude.{Contains}
-use Rattle.std.proofs.lemmas.List.{reverse-append, reverse-reverse, append-nil}
+use Rattle.std.proofs.lemmas.List.{reverse-append, reverse-reverse}
 use Rattle.imp_syntax.specs.declared.edit.Location.TheVariants.{Before}
 use Rattle.imp_slots.specs.Plain.{Guard, Effect, Does, DoBreak, Invoke, Code, Stop, Simple, If, While, Call, Break, Routine, code_numbers}
 use Rattle.imp_slots.specs.Fits.{Distinct, IsChecked}
 use Rattle.program_chains.specs.Chains.{ending_in, chains, selected, holder}
 use Rattle.program_chains.specs.Claims.{PlacesAreFound}
 use Rattle.domain_laws.specs.Operations.{Operations}
-use Rattle.domain_laws.specs.Checks.{Check, check_of, kind_of, kind_if}
-use Rattle.analysis_words.specs.declared.findings.Check.{Check as Kind}
+use Rattle.domain_laws.specs.Checks.{Check, check_of, kind_of}
 use Rattle.analysis_words.specs.declared.findings.Finding.{Finding}
-use Rattle.alarm_report.specs.declared.Found.{Found}
-use Rattle.alarm_report.specs.declared.Found.TheVariants.{Absent, Over as OverBudget, State as At}
-use Rattle.alarm_report.specs.Reporting.{verdict_for}
 use Rattle.analysis_words.specs.declared.refusal.Refusal.TheVariants.{NoStatement}
 use Rattle.batch_meaning.specs.Values.{Value, lift, lift2}
 use Rattle.batch_meaning.specs.Batch.{Engine, head_of, behind}
 use Rattle.batch_meaning.specs.Places.{Spot, spot, if_some, entry, value_in, value_at}
 use Rattle.batch_meaning.specs.Answers.{found_or, all_values, sum_of, answer_in, answer}
-use Rattle.batch_meaning.specs.Report.{Checked, checked_one, checked_in, checked_statements, verdict_on, finding}
+use Rattle.batch_meaning.specs.Report.{Checked, checked_one, checked_in, verdict_on, finding}
 use Rattle.batch_interp.specs.Answered.{value_of}
 use Rattle.batch_interp.specs.Frames.{Plan, earlier, marks_at, calls_in, passed}
 use Rattle.batch_interp.specs.Seeking.{places}
 use Rattle.batch_interp.specs.Summing.{added}
 use Rattle.batch_interp.specs.Reporting.{claim_of, claims, before_one, befores}
-use Rattle.batch_interp.specs.Totalling.{first_of, behind_first, all_added, answered, EachWith, AreTotals, kind_for, found_from, all_found, IsFoundOf, LeadsTo, AllLead, HasBody}
+use Rattle.batch_interp.specs.Totalling.{first_of, behind_first, all_added, answered, EachWith, AreTotals, kind_for, found_from, all_found, LeadsTo, AllLead, HasBody}
 use Rattle.batch_interp.specs.declared.claim.Claim.{Claim}
 use Rattle.batch_interp.specs.declared.value.Answer.{Answer}
 use Rattle.batch_interp.specs.declared.walks.Entered.{Entered}
@@ -211,22 +207,6 @@ module _ {S : Type 0} (dom : Operations S) (plan : Plan) where
       back [] = refl
       back (z ∷ zs) = λ i. reverse-reverse z i ∷ back zs i
 
--- what a report answers is what is found
-verdict_same : {S : Type 0} (dom : Operations S) (engine : Engine) (e : Effect) (f : Found S) (v : Option (Value S)) → IsFoundOf f v → verdict_for dom (Does e) f ≡ verdict_on dom engine e (answered v)
-verdict_same dom engine e Absent v h = ap (λ o. verdict_on dom engine e (answered o)) (sym h)
-verdict_same dom engine e OverBudget v h = ap (λ o. verdict_on dom engine e (answered o)) (sym h.2)
-verdict_same dom engine e (At s) v h = ap (λ o. verdict_on dom engine e (answered o)) (sym h)
-
-kind_same : (o : Option Check) (k : Kind) → kind_if o ≡ Some k → k ≡ kind_for o
-kind_same None k h = absurd cc
-kind_same (Some c) k h = cc
-
-pub report_made : {S : Type 0} (dom : Operations S) (engine : Engine) (n : ℕ) (e : Effect) (g : Found S) (v : Option (Value S)) (f : Finding) → f.id ≡ n → kind_if (check_of e) ≡ Some f.check → f.verdict ≡ verdict_for dom (Does e) g → IsFoundOf g v → f ≡ found_from dom engine (n, e) v
-report_made dom engine n e g v f i k w h =
-    let kind : f.check ≡ kind_for (check_of e) = kind_same (check_of e) f.check k in
-    let verdict : f.verdict ≡ verdict_on dom engine e (answered v) = w ∙ verdict_same dom engine e g v h in
-    λ j. record { id = i j; check = kind j; verdict = verdict j }
-
 -- One more value at the end of the reversed lists.
 reversed : {A : Type 0} (xs ys : List A) (x : A) → xs ≡ ys ++ x ∷ [] → reverse xs ≡ x ∷ reverse ys
 reversed xs ys x e = ap reverse e ∙ reverse-append ys (x ∷ [])
@@ -252,9 +232,6 @@ add_one dom all all' before before' left left' o next x l p v a =
     (ap (λ w. w ∷ rest) (v ∙ ap (λ u. added dom u (value_of next)) (sym q.0))
     ∙ ap (λ bs. added dom (first_of (map value_of (reverse before))) (value_of next) ∷ all_added dom bs (map value_of (reverse left'))) (sym q.1)
     ∙ ap (λ zs. all_added dom (map value_of (reverse before)) (map value_of zs)) (sym (reversed left left' next l)))
-
-pub add_none : {S : Type 0} (dom : Operations S) (all before left : List (Answer S)) → left ≡ [] → map value_of all ++ all_added dom (map value_of (reverse before)) (map value_of (reverse left)) ≡ map value_of all
-add_none dom all before left e = ap (λ zs. map value_of all ++ all_added dom (map value_of (reverse before)) (map value_of (reverse zs))) e ∙ append-nil (map value_of all)
 
 first_drop : {S : Type 0} (xs : List (Answer S)) (i : ℕ) → first_of (map value_of (drop i xs)) ≡ option_map value_of (slice_get xs i)
 first_drop [] zero = refl
@@ -308,19 +285,6 @@ module _ {S : Type 0} (dom : Operations S) (plan : Plan) where
       let all : all_found dom plan.engine (claims (checked_in body)) (map value_of vs) ≡ map (finding dom plan.engine plan.program) (checked_in body) =
       subst (λ b. all_found dom plan.engine (claims (checked_in b)) (map value_of vs) ≡ map (finding dom plan.engine plan.program) (checked_in b)) t.is (procedure_findings dom plan place t.routine checked law t.there (map value_of vs) totals') in
       n ∙ ap (λ ks. old ++ all_found dom plan.engine ks (map value_of vs)) c ∙ ap (λ fs. old ++ fs) all
-
--- the report of one more procedure
-pub report_step : {S : Type 0} (dom : Operations S) (engine : Engine) (program : List Routine) (i : ℕ) (r : Routine) (body : Code) (old new : List Finding) → i < length program → r ≡ get_or program i r → body ≡ r.code → new ≡ old ++ map (finding dom engine program) (checked_in body) → new ++ map (finding dom engine program) (checked_statements (drop (i + 1) program)) ≡ old ++ map (finding dom engine program) (checked_statements (drop i program))
-report_step dom engine program i r body old new h e b n =
-    let f = finding dom engine program in
-    let rest = map f (checked_statements (drop (i + 1) program)) in
-    ap (λ xs. xs ++ rest) n ∙ append_assoc old (map f (checked_in body)) rest
-    ∙ ap (λ xs. old ++ xs)
-    (ap (λ c. map f (checked_in c) ++ rest) b ∙ sym (split f (checked_in r.code) (checked_statements (drop (i + 1) program))) ∙ sym (ap (λ rs. map f (checked_statements rs)) (drop_item program i r h e)))
-  where
-    split : (f : Checked → Finding) (xs ys : List Checked) → map f (xs ++ ys) ≡ map f xs ++ map f ys
-    split f [] ys = refl
-    split f (x ∷ xs) ys = ap (λ zs. f x ∷ zs) (split f xs ys)
 
 -- each finding of a report that is sound
 pub each_sound : {E : Type 0} (r : Result (List Finding) E) (all : List Finding) (P : Finding → Type 0) → ((f : Finding) → Contains all f → P f) → IfOk r (λ fs. fs ≡ all) → IfOk r (λ fs. (f : Finding) → Contains fs f → P f)

@@ -1,7 +1,6 @@
 -- Chains lead to their procedures.
-use Rattle.std.proofs.Common.{ℕ, zero, suc, ◌≡◌, ◌+◌, ◌<◌, ◌≤◌, ◌⊎◌, inl, inr, true, false, List, [], ◌∷◌, ◌++◌, length, take, map, reverse, slice_get, Some, None, refl, sym, ap, subst, ◌∙◌, arith}
+use Rattle.std.proofs.Common.{ℕ, zero, suc, ◌≡◌, ◌+◌, ◌<◌, ◌⊎◌, inl, inr, true, false, List, [], ◌∷◌, ◌++◌, length, map, reverse, slice_get, Some, None, refl, sym, ap, subst, ◌∙◌, arith}
 use Rattle.std.specs.Prelude.{if◌then◌else◌}
-use Rattle.std.proofs.lemmas.List.{length-reverse}
 use Rattle.imp_slots.specs.Plain.{Guard, Does, DoBreak, Invoke, Code, Stop, Simple, If, While, Call, Break, Routine}
 use Rattle.imp_slots.specs.Fits.{Distinct, IsChecked}
 use Rattle.program_chains.specs.Chains.{calls_to, extended, through, chains_within, chains}
@@ -67,14 +66,6 @@ came_through f k (r ∷ rs) p z m = go (either z (extended (f k) (calls_to p r.c
         let x = g m in
         let e : suc k + x.place ≡ k + suc x.place = omega arith in
         record { place = suc x.place; routine = x.routine; at = x.at; longer = subst (λ j. Longer (f j) (calls_to p x.routine.code) z) e x.longer }
-
-pub length_earlier : (program : List Routine) (k : ℕ) → k ≤ length program → length (earlier program k) ≡ k
-length_earlier program k h = length-reverse (take k program) ∙ go program k h
-  where
-    go : (xs : List Routine) (k : ℕ) → k ≤ length xs → length (take k xs) ≡ k
-    go xs zero h = refl
-    go [] (suc k) h = absurd (omega arith)
-    go (x ∷ xs) (suc k) h = ap suc (go xs k (omega arith))
 
 module _ {S : Type 0} (dom : Operations S) (plan : Plan) where
   -- A call statement, with what is known at it.

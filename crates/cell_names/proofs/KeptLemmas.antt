@@ -15,12 +15,6 @@ use Rattle.cell_names.proofs.OnceLemmas.{step-of-path, paths-once, names-same}
 abbrev pub step_of : ℕ → Frame → Step
 step_of before frame = record { before = before; frame = frame }
 
-pub same_some : {A : Type 0} (r : Option A) (x y : A) → r ≡ Some x → r ≡ Some y → x ≡ y
-same_some r x y p q = some_inj x y (sym p ∙ q)
-
-pub not_some : {A P : Type 0} (r : Option A) (x : A) → r ≡ None → r ≡ Some x → P
-not_some r x p q = absurd (cc)
-
 pub if_some : {A : Type 0} (P Q : A → Type 0) → ((x : A) → P x → Q x) → (r : Option A) → IfSome r P → IfSome r Q
 if_some P Q f None h = h
 if_some P Q f (Some x) h = f x h

@@ -56,20 +56,6 @@ impl Names {
         self.names.is_empty()
     }
 
-    /// The path that goes on from another one by a frame, or `None` where it has no number.
-    /// It takes no memory.
-    pub fn find_path(&self, before: PathId, frame: Frame) -> Option<PathId>
-        requires there { before < length self.now.paths }
-        ensures path { IfSome result (λ n. slice_get self.now.paths n ≡ Some (frame ∷ path_at self.now.paths before)) }
-        ensures found { (n : ℕ) → slice_get self.now.paths n ≡ Some (frame ∷ path_at self.now.paths before) → result ≡ Some n }
-    {
-        let step = Step { before, frame };
-        match self.steps.find(&step) {
-            Some(number) => Some(PathId::after(number)),
-            None => None,
-        }
-    }
-
     /// The path that goes on from another one by a frame, with a new number where it had none.
     pub fn add_path(&mut self, before: PathId, frame: Frame) -> Result<PathId, Memory>
         requires there { before < length self.old.paths }

@@ -1,15 +1,14 @@
 -- Tables of states and of chains, one entry at a time.
-use Rattle.std.proofs.Common.{ℕ, zero, suc, ◌≡◌, ◌+◌, ◌<◌, ◌≤◌, Bool, true, false, List, [], ◌∷◌, ◌++◌, length, map, drop, reverse, get_or, slice_get, None, refl, sym, ap, ◌∙◌, arith}
+use Rattle.std.proofs.Common.{ℕ, zero, suc, ◌≡◌, ◌+◌, ◌<◌, ◌≤◌, Bool, true, false, List, [], ◌∷◌, ◌++◌, length, slice_get, None, refl, sym, ap, ◌∙◌, arith}
 use Rattle.std.specs.Prelude.{◌==◌, ◌&&◌, ◌||◌, nat_lt, if◌then◌else◌}
 use Rattle.std.specs.Str.{bytes_eq}
 use Rattle.std.specs.List.{list_any}
 use Rattle.std.proofs.lemmas.Bool.Decides.{nat_tests}
-use Rattle.std.proofs.lemmas.List.{drop_all}
 use Rattle.imp_slots.specs.Plain.{Routine}
 use Rattle.imp_slots.specs.Fits.{IsChecked}
 use Rattle.program_chains.specs.Chains.{chains}
 use Rattle.plain_values.proofs.Cases.{by_bool}
-use Rattle.plain_values.proofs.Lists.{drop_item, get_last, get_other}
+use Rattle.plain_values.proofs.Lists.{get_last, get_other}
 use Rattle.call_contexts.proofs.Tabled.{none_past}
 use Rattle.cert_lines.specs.Lines.{is_chain}
 use Rattle.cert_check.specs.Table.{in_set, chain_in, AreChains}
@@ -36,27 +35,6 @@ texts_swapped (x ∷ xs) (y ∷ ys) = λ i. bytes_swapped x y i && texts_swapped
 pub set_put : (before behind : List (List ℕ)) (key : List ℕ) → ((q : List ℕ) → list_any (bytes_eq q) behind ≡ (if bytes_eq key q then true else list_any (bytes_eq q) before)) → (z : List ℕ) → is_chain z behind ≡ (if bytes_eq z key then true else is_chain z before)
 set_put before behind key put z =
     sym (any_chain z behind) ∙ put z ∙ (λ i. if texts_swapped key z i then true else any_chain z before i)
-
-swap_tests : (a b c : Bool) → (if (if a then true else b) then true else c) ≡ (if b then true else (if a then true else c))
-swap_tests true true c = refl
-swap_tests true false c = refl
-swap_tests false true c = refl
-swap_tests false false c = refl
-
--- the set so far with the chains to come has what all chains have
-pub chains_step : (z : List ℕ) (zs : List (List ℕ)) (i : ℕ) (y key : List ℕ) (before behind : Bool) → i < length zs → y ≡ get_or zs i y → key ≡ reverse y → behind ≡ (if bytes_eq z key then true else before) → (if behind then true else is_chain z (map reverse (drop (i + 1) zs))) ≡ (if before then true else is_chain z (map reverse (drop i zs)))
-chains_step z zs i y key before behind h e k b =
-    let rest = is_chain z (map reverse (drop (i + 1) zs)) in
-    ap (λ c. if c then true else rest) (b ∙ ap (λ x. if bytes_eq z x then true else before) k)
-    ∙ swap_tests (bytes_eq z (reverse y)) before rest
-    ∙ ap (λ ys. if before then true else is_chain z (map reverse ys)) (sym (drop_item zs i y h e))
-
-pub chains_end : (z : List ℕ) (zs : List (List ℕ)) (i : ℕ) (found : Bool) → length zs ≤ i → (if found then true else is_chain z (map reverse (drop i zs))) ≡ found
-chains_end z zs i found h = ap (λ ys. if found then true else is_chain z (map reverse ys)) (drop_all i zs h) ∙ go found
-  where
-    go : (b : Bool) → (if b then true else false) ≡ b
-    go true = refl
-    go false = refl
 
 -- The chains to the procedures so far.
 pub record Chained (program : List Routine) (sets : List (List (List ℕ))) (place : ℕ) : Type 0 where

@@ -1,5 +1,5 @@
 -- Keys and options told apart.
-use Rattle.std.proofs.Common.{Result, Ok, Err, IsOk, OnOk, ◌≡◌, ◌≢◌, ℕ, Bool, true, false, Option, Some, None, nat_eq, refl, ap, arith, ◌⊎◌, inl, inr}
+use Rattle.std.proofs.Common.{◌≡◌, ◌≢◌, ℕ, Bool, true, false, Option, Some, None, nat_eq, refl, ap, arith, ◌⊎◌, inl, inr}
 use Rattle.std.proofs.lemmas.Bool.Decides.{nat_tests}
 
 pub same_number : (a b : ℕ) → (a ≡ b) ⊎ (a ≢ b)
@@ -32,7 +32,3 @@ has_number (Some j) k = elim (same_number j k) [
   | inl e ↦ inl (ap Some e)
   | inr ne ↦ inr (λ e. ne (some-inj e))
 ]
-
-pub from_ok : {T E : Type 0} (r : Result T E) (P : Type 0) → IsOk r → OnOk r P → P
-from_ok (Ok x) P h p = p
-from_ok (Err e) P h p = absurd (cc)

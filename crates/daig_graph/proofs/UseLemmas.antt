@@ -1,9 +1,9 @@
 -- One use more in its list, or one less.
 use Rattle.std.proofs.Common.{◌≡◌, ◌≢◌, ℕ, zero, suc, ◌+◌, ◌<◌, inl, inr, List, [], ◌∷◌, length, Option, Some, IsSome, slice_get, get_or, set, refl, sym, ap, ◌∙◌, subst, arith}
 use Rattle.daig_graph.specs.declared.graph.Use.{Use}
-use Rattle.daig_graph.specs.Held.{Held, held, Puts, Takes, IsOnce}
-use Rattle.daig_graph.specs.Uses.{Links, Unlinks}
-use Rattle.daig_graph.proofs.Cases.{same_number, none-some, some-inj}
+use Rattle.daig_graph.specs.Held.{Held, held, Takes, IsOnce}
+use Rattle.daig_graph.specs.Uses.{Unlinks}
+use Rattle.daig_graph.proofs.Cases.{same_number, some-inj}
 
 pub at_index : {A : Type 0} (xs : List A) (n : ℕ) (d : A) → n < length xs → slice_get xs n ≡ Some (get_or xs n d)
 at_index [] n d h = absurd (omega (arith, h))
@@ -21,41 +21,6 @@ set-other (x ∷ xs) zero zero v ne = absurd (ne refl)
 set-other (x ∷ xs) zero (suc i) v ne = refl
 set-other (x ∷ xs) (suc n) zero v ne = refl
 set-other (x ∷ xs) (suc n) (suc i) v ne = set-other xs n i v (λ e. ne (ap suc e))
-
-pub links-none : (old : Held Use) (cell : ℕ) (inputs keys : List ℕ) → Links old old cell inputs keys 0
-links-none old cell inputs keys = record {
-  kept = λ u e h. h;
-  there = λ i x l h. absurd (omega (arith, l));
-  back = λ u x y h. inl h;
-}
-
-pub links-more : (old mid new : Held Use) (cell : ℕ) (inputs keys : List ℕ) (n x u : ℕ) → Links old mid cell inputs keys n → n < length keys → slice_get inputs n ≡ Some x → Puts mid new x (record { cell = cell; place = n }) u → Links old new cell inputs (set keys n u) (n + 1)
-links-more old mid new cell inputs keys n x u links within at puts = record {
-  kept = λ v e h.
-      let was = links.kept v e h in
-      puts.others v (λ same. none-some (sym puts.fresh ∙ ap (held mid) (sym same) ∙ was)) ∙ was;
-  there = λ i z l h. elim (same_number i n) [
-    | inl same ↦
-        let is : x ≡ z = some-inj (sym at ∙ ap (slice_get inputs) (sym same) ∙ h) in
-        (u, ap (slice_get (set keys n u)) same ∙ set-at keys n u within, puts.here ∙ ap (λ a. Some (a, record { cell = cell; place = n })) is ∙ ap (λ p. Some (z, record { cell = cell; place = p })) (sym same))
-    | inr ne ↦
-        let was = links.there i z (omega (arith, l, ne)) h in
-        (was.0, set-other keys n i u ne ∙ was.1, puts.others was.0 (λ same. none-some (sym puts.fresh ∙ ap (held mid) (sym same) ∙ was.2)) ∙ was.2)
-  ];
-  back = λ v z y h. elim (same_number v u) [
-    | inl same ↦
-        let is = some-inj (sym puts.here ∙ ap (held new) (sym same) ∙ h) in
-        let place : n ≡ y.place = ap (λ p. p.1.place) is in
-        inr (sym (ap (λ p. p.1.cell) is), omega (arith, place), ap (slice_get (set keys n u)) (sym place) ∙ set-at keys n u within ∙ ap Some (sym same), ap (slice_get inputs) (sym place) ∙ at ∙ ap (λ p. Some p.0) is)
-    | inr ne ↦ elim (links.back v z y (sym (puts.others v ne) ∙ h)) [
-      | inl was ↦ inl was
-      | inr was ↦ inr (was.0, omega (arith, was.1), set-other keys n y.place u (λ e. absurd (omega (arith, was.1, e))) ∙ was.2, was.3)
-    ]
-  ];
-}
-
-pub unlinks-none : (old : Held Use) (keys : List ℕ) → Unlinks old old keys 0
-unlinks-none old keys = record { gone = λ i u l h. absurd (omega (arith, l)); others = λ u h. refl }
 
 -- a key that is not yet taken out stands there
 pub still_there : (old mid : Held Use) (keys : List ℕ) (n u : ℕ) → Unlinks old mid keys n → IsOnce keys → slice_get keys n ≡ Some u → IsSome (held old u) → IsSome (held mid u)

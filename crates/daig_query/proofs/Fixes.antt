@@ -63,9 +63,6 @@ not_many cells numbers budget there none = by (get_or_past (length numbers) budg
         let v = cell_at n.0 (get cells n.0) refl (there budget n.0 n.1) in
         absurd (at_budget h v.0 (rw n.1 v.1))
 
-pub held_of_states : (h : Held) → state_in (Some (State h)) ≡ Some h
-held_of_states h = refl
-
 module _ {S : Type 0} (dom : Operations S) (plan : Plan) (store : Store S) (row : Row) (o : Open) (ready : IsReady dom plan store row o) (same : (s t : S) → (dom.same s t ≡ true) ↔ (s ≡ t))
     (n : ℕ) (p : Point) (fixed : row ≡ Fixed n p) where
   abbrev M : CellName

@@ -51,7 +51,3 @@ wrote_whole dom s lines taken written wrote = record {
   written = wrote.written;
   whole = replies_whole dom s wrote.answered;
 }
-
--- nothing is written
-pub wrote_nothing : (bytes taken : List ℕ) (written : Option (List ℕ)) → written ≡ Some taken → WroteWholeLines bytes taken written
-wrote_nothing bytes taken written is = record { sent = []; unsent = bytes; split = refl; written = is ∙ ap Some (sym (append-nil taken)); whole = inl refl }

@@ -1,5 +1,5 @@
 -- The statements that have a check, by what is known of each statement.
-use Rattle.std.proofs.Common.{◌≡◌, ℕ, zero, suc, ◌+◌, ◌<◌, ◌≤◌, true, false, Bor, is_some, Result, Ok, Err, List, [], ◌∷◌, ◌++◌, drop, length, Option, Some, None, refl, sym, ap, ◌∙◌, inl, inr, arith, append_assoc, append-nil}
+use Rattle.std.proofs.Common.{◌≡◌, ℕ, zero, suc, ◌+◌, ◌<◌, ◌≤◌, true, Bor, is_some, Result, Ok, Err, List, [], ◌∷◌, ◌++◌, drop, length, Option, Some, None, refl, sym, ap, ◌∙◌, inl, inr, arith, append_assoc, append-nil}
 use Rattle.std.specs.Option.{option_copied}
 use Rattle.std.specs.Prelude.{IfOk, IfSome, IsSome}
 use Rattle.imp_syntax.specs.Plain.{Statement, Statements, Ends, Starts, Procedure, number_of, program_numbers}
@@ -123,14 +123,6 @@ some_check n program (Some s) e h t = go (act_of s) e h
     go : (a : Act) → checked_act n a ≡ checked_at program n → IsSome (kind_in a) → HasCheck program n
     go DoBreak e h = absurd cc
     go (Does f) e h = by f e (check_of f) refl h
-
-pub no_check : (n : ℕ) (program : List Procedure) (o : Option SlotStmt) → checked_stmt n o ≡ checked_at program n → is_some o ≡ false → checked_at program n ≡ []
-no_check n program None e t = sym e
-no_check n program (Some s) e t = absurd cc
-
-pub not_none : (n : ℕ) (program : List Procedure) (o : Option SlotStmt) → checked_stmt n o ≡ checked_at program n → HasCheck program n → o ≡ None → ⊥
-not_none n program None e h t = let q : [] ≡ checked_one n h.0 (Some h.1) = e ∙ h.2 in absurd cc
-not_none n program (Some s) e h t = absurd cc
 
 -- The statement that a check is of.
 pub record IsOf (a : Act) (e : Effect) (k : Check) : Type 0 where

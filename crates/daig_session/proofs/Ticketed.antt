@@ -32,10 +32,6 @@ use Rattle.daig_session.proofs.Ordered.{order_like}
 use Rattle.daig_session.proofs.TicketLemmas.{numbers_set, set_there, still_open, tickets_set}
 use Rattle.daig_session.proofs.Waiting.{waiting_get, waiting_push, waiting_rest, waiting_set}
 
--- with other tickets
-abbrev pub ticketing : Tickets Going → Book → Book
-ticketing t b = record b { tickets = t }
-
 module _ {S : Type 0} (dom : Operations S) (store : Store S) where
   -- so many tickets are open
   pub tickets_count : (book : Book) (m : Machine) → Holds dom store book m → length m.tickets ≡ length book.tickets.open_ones.items

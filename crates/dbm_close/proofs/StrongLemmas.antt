@@ -1,21 +1,15 @@
-use Rattle.std.specs.Prelude.{◌≡◌, ℕ, ◌<◌, ◌+◌, ◌*◌, ◌^◌, ◌%◌, ℤ, pos, negsuc, ◌≤ℤ◌, neg_ℤ, Option, Some, None, Bool, true, false, cond, List, length, slice_index_or, int_lt, ◌<ℤ◌}
+use Rattle.std.specs.Prelude.{◌≡◌, ℕ, ◌<◌, ◌+◌, ◌*◌, ◌^◌, ℤ, pos, negsuc, ◌≤ℤ◌, neg_ℤ, Option, Some, None, Bool, true, false, cond, List, length, slice_index_or, int_lt, ◌<ℤ◌}
 use Rattle.std.proofs.Common.{arith, ap, sym, ◌∙◌, subst}
 use Rattle.std.proofs.lemmas.Int.{ints}
 use Rattle.dbm_close.proofs.RoundLemmas.{AreWithin-more, IsWithin-add, IsWithin-more}
-use Rattle.dbm_close.specs.Close.{HasEmptyRange, HasNoEmptyRange, IsContradictory, IsNotTooLow, IsTooLow, closed_entry, slot_high, slot_low, strong}
+use Rattle.dbm_close.specs.Close.{HasEmptyRange, HasNoEmptyRange, IsContradictory, IsTooLow, closed_entry, slot_high, slot_low, strong}
 use Rattle.dbm_close.specs.Steps.{cut, even_down, half, range_high, range_low, strengthened, tightened}
-use Rattle.dbm_core.proofs.NodeLemmas.{flip-below, flip-even, flip-flip, single-flip}
+use Rattle.dbm_core.proofs.NodeLemmas.{flip-below, flip-flip, single-flip}
 use Rattle.dbm_core.proofs.WeightLemmas.{add_weight-comm, least-cases}
 use Rattle.dbm_core.specs.Half.{HalfMatrix, HasEntries, entry, nodes}
 use Rattle.dbm_core.specs.Limits.{AreWithin, IsWithin}
 use Rattle.dbm_core.specs.Nodes.{IsCoherent, flip, is_single}
 use Rattle.dbm_core.specs.Weights.{AtMost, add_weight, least}
-
--- the two diagonal entries of a slot are mirror images
-pub diagonal-coherent : (f : ℕ → ℕ → Option ℤ) (n h : ℕ) → IsCoherent f (2 * n) → h < n → f (2 * h) (2 * h) ≡ f (2 * h + 1) (2 * h + 1)
-diagonal-coherent f n h c l =
-    let e : (2 * h) % 2 ≡ 0 = omega arith in
-    c (2 * h) (2 * h) (omega arith) (omega arith) ∙ ap (λ k. f k k) (flip-even (2 * h) e)
 
 pub tightened-coherent : (s : ℕ → ℕ → Option ℤ) (n : ℕ) → IsCoherent s n → IsCoherent (tightened s) n
 tightened-coherent s n c i j hi hj =
@@ -90,9 +84,6 @@ contradictory-agree h f g a (i, (l, p)) = (
 
 pub too_low-agree : (n : ℕ) (f g : ℕ → ℕ → Option ℤ) → Agree n f g → IsTooLow n f → IsTooLow n g
 too_low-agree n f g a p = (p.0, p.1, (p.2.0, p.2.1, subst (λ x. AtMost x (Some (negsuc (2 ^ 64)))) (a p.0 p.1 p.2.0 p.2.1) p.2.2))
-
-pub in_range-agree : (n : ℕ) (f g : ℕ → ℕ → Option ℤ) → Agree n f g → IsNotTooLow n f → IsNotTooLow n g
-in_range-agree n f g a p i j hi hj = subst (λ x. AtMost (Some (neg_ℤ (pos (2 ^ 64)))) x) (a i j hi hj) (p i j hi hj)
 
 pub empty_range-agree : (kinds : List Bool) (f g : ℕ → ℕ → Option ℤ) → Agree (2 * length kinds) f g → HasEmptyRange kinds f → HasEmptyRange kinds g
 empty_range-agree kinds f g a (k, (l, p)) = (

@@ -42,34 +42,8 @@ IsRest q i o v = (a b : ℕ) → b < row_width a → ((a < i) × IsOfSlot q a b 
 abbrev pub IsRestIn : ℕ → ℕ → ℕ → List (Option ℤ) → List (Option ℤ) → Type 0
 IsRestIn q i j o v = (a b : ℕ) → b < row_width a → ((a < i) × IsOfSlot q a b → ⊥) → ((a ≡ i) × ((first q i ≤ b) × (b < j)) → ⊥) → at v a b ≡ at o a b
 
-first-own : (q i : ℕ) → i / 2 ≡ q → first q i ≡ 0
-first-own q i e = rw (eq-eqb (i / 2) q e) refl
-
-first-later : (q i : ℕ) → (i / 2 ≡ q → ⊥) → first q i ≡ 2 * q
-first-later q i n = rw (ne_eqb (i / 2) q n) refl
-
--- a column from the first on and before the slot's end is one of the slot's
-pub columns-own : (q i b : ℕ) → first q i ≤ b → b < 2 * q + 2 → IsOfSlot q i b
-columns-own q i b l m = elim (cases_eq (i / 2) q) [
-  | inl e ↦ inl e
-  | inr n ↦ let f : first q i ≡ 2 * q = first-later q i n in inr (omega arith)
-]
-
--- and each of the slot's is such a column
-pub own-columns : (q i b : ℕ) → 2 * q ≤ i → b < row_width i → IsOfSlot q i b → (first q i ≤ b) × (b < 2 * q + 2)
-own-columns q i b l w (inl e) = let f : first q i ≡ 0 = first-own q i e in (omega arith, omega arith)
-own-columns q i b l w (inr e) = elim (cases_eq (i / 2) q) [
-  | inl g ↦ let f : first q i ≡ 0 = first-own q i g in (omega arith, omega arith)
-  | inr n ↦ let f : first q i ≡ 2 * q = first-later q i n in (omega arith, omega arith)
-]
-
 pub column-kept : (q i j : ℕ) → 2 * q ≤ i → j < 2 * q + 2 → j < row_width i
 column-kept q i j l m = omega arith
-
--- none of the rows before the slot's has it in a pair
-pub done-none : (P : ℕ → ℕ → Option ℤ → Option ℤ → Type 0) (q : ℕ) (o v : List (Option ℤ)) → IsDone P q (2 * q) o v
-done-none P q o v a b l w (inl e) = absurd (omega arith)
-done-none P q o v a b l w (inr e) = absurd (omega arith)
 
 read-other : (v : List (Option ℤ)) (i j a b : ℕ) (x : Option ℤ) → j < row_width i → b < row_width a → ((i ≡ a) × (j ≡ b) → ⊥) → at (slice_set v (row_start i + j) x) a b ≡ at v a b
 read-other v i j a b x w u n = let k : row_start a + b ≡ row_start i + j → ⊥ = λ e. n (same_place i j a b w u (sym e)) in rw get_or-set_other refl
@@ -88,19 +62,6 @@ pub rest-set : (q i j : ℕ) (o v : List (Option ℤ)) (x : Option ℤ) → j < 
 rest-set q i j o v x w f h a b u n m =
     read-other v i j a b x w u (λ e. m (sym e.0, (subst (λ k. first q i ≤ k) e.1 f, omega (arith, e.1))))
     ∙ h a b u n (λ e. m (e.0, (e.1.0, omega (arith, e.1.1))))
-
--- a row is done
-pub done-row : (P : ℕ → ℕ → Option ℤ → Option ℤ → Type 0) (q i : ℕ) (o v : List (Option ℤ)) → 2 * q ≤ i → IsDone P q i o v → IsDoneIn P q i (2 * q + 2) o v → IsDone P q (i + 1) o v
-done-row P q i o v l h c a b k w s = elim (cases_lt a i) [
-  | inl m ↦ h a b m w s
-  | inr m ↦ let e : a ≡ i = omega arith in
-      let t : (first q i ≤ b) × (b < 2 * q + 2) = own-columns q i b l (subst (λ x. b < row_width x) e w) (subst (λ x. IsOfSlot q x b) e s) in
-      subst (λ x. P x b (at o x b) (at v x b)) (sym e) (c b t.0 t.1)
-]
-
-pub rest-row : (q i : ℕ) (o v : List (Option ℤ)) → IsRestIn q i (2 * q + 2) o v → IsRest q (i + 1) o v
-rest-row q i o v h a b w n = h a b w (λ e. n (omega (arith, e.0), e.1))
-    (λ e. n (omega (arith, e.0), subst (λ x. IsOfSlot q x b) (sym e.0) (columns-own q i b e.1.0 e.1.1)))
 
 pub rest-first : (q i : ℕ) (o v : List (Option ℤ)) → IsRest q i o v → IsRestIn q i (first q i) o v
 rest-first q i o v h a b w n m = h a b w n

@@ -1,15 +1,13 @@
 -- Least weights after a slot is forgotten and is then bound by an equation or by a range.
-use Rattle.std.specs.Prelude.{◌≡◌, ℕ, ◌<◌, ◌+◌, ◌*◌, ◌/◌, ◌||◌, ◌^◌, ℤ, pos, neg_ℤ, ◌-ℤ◌, Option, Some, None, Bool, true, false, length, Result, Ok, Err, IfOk, refl}
+use Rattle.std.specs.Prelude.{◌≡◌, ℕ, ◌<◌, ◌+◌, ◌*◌, ◌/◌, ◌||◌, ◌^◌, ℤ, pos, neg_ℤ, ◌-ℤ◌, Option, Some, None, Bool, true, false, length, refl}
 use Rattle.std.proofs.Common.{arith, ap, sym, ◌∙◌, subst, inl, inr}
 use Rattle.std.proofs.lemmas.Bool.{cases_eq}
 use Rattle.std.proofs.lemmas.Int.{ints}
 use Rattle.dbm_close.specs.Close.{strong}
 use Rattle.dbm_core.proofs.NodeLemmas.{flip-below}
 use Rattle.dbm_core.proofs.WeightLemmas.{AtMost-refl, AtMost-trans}
-use Rattle.dbm_core.proofs.HalfLemmas.{entries-if_ok}
-use Rattle.dbm_core.proofs.LimitLemmas.{AreWithin-entries}
 use Rattle.dbm_close.proofs.RoundLemmas.{IsWithin-add, IsWithin-more}
-use Rattle.dbm_core.specs.Half.{HalfMatrix, HasEntries, IsMatrix, entry, nodes, row_width}
+use Rattle.dbm_core.specs.Half.{HalfMatrix, HasEntries, entry, nodes}
 use Rattle.dbm_core.specs.Limits.{AreWithin, IsWithin, AreAtMost, HasZeroDiagonal}
 use Rattle.dbm_core.specs.Nodes.{flip}
 use Rattle.dbm_core.specs.Operations.{forgotten, lowered}
@@ -182,16 +180,6 @@ stood-within d h q y c hy p w i j hi hj =
 
 pub stood-diagonal : (d : ℕ → ℕ → Option ℤ) (h q y : ℕ) (c : ℤ) (k : ℕ) → y < 2 * h → k < h → IsStrong (2 * h) d → stood_entry d q y c (2 * k) (2 * k) ≡ stood_entry d q y c (2 * k + 1) (2 * k + 1)
 stood-diagonal d h q y c k hy hk s = (stood-strong d h q y c hy s).diagonal (2 * k) (omega arith) ∙ sym ((stood-strong d h q y c hy s).diagonal (2 * k + 1) (omega arith))
-
--- the entries at the kept pairs are those at all, of a result too
-pub stood-entries : {E : Type 0} (r : Result HalfMatrix E) (m : HalfMatrix) (q y : ℕ) (c : ℤ) → y < nodes m → IsStrong (nodes m) (entry m) → IfOk r IsMatrix → IfOk r (λ u. u.kinds ≡ m.kinds) →
-    IfOk r (λ u. (i j : ℕ) → i < nodes m → j < row_width i → entry u i j ≡ stood_entry (entry m) q y c i j) → IfOk r (HasEntries m.kinds (stood_entry (entry m) q y c))
-stood-entries r m q y c hy s t k h = entries-if_ok r m.kinds (stood_entry (entry m) q y c) (stood-strong (entry m) (length m.kinds) q y c hy s).coherent t k h
-
-pub stood-limits : {E : Type 0} (r : Result HalfMatrix E) (m : HalfMatrix) (q y : ℕ) (c : ℤ) → y < nodes m → AreWithin (nodes m) (2 ^ 64) (entry m) → IsWithin (2 ^ 70) (Some c) →
-    IfOk r (HasEntries m.kinds (stood_entry (entry m) q y c)) → IfOk r (λ u. AreWithin (nodes u) (2 ^ 72) (entry u))
-stood-limits (Ok u) m q y c hy p w h = AreWithin-entries m.kinds (stood_entry (entry m) q y c) u (2 ^ 72) h (stood-within (entry m) (length m.kinds) q y c hy p w)
-stood-limits (Err e) m q y c hy p w h = tt
 
 -- the entries of such a matrix are the least weights of the equation
 pub equated-weights : (m u : HalfMatrix) (q y : ℕ) (c : ℤ) → q < length m.kinds → y < nodes m → (y / 2 ≡ q → ⊥) → IsStrong (nodes m) (entry m) → HasEntries m.kinds (stood_entry (entry m) q y c) u →

@@ -145,7 +145,3 @@ close-closed m r t (s, e) =
         entries = λ i j hi hj. e.entries.entries i j (omega arith) (omega arith);
       },
     )
-
--- closing twice is closing once
-pub close-twice : (m r : HalfMatrix) → IsMatrix m → IsCloseOf m (Matrix r) → IsCloseOf r (Matrix r)
-close-twice m r t p = closed-close r (close-closed m r t p)

@@ -83,6 +83,3 @@ module _ {T V : Type 0} (value : T → V) (get : T → Option V) (xs : List T) (
   found-all at =
       let h = split_none xs (length found) at in
       (absent-rest get xs (length found) f.there ∙ ap (first_absent get) (drop_end xs (length found) h), f.values ∙ ap (map value) (take_all (length found) xs h))
-
-pub found-left : {T V : Type 0} (xs : List T) (found : List V) (x : T) → slice_get xs (length found) ≡ Some x → length found < length xs
-found-left xs found x at = (split_at xs (length found) x at).0

@@ -6,7 +6,6 @@ use Rattle.dbm_core.specs.Half.{HalfMatrix, IsMatrix, entry, nodes}
 use Rattle.dbm_core.specs.Limits.{IsLimited, IsZeroAtMost}
 use Rattle.dbm_close.specs.CloseOf.{close_of}
 use Rattle.dbm_close.specs.declared.closed.Closed.{Closed}
-use Rattle.dbm_close.specs.declared.closed.Closed.TheVariants.{Matrix}
 use Rattle.dbm_incremental.proofs.LawLemmas.{close_of-closed, closed-limited, closed-same}
 use Rattle.dbm_incremental.specs.Answers.{IsClosedAnswer}
 use Rattle.dbm_incremental.specs.ClosedMatrices.{IsClosed}
@@ -19,10 +18,6 @@ closed_limited = closed-limited
 
 pub closed_tight : (m : HalfMatrix) → IsClosed m → IsTight m
 closed_tight m c = record { closed = c; limited = closed-limited m c; ranges = c.1.ranges }
-
--- closing a closed matrix gives it again
-pub closed_same : (m : HalfMatrix) → IsClosed m → close_of m ≡ Matrix m
-closed_same = closed-same
 
 -- what closing answers is closed
 pub answer_closed : (m : HalfMatrix) (c : Closed) → IsMatrix m → IsZeroAtMost (nodes m) (entry m) → c ≡ close_of m → IsClosedAnswer c

@@ -18,9 +18,6 @@ pub record Around (of : Statements → List ℕ) : Type 0 where
   pub right : List ℕ
   pub is : (x : Statements) → of x ≡ left ++ (numbers x ++ right)
 
-four : (a b c d : List ℕ) → a ++ ((b ++ c) ++ d) ≡ a ++ (b ++ (c ++ d))
-four a b c d = ap (λ k. a ++ k) (append_assoc b c d)
-
 -- more numbers around
 wider : (of : Statements → List ℕ) → Around of → (l r : List ℕ) → Around (λ x. l ++ (of x ++ r))
 wider of a l r = record {
@@ -101,13 +98,6 @@ has_false m (x ∷ xs) h = go (m == x) refl h (has_false m xs)
     go : (b : Bool) → (m == x) ≡ b → (b || has xs m) ≡ false → (has xs m ≡ false → Absent m xs) → Absent m (x ∷ xs)
     go true e h f = cc
     go false e h f = (λ q. absurd (grind (arith, nat_tests)), f h)
-
-pub has_is : (m : ℕ) (xs : List ℕ) → Has m xs → has xs m ≡ true
-has_is m xs h = go (has xs m) refl
-  where
-    go : (b : Bool) → has xs m ≡ b → b ≡ true
-    go true e = refl
-    go false e = absurd (absent_not m xs (has_false m xs e) h)
 
 -- A number of the middle stands in no other part.
 pub middle_alone : (l ms r : List ℕ) (m : ℕ) → Distinct (l ++ (ms ++ r)) → Has m ms → Absent m (l ++ r)

@@ -1,8 +1,7 @@
 //! Statements checked by themselves.
-ghost use Rattle.std.specs.Prelude.{◌≡◌, [], IfOk, IfErr, None};
+ghost use Rattle.std.specs.Prelude.{◌≡◌, [], IfOk, IfErr, None, codes};
 ghost use Rattle.std.specs.Option.{option_map};
-ghost use Rattle.imp_syntax.specs.Plain.{Ends, If, Simple};
-ghost use Rattle.imp_syntax.specs.ActionViews.{action_of};
+ghost use Rattle.imp_syntax.specs.Plain.{Ends, If};
 ghost use Rattle.imp_check.specs.Names.{variables};
 ghost use Rattle.imp_check.specs.Programs.{variables_fault};
 ghost use Rattle.imp_check.specs.Faults.{at, in_procedure};
@@ -14,7 +13,7 @@ ghost use Rattle.imp_edit.specs.Refusals.{IsRefusal};
 
 use crate::error::EditError;
 use imp_check::{CheckError, Fault, Found, SlotForm, Table, check_table, variables_of};
-use imp_syntax::{Action, Block, Cond, Proc, Program, Stmt, StmtId, StmtNode};
+use imp_syntax::{Block, Cond, Proc, Program, Stmt, StmtId, StmtNode};
 use plain_values::{Items, Memory, Text};
 use std::alloc::Global;
 
@@ -71,17 +70,19 @@ fn alone(alloc: Global, proc: &Proc, stmt: Stmt) -> Result<Program, Memory>
 {
     let mut stmts = Items::new(alloc);
     stmts.push(stmt)?;
-    let main = Proc::new(
-        alloc,
-        Text::from_slice(alloc, b"main")?,
-        Items::new(alloc),
-        None,
-        variables_of(alloc, proc)?,
-        Block::new(alloc, stmts)?,
-    )?;
+    let body = Block::new(alloc, stmts)?;
     let mut procs = Items::new(alloc);
-    procs.push(main)?;
+    procs.push(main_with(alloc, proc, body)?)?;
     Program::new(alloc, procs)
+}
+
+/// The procedure `main` with the variables of a procedure and this body.
+fn main_with(alloc: Global, proc: &Proc, body: Block) -> Result<Proc, Memory>
+    ensures is { IfOk result (λ p. p ≡ record { name = codes "main"; parameters = []; outcome = None; locals = variables proc.now; body = body }) }
+{
+    let name = Text::from_slice(alloc, b"main")?;
+    let locals = variables_of(alloc, proc)?;
+    Proc::new(alloc, name, Items::new(alloc), None, locals, body)
 }
 
 /// What the statement of number 1 does over slots, or `None` where there is none.
@@ -105,39 +106,10 @@ pub(crate) fn form_again(form: &SlotForm) -> Result<SlotForm, Memory>
     }
 }
 
-/// A simple statement by itself.
-pub(crate) fn simple_alone(alloc: Global, action: &Action) -> Result<Stmt, Memory>
-    ensures is { IfOk result (λ stmt. stmt ≡ Simple 1 (action_of action.now)) }
-{
-    let node = StmtNode::Simple(action_again(action)?);
-    Stmt::new(alloc, StmtId::new(1), node)
-}
-
 /// An if with this condition and of nothing, by itself.
 pub(crate) fn condition_alone(alloc: Global, cond: &Cond) -> Result<Stmt, Memory>
     ensures is { IfOk result (λ stmt. stmt ≡ If 1 cond.now Ends Ends) }
 {
     let node = StmtNode::If(cond.clone()?, Block::empty(), Block::empty());
     Stmt::new(alloc, StmtId::new(1), node)
-}
-
-/// A copy of what a simple statement does.
-fn action_again(action: &Action) -> Result<Action, Memory>
-    ensures is { IfOk result (λ copy. copy ≡ action.now) }
-{
-    Ok(match action {
-        Action::Skip => Action::Skip,
-        Action::Assert(cond) => Action::Assert(cond.clone()?),
-        Action::Assign(x, e) => Action::Assign(x.clone()?, e.clone()?),
-        Action::Input(x) => Action::Input(x.clone()?),
-        Action::MakeArray(x, e) => Action::MakeArray(x.clone()?, e.clone()?),
-        Action::SetNull(x) => Action::SetNull(x.clone()?),
-        Action::MakeCell(x) => Action::MakeCell(x.clone()?),
-        Action::ReadElement(x, a, e) => Action::ReadElement(x.clone()?, a.clone()?, e.clone()?),
-        Action::ReadNext(x, q) => Action::ReadNext(x.clone()?, q.clone()?),
-        Action::ReadItem(x, q) => Action::ReadItem(x.clone()?, q.clone()?),
-        Action::WriteElement(a, e, f) => Action::WriteElement(a.clone()?, e.clone()?, f.clone()?),
-        Action::WriteNext(p, q) => Action::WriteNext(p.clone()?, q.clone()?),
-        Action::WriteItem(p, e) => Action::WriteItem(p.clone()?, e.clone()?),
-    })
 }

@@ -44,16 +44,19 @@ pub(crate) fn ends_with(gap: &Gap, news: &Block, ends: BlockEnds) -> BlockEnds
 pub(crate) fn entry_again(entry: &Entry) -> Result<Entry, Memory>
     ensures is { IfOk result (λ copy. copy ≡ entry.now) }
 {
+    let breaks = entry.breaks.clone()?;
+    let part = entry.part.clone()?;
+    let form = form_again(&entry.form)?;
     Ok(Entry {
         number: entry.number,
-        part: entry.part.clone()?,
-        form: form_again(&entry.form)?,
+        part,
+        form,
         context: entry.context,
         front: entry.front,
         next: entry.next,
         inner: entry.inner,
         other: entry.other,
-        breaks: entry.breaks.clone()?,
+        breaks,
     })
 }
 

@@ -15,7 +15,7 @@ ghost use Rattle.imp_edit.specs.declared.error.EditError.TheVariants.{Fault as r
 ghost use Rattle.imp_edit.specs.Alone.{FitsAlone, alone_fault};
 ghost use Rattle.imp_edit.specs.Refusals.{IsRefusal};
 
-use crate::alone::{condition_alone, form_alone, simple_alone};
+use crate::alone::{condition_alone, form_alone};
 use crate::error::EditError;
 use crate::gap::Gap;
 use imp_check::{
@@ -163,9 +163,9 @@ fn entry_at(alloc: Global, head: &Head, site: &Site, stmt: &Stmt) -> Result<Entr
     ensures faultless { IfOk result (λ _. alone_fault (variables head.now.bare) stmt.now ≡ None) }
     ensures refused { IfErr result (IsRefusal (option_map refused_by (in_procedure head.now.bare.name (at (number_of stmt.now) (alone_fault (variables head.now.bare) stmt.now))))) }
 {
-    let form = form_in(alloc, head, stmt)?;
-    let part = part_of(alloc, stmt)?;
     let breaks = breaks_of(alloc, stmt)?;
+    let part = part_of(alloc, stmt)?;
+    let form = form_in(alloc, head, stmt)?;
     Ok(Entry {
         number: stmt.id(),
         part,
@@ -193,7 +193,7 @@ fn form_in(alloc: Global, head: &Head, stmt: &Stmt) -> Result<SlotForm, EditErro
     ensures refused { IfErr result (IsRefusal (option_map refused_by (in_procedure head.now.bare.name (at (number_of stmt.now) (alone_fault (variables head.now.bare) stmt.now))))) }
 {
     let alone = match stmt.node() {
-        StmtNode::Simple(action) => simple_alone(alloc, action)?,
+        StmtNode::Simple(_) => stmt.with_number(StmtId::new(1))?,
         StmtNode::If(cond, _, _) => condition_alone(alloc, cond)?,
         StmtNode::While(cond, _) => condition_alone(alloc, cond)?,
         StmtNode::Break => return Ok(SlotForm::Stmt(SlotStmt::Break)),

@@ -3,7 +3,6 @@ ghost use Rattle.std.specs.Prelude.{ℕ, ◌≡◌, ◌<◌, ◌∷◌, [], IfOk
 ghost use Rattle.std.specs.List.{All};
 ghost use Rattle.std.specs.Option.{option_map};
 ghost use Rattle.imp_syntax.specs.Plain.{Ends, Starts, program_numbers};
-ghost use Rattle.imp_syntax.specs.Changes.{with_condition};
 ghost use Rattle.imp_check.specs.Programs.{AreNumbered, check_fault};
 ghost use Rattle.imp_check.specs.Entries.{entries_of, entry_of};
 ghost use Rattle.imp_edit.specs.declared.error.EditError.TheVariants.{Fault};
@@ -15,7 +14,6 @@ ghost use Rattle.imp_edit.specs.Refusals.{IsRefusal, fits, site_refusal};
 ghost use Rattle.imp_edit.specs.Short.{IsMade};
 
 use crate::alone::{condition_alone, form_alone};
-use crate::beside::entry_again;
 use crate::blocks::closed_at;
 use crate::error::EditError;
 use crate::gap::{Gap, gap_of};
@@ -138,9 +136,10 @@ fn guard_change(
     let Some(head) = table.view().head(entry.context.proc) else {
         return Ok(None);
     };
+    let breaks = entry.breaks.clone()?;
+    let part = entry.part.with_condition(alloc, cond.clone()?)?;
     let form = form_alone(alloc, &head.bare, stmt, condition_alone(alloc, cond)?)?;
-    let changed = with_condition(alloc, entry, cond, form)?;
-    let entries = one_put(alloc, stmt, changed)?;
+    let entries = one_put(alloc, stmt, changed_entry(entry, part, form, breaks))?;
     Ok(Some(Change {
         entries,
         heads: None,
@@ -160,17 +159,21 @@ fn one_put(alloc: Global, number: StmtId, entry: Entry) -> Result<Vec<Put>, Memo
     Ok(puts)
 }
 
-/// What is known of a statement, with this condition and what it does over slots.
-fn with_condition(
-    alloc: Global,
-    entry: &Entry,
-    cond: &Cond,
-    form: SlotForm,
-) -> Result<Entry, Memory>
-    ensures is { IfOk result (λ e. e ≡ record entry.now { part = with_condition entry.now.part cond.now; form = form }) }
+/// What is known of a statement with another condition: as this one, but for the statement itself and for what it does
+/// over slots.
+fn changed_entry(entry: &Entry, part: Stmt, form: SlotForm, breaks: Items<StmtId>) -> Entry
+    requires same { breaks ≡ entry.now.breaks }
+    ensures is { result ≡ record entry.now { part = part; form = form } }
 {
-    let mut changed = entry_again(entry)?;
-    changed.part = entry.part.with_condition(alloc, cond.clone()?)?;
-    changed.form = form;
-    Ok(changed)
+    Entry {
+        number: entry.number,
+        part,
+        form,
+        context: entry.context,
+        front: entry.front,
+        next: entry.next,
+        inner: entry.inner,
+        other: entry.other,
+        breaks,
+    }
 }

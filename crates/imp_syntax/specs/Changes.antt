@@ -2,6 +2,14 @@
 use Rattle.std.specs.Prelude.{ℕ, ◌++◌, take, drop}
 use Rattle.imp_syntax.specs.Plain.{Condition, Statement, Simple, Break, Call, If, While, Statements, block_of, statements_of}
 
+-- the statement under another number
+abbrev pub with_number : Statement → ℕ → Statement
+with_number (Simple n a) m = Simple m a
+with_number (Break n) m = Break m
+with_number (Call n x f es) m = Call m x f es
+with_number (If n c t e) m = If m c t e
+with_number (While n c b) m = While m c b
+
 -- an if or while with another condition, or the statement as it is
 abbrev pub with_condition : Statement → Condition → Statement
 with_condition (Simple n a) d = Simple n a

@@ -113,9 +113,6 @@ pub operand_back : (s : Operand) → operand_from (operand_to s) ≡ s
 operand_back Null = refl
 operand_back (Value e) = λ i. Value (expression_back e i)
 
-abbrev pub operand_code : Coded Operand
-operand_code = code_by Gv itself operand_to operand_from operand_back
-
 abbrev pub condition_to : Condition → Gv
 condition_to (Compare r a b) = gcons (gnum (relation_number r)) (gcons (operand_to a) (operand_to b))
 condition_to (Not c) = gcons gnil (condition_to c)

@@ -3,7 +3,7 @@ ghost use Rattle.std.specs.Prelude.{◌≡◌, ◌<◌, ◌≤◌, [], ◌++◌,
 ghost use Rattle.std.specs.Option.{option_copied};
 ghost use Rattle.imp_syntax.specs.Plain.{Ends, block_of, statements_of, number_of};
 ghost use Rattle.imp_syntax.specs.StmtViews.{statement_of};
-ghost use Rattle.imp_syntax.specs.Changes.{with_condition, with_then, with_else, with_body, inserted};
+ghost use Rattle.imp_syntax.specs.Changes.{with_number, with_condition, with_then, with_else, with_body, inserted};
 
 use crate::{Action, Call, Cond, StmtId};
 use plain_values::{Items, Memory};
@@ -102,6 +102,14 @@ impl Stmt {
         ensures is { statement_of (number_of self.now) result.now ≡ self.now }
     {
         &self.node
+    }
+
+    /// The statement under another number. It shares all else, and fails for want of memory alone.
+    pub fn with_number(&self, id: StmtId) -> Result<Stmt, Memory>
+        ensures is { IfOk result (λ s. s ≡ with_number self.now id) }
+    {
+        let node = self.node.clone()?;
+        Ok(Stmt { id, node })
     }
 
     /// The if or while with another condition; any other statement stays as it is. It shares all else, and fails for

@@ -58,9 +58,6 @@ between-left lo hi P f =
 pub word-part : (b : Bounds) → IfSome (word b) (λ r. IsPart r b)
 word-part b = between-left (int_max b.lo least) (int_min b.hi greatest) (λ r. IsPart r b) (λ h. (omega (arith, ints, clamps), omega (arith, ints, clamps)))
 
-pub cut-range : (b : Bounds) (lo hi : ℤ) → least ≤ℤ b.lo → b.hi ≤ℤ greatest → IfSome (cut_of b lo hi) IsRange
-cut-range b lo hi p q = between-left (int_max b.lo lo) (int_min b.hi hi) IsRange (λ h. record { low = omega (arith, ints, clamps); ordered = h; high = omega (arith, ints, clamps) })
-
 pub word-range : (b : Bounds) → IfSome (word b) IsRange
 word-range b = between-left (int_max b.lo least) (int_min b.hi greatest) IsRange (λ h. record { low = omega (arith, ints, clamps); ordered = h; high = omega (arith, ints, clamps) })
 

@@ -5,7 +5,7 @@ use Rattle.std.proofs.lemmas.Nat.{le-div}
 use Rattle.std.proofs.lemmas.Int.{ints, clamps}
 use Rattle.std.specs.Int.{int_max, int_min, w64}
 use Rattle.num_bounds.specs.Bounds.{Bounds, Within, IsRange}
-use Rattle.num_bounds.specs.Meaning.{Covers, CoversQuotients, HasNoZero}
+use Rattle.num_bounds.specs.Meaning.{Covers, CoversQuotients}
 use Rattle.num_bounds.specs.Operations.{word_if, corners, below_zero, above_zero, part_quotients, either_hull, quotients}
 use Rattle.num_bounds.proofs.Ends.{word-covers, between-covers, between-left, word-range}
 use Rattle.num_bounds.proofs.Corners.{IsBetween, corners-hold}
@@ -120,13 +120,6 @@ quotients-sound a b x y p q ne f = left-covers (quotients a b) (int_div x y) (pa
         hull-left (part_quotients a (below_zero b)) (part_quotients a (above_zero b)) (int_div x (negsuc n))
         (part-covers a (below_zero b) x (negsuc n) (below-sign b) (between-covers b.lo (int_min b.hi (negsuc 0)) (negsuc n) q.0 (omega (arith, ints, clamps, q.1))) p ne)
 
--- no part holds 0, so that its ends may divide
-pub above-no_zero : (b : Bounds) → IfSome (above_zero b) HasNoZero
-above-no_zero b = between-left (int_max b.lo (pos 1)) b.hi HasNoZero (λ h. (λ e. omega (arith, ints, clamps), λ e. omega (arith, ints, clamps)))
-
 pub quotients-range : (u : Option Bounds) → IfSome (word_if u) IsRange
 quotients-range None = tt
 quotients-range (Some b) = word-range b
-
-pub below-no_zero : (b : Bounds) → IfSome (below_zero b) HasNoZero
-below-no_zero b = between-left b.lo (int_min b.hi (negsuc 0)) HasNoZero (λ h. (λ e. omega (arith, ints, clamps), λ e. omega (arith, ints, clamps)))

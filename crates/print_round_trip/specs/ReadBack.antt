@@ -1,16 +1,12 @@
 -- Printed text is read back.
-use Rattle.std.specs.Prelude.{◌≡◌, ◌≤◌, ◌^◌, ℕ, false, List, length}
+use Rattle.std.specs.Prelude.{◌≡◌, ℕ, false, List}
 use Rattle.imp_syntax.specs.Plain.{Condition, Statement, Statements, Procedure, program_numbers}
-use Rattle.imp_parse.specs.declared.error.ParseError.{ParseError}
-use Rattle.imp_parse.specs.declared.error.ParseError.TheVariants as parse
 use Rattle.imp_parse.specs.Answer.{HasTree}
 use Rattle.imp_parse.specs.Languages.{SimpleText, BodyText, ProcedureText, ConditionText, ProgramText}
 use Rattle.imp_parse.specs.Limits.{inside, outside}
 use Rattle.imp_print.specs.Programs.{program_text}
 use Rattle.print_round_trip.specs.Printable.{IsConditionOfText, IsPrintableStatement, IsPrintableBlock, IsPrintableProcedure, IsPrintable}
 use Rattle.print_round_trip.specs.Renumbered.{renumbered, counting, program_count, bare}
-use Rattle.print_round_trip.specs.declared.error.ReadBackError.{ReadBackError}
-use Rattle.print_round_trip.specs.declared.error.ReadBackError.TheVariants as e
 
 -- the text of each such program has its tree, its statements numbered anew
 abbrev pub PrintingIsReadBack : Type 0
@@ -48,14 +44,3 @@ RenumberingCounts = (ps : List Procedure) → program_numbers (renumbered ps) �
 -- and the text is the same
 abbrev pub RenumberingKeepsTexts : Type 0
 RenumberingKeepsTexts = (ps : List Procedure) → program_text false (renumbered ps) ≡ program_text false ps
-
--- what the parser's refusal is here
-abbrev pub refusal : ParseError → ReadBackError
-refusal parse.Memory = e.Memory
-refusal error = e.Unprintable
-
--- why a program is not read back
-abbrev pub IsReadBackError : List Procedure → ReadBackError → Type 0
-IsReadBackError ps e.Unprintable = IsPrintable ps → ⊥
-IsReadBackError ps e.TooLong = 2 ^ 31 ≤ length (program_text false ps)
-IsReadBackError ps e.Memory = Unit {0}

@@ -8,18 +8,11 @@
 //! needs, so its text has no more operators than any other text of the tree, and stays within the
 //! budget.
 //!
-//! [`printing_is_read_back`] is the theorem, [`read_back`] does it to one program. `renumbered` of
-//! `specs/Renumbered.antt` numbers the statements anew. Each program that is read from a text is
+//! [`printing_is_read_back`] is the theorem. `renumbered` of `specs/Renumbered.antt` numbers the statements anew. Each program that is read from a text is
 //! printable, and numbered so already ([`what_is_read_is_read_back`]).
 #![tactic(auto)]
 
 ghost use Rattle.print_round_trip.specs.ReadBack.{PrintingIsReadBack, ReadBodyIsPrintable, ReadConditionIsPrintable, ReadIsPrintable, ReadIsReadBack, ReadProcedureIsPrintable, ReadSimpleIsPrintable, RenumberingCounts, RenumberingKeepsTexts, RenumberingKeepsTrees};
-
-mod again;
-mod error;
-
-pub use again::read_back;
-pub use error::ReadBackError;
 
 /// A theorem, and no work: the text of a printable program is read back to its tree, numbered
 /// anew, which changes nothing but the numbers, makes them 1, 2, .. in the order of the text, and

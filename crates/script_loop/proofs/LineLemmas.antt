@@ -1,5 +1,5 @@
 -- Lines and replies of texts that are put together.
-use Rattle.std.proofs.Common.{◌≡◌, ℕ, ◌==◌, ◌+◌, ◌<◌, ◌++◌, List, [], ◌∷◌, length, take, drop, slice_index_or, Option, Some, Result, Ok, Err, OnOk, true, false, if◌then◌else◌, append_assoc, append-nil, add-one, sym, ◌∙◌, ap, subst, refl}
+use Rattle.std.proofs.Common.{◌≡◌, ℕ, ◌==◌, ◌+◌, ◌<◌, ◌++◌, List, [], ◌∷◌, length, take, drop, slice_index_or, Option, Some, Result, Ok, Err, OnOk, true, false, if◌then◌else◌, append_assoc, add-one, sym, ◌∙◌, ap, subst, refl}
 use Rattle.std.proofs.Math.Seq.{take-suc}
 use Rattle.std.proofs.lemmas.List.{take-append-drop}
 use Rattle.script_loop.specs.Lines.{whole_lines, last_part, kept}
@@ -104,11 +104,6 @@ lines_behind machine m before lines rest all taken output split wrote = record {
 pub holds_behind : {M : Type 0} (machine : Machine M) (holds : M → Type 0) (m : M) (before lines all : List (List ℕ)) → before ++ lines ≡ all →
     holds (after machine (after machine m before) lines) → holds (after machine m all)
 holds_behind machine holds m before lines all is here = subst holds (sym (after-append machine m before lines) ∙ ap (after machine m) is) here
-
--- no reply was written
-pub wrote_no_line : {M : Type 0} (machine : Machine M) (m : M) (lines : List (List ℕ)) (taken : List ℕ) (output : Option (List ℕ)) →
-    output ≡ Some taken → WroteLines machine m lines taken output
-wrote_no_line machine m lines taken output is = record { answered = []; unanswered = lines; split = refl; written = is ∙ ap Some (sym (append-nil taken)) }
 
 -- what follows from a fact that holds on success
 pub on_ok : {T E P Q : Type 0} (r : Result T E) → OnOk r Q → (Q → P) → OnOk r P

@@ -21,7 +21,3 @@ took_more told told' taken piece at n before takes =
 -- a count that rose after a point has risen since an earlier one
 pub rose_since : (before between after : ℕ) → before ≤ between → Rose between after → Rose before after
 rose_since before between after earlier rose = elim rose [ inl more ↦ inl (omega arith) | inr last ↦ inr last ]
-
--- a count that rose up to a point has risen at a later one
-pub rose_until : (before between after : ℕ) → Rose before between → between ≤ after → Rose before after
-rose_until before between after rose later = elim rose [ inl more ↦ inl (omega arith) | inr last ↦ inr (omega arith) ]

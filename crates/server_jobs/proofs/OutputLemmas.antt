@@ -213,10 +213,6 @@ wrote_complete LongFile readings job files folder script taken rest written f i 
     let quiet : (output readings job folder script).bytes ≡ [] = quiet_output readings job folder script (omega (arith, fits)) in
     record { same = fits; all = wrote ∙ ap Some (sym (append-nil taken)) ∙ ap (λ xs. Some (taken ++ xs)) (sym quiet) }
 
--- a source that is refused is no program
-pub refused_not_read : (source : Result (List Procedure) Refusal) (why : Refusal) (program : List Procedure) → source ≡ Err why → source ≡ Ok program → ⊥
-refused_not_read source why program refused read = cc
-
 -- an accepted program is that of a source, and has no fault
 pub unfaulted : (ps program : List Procedure) (fault : Option Found) → unless_faulty ps fault ≡ Ok program → (ps ≡ program) × (fault ≡ None)
 unfaulted ps program None is = (cc, refl)

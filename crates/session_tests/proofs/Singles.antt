@@ -1,18 +1,9 @@
 -- Edits whose statement is one action.
-use Rattle.std.proofs.Common.{◌≡◌, ℕ, List, [], ◌∷◌, refl, sym, ap, subst, ◌∙◌}
-use Rattle.imp_syntax.specs.Plain.{Statement, Statements, Ends, Starts, number_of, numbers, block_of}
-use Rattle.imp_syntax.specs.StmtViews.{statement_of}
-use Rattle.imp_syntax.specs.declared.action.Action.{Action}
-use Rattle.imp_syntax.specs.declared.stmt.StmtNode.{StmtNode}
-use Rattle.imp_syntax.specs.declared.stmt.StmtNode.TheVariants.{Simple}
+use Rattle.std.proofs.Common.{◌≡◌, ℕ, List, [], ◌∷◌, sym, ap, subst, ◌∙◌}
+use Rattle.imp_syntax.specs.Plain.{Statement, Statements, Ends, Starts, numbers, block_of}
 use Rattle.imp_check.specs.Programs.{block_count}
 use Rattle.imp_edit.specs.Edited.{counting}
 use Rattle.session_tests.specs.Singles.{IsSingle}
-
-pub simple_single : (s : Statement) (node : StmtNode) (a : Action) (number : ℕ) → statement_of (number_of s) node ≡ s → node ≡ Simple a → number_of s ≡ number → IsSingle number s
-simple_single s node a number is simple e =
-    let whole : statement_of (number_of s) (Simple a) ≡ s = ap (statement_of (number_of s)) (sym simple) ∙ is in
-    subst (IsSingle number) whole (record { numbered = ap (λ n. n ∷ []) e; counted = refl })
 
 pub single_counts : (s : Statement) (number : ℕ) → IsSingle number s → numbers (Starts s Ends) ≡ counting number (block_count (Starts s Ends))
 single_counts s number h = h.numbered ∙ sym (ap (counting number) h.counted)

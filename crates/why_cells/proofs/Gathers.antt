@@ -44,9 +44,6 @@ pub record Adding (first more : List ℕ) (i : ℕ) (now : List ℕ) : Type 0 wh
   pub once : IsOnce first → IsOnce now
   pub joins : Joins first (take i more) now
 
-pub adding_first : (first more : List ℕ) → Adding first more 0 first
-adding_first first more = record { once = λ o. o; joins = record { keeps = λ i n e. e; only = λ n m. inl m; each = λ n m. in_none n m } }
-
 pub adding_next : (first more now new : List ℕ) (i n : ℕ) → i < length more → n ≡ get_or more i n → Adding first more i now → new ≡ insert_key nat_eq now n → Adding first more (i + 1) new
 adding_next first more now new i n l at h e = go (inserted now n new e)
   where

@@ -48,19 +48,8 @@ adds_next names all old now new f w v e named h adds =
       split = split ∙ sym (append_assoc h.xs (fix_of f v) (fixes v));
     }
 
--- a frame without a loop
-pub fix_none : (names : List CellName) (old now : List ℕ) (v : List Frame) (n : ℕ) → now ≡ old → (ns : List ℕ) × (now ≡ old ++ ns) × AreNumbers names ns (fix_of (InCall n) v)
-fix_none names old now v n e = ([], e ∙ sym (append-nil old), refl)
-
-pub fix_one : (names : List CellName) (old new : List ℕ) (v : List Frame) (n k cell : ℕ) → slice_get names cell ≡ Some (name v (Fix n)) → new ≡ old ++ cell ∷ [] → (ns : List ℕ) × (new ≡ old ++ ns) × AreNumbers names ns (fix_of (InLoop n k) v)
-fix_one names old new v n k cell at e = (cell ∷ [], e, ap (λ o. o ∷ []) at)
-
 pub fix_named : (names : List CellName) (f : Frame) (v : List Frame) (n k : ℕ) → f ≡ InLoop n k → AllNamed names (fix_of f v) → (c : ℕ) × (slice_get names c ≡ Some (name v (Fix n)))
 fix_named names f v n k e named = named (name v (Fix n)) (subst (λ g. IsIn (fix_of g v) (name v (Fix n))) (sym e) (in_first (name v (Fix n)) []))
-
--- at the start of main nothing is left
-pub adds_last : (names all : List CellName) (old now : List ℕ) (w : List Frame) → w ≡ [] → Adds names all (fixes w) old now → (ns : List ℕ) × (now ≡ old ++ ns) × AreNumbers names ns all
-adds_last names all old now w e h = (h.numbers, h.is, subst (AreNumbers names h.numbers) (sym (h.split ∙ ap (λ u. h.xs ++ fixes u) e ∙ append-nil h.xs)) h.are)
 
 -- Over all cells: those so far, each with the fixed points on its way.
 pub record Collects (names : List CellName) (found : List ℕ) (i : ℕ) (out : List ℕ) : Type 0 where
@@ -80,9 +69,6 @@ fixes_in (z ∷ xs) i x y e m = go i e (λ j q. fixes_in xs j x y q m)
     go : (i : ℕ) → slice_get (z ∷ xs) i ≡ Some x → ((j : ℕ) → slice_get xs j ≡ Some x → IsIn (with_fixes xs) y) → IsIn (with_fixes (z ∷ xs)) y
     go zero e f = in_more y z (fixes z.path ++ with_fixes xs) (in_left y (fixes z.path) (with_fixes xs) (subst (λ (u : CellName). IsIn (fixes u.path) y) (sym (some_inj z x e)) m))
     go (suc j) e f = in_more y z (fixes z.path ++ with_fixes xs) (in_right y (fixes z.path) (with_fixes xs) (f j e))
-
-pub collects_first : (names : List CellName) (found empty : List ℕ) → empty ≡ [] → Collects names found 0 empty
-collects_first names found empty e = record { are = λ xs a n. ap (map (slice_get names)) e }
 
 pub collects_next : (names : List CellName) (found now more new : List ℕ) (i n : ℕ) (x : CellName) → slice_get found i ≡ Some n → slice_get names n ≡ Some x → Collects names found i now → more ≡ now ++ n ∷ [] →
     (AllNamed names (fixes x.path) → (ns : List ℕ) × (new ≡ more ++ ns) × AreNumbers names ns (fixes x.path)) → Collects names found (i + 1) new

@@ -1,5 +1,5 @@
 use Rattle.std.proofs.Common.{◌∙◌, [], List, None, refl, sym, ap, subst, slice_get}
-use Rattle.imp_syntax.specs.Plain.{Procedure}
+use Rattle.imp_syntax.specs.Plain.{Procedure, Statement}
 use Rattle.imp_syntax.specs.Changes.{with_condition}
 use Rattle.imp_check.specs.Names.{variables}
 use Rattle.imp_check.specs.Programs.{program_count}
@@ -23,7 +23,7 @@ returns-clause-made c =
     let d = c.args.cond.now in
     let h = c.in-Some.head.now in
     let is = c.in_ok-condition_alone.ensures.is in
-    guard_made c.args.stmt d ps e c.in_ok-changed.changed h c.args.next
+    guard_made c.args.stmt d ps e c.changed_entry.result h c.args.next
     (record { entries = c.in_ok-entries.entries; heads = None; count = c.count.result; sites = None })
     (fine_of ps c.procs.ensures.faultless c.procs.ensures.numbered c.procs.ensures.fit)
     c.requires.known
@@ -33,7 +33,9 @@ returns-clause-made c =
     c.requires.numbered
     (ap (alone_fault (variables h.bare)) (sym is) ∙ c.in_ok-form.ensures.faultless)
     (subst (FitsAlone h.bare) is c.in_ok-form.ensures.fits)
-    (c.in_ok-changed.ensures.is ∙ ap (λ (z : SlotForm). record e { part = with_condition e.part d; form = z }) (c.in_ok-form.ensures.form ∙ ap (form_in (frame_at [] h.bare)) is))
+    (c.changed_entry.ensures.is
+    ∙ ap (λ (z : Statement). record e { part = z; form = c.in_ok-form.form }) (c.in_ok-part.ensures.is ∙ ap (with_condition e.part) c.in_ok-clone.ensures.cases)
+    ∙ ap (λ (z : SlotForm). record e { part = with_condition e.part d; form = z }) (c.in_ok-form.ensures.form ∙ ap (form_in (frame_at [] h.bare)) is))
     c.in_ok-entries.ensures.is
     refl
     (c.count.ensures.is ∙ ap program_count c.view-2.ensures.is)
