@@ -1,5 +1,6 @@
 //! Expressions, conditions and simple statements over slots.
 ghost use Rattle.std.specs.Prelude.{◌≡◌, ◌∷◌, [], IfOk, OnOk, map};
+ghost use Rattle.imp_syntax.specs.Plain as tree;
 ghost use Rattle.imp_syntax.specs.Views.{operand_of};
 ghost use Rattle.imp_syntax.specs.ActionViews.{action_of, operands_of};
 ghost use Rattle.imp_slots.specs.ActionViews.{effect_of};
@@ -148,36 +149,75 @@ fn assign_in(alloc: Global, slots: &Slots, x: &Text, expr: &Expr) -> Result<Slot
     }
 }
 
+/// An assertion.
+fn assert_in(alloc: Global, slots: &Slots, cond: &Cond) -> Result<SlotAction, Memory>
+    ensures is { IfOk result (λ a. effect_of a ≡ effect_in slots.now (tree.Assert cond.now)) }
+{
+    Ok(SlotAction::Assert(guard_in(alloc, slots, cond)?))
+}
+
+/// A new array of a size.
+fn make_array_in(alloc: Global, slots: &Slots, x: &Text, size: &Expr) -> Result<SlotAction, Memory>
+    ensures is { IfOk result (λ a. effect_of a ≡ effect_in slots.now (tree.MakeArray x.now size.now)) }
+{
+    let size = term_in(alloc, slots, size)?;
+    Ok(SlotAction::MakeArray(slots.number(x), size))
+}
+
+/// A read of an element.
+fn read_element_in(
+    alloc: Global,
+    slots: &Slots,
+    x: &Text,
+    array: &Text,
+    index: &Expr,
+) -> Result<SlotAction, Memory>
+    ensures is { IfOk result (λ a. effect_of a ≡ effect_in slots.now (tree.ReadElement x.now array.now index.now)) }
+{
+    let index = term_in(alloc, slots, index)?;
+    Ok(SlotAction::ReadElement(slots.number(x), slots.number(array), index))
+}
+
+/// A write of an element.
+fn write_element_in(
+    alloc: Global,
+    slots: &Slots,
+    array: &Text,
+    index: &Expr,
+    value: &Expr,
+) -> Result<SlotAction, Memory>
+    ensures is { IfOk result (λ a. effect_of a ≡ effect_in slots.now (tree.WriteElement array.now index.now value.now)) }
+{
+    let index = term_in(alloc, slots, index)?;
+    let value = term_in(alloc, slots, value)?;
+    Ok(SlotAction::WriteElement(slots.number(array), index, value))
+}
+
+/// A write of a cell's item.
+fn write_item_in(alloc: Global, slots: &Slots, p: &Text, value: &Expr) -> Result<SlotAction, Memory>
+    ensures is { IfOk result (λ a. effect_of a ≡ effect_in slots.now (tree.WriteItem p.now value.now)) }
+{
+    let value = term_in(alloc, slots, value)?;
+    Ok(SlotAction::WriteItem(slots.link(p), value))
+}
+
 pub(crate) fn effect_in(alloc: Global, slots: &Slots, action: &Action) -> Result<SlotAction, Memory>
     ensures is { IfOk result (λ a. effect_of a ≡ effect_in slots.now (action_of action.now)) }
 {
     match action {
         Action::Skip => Ok(SlotAction::Skip),
-        Action::Assert(c) => Ok(SlotAction::Assert(guard_in(alloc, slots, c)?)),
+        Action::Assert(c) => assert_in(alloc, slots, c),
         Action::Assign(x, e) => assign_in(alloc, slots, x, e),
         Action::Input(x) => Ok(SlotAction::Input(slots.number(x))),
-        Action::MakeArray(x, e) => Ok(SlotAction::MakeArray(
-            slots.number(x),
-            term_in(alloc, slots, e)?,
-        )),
+        Action::MakeArray(x, e) => make_array_in(alloc, slots, x, e),
         Action::SetNull(x) => Ok(SlotAction::SetNull(slots.link(x))),
         Action::MakeCell(x) => Ok(SlotAction::MakeCell(slots.link(x))),
-        Action::ReadElement(x, a, e) => {
-            let index = term_in(alloc, slots, e)?;
-            Ok(SlotAction::ReadElement(slots.number(x), slots.number(a), index))
-        }
+        Action::ReadElement(x, a, e) => read_element_in(alloc, slots, x, a, e),
         Action::ReadNext(x, q) => Ok(SlotAction::ReadNext(slots.link(x), slots.link(q))),
         Action::ReadItem(x, q) => Ok(SlotAction::ReadItem(slots.number(x), slots.link(q))),
-        Action::WriteElement(a, e, f) => {
-            let index = term_in(alloc, slots, e)?;
-            let value = term_in(alloc, slots, f)?;
-            Ok(SlotAction::WriteElement(slots.number(a), index, value))
-        }
+        Action::WriteElement(a, e, f) => write_element_in(alloc, slots, a, e, f),
         Action::WriteNext(p, q) => Ok(SlotAction::WriteNext(slots.link(p), slots.link(q))),
-        Action::WriteItem(p, e) => Ok(SlotAction::WriteItem(
-            slots.link(p),
-            term_in(alloc, slots, e)?,
-        )),
+        Action::WriteItem(p, e) => write_item_in(alloc, slots, p, e),
     }
 }
 
