@@ -1,5 +1,6 @@
 -- Slots.
-use Rattle.std.proofs.Common.{ℕ, zero, suc, sym, ◌∙◌, slice_get, Some, None, ◌≡◌, ◌+◌, ◌<◌, ◌≤◌, List, [], ◌∷◌, ◌++◌, length, map, drop, refl, ap, arith, add-one, drop-cons, get_or}
+use Rattle.std.proofs.Common.{ℕ, zero, suc, sym, ◌∙◌, slice_get, take, Some, None, ◌≡◌, ◌+◌, ◌<◌, ◌≤◌, List, [], ◌∷◌, ◌++◌, length, map, drop, refl, ap, arith, add-one, drop-cons, get_or}
+use Rattle.std.proofs.lemmas.List.{take-map}
 use Rattle.imp_syntax.specs.declared.words.Declaration.{Declaration}
 use Rattle.imp_syntax.specs.declared.words.Kind.{Kind}
 use Rattle.imp_syntax.specs.declared.words.Kind.TheVariants.{Int, Array, List as OfLinks}
@@ -65,3 +66,6 @@ map_length (p ∷ ps) = ap suc (map_length ps)
 
 pub known_length : (ps : List Procedure) (ls : List Layout) → ls ≡ map layout_in ps → length ls ≡ length ps
 known_length ps ls k = ap length k ∙ map_length ps
+
+pub known_before : (ps : List Procedure) (ls : List Layout) (i : ℕ) → ls ≡ map layout_in ps → take i ls ≡ map layout_in (take i ps)
+known_before ps ls i k = ap (take i) k ∙ take-map layout_in i ps

@@ -1,15 +1,16 @@
 //! The procedures of a program without their statements.
-ghost use Rattle.std.specs.Prelude.{◌≡◌, ◌≤◌, length, slice_get, option_map, IfOk};
+ghost use Rattle.std.specs.Prelude.{◌≡◌, ◌≤◌, length, map, slice_get, option_map, IfOk};
 ghost use Rattle.imp_syntax.specs.Plain.{number_of};
 ghost use Rattle.imp_check.specs.Parts.{ends_of};
-ghost use Rattle.imp_check.specs.Entries.{head_of, place_headed, is_headed};
+ghost use Rattle.imp_check.specs.Entries.{head_of, heads_of, place_headed, is_headed};
 ghost use Rattle.imp_check.specs.Slots.{layout_in};
 
 use crate::entry::{BlockEnds, Head};
 use crate::names::same_name;
 use crate::slots::Slots;
 use imp_syntax::{Block, Proc, Stmt, StmtId};
-use plain_values::{Memory, Text};
+use plain_values::{Items, Memory, Text};
+use std::alloc::Global;
 
 /// The number of the statement at a place of a block.
 pub(crate) fn number_at(stmts: &[Stmt], at: usize) -> Option<StmtId>
@@ -42,6 +43,19 @@ pub(crate) fn head_of(proc: &Proc, slots: &Slots) -> Result<Head, Memory>
     let layout = slots.layout().clone()?;
     let body = ends_of(proc.body());
     Ok(Head { bare, layout, body })
+}
+
+/// The procedures with these slots, without their statements.
+#[tactic(auto, using(crate::proofs::SlotLemmas::known_length, crate::proofs::SlotLemmas::layout_there, crate::proofs::EntryLemmas::heads_step))]
+pub(crate) fn heads_of(alloc: Global, procs: &[Proc], known: &[Slots]) -> Result<Items<Head>, Memory>
+    requires known { known.now ≡ map layout_in procs.now }
+    ensures is { IfOk result (λ heads. heads ≡ heads_of procs.now) }
+{
+    let mut heads = Items::with_capacity(alloc, procs.len())?;
+    for (i, proc) in procs.iter().enumerate() {
+        heads.push(head_of(proc, &known[i])?)?;
+    }
+    Ok(heads)
 }
 
 /// Whether a procedure has this name.

@@ -12,23 +12,42 @@ use plain_values::{Items, Memory};
 use std::alloc::Global;
 
 /// The procedures over slots.
-#[tactic(auto, using(crate::proofs::FewLemmas::few_at, crate::proofs::FewLemmas::routines_step, crate::proofs::FewLemmas::layouts_step))]
 pub(crate) fn routines_of(alloc: Global, procs: &[Proc]) -> Result<Items<Routine>, Memory>
     requires few { AreFew procs.now }
     ensures is { IfOk result (λ routines. routines ≡ routines_of procs.now) }
 {
-    let mut known: Vec<Slots> = Vec::new(alloc);
+    let known = layouts_of(alloc, procs)?;
+    routines_by(alloc, procs, known.as_slice())
+}
+
+/// The procedures over slots, by the slots of each.
+#[tactic(auto, using(crate::proofs::FewLemmas::routines_step, crate::proofs::SlotLemmas::known_length, crate::proofs::SlotLemmas::known_before, crate::proofs::SlotLemmas::layout_there))]
+fn routines_by(alloc: Global, procs: &[Proc], known: &[Slots]) -> Result<Items<Routine>, Memory>
+    requires few { length procs.now < 2 ^ 32 }
+    requires known { known.now ≡ map layout_in procs.now }
+    ensures is { IfOk result (λ routines. routines ≡ routines_of procs.now) }
+{
     let mut routines = Items::new(alloc);
     for (i, proc) in procs.iter().enumerate() {
-        let slots = slots_of(alloc, proc)?;
-        let routine = routine_of(alloc, &slots, &procs[..i], known.as_slice(), proc)?;
-        routines.push(routine)?;
-        known.push(slots)?;
+        routines.push(routine_of(alloc, &known[i], &procs[..i], &known[..i], proc)?)?;
     }
     Ok(routines)
 }
 
-pub(crate) fn slots_of(alloc: Global, proc: &Proc) -> Result<Slots, Memory>
+/// The slots of each procedure.
+#[tactic(auto, using(crate::proofs::FewLemmas::few_at, crate::proofs::FewLemmas::layouts_step))]
+pub(crate) fn layouts_of(alloc: Global, procs: &[Proc]) -> Result<Vec<Slots>, Memory>
+    requires few { AreFew procs.now }
+    ensures is { IfOk result (λ known. known.items ≡ map layout_in procs.now) }
+{
+    let mut known = Vec::new(alloc);
+    for proc in procs {
+        known.push(slots_of(alloc, proc)?)?;
+    }
+    Ok(known)
+}
+
+fn slots_of(alloc: Global, proc: &Proc) -> Result<Slots, Memory>
     requires few { HasFew proc.now }
     ensures is { IfOk result (λ slots. slots ≡ layout_in proc.now) }
 {
