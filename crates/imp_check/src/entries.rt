@@ -1,6 +1,13 @@
 //! The table of statements, made from the tree.
 ghost use Rattle.std.specs.Prelude.{◌≡◌, ◌+◌, ◌<◌, ◌^◌, IfOk, OnOk, Some, None};
 ghost use Rattle.imp_check.specs.Programs.{statement_nesting, nesting};
+ghost use Rattle.imp_syntax.specs.Plain.{number_of};
+ghost use Rattle.imp_syntax.specs.ActionViews.{action_of as operation_of, operands_of};
+ghost use Rattle.imp_slots.specs.ActionViews.{action_of};
+ghost use Rattle.imp_slots.specs.declared.actions.SlotStmt.TheVariants as act;
+ghost use Rattle.imp_check.specs.declared.entry.SlotForm.TheVariants as form;
+ghost use Rattle.imp_check.specs.Slots.{effect_in, guard_in, invoke_in, callee_in};
+ghost use Rattle.imp_check.specs.Parts.{first_ends, second_ends, part_of, breaks_of};
 ghost use Rattle.imp_check.specs.Entries.{form_in, entry_at, statement_entries, block_entries};
 ghost use Rattle.imp_check.specs.Puts.{put_at, put_all, with_site, with_sites, with_form};
 
@@ -10,30 +17,81 @@ use crate::parts::{breaks_of, first_ends, part_of, second_ends};
 use crate::place::Place;
 use crate::putting::put_entry;
 use crate::resolve::Frame;
+use crate::slots::Slots;
 use crate::terms::{effect_in, guard_in};
 use imp_slots::SlotStmt;
-use imp_syntax::{Block, ProcId, Stmt, StmtId, StmtNode};
+use imp_syntax::{Action, Block, Call, Cond, ProcId, Stmt, StmtId, StmtNode};
 use plain_values::{Items, Memory};
 use std::alloc::Global;
 
-/// What a statement does, over slots.
+/// What a simple statement does, over slots.
 #[tactic(auto, using(crate::proofs::EntryLemmas::action_again))]
+fn simple_form(alloc: Global, slots: &Slots, action: &Action) -> Result<SlotForm, Memory>
+    ensures is { IfOk result (λ f. f ≡ form.Stmt (act.Simple (action_of (effect_in slots.now (operation_of action.now))))) }
+{
+    let action = effect_in(alloc, slots, action)?;
+    Ok(SlotForm::Stmt(SlotStmt::Simple(action)))
+}
+
+/// A call, over slots.
+fn call_form(alloc: Global, frame: &Frame, call: &Call) -> Result<SlotForm, Memory>
+    ensures is { IfOk result (λ f. f ≡ form.Call (invoke_in frame.now call.now.target call.now.callee (operands_of call.now.arguments)) (callee_in frame.now call.now.callee)) }
+{
+    let invoke = frame.invoke(alloc, call)?;
+    Ok(SlotForm::Call(invoke, ProcId::new(frame.callee(call))))
+}
+
+/// A condition, over slots.
+fn guard_form(alloc: Global, slots: &Slots, cond: &Cond) -> Result<SlotForm, Memory>
+    ensures is { IfOk result (λ f. f ≡ form.Cond (guard_in slots.now cond.now)) }
+{
+    Ok(SlotForm::Cond(guard_in(alloc, slots, cond)?))
+}
+
+/// What a statement does, over slots.
 fn form_in(alloc: Global, frame: &Frame, stmt: &Stmt) -> Result<SlotForm, Memory>
     ensures is { IfOk result (λ form. form ≡ form_in frame.now stmt.now) }
 {
     match stmt.node() {
-        StmtNode::Simple(action) => {
-            let action = effect_in(alloc, frame.slots, action)?;
-            Ok(SlotForm::Stmt(SlotStmt::Simple(action)))
-        }
+        StmtNode::Simple(action) => simple_form(alloc, frame.slots, action),
         StmtNode::Break => Ok(SlotForm::Stmt(SlotStmt::Break)),
-        StmtNode::Call(call) => {
-            let invoke = frame.invoke(alloc, call)?;
-            Ok(SlotForm::Call(invoke, ProcId::new(frame.callee(call))))
-        }
-        StmtNode::If(cond, _, _) => Ok(SlotForm::Cond(guard_in(alloc, frame.slots, cond)?)),
-        StmtNode::While(cond, _) => Ok(SlotForm::Cond(guard_in(alloc, frame.slots, cond)?)),
+        StmtNode::Call(call) => call_form(alloc, frame, call),
+        StmtNode::If(cond, _, _) => guard_form(alloc, frame.slots, cond),
+        StmtNode::While(cond, _) => guard_form(alloc, frame.slots, cond),
     }
+}
+
+/// A statement that does this, with its part and its breaks.
+fn entry_of(
+    context: &Context,
+    front: Option<StmtId>,
+    next: Option<StmtId>,
+    stmt: &Stmt,
+    form: SlotForm,
+    told: (Stmt, Items<StmtId>),
+) -> Entry
+    ensures is { result ≡ record { number = number_of stmt.now; part = told.0; form = form; context = context.now; front = front; next = next; inner = first_ends stmt.now; other = second_ends stmt.now; breaks = told.1 } }
+{
+    let (part, breaks) = told;
+    Entry {
+        number: stmt.id(),
+        part,
+        form,
+        context: *context,
+        front,
+        next,
+        inner: first_ends(stmt),
+        other: second_ends(stmt),
+        breaks,
+    }
+}
+
+/// The part of a statement, and its breaks.
+fn told_of(alloc: Global, stmt: &Stmt) -> Result<(Stmt, Items<StmtId>), Memory>
+    ensures is { IfOk result (λ told. told ≡ (part_of stmt.now, breaks_of stmt.now)) }
+{
+    let part = part_of(alloc, stmt)?;
+    Ok((part, breaks_of(alloc, stmt)?))
 }
 
 /// A statement between these two of its block.
@@ -47,20 +105,9 @@ fn entry_at(
 ) -> Result<Entry, Memory>
     ensures is { IfOk result (λ entry. entry ≡ entry_at frame.now context.now front next stmt.now) }
 {
+    let told = told_of(alloc, stmt)?;
     let form = form_in(alloc, frame, stmt)?;
-    let part = part_of(alloc, stmt)?;
-    let breaks = breaks_of(alloc, stmt)?;
-    Ok(Entry {
-        number: stmt.id(),
-        part,
-        form,
-        context: *context,
-        front,
-        next,
-        inner: first_ends(stmt),
-        other: second_ends(stmt),
-        breaks,
-    })
+    Ok(entry_of(context, front, next, stmt, form, told))
 }
 
 /// A table that is being made: the places of statements, and the call statements of each procedure.
