@@ -1,33 +1,28 @@
 //! Checked programs.
-ghost use Rattle.std.specs.Prelude.{◌≡◌, ◌<◌, ◌≤◌, [], length, IfOk, IfErr, None, true};
-ghost use Rattle.std.specs.Option.{option_copied};
+ghost use Rattle.std.specs.Prelude.{◌≡◌, IfOk, IfErr, None, true};
 ghost use Rattle.imp_slots.specs.Fits.{IsChecked};
-ghost use Rattle.imp_check.specs.Programs.{AreNumbered, check_fault, program_count};
+ghost use Rattle.imp_check.specs.Programs.{AreNumbered, check_fault};
 ghost use Rattle.imp_check.specs.Slots.{routines_of};
-ghost use Rattle.imp_check.specs.Entries.{entries_of, entry_of, sites_in};
 ghost use Rattle.imp_check.specs.Fine.{IsFine};
-ghost use Rattle.imp_check.specs.Names.{named_in};
 ghost use Rattle.imp_check.specs.Refused.{IsRefused};
 ghost use Rattle.imp_check.specs.Small.{small_program};
 
 use crate::CheckError;
 use crate::building::table_of;
-use crate::entry::Entry;
 use crate::programs::check_fault;
 use crate::routines::routines_of;
 use crate::table::Table;
 use crate::view::View;
 use imp_slots::Routine;
-use imp_syntax::{ProcId, Program, StmtId};
-use plain_values::{Items, Memory, Text};
-use std::alloc::{AllocError, Global};
+use imp_syntax::Program;
+use plain_values::{Items, Memory};
+use std::alloc::Global;
 use std::marker::Model;
-use std::rc::Rc;
 
-/// A program without faults as a tree, over slots and as a table, seen as its procedures. Copies share it.
+/// A program without faults as a tree, over slots and as a table, seen as its procedures.
 #[derive(Drop)]
 pub struct Checked {
-    parts: Rc<Parts>,
+    parts: Box<Parts>,
 }
 
 #[derive(Drop)]
@@ -96,14 +91,14 @@ fn accept(alloc: Global, program: Program) -> Result<Checked, Memory>
     requires small { small_program program ≡ true }
     ensures is { IfOk result (λ c. c ≡ program) }
 {
-    let table = table_of(alloc, program.procs())?;
     let routines = routines_of(alloc, program.procs())?;
+    let table = table_of(alloc, program.procs())?;
     let parts = Parts {
         program,
         routines,
         table,
     };
-    let parts = Rc::new(alloc, parts)?;
+    let parts = Box::new(alloc, parts)?;
     Ok(Checked { parts })
 }
 
@@ -138,45 +133,5 @@ impl Checked {
         ensures is { result ≡ self.now }
     {
         self.table().view()
-    }
-
-    /// The first procedure of a name, or `None` where there is none. It takes time linear in the procedures.
-    pub fn proc_named(&self, name: &Text) -> Option<ProcId>
-        ensures is { result ≡ named_in self.now name.now }
-    {
-        self.table().proc_named(name)
-    }
-
-    /// The call statements of a procedure, in the order of the text; none for a procedure that is not there. It takes
-    /// constant time.
-    pub fn sites(&self, proc: ProcId) -> &[StmtId]
-        ensures is { proc < length self.now → result.now ≡ sites_in (entries_of self.now) proc }
-        ensures none { length self.now ≤ proc → result.now ≡ [] }
-    {
-        self.table().sites(proc)
-    }
-
-    /// How many statements the program has.
-    pub fn count(&self) -> u32
-        ensures is { result ≡ program_count self.now }
-    {
-        self.view().count()
-    }
-
-    /// The statement of a number, with where it stands and with its slots, or `None` where the program has no such
-    /// statement. It takes constant time.
-    pub fn entry(&self, id: StmtId) -> Option<&Entry>
-        ensures is { option_copied result ≡ entry_of (entries_of self.now) id }
-    {
-        self.table().entry(id)
-    }
-}
-
-impl Clone for Checked {
-    ghost is_clone = { λ c copy. copy ≡ c };
-
-    fn clone(&self) -> Result<Checked, AllocError> {
-        let parts = self.parts.clone()?;
-        Ok(Checked { parts })
     }
 }

@@ -23,8 +23,8 @@
 //! change back.
 //!
 //! Checking takes time linear in the program, times the variables of a procedure for each name, and
-//! times the procedures for the calls; the table takes memory linear in the largest statement number. A copy of a
-//! [`Checked`] shares it, and its readers take constant time and no memory.
+//! times the procedures for the calls; the table takes memory linear in the largest statement number. The readers of a
+//! [`Checked`] take constant time and no memory.
 #![tactic(auto)]
 
 mod building;
