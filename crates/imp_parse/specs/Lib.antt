@@ -13,3 +13,4 @@ pub mod Limits
 pub mod Answer
 pub mod Judged
 pub mod Languages
+pub mod Parts

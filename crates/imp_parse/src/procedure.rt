@@ -4,6 +4,8 @@ ghost use Rattle.imp_parse.specs.Kinds.{kinds};
 ghost use Rattle.imp_parse.specs.Judged.{Gives};
 ghost use Rattle.imp_parse.specs.Lists.{begun, with_front};
 ghost use Rattle.imp_parse.specs.Reader.{fix};
+ghost use Rattle.imp_syntax.specs.Plain.{block_of};
+ghost use Rattle.imp_parse.specs.Parts.{behind_locals_at, behind_head_at, behind_parenthesis_at};
 ghost use Rattle.imp_parse.specs.ProgramReading.{declaration_at, declaration_by, declarations_step, declarations_at, some_parameters_at, parameters_at, outcome_at, begins_local, local_by, locals_step, locals_at, procedure_behind, procedure_at, begins_procedure, procedures_at, program_at};
 
 use crate::call::begins_with_comma;
@@ -11,8 +13,8 @@ use crate::error::Stopped;
 use crate::marks::{mark, name, variable_kind};
 use crate::statement::statements;
 use imp_lex::{Kind, Mark, Token, Word};
-use imp_syntax::{Block, Declaration, Proc, Program};
-use plain_values::Items;
+use imp_syntax::{Block, Declaration, Proc, Program, Stmt};
+use plain_values::{Items, Memory, Text};
 use std::alloc::Global;
 
 /// A name and its kind, and the tokens behind them.
@@ -159,6 +161,92 @@ fn locals(alloc: Global, tokens: &[Token]) -> Result<(Items<Declaration>, &[Toke
     Ok((found, rest))
 }
 
+/// What heads a procedure.
+#[derive(Drop)]
+struct Head {
+    name: Text,
+    parameters: Items<Declaration>,
+    outcome: Option<Declaration>,
+}
+
+/// The procedure of these parts.
+fn assembled(
+    alloc: Global,
+    head: Head,
+    locals: Items<Declaration>,
+    stmts: Items<Stmt>,
+) -> Result<Proc, Memory>
+    ensures is { IfOk result (λ p. p ≡ record { name = head.name; parameters = head.parameters; outcome = head.outcome; locals = locals; body = block_of stmts }) }
+{
+    let body = Block::new(alloc, stmts)?;
+    Proc::new(
+        alloc,
+        head.name,
+        head.parameters,
+        head.outcome,
+        locals,
+        body,
+    )
+}
+
+/// A procedure behind its locals.
+fn behind_locals(
+    alloc: Global,
+    number: u32,
+    head: Head,
+    locals: Items<Declaration>,
+    tokens: &[Token],
+) -> Result<(Proc, u32, &[Token]), Stopped>
+    requires room { number + length tokens.now < 2 ^ 32 }
+    ensures read { Gives (λ x. ((x.0, x.1), kinds x.2.now)) result (behind_locals_at number head.name head.parameters head.outcome locals (kinds tokens.now)) }
+    ensures shorter { IfOk result (λ x. length x.2.now < length tokens.now) }
+    ensures numbers { IfOk result (λ x. x.1 + length x.2.now ≤ number + length tokens.now) }
+{
+    let (stmts, next, rest) = statements(alloc, number, tokens)?;
+    let rest = mark(Mark::CloseBrace, rest)?;
+    let procedure = assembled(alloc, head, locals, stmts)?;
+    Ok((procedure, next, rest))
+}
+
+/// A procedure behind its outcome.
+fn behind_head(
+    alloc: Global,
+    number: u32,
+    head: Head,
+    tokens: &[Token],
+) -> Result<(Proc, u32, &[Token]), Stopped>
+    requires room { number + length tokens.now < 2 ^ 32 }
+    ensures read { Gives (λ x. ((x.0, x.1), kinds x.2.now)) result (behind_head_at number head.name head.parameters head.outcome (kinds tokens.now)) }
+    ensures shorter { IfOk result (λ x. length x.2.now < length tokens.now) }
+    ensures numbers { IfOk result (λ x. x.1 + length x.2.now ≤ number + length tokens.now) }
+{
+    let rest = mark(Mark::OpenBrace, tokens)?;
+    let (locals, rest) = locals(alloc, rest)?;
+    behind_locals(alloc, number, head, locals, rest)
+}
+
+/// A procedure behind its name and the parenthesis there.
+fn behind_parenthesis(
+    alloc: Global,
+    number: u32,
+    name: Text,
+    tokens: &[Token],
+) -> Result<(Proc, u32, &[Token]), Stopped>
+    requires room { number + length tokens.now < 2 ^ 32 }
+    ensures read { Gives (λ x. ((x.0, x.1), kinds x.2.now)) result (behind_parenthesis_at number name (kinds tokens.now)) }
+    ensures shorter { IfOk result (λ x. length x.2.now < length tokens.now) }
+    ensures numbers { IfOk result (λ x. x.1 + length x.2.now ≤ number + length tokens.now) }
+{
+    let (parameters, rest) = parameters(alloc, tokens)?;
+    let (outcome, rest) = outcome(rest)?;
+    let head = Head {
+        name,
+        parameters,
+        outcome,
+    };
+    behind_head(alloc, number, head, rest)
+}
+
 /// A procedure behind its first word.
 fn procedure_behind_word(
     alloc: Global,
@@ -172,15 +260,7 @@ fn procedure_behind_word(
 {
     let (name, rest) = name(tokens)?;
     let rest = mark(Mark::OpenParenthesis, rest)?;
-    let (parameters, rest) = parameters(alloc, rest)?;
-    let (outcome, rest) = outcome(rest)?;
-    let rest = mark(Mark::OpenBrace, rest)?;
-    let (locals, rest) = locals(alloc, rest)?;
-    let (stmts, next, rest) = statements(alloc, number, rest)?;
-    let rest = mark(Mark::CloseBrace, rest)?;
-    let body = Block::new(alloc, stmts)?;
-    let procedure = Proc::new(alloc, name, parameters, outcome, locals, body)?;
-    Ok((procedure, next, rest))
+    behind_parenthesis(alloc, number, name, rest)
 }
 
 /// A procedure whose statements are numbered from here, the next number, and the tokens behind it.
