@@ -1,5 +1,6 @@
--- Parts of simple statements and procedures, behind what is read of them already.
+-- Parts of what is read, behind what is read of it already.
 use Rattle.std.specs.Prelude.{ℕ, List, Ok, Option, Some, None}
+use Rattle.imp_lex.specs.declared.token.Mark.{Mark}
 use Rattle.imp_lex.specs.declared.token.Mark.TheVariants as m
 use Rattle.imp_lex.specs.declared.token.Kind.{Kind}
 use Rattle.imp_syntax.specs.declared.words.Declaration.{Declaration}
@@ -10,11 +11,23 @@ use Rattle.imp_parse.specs.Reading.{mark_at, name_at, expression_at, condition_a
 use Rattle.imp_parse.specs.StatementReading.{invoke_at, rhs_at, statements_at}
 use Rattle.imp_parse.specs.ProgramReading.{parameters_at, outcome_at, locals_at}
 
--- ---- simple statements, with number n
+-- all is read
+abbrev pub made_at : {A : Type 0} → A → List Kind → Read A
+made_at a ts = Ok (a, ts)
 
--- a whole statement
-abbrev pub made_at : Statement → List Kind → Read Statement
-made_at s ts = Ok (s, ts)
+-- the mark that closes
+abbrev pub closed_at : {A : Type 0} → Mark → A → List Kind → Read A
+closed_at wanted a ts = mark_at wanted ts >>= λ z. Ok (a, z.1)
+
+-- ---- expressions that begin with a name, or with `len` before it
+
+abbrev pub variable_at : List Kind → Read Expression
+variable_at ts = name_at ts >>= λ x. Ok (plain.Variable x.0, x.1)
+
+abbrev pub length_at : List Kind → Read Expression
+length_at ts = name_at ts >>= λ x. Ok (plain.Length x.0, x.1)
+
+-- ---- simple statements, with number n
 
 -- the semicolon behind a statement
 abbrev pub ended_at : Statement → List Kind → Read Statement
@@ -47,6 +60,15 @@ assertion_at n ts = condition_at ts >>= λ c. mark_at m.Semicolon c.1 >>= λ z. 
 
 abbrev pub plain_call_at : ℕ → List Kind → Read Statement
 plain_call_at n ts = invoke_at ts >>= λ i. mark_at m.Semicolon i.1 >>= λ z. Ok (Call n None i.0.0 i.0.1, z.1)
+
+-- ---- statements whose blocks are read, and the number behind them
+
+abbrev pub composed_at : Statement → ℕ → List Kind → Read (Statement × ℕ)
+composed_at s next ts = Ok ((s, next), ts)
+
+-- the brace behind the statements of a block
+abbrev pub closed_block_at : List Statement → ℕ → List Kind → Read (Statements × ℕ)
+closed_block_at ss next ts = mark_at m.CloseBrace ts >>= λ z. Ok ((block_of ss, next), z.1)
 
 -- ---- procedures, whose statements are numbered from n
 

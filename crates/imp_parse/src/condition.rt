@@ -1,7 +1,10 @@
 //! Reading conditions and their sides, for `parse_cond`.
 ghost use Rattle.std.specs.Prelude.{◌≡◌, ◌<◌, ◌≤◌, length, IfOk};
-ghost use Rattle.imp_syntax.specs.Views.{operand_of};
+ghost use Rattle.imp_lex.specs.declared.token.Mark.TheVariants as m;
+ghost use Rattle.imp_syntax.specs.Plain.{Not};
+ghost use Rattle.imp_syntax.specs.Views.{operand_of, condition_of};
 ghost use Rattle.imp_parse.specs.Kinds.{kinds};
+ghost use Rattle.imp_parse.specs.Parts.{made_at, closed_at};
 ghost use Rattle.imp_parse.specs.Judged.{Gives};
 ghost use Rattle.imp_parse.specs.Reader.{fix};
 ghost use Rattle.imp_parse.specs.Reading.{side_at, compare_at, condition_step, unit_by, unit_at, condition_at, conjunction_at, and_at, and_by, or_at, or_by};
@@ -34,6 +37,33 @@ pub(crate) fn side(alloc: Global, tokens: &[Token]) -> Result<(Side, &[Token]), 
     }
 }
 
+/// The condition with this outermost part, and the tokens behind it.
+fn made(alloc: Global, node: CondNode, rest: &[Token]) -> Result<(Cond, &[Token]), Stopped>
+    ensures read { Gives (λ x. (x.0, kinds x.1.now)) result (made_at (condition_of node) (kinds rest.now)) }
+    ensures shorter { IfOk result (λ x. length x.1.now ≤ length rest.now) }
+{
+    let value = Cond::new(alloc, node)?;
+    Ok((value, rest))
+}
+
+/// A condition that a parenthesis closes.
+fn closed(inner: Cond, tokens: &[Token]) -> Result<(Cond, &[Token]), Stopped>
+    ensures read { Gives (λ x. (x.0, kinds x.1.now)) result (closed_at m.CloseParenthesis inner (kinds tokens.now)) }
+    ensures shorter { IfOk result (λ x. length x.1.now < length tokens.now) }
+{
+    let rest = mark(Mark::CloseParenthesis, tokens)?;
+    Ok((inner, rest))
+}
+
+/// The opposite of a condition that a parenthesis closes.
+fn closed_not(alloc: Global, inner: Cond, tokens: &[Token]) -> Result<(Cond, &[Token]), Stopped>
+    ensures read { Gives (λ x. (x.0, kinds x.1.now)) result (closed_at m.CloseParenthesis (Not inner) (kinds tokens.now)) }
+    ensures shorter { IfOk result (λ x. length x.1.now < length tokens.now) }
+{
+    let rest = mark(Mark::CloseParenthesis, tokens)?;
+    made(alloc, CondNode::Not(inner), rest)
+}
+
 fn compare(alloc: Global, tokens: &[Token]) -> Result<(Cond, &[Token]), Stopped>
     ensures read { Gives (λ x. (x.0, kinds x.1.now)) result (compare_at (kinds tokens.now)) }
     ensures shorter { IfOk result (λ x. length x.1.now < length tokens.now) }
@@ -41,8 +71,7 @@ fn compare(alloc: Global, tokens: &[Token]) -> Result<(Cond, &[Token]), Stopped>
     let (left, rest) = side(alloc, tokens)?;
     let (relation, rest) = relation(rest)?;
     let (right, rest) = side(alloc, rest)?;
-    let comparison = Cond::new(alloc, CondNode::Compare(relation, left, right))?;
-    Ok((comparison, rest))
+    made(alloc, CondNode::Compare(relation, left, right), rest)
 }
 
 /// A condition, and the tokens behind it.
@@ -145,9 +174,7 @@ fn unit_by_front(alloc: Global, tokens: &[Token]) -> Result<(Cond, &[Token]), St
         ] => {
             let rest = mark(Mark::OpenParenthesis, rest)?;
             let (inner, rest) = condition(alloc, rest)?;
-            let rest = mark(Mark::CloseParenthesis, rest)?;
-            let opposite = Cond::new(alloc, CondNode::Not(inner))?;
-            Ok((opposite, rest))
+            closed_not(alloc, inner, rest)
         }
         [
             Token {
@@ -157,8 +184,7 @@ fn unit_by_front(alloc: Global, tokens: &[Token]) -> Result<(Cond, &[Token]), St
             rest @ ..,
         ] => {
             let (inner, rest) = condition(alloc, rest)?;
-            let rest = mark(Mark::CloseParenthesis, rest)?;
-            Ok((inner, rest))
+            closed(inner, rest)
         }
         _ => compare(alloc, tokens),
     }

@@ -1,6 +1,9 @@
 //! Reading expressions: sums of products of factors.
 ghost use Rattle.std.specs.Prelude.{◌≡◌, ◌<◌, ◌≤◌, length, IfOk};
+ghost use Rattle.imp_lex.specs.declared.token.Mark.TheVariants as m;
+ghost use Rattle.imp_syntax.specs.Views.{expression_of};
 ghost use Rattle.imp_parse.specs.Kinds.{kinds};
+ghost use Rattle.imp_parse.specs.Parts.{made_at, closed_at, variable_at, length_at};
 ghost use Rattle.imp_parse.specs.Judged.{Gives};
 ghost use Rattle.imp_parse.specs.Reading.{expression_at, term_at, factor_by, factor_at, product_by, product_at, sum_by, sum_at, expression_step};
 ghost use Rattle.imp_parse.specs.Reader.{fix};
@@ -11,6 +14,42 @@ use crate::marks::{mark, name};
 use imp_lex::{Kind, Mark, Token, Word};
 use imp_syntax::{Expr, ExprNode, Operator};
 use std::alloc::Global;
+
+/// The expression with this outermost part, and the tokens behind it.
+fn made(alloc: Global, node: ExprNode, rest: &[Token]) -> Result<(Expr, &[Token]), Stopped>
+    ensures read { Gives (λ x. (x.0, kinds x.1.now)) result (made_at (expression_of node) (kinds rest.now)) }
+    ensures shorter { IfOk result (λ x. length x.1.now ≤ length rest.now) }
+{
+    let value = Expr::new(alloc, node)?;
+    Ok((value, rest))
+}
+
+/// An expression that a parenthesis closes.
+fn closed(inner: Expr, tokens: &[Token]) -> Result<(Expr, &[Token]), Stopped>
+    ensures read { Gives (λ x. (x.0, kinds x.1.now)) result (closed_at m.CloseParenthesis inner (kinds tokens.now)) }
+    ensures shorter { IfOk result (λ x. length x.1.now < length tokens.now) }
+{
+    let rest = mark(Mark::CloseParenthesis, tokens)?;
+    Ok((inner, rest))
+}
+
+/// A variable.
+fn variable(alloc: Global, tokens: &[Token]) -> Result<(Expr, &[Token]), Stopped>
+    ensures read { Gives (λ x. (x.0, kinds x.1.now)) result (variable_at (kinds tokens.now)) }
+    ensures shorter { IfOk result (λ x. length x.1.now < length tokens.now) }
+{
+    let (variable, rest) = name(tokens)?;
+    made(alloc, ExprNode::Variable(variable), rest)
+}
+
+/// The array whose length is meant.
+fn measured(alloc: Global, tokens: &[Token]) -> Result<(Expr, &[Token]), Stopped>
+    ensures read { Gives (λ x. (x.0, kinds x.1.now)) result (length_at (kinds tokens.now)) }
+    ensures shorter { IfOk result (λ x. length x.1.now < length tokens.now) }
+{
+    let (array, rest) = name(tokens)?;
+    made(alloc, ExprNode::Length(array), rest)
+}
 
 /// An expression, and the tokens behind it.
 #[cycle(expression)]
@@ -121,32 +160,21 @@ fn factor_by_front(alloc: Global, tokens: &[Token]) -> Result<(Expr, &[Token]), 
                 ..
             },
             rest @ ..,
-        ] => {
-            let number = Expr::new(alloc, ExprNode::Literal(*n))?;
-            Ok((number, rest))
-        }
+        ] => made(alloc, ExprNode::Literal(*n), rest),
         [
             Token {
                 kind: Kind::Name(_),
                 ..
             },
             ..
-        ] => {
-            let (x, rest) = name(tokens)?;
-            let variable = Expr::new(alloc, ExprNode::Variable(x))?;
-            Ok((variable, rest))
-        }
+        ] => variable(alloc, tokens),
         [
             Token {
                 kind: Kind::Word(Word::Len),
                 ..
             },
             rest @ ..,
-        ] => {
-            let (x, rest) = name(rest)?;
-            let length = Expr::new(alloc, ExprNode::Length(x))?;
-            Ok((length, rest))
-        }
+        ] => measured(alloc, rest),
         [
             Token {
                 kind: Kind::Mark(Mark::Minus),
@@ -155,8 +183,7 @@ fn factor_by_front(alloc: Global, tokens: &[Token]) -> Result<(Expr, &[Token]), 
             rest @ ..,
         ] => {
             let (inner, rest) = factor(alloc, rest)?;
-            let opposite = Expr::new(alloc, ExprNode::Negative(inner))?;
-            Ok((opposite, rest))
+            made(alloc, ExprNode::Negative(inner), rest)
         }
         [
             Token {
@@ -166,8 +193,7 @@ fn factor_by_front(alloc: Global, tokens: &[Token]) -> Result<(Expr, &[Token]), 
             rest @ ..,
         ] => {
             let (inner, rest) = expression(alloc, rest)?;
-            let rest = mark(Mark::CloseParenthesis, rest)?;
-            Ok((inner, rest))
+            closed(inner, rest)
         }
         _ => Err(Stopped::Unexpected(tokens.len())),
     }

@@ -1,6 +1,8 @@
 //! Statements and blocks.
 ghost use Rattle.std.specs.Prelude.{◌≡◌, ◌+◌, ◌^◌, ◌<◌, ◌≤◌, length, IfOk};
+ghost use Rattle.imp_syntax.specs.StmtViews.{statement_of};
 ghost use Rattle.imp_parse.specs.Kinds.{kinds};
+ghost use Rattle.imp_parse.specs.Parts.{composed_at, closed_block_at};
 ghost use Rattle.imp_parse.specs.Judged.{Gives};
 ghost use Rattle.imp_parse.specs.Lists.{begun};
 ghost use Rattle.imp_parse.specs.Reader.{fix};
@@ -55,6 +57,38 @@ pub(crate) fn numbered(
     Ok((stmt, number + 1, rest))
 }
 
+/// The statement of this number and outermost part, the next number, and the tokens behind it.
+fn composed(
+    alloc: Global,
+    number: u32,
+    node: StmtNode,
+    next: u32,
+    rest: &[Token],
+) -> Result<(Stmt, u32, &[Token]), Stopped>
+    ensures read { Gives (λ x. ((x.0, x.1), kinds x.2.now)) result (composed_at (statement_of number node) next (kinds rest.now)) }
+    ensures shorter { IfOk result (λ x. length x.2.now ≤ length rest.now) }
+    ensures numbers { IfOk result (λ x. x.1 + length x.2.now ≤ next + length rest.now) }
+{
+    let stmt = Stmt::new(alloc, StmtId::new(number), node)?;
+    Ok((stmt, next, rest))
+}
+
+/// The block of these statements, which a brace closes, the next number, and the tokens behind it.
+fn closed_block(
+    alloc: Global,
+    stmts: Items<Stmt>,
+    next: u32,
+    tokens: &[Token],
+) -> Result<(Block, u32, &[Token]), Stopped>
+    ensures read { Gives (λ x. ((x.0, x.1), kinds x.2.now)) result (closed_block_at stmts next (kinds tokens.now)) }
+    ensures shorter { IfOk result (λ x. length x.2.now < length tokens.now) }
+    ensures numbers { IfOk result (λ x. x.1 + length x.2.now < next + length tokens.now) }
+{
+    let rest = mark(Mark::CloseBrace, tokens)?;
+    let block = Block::new(alloc, stmts)?;
+    Ok((block, next, rest))
+}
+
 /// A statement from this number, the next number, and the tokens behind it.
 #[cycle(statement)]
 #[tactic(auto, unfolding(crate::specs::StatementReading::statement_by))]
@@ -96,12 +130,8 @@ fn if_stmt(alloc: Global, number: u32, tokens: &[Token]) -> Result<(Stmt, u32, &
     let rest = mark(Mark::CloseParenthesis, rest)?;
     let (then, next, rest) = block(alloc, number + 1, rest)?;
     let (otherwise, next, rest) = else_block(alloc, next, rest)?;
-    let stmt = Stmt::new(
-        alloc,
-        StmtId::new(number),
-        StmtNode::If(test, then, otherwise),
-    )?;
-    Ok((stmt, next, rest))
+    let node = StmtNode::If(test, then, otherwise);
+    composed(alloc, number, node, next, rest)
 }
 
 /// A while, behind its word.
@@ -120,8 +150,8 @@ fn while_stmt(
     let (test, rest) = condition(alloc, rest)?;
     let rest = mark(Mark::CloseParenthesis, rest)?;
     let (body, next, rest) = block(alloc, number + 1, rest)?;
-    let stmt = Stmt::new(alloc, StmtId::new(number), StmtNode::While(test, body))?;
-    Ok((stmt, next, rest))
+    let node = StmtNode::While(test, body);
+    composed(alloc, number, node, next, rest)
 }
 
 /// A block whose statements are numbered from here, the next number, and the tokens behind it.
@@ -134,9 +164,7 @@ fn block(alloc: Global, number: u32, tokens: &[Token]) -> Result<(Block, u32, &[
 {
     let rest = mark(Mark::OpenBrace, tokens)?;
     let (stmts, next, rest) = statements(alloc, number, rest)?;
-    let rest = mark(Mark::CloseBrace, rest)?;
-    let block = Block::new(alloc, stmts)?;
-    Ok((block, next, rest))
+    closed_block(alloc, stmts, next, rest)
 }
 
 /// `else` and a block, or the empty block where no `else` stands.
