@@ -1,6 +1,6 @@
 //! Texts in quotes and numbers, as JSON has them, for the clause `line` of
 //! [`reply_line`](crate::reply_line).
-ghost use Rattle.std.specs.Prelude.{◌≡◌, ◌<◌, ◌++◌, OnOk, decimal};
+ghost use Rattle.std.specs.Prelude.{◌≡◌, ◌<◌, ◌/◌, ◌%◌, [], ◌∷◌, ◌++◌, OnOk, decimal};
 ghost use Rattle.std.specs.Char.{digit_char};
 ghost use Rattle.json.specs.Print.{escape_byte, escape, quoted};
 
@@ -28,26 +28,39 @@ fn hex_digit(number: u8) -> u8
     }
 }
 
+/// Adds bytes.
+fn put(line: &mut Vec<u8>, bytes: &[u8]) -> Result<(), Memory>
+    ensures bytes { OnOk result (line.new.items ≡ line.old.items ++ bytes.now) }
+{
+    line.extend_from_slice(bytes)?;
+    Ok(())
+}
+
+/// Adds the number of a byte below 32, as JSON has it.
+fn put_numbered(line: &mut Vec<u8>, byte: u8) -> Result<(), Memory>
+    requires { byte < 32 }
+    ensures escaped { OnOk result (line.new.items ≡ line.old.items ++ 92 ∷ 117 ∷ 48 ∷ 48 ∷ digit_char (byte / 16) ∷ digit_char (byte % 16) ∷ []) }
+{
+    let digits = [hex_digit(byte / 16), hex_digit(byte % 16)];
+    line.extend_from_slice(b"\\u00")?;
+    put(line, &digits)
+}
+
 /// Adds what stands in a JSON text for the byte.
 #[tactic(auto, unfolding(json::specs::Print::escape_byte))]
 fn put_escaped(line: &mut Vec<u8>, byte: u8) -> Result<(), Memory>
     ensures escaped { OnOk result (line.new.items ≡ line.old.items ++ escape_byte byte) }
 {
     match byte {
-        b'"' | b'\\' => line.extend_from_slice(&[b'\\', byte])?,
-        8 => line.extend_from_slice(b"\\b")?,
-        9 => line.extend_from_slice(b"\\t")?,
-        10 => line.extend_from_slice(b"\\n")?,
-        12 => line.extend_from_slice(b"\\f")?,
-        13 => line.extend_from_slice(b"\\r")?,
-        0..32 => {
-            let digits = [hex_digit(byte / 16), hex_digit(byte % 16)];
-            line.extend_from_slice(b"\\u00")?;
-            line.extend_from_slice(&digits)?;
-        }
-        _ => line.push(byte)?,
+        b'"' | b'\\' => put(line, &[b'\\', byte]),
+        8 => put(line, b"\\b"),
+        9 => put(line, b"\\t"),
+        10 => put(line, b"\\n"),
+        12 => put(line, b"\\f"),
+        13 => put(line, b"\\r"),
+        0..32 => put_numbered(line, byte),
+        _ => put(line, &[byte]),
     }
-    Ok(())
 }
 
 /// Adds the bytes of a text, each as it stands in a JSON text.

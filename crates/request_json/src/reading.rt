@@ -1,7 +1,7 @@
 //! From a line to its request, or the first of its faults: the clauses of [`read_request`].
-ghost use Rattle.std.specs.Prelude.{◌≡◌, IfOk, IfErr, codes, option_map};
+ghost use Rattle.std.specs.Prelude.{◌≡◌, None, Some, IfOk, IfErr, codes, option_map};
 ghost use Rattle.serde_json.specs.View.{view};
-ghost use Rattle.request_json.specs.Requests.{verb_request, request_of, called_request, allowed, or_bad, run_at, replace_at, insert_at, delete_at, guard_at, declare_at, add_at, drop_at, step_at, cancel_at};
+ghost use Rattle.request_json.specs.Requests.{verb_request, request_of, called_request, allowed, or_bad, query_at, run_at, replace_at, insert_at, delete_at, guard_at, declare_at, add_at, drop_at, step_at, cancel_at};
 ghost use Rattle.request_json.specs.Members.{json_of, text_at};
 
 use crate::error::ReadError;
@@ -37,6 +37,22 @@ fn or_bad(request: Option<Request>) -> Result<Request, ReadError>
         Some(request) => Ok(request),
         None => Err(ReadError::BadMember),
     }
+}
+
+/// The request that was found, where there is one.
+fn found(request: Result<Option<Request>, Memory>) -> Result<Request, ReadError>
+    ensures request { IfOk result (λ found. request ≡ Ok (Some found)) }
+    ensures refused { IfErr result (λ error. (error ≡ ReadError.Memory → ⊥) → (request ≡ Ok None) × (error ≡ ReadError.BadMember)) }
+{
+    or_bad(request?)
+}
+
+/// The query, where its call string is not too long.
+fn query_of(alloc: Global, request: &Value) -> Result<Query, ReadError>
+    ensures query { IfOk result (λ query. allowed (query_at (view request.now)) ≡ Ok query) }
+    ensures refused { IfErr result (λ error. (error ≡ ReadError.Memory → ⊥) → allowed (query_at (view request.now)) ≡ Err error) }
+{
+    allowed(query_at(alloc, request)?)
 }
 
 /// A run.
@@ -173,23 +189,23 @@ fn verb_request(alloc: Global, verb: Verb, request: &Value) -> Result<Request, R
     ensures refused { IfErr result (λ error. (error ≡ ReadError.Memory → ⊥) → verb_request verb (view request.now) ≡ Err error) }
 {
     match verb {
-        Verb::State => Ok(Request::State(allowed(query_at(alloc, request)?)?)),
+        Verb::State => Ok(Request::State(query_of(alloc, request)?)),
         Verb::Report => Ok(Request::Report),
         Verb::Cost => Ok(Request::Cost),
         Verb::Program => Ok(Request::Program),
         Verb::Listing => Ok(Request::Listing),
-        Verb::Run => or_bad(run_at(alloc, request)?),
-        Verb::Replace => or_bad(replace_at(alloc, request)?),
-        Verb::Insert => or_bad(insert_at(alloc, request)?),
+        Verb::Run => found(run_at(alloc, request)),
+        Verb::Replace => found(replace_at(alloc, request)),
+        Verb::Insert => found(insert_at(alloc, request)),
         Verb::Delete => or_bad(delete_at(request)),
-        Verb::Guard => or_bad(guard_at(alloc, request)?),
-        Verb::Declare => or_bad(declare_at(alloc, request)?),
-        Verb::Add => or_bad(add_at(alloc, request)?),
-        Verb::Drop => or_bad(drop_at(alloc, request)?),
-        Verb::Why => Ok(Request::Why(allowed(query_at(alloc, request)?)?)),
+        Verb::Guard => found(guard_at(alloc, request)),
+        Verb::Declare => found(declare_at(alloc, request)),
+        Verb::Add => found(add_at(alloc, request)),
+        Verb::Drop => found(drop_at(alloc, request)),
+        Verb::Why => Ok(Request::Why(query_of(alloc, request)?)),
         Verb::Undo => Ok(Request::Undo),
         Verb::Redo => Ok(Request::Redo),
-        Verb::Ask => Ok(Request::Ask(allowed(query_at(alloc, request)?)?)),
+        Verb::Ask => Ok(Request::Ask(query_of(alloc, request)?)),
         Verb::Step => or_bad(step_at(request)),
         Verb::Cancel => or_bad(cancel_at(request)),
     }

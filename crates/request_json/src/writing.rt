@@ -162,13 +162,20 @@ fn put_item(line: &mut Vec<u8>, item: &Finding) -> Result<(), Memory>
     Ok(())
 }
 
+/// Adds what is found of one more statement, behind a comma.
+fn put_next_item(line: &mut Vec<u8>, item: &Finding) -> Result<(), Memory>
+    ensures item { OnOk result (line.new.items ≡ (line.old.items ++ codes ",") ++ compact_text (item_data item.now)) }
+{
+    line.push(b',')?;
+    put_item(line, item)
+}
+
 /// Adds what is found of statements, each behind a comma, and the bracket that closes their list.
 fn put_more_items(line: &mut Vec<u8>, items: &[Finding]) -> Result<(), Memory>
     ensures list { OnOk result (line.new.items ≡ line.old.items ++ items_text true (items_of item_data items.now)) }
 {
     for item in items {
-        line.push(b',')?;
-        put_item(line, item)?;
+        put_next_item(line, item)?;
     }
     line.push(b']')?;
     Ok(())
@@ -199,24 +206,36 @@ fn put_one(line: &mut Vec<u8>, front: &[u8], number: u64) -> Result<(), Memory>
     Ok(())
 }
 
+/// Adds which fault ended a run, and where, with a comma behind each.
+#[tactic(auto, using(crate::proofs::WritingLemmas::end_fault_text))]
+fn put_end_by_fault(line: &mut Vec<u8>, id: StmtId, fault: FaultKind) -> Result<(), Memory>
+    ensures fields { OnOk result (line.new.items ≡ line.old.items ++ fields_text (end_fields (RunEnd.Fault id fault))) }
+{
+    put_text_behind(line, b"\"fault\":", fault_word(fault).as_bytes())?;
+    put_number_behind(line, b",\"id\":", u64::from(id.number()))?;
+    line.push(b',')?;
+    Ok(())
+}
+
+/// Adds where a run found no more inputs, with a comma behind.
+#[tactic(auto, using(crate::proofs::WritingLemmas::end_inputs_text))]
+fn put_end_of_inputs(line: &mut Vec<u8>, id: StmtId) -> Result<(), Memory>
+    ensures fields { OnOk result (line.new.items ≡ line.old.items ++ fields_text (end_fields (RunEnd.InputsUsedUp id))) }
+{
+    put_number_behind(line, b"\"id\":", u64::from(id.number()))?;
+    line.push(b',')?;
+    Ok(())
+}
+
 /// Adds where a run ended, and by which fault, with a comma behind each.
-#[tactic(auto, using(crate::proofs::WritingLemmas::end_fault_text, crate::proofs::WritingLemmas::end_inputs_text))]
 fn put_end(line: &mut Vec<u8>, end: &RunEnd) -> Result<(), Memory>
     ensures fields { OnOk result (line.new.items ≡ line.old.items ++ fields_text (end_fields end.now)) }
 {
     match end {
-        RunEnd::Ended | RunEnd::FuelUsedUp => {}
-        RunEnd::Fault(id, fault) => {
-            put_text_behind(line, b"\"fault\":", fault_word(*fault).as_bytes())?;
-            put_number_behind(line, b",\"id\":", u64::from(id.number()))?;
-            line.push(b',')?;
-        }
-        RunEnd::InputsUsedUp(id) => {
-            put_number_behind(line, b"\"id\":", u64::from(id.number()))?;
-            line.push(b',')?;
-        }
+        RunEnd::Ended | RunEnd::FuelUsedUp => Ok(()),
+        RunEnd::Fault(id, fault) => put_end_by_fault(line, *id, *fault),
+        RunEnd::InputsUsedUp(id) => put_end_of_inputs(line, *id),
     }
-    Ok(())
 }
 
 /// Adds how often a run stood at the location, with a comma behind, where that was counted.
