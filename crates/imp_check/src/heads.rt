@@ -47,7 +47,11 @@ pub(crate) fn head_of(proc: &Proc, slots: &Slots) -> Result<Head, Memory>
 
 /// The procedures with these slots, without their statements.
 #[tactic(auto, using(crate::proofs::SlotLemmas::known_length, crate::proofs::SlotLemmas::layout_there, crate::proofs::EntryLemmas::heads_step))]
-pub(crate) fn heads_of(alloc: Global, procs: &[Proc], known: &[Slots]) -> Result<Items<Head>, Memory>
+pub(crate) fn heads_of(
+    alloc: Global,
+    procs: &[Proc],
+    known: &[Slots],
+) -> Result<Items<Head>, Memory>
     requires known { known.now ≡ map layout_in procs.now }
     ensures is { IfOk result (λ heads. heads ≡ heads_of procs.now) }
 {
