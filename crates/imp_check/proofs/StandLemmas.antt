@@ -4,7 +4,6 @@ use Rattle.std.proofs.Common.{◌≡◌, ℕ, zero, suc, ◌+◌, ◌<◌, ◌==
 use Rattle.imp_syntax.specs.Plain.{Statements, Ends, Starts, Procedure}
 use Rattle.imp_syntax.specs.Plain as tree
 use Rattle.imp_check.specs.Slots.{Frame}
-use Rattle.imp_check.specs.Programs.{AreNumbered}
 use Rattle.imp_check.specs.Entries.{inside, inside_loop, block_entries, procedure_entries, entries_from, entries_of, entry_of, frame_at, context_at, calls_here, sites_in}
 use Rattle.imp_check.specs.Changes.{overlay}
 use Rattle.imp_check.specs.Walks.{body_numbers, numbers_at}
@@ -12,8 +11,8 @@ use Rattle.imp_check.specs.declared.change.Put.{Put}
 use Rattle.imp_check.specs.declared.entry.Context.{Context}
 use Rattle.imp_check.specs.declared.entry.Entry.{Entry}
 use Rattle.imp_check.specs.declared.entry.Which.TheVariants as which
-use Rattle.imp_check.proofs.RebuildLemmas.{In, Known, entry_numbers, block_numbers}
-use Rattle.imp_check.proofs.WalkLemmas.{own, all_known}
+use Rattle.imp_check.proofs.RebuildLemmas.{In, entry_numbers, block_numbers}
+use Rattle.imp_check.proofs.WalkLemmas.{own}
 
 pub either : (x : Entry) (xs ys : List Entry) → In x (xs ++ ys) → In x xs ⊎ In x ys
 either x [] ys h = inr h
@@ -148,14 +147,3 @@ overlay_kept (p ∷ ps) at n x h none = go (p.number == n) h (λ k. overlay_kept
     go : (b : Bool) → cond b p.entry (overlay ps at n) ≡ Some x → (overlay ps at n ≡ Some x → at n ≡ Some x) → at n ≡ Some x
     go true h more = absurd (none 0 p refl h)
     go false h more = more h
-
--- A change brings no statement of the procedure at a place: those that it has in the new program were there.
-pub kept_known : (old new : List Procedure) (puts : List Put) (k : ℕ) (p : Procedure) → AreNumbered new → ((n : ℕ) → entry_of (entries_of new) n ≡ overlay puts (entry_of (entries_of old)) n) → slice_get new k ≡ Some p → ((i : ℕ) (q : Put) (x : Entry) → slice_get puts i ≡ Some q → q.entry ≡ Some x → x.context.proc ≡ k → ⊥) → Known (entry_of (entries_of old)) (procedure_entries (take k new) p)
-kept_known old new puts k p h made there none x i =
-    let known = all_known new h x (own new k p there x i) in
-    overlay_kept puts (entry_of (entries_of old)) x.number x (sym (made x.number) ∙ known) (λ j q s e. none j q x s e (procedure_is (frame_at (take k new) p) p.body (context_at (length (take k new))) None None x i ∙ taken new k (within new k p there)))
-  where
-    taken : (ps : List Procedure) (k : ℕ) → k < length ps → length (take k ps) ≡ k
-    taken [] k l = absurd (omega arith)
-    taken (q ∷ ps) zero l = refl
-    taken (q ∷ ps) (suc k) l = ap suc (taken ps k (omega arith))

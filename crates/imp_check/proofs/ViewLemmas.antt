@@ -2,10 +2,10 @@
 use Rattle.std.proofs.Common.{◌≡◌, ℕ, ◌<◌, List, [], length, Option, Some, None, unwrap_or, slice_get, slice_index_or, ◌≤◌, refl, sym, ap, ◌∙◌, subst, arith}
 use Rattle.imp_syntax.specs.Plain.{Procedure}
 use Rattle.std.proofs.lemmas.Option.{slice_get-get_or, slice_get_past}
-use Rattle.imp_check.specs.Entries.{entries_of, entry_of, sites_in, sites_of}
+use Rattle.imp_check.specs.Entries.{entries_of, sites_in, sites_of}
 use Rattle.imp_check.specs.Fine.{IsFine}
 use Rattle.imp_check.specs.Tables.{AreOf}
-use Rattle.imp_check.specs.Changes.{AreFalling, Makes, overlay}
+use Rattle.imp_check.specs.Changes.{AreFalling, Makes}
 use Rattle.imp_check.specs.Views.{over, program_over, AreRead}
 use Rattle.imp_check.specs.declared.entry.Entry.{Entry}
 use Rattle.imp_check.specs.declared.entry.Head.{Head}
@@ -43,13 +43,6 @@ module _ (program : List Procedure) (at : ℕ → Option Entry) (count : ℕ) (h
     };
     falling = g;
   })
-
--- what is found where the change has the number, and where it has not
-pub read_put : (under : List Procedure) (puts : List Put) (count : ℕ) (heads : List Head) (sites : List (List ℕ)) (program now : List Procedure) (n : ℕ) (o : Option Entry) → AreRead under puts count heads sites program → program ≡ now → ((at : ℕ → Option Entry) → overlay puts at n ≡ o) → o ≡ entry_of (entries_of now) n
-read_put under puts count heads sites program now n o r e h = sym (h (entry_of (entries_of under))) ∙ r.right.entries n ∙ ap (λ (ps : List Procedure). entry_of (entries_of ps) n) e
-
-pub read_under : (under : List Procedure) (puts : List Put) (count : ℕ) (heads : List Head) (sites : List (List ℕ)) (program now : List Procedure) (n : ℕ) → AreRead under puts count heads sites program → program ≡ now → ((at : ℕ → Option Entry) → overlay puts at n ≡ at n) → entry_of (entries_of under) n ≡ entry_of (entries_of now) n
-read_under under puts count heads sites program now n r e h = sym (h (entry_of (entries_of under))) ∙ r.right.entries n ∙ ap (λ (ps : List Procedure). entry_of (entries_of ps) n) e
 
 -- the call statements of a procedure
 module _ (ps : List Procedure) (ss : List (List ℕ)) (i p : ℕ) where

@@ -177,9 +177,6 @@ statements_step = list_step begins_statement statement_by
 abbrev pub statements_at : ℕ → List Kind → Read (List Statement × ℕ)
 statements_at n ts = fix statements_step n ts
 
-abbrev pub statement_at : ℕ → List Kind → Read (Statement × ℕ)
-statement_at n ts = statement_by (fix statements_step) n ts
-
 -- statements as a block
 abbrev pub body_at : ℕ → List Kind → Read (Statements × ℕ)
 body_at n ts = statements_at n ts >>= λ ss. Ok ((block_of ss.0.0, ss.0.1), ss.1)
