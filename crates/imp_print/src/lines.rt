@@ -1,12 +1,30 @@
 //! Lines and what stands on them.
 ghost use Rattle.std.specs.Prelude.{◌≡◌, ◌++◌, codes, OnOk};
 ghost use Rattle.imp_syntax.specs.ActionViews.{action_of, operands_of};
+ghost use Rattle.imp_print.specs.Expressions.{expression_text};
 ghost use Rattle.imp_print.specs.Statements.{action_text, more_sides_text, sides_text, target_text, call_text, spaces, margin};
 
 use crate::expressions::{put_cond, put_expr, put_number, put_side};
-use imp_syntax::{Action, Call, Side};
+use imp_syntax::{Action, Call, Expr, Side};
 use itoa::Buffer;
 use plain_values::{Memory, Text};
+
+/// Adds a name and what stands behind it.
+fn put_name(text: &mut Text, name: &Text, more: &[u8]) -> Result<(), Memory>
+    ensures added { OnOk result (text.new ≡ text.old ++ (name.now ++ more.now)) }
+{
+    text.append(name.as_slice())?;
+    text.append(more)
+}
+
+/// Adds an element of an array: its name, and the index in brackets.
+fn put_element(text: &mut Text, array: &Text, index: &Expr) -> Result<(), Memory>
+    ensures added { OnOk result (text.new ≡ text.old ++ (array.now ++ codes "[" ++ expression_text index.now ++ codes "]")) }
+{
+    put_name(text, array, b"[")?;
+    put_expr(text, index)?;
+    text.append(b"]")
+}
 
 /// Adds what a simple statement does.
 pub(crate) fn put_action(text: &mut Text, action: &Action) -> Result<(), Memory>
@@ -19,62 +37,39 @@ pub(crate) fn put_action(text: &mut Text, action: &Action) -> Result<(), Memory>
             put_cond(text, claim)
         }
         Action::Assign(target, value) => {
-            text.append(target.as_slice())?;
-            text.append(b" = ")?;
+            put_name(text, target, b" = ")?;
             put_expr(text, value)
         }
-        Action::Input(target) => {
-            text.append(target.as_slice())?;
-            text.append(b" = input")
-        }
+        Action::Input(target) => put_name(text, target, b" = input"),
         Action::MakeArray(target, length) => {
-            text.append(target.as_slice())?;
-            text.append(b" = array ")?;
+            put_name(text, target, b" = array ")?;
             put_expr(text, length)
         }
-        Action::SetNull(target) => {
-            text.append(target.as_slice())?;
-            text.append(b" = null")
-        }
-        Action::MakeCell(target) => {
-            text.append(target.as_slice())?;
-            text.append(b" = new")
-        }
+        Action::SetNull(target) => put_name(text, target, b" = null"),
+        Action::MakeCell(target) => put_name(text, target, b" = new"),
         Action::ReadElement(target, array, index) => {
-            text.append(target.as_slice())?;
-            text.append(b" = ")?;
-            text.append(array.as_slice())?;
-            text.append(b"[")?;
-            put_expr(text, index)?;
-            text.append(b"]")
+            put_name(text, target, b" = ")?;
+            put_element(text, array, index)
         }
         Action::ReadNext(target, link) => {
-            text.append(target.as_slice())?;
-            text.append(b" = ")?;
-            text.append(link.as_slice())?;
-            text.append(b".next")
+            put_name(text, target, b" = ")?;
+            put_name(text, link, b".next")
         }
         Action::ReadItem(target, link) => {
-            text.append(target.as_slice())?;
-            text.append(b" = ")?;
-            text.append(link.as_slice())?;
-            text.append(b".item")
+            put_name(text, target, b" = ")?;
+            put_name(text, link, b".item")
         }
         Action::WriteElement(array, index, value) => {
-            text.append(array.as_slice())?;
-            text.append(b"[")?;
-            put_expr(text, index)?;
-            text.append(b"] = ")?;
+            put_element(text, array, index)?;
+            text.append(b" = ")?;
             put_expr(text, value)
         }
         Action::WriteNext(link, target) => {
-            text.append(link.as_slice())?;
-            text.append(b".next = ")?;
+            put_name(text, link, b".next = ")?;
             text.append(target.as_slice())
         }
         Action::WriteItem(link, value) => {
-            text.append(link.as_slice())?;
-            text.append(b".item = ")?;
+            put_name(text, link, b".item = ")?;
             put_expr(text, value)
         }
     }
@@ -109,10 +104,7 @@ fn put_target(text: &mut Text, target: &Option<Text>) -> Result<(), Memory>
 {
     match target {
         None => Ok(()),
-        Some(target) => {
-            text.append(target.as_slice())?;
-            text.append(b" = ")
-        }
+        Some(target) => put_name(text, target, b" = "),
     }
 }
 

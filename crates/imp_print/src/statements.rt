@@ -1,11 +1,13 @@
 //! Statements and blocks.
 ghost use Rattle.std.specs.Prelude.{◌≡◌, ◌++◌, codes, IfOk, OnOk};
 ghost use Rattle.imp_syntax.specs.Plain.{number_of};
-ghost use Rattle.imp_print.specs.Statements.{margin, line, deeper, is_empty, else_text, statement_text, block_text};
+ghost use Rattle.imp_syntax.specs.ActionViews.{action_of, operands_of};
+ghost use Rattle.imp_print.specs.Expressions.{condition_text};
+ghost use Rattle.imp_print.specs.Statements.{action_text, call_text, margin, line, deeper, is_empty, else_text, statement_text, block_text};
 
 use crate::expressions::put_cond;
 use crate::lines::{put_action, put_call, put_margin};
-use imp_syntax::{Block, Stmt, StmtNode};
+use imp_syntax::{Action, Block, Call, Cond, Stmt, StmtNode};
 use plain_values::{Memory, Text};
 
 /// Adds what stands in front of a line, and how far it stands to the right.
@@ -45,6 +47,54 @@ fn deeper(right: &Text) -> Result<Text, Memory>
     Ok(more)
 }
 
+/// Adds the line of a simple statement.
+fn put_action_line(
+    text: &mut Text,
+    listing: bool,
+    number: Option<u32>,
+    right: &Text,
+    action: &Action,
+) -> Result<(), Memory>
+    ensures added { OnOk result (text.new ≡ text.old ++ line listing number right.now (action_text (action_of action.now) ++ codes ";")) }
+{
+    begin_line(text, listing, number, right)?;
+    put_action(text, action)?;
+    text.append(b";\n")
+}
+
+/// Adds the line of a call.
+fn put_call_line(
+    text: &mut Text,
+    listing: bool,
+    number: Option<u32>,
+    right: &Text,
+    call: &Call,
+) -> Result<(), Memory>
+    ensures added { let arguments = operands_of call.now.arguments in
+        OnOk result (text.new ≡ text.old ++ line listing number right.now (call_text call.now.target call.now.callee arguments ++ codes ";")) }
+{
+    begin_line(text, listing, number, right)?;
+    put_call(text, call)?;
+    text.append(b";\n")
+}
+
+/// Adds the first line of an if or of a loop: its word with a bracket, the condition, and what opens the block.
+fn put_test_line(
+    text: &mut Text,
+    listing: bool,
+    number: Option<u32>,
+    right: &Text,
+    word: &[u8],
+    test: &Cond,
+) -> Result<(), Memory>
+    ensures added { OnOk result (text.new ≡ text.old ++ line listing number right.now (word.now ++ condition_text test.now ++ codes ") {")) }
+{
+    begin_line(text, listing, number, right)?;
+    text.append(word)?;
+    put_cond(text, test)?;
+    text.append(b") {\n")
+}
+
 /// Adds a statement, its lines so far to the right.
 #[cycle(put_stmt)]
 pub(crate) fn put_stmt(
@@ -57,34 +107,29 @@ pub(crate) fn put_stmt(
 {
     let number = Some(stmt.id().number());
     match stmt.node() {
-        StmtNode::Simple(action) => {
-            begin_line(text, listing, number, right)?;
-            put_action(text, action)?;
-            text.append(b";\n")
-        }
+        StmtNode::Simple(action) => put_action_line(text, listing, number, right, action),
         StmtNode::Break => put_line(text, listing, number, right, b"break;"),
-        StmtNode::Call(call) => {
-            begin_line(text, listing, number, right)?;
-            put_call(text, call)?;
-            text.append(b";\n")
-        }
+        StmtNode::Call(call) => put_call_line(text, listing, number, right, call),
         StmtNode::If(test, then, otherwise) => {
-            begin_line(text, listing, number, right)?;
-            text.append(b"if (")?;
-            put_cond(text, test)?;
-            text.append(b") {\n")?;
-            put_block(text, listing, &deeper(right)?, then)?;
+            put_test_line(text, listing, number, right, b"if (", test)?;
+            put_inner(text, listing, right, then)?;
             put_else(text, listing, right, otherwise)
         }
         StmtNode::While(test, body) => {
-            begin_line(text, listing, number, right)?;
-            text.append(b"while (")?;
-            put_cond(text, test)?;
-            text.append(b") {\n")?;
-            put_block(text, listing, &deeper(right)?, body)?;
+            put_test_line(text, listing, number, right, b"while (", test)?;
+            put_inner(text, listing, right, body)?;
             put_line(text, listing, None, right, b"}")
         }
     }
+}
+
+/// Adds a block of a statement that stands so far to the right: two spaces more.
+#[cycle(put_stmt)]
+fn put_inner(text: &mut Text, listing: bool, right: &Text, block: &Block) -> Result<(), Memory>
+    ensures added { OnOk result (text.new ≡ text.old ++ block_text listing (deeper right.now) block.now) }
+{
+    let more = deeper(right)?;
+    put_block(text, listing, &more, block)
 }
 
 fn is_empty(block: &Block) -> bool
@@ -102,7 +147,7 @@ fn put_else(text: &mut Text, listing: bool, right: &Text, otherwise: &Block) -> 
         return put_line(text, listing, None, right, b"}");
     }
     put_line(text, listing, None, right, b"} else {")?;
-    put_block(text, listing, &deeper(right)?, otherwise)?;
+    put_inner(text, listing, right, otherwise)?;
     put_line(text, listing, None, right, b"}")
 }
 

@@ -10,7 +10,10 @@ abbrev pub decreases-put_block : goal.decreases-put_block
 decreases-put_block l = 2 * block_size l.block.now
 
 abbrev pub decreases-put_else : goal.decreases-put_else
-decreases-put_else l = 2 * block_size l.otherwise.now + 1
+decreases-put_else l = 2 * block_size l.otherwise.now + 2
+
+abbrev pub decreases-put_inner : goal.decreases-put_inner
+decreases-put_inner l = 2 * block_size l.block.now + 1
 
 abbrev pub invariant-put_block-each : goal.invariant-put_block-each
 invariant-put_block-each l = record {
