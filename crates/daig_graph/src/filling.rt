@@ -1,7 +1,9 @@
 //! Filling cells and taking them away.
 ghost use Rattle.std.specs.Prelude.{◌≡◌, ℕ, ◌≤◌, ◌<◌, None, Some, IsSome, OnOk, OnErr, length, slice_get};
 ghost use Rattle.std.specs.FinMap as map;
+ghost use Rattle.slab.specs.Slab.{HasRoomFor};
 ghost use Rattle.daig_graph.specs.Held.{held, IsOnce};
+ghost use Rattle.daig_graph.specs.Keys.{key_at};
 ghost use Rattle.daig_graph.specs.Uses.{Links, Unlinks};
 ghost use Rattle.daig_graph.specs.Cells.{AreCells, IsUnused};
 
@@ -13,7 +15,7 @@ use crate::value::Value;
 use plain_values::Memory;
 use slab::Slab;
 use smallvec::SmallVec;
-use std::alloc::Global;
+use std::alloc::{AllocError, Global};
 
 impl<V> Graph<V> {
     /// No cells. It takes no memory yet.
@@ -49,10 +51,15 @@ impl<V> Graph<V> {
         ensures fills { OnOk result (self.new.cells ≡ map.insert self.old.cells cell (record { owner = owner; value = value; inputs = inputs })) }
         ensures err { OnErr result (self.new.cells ≡ self.old.cells) }
     {
-        self.cells.reserve(1)?;
-        self.keys.reserve(cell)?;
-        self.owned.reserve(1, owner as usize)?;
-        self.uses.reserve(inputs.len(), cell)?;
+        make_room(
+            &mut self.cells,
+            &mut self.keys,
+            &mut self.owned,
+            &mut self.uses,
+            cell,
+            owner as usize,
+            inputs.len(),
+        )?;
         let Inputs {
             cells: inputs,
             mut uses,
@@ -87,6 +94,34 @@ impl<V> Graph<V> {
         self.owned.remove(removed.own);
         unlink(&mut self.uses, removed.uses.as_slice());
     }
+}
+
+/// Room for a cell of a statement with so many inputs, and a place for its number. All that is held stays as it is.
+fn make_room<V>(
+    cells: &mut Slab<Cell<V>>,
+    keys: &mut Index,
+    owned: &mut Lists<usize>,
+    uses: &mut Lists<Use>,
+    cell: usize,
+    owner: usize,
+    inputs: usize,
+) -> Result<(), AllocError>
+    ensures room { OnOk result (HasRoomFor cells.new 1) }
+    ensures key { OnOk result (cell < length keys.new) }
+    ensures owned_room { OnOk result (1 ≤ owned.new.room) }
+    ensures owner { OnOk result (owner < owned.new.places) }
+    ensures uses_room { OnOk result (inputs ≤ uses.new.room) }
+    ensures place { OnOk result (cell < uses.new.places) }
+    ensures cells { cells.new ≡ record cells.old { capacity = cells.new.capacity } }
+    ensures keys { (n : ℕ) → key_at keys.new n ≡ key_at keys.old n }
+    ensures owned { owned.new.slots ≡ owned.old.slots }
+    ensures uses { uses.new.slots ≡ uses.old.slots }
+    ensures places { uses.old.places ≤ uses.new.places }
+{
+    cells.reserve(1)?;
+    keys.reserve(cell)?;
+    owned.reserve(1, owner)?;
+    uses.reserve(inputs, cell)
 }
 
 /// Puts the uses of these inputs into their lists, and their keys in place of what `keys` has.
