@@ -1,7 +1,7 @@
 -- Results that are remembered, and stores with more of them.
 use Rattle.std.proofs.Common.{◌≡◌, ℕ, ◌<◌, List, [], length, Option, Some, None, Bool, true, slice_get, refl, sym, ap, ap₂, subst, ◌∙◌}
 use Rattle.std.specs.FinMap.{get}
-use Rattle.std.specs.Prelude.{IfSome, is_some}
+use Rattle.std.specs.Prelude.{IfSome, IsSome, is_some}
 use Rattle.domain_laws.specs.Operations.{Operations}
 use Rattle.cell_names.specs.Known.{KeepsNumbers, IsOnce}
 use Rattle.cell_names.specs.Paths.{CellName}
@@ -49,6 +49,15 @@ module _ {S : Type 0} (dom : Operations S) where
   pub is_result : (operations : List Operation) (states : List S) (key : Key) (n : ℕ) (row : Row) (o : Operation) (s : S) → slice_get operations key.operation ≡ Some o → IsOperationOf row o → slice_get states n ≡ Some s →
       row_result dom row (state_at states key.left) (state_at states key.right) ≡ Some s → IsResult dom operations states key n
   is_result operations states key n row o s at is e f = (o, s, at, e, row_by row o is states key.left key.right ∙ f)
+
+  -- the same of a result that a row makes, and that some states before already had it make
+  pub makes_result : (operations : List Operation) (before states : List S) (key : Key) (n : ℕ) (row : Row) (o : Operation) → slice_get operations key.operation ≡ Some o → IsOperationOf row o → state_at states key.left ≡ state_at before key.left → state_at states key.right ≡ state_at before key.right →
+      IsSome (row_result dom row (state_at before key.left) (state_at before key.right)) → slice_get states n ≡ row_result dom row (state_at before key.left) (state_at before key.right) → IsResult dom operations states key n
+  makes_result operations before states key n row o at is left right there made = by (row_result dom row (state_at before key.left) (state_at before key.right)) refl there
+    where
+      by : (r : Option S) → row_result dom row (state_at before key.left) (state_at before key.right) ≡ r → IsSome r → IsResult dom operations states key n
+      by None e h = absurd cc
+      by (Some s) e h = is_result operations states key n row o s at is (made ∙ e) (ap₂ (row_result dom row) left right ∙ e)
 
   -- with more states a row still makes the same
   pub state_grows : (old new : List S) → KeepsNumbers old new → (n : Option ℕ) → IfSome n (λ m. m < length old) → state_at new n ≡ state_at old n

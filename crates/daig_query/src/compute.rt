@@ -1,10 +1,12 @@
 //! The value of a name, from those of its inputs.
-ghost use Rattle.std.specs.Prelude.{◌≡◌, ◌≢◌, ◌+◌, ◌-◌, ◌<◌, ◌≤◌, ◌^◌, ℕ, IfOk, IfSome, IsSome, MatchOption, Some, None, length, reverse, option_map, option_copied};
+ghost use Rattle.std.specs.Prelude.{◌≡◌, ◌≢◌, ◌+◌, ◌-◌, ◌<◌, ◌≤◌, ◌^◌, ℕ, IfOk, OnOk, IfSome, IsSome, MatchOption, Some, None, length, reverse, slice_get, option_map, option_copied};
+ghost use Rattle.cell_names.specs.Known.{IsOnce};
 ghost use Rattle.cell_names.specs.Paths.{path_at, sites_of};
+ghost use Rattle.state_table.specs.Numbers.{AreOnce, KeepsNumbers};
 ghost use Rattle.loop_unroll.specs.Iterates.{iterate_of, state_in, IsEqual};
 ghost use Rattle.daig_query.specs.Kept.{IsValue};
 ghost use Rattle.daig_query.specs.Right.{found, IsRight};
-ghost use Rattle.daig_query.specs.Made.{IsFixed, alone_in, index_in, number, row_result, state_at};
+ghost use Rattle.daig_query.specs.Made.{IsFixed, IsOperationOf, alone_in, index_in, number, row_result, state_at};
 ghost use Rattle.daig_query.specs.Recalled.{IsRemembered, IsRecalled};
 ghost use Rattle.daig_query.specs.Opened.{name_of, IsReady, Computes};
 ghost use Rattle.daig_query.specs.Overs.{HasNoOver, HasOver, IsFirstOver};
@@ -20,7 +22,7 @@ use domain_laws::{Domain, Steps};
 use imp_flow::{Flow, Row, Unary};
 use imp_syntax::{Chain, StmtId};
 use loop_unroll::converged;
-use memo_table::Key;
+use memo_table::{Key, Operation};
 use plain_values::{Items, Memory};
 use state_table::Table;
 use std::alloc::Global;
@@ -144,6 +146,49 @@ fn operand<S: Eq + Hash + Drop>(states: &Table<S>, number: Option<usize>) -> Opt
     }
 }
 
+/// The number of a row's operation, owned, among those that were met.
+fn operation_number(
+    alloc: Global,
+    operations: &mut Table<Operation>,
+    row: &Row<'_>,
+) -> Result<usize, Memory>
+    ensures is { IfOk result (λ n. (o : Operation) × IsOperationOf row.now o × (slice_get operations.new n ≡ Some o)) }
+    ensures once { OnOk result (AreOnce ⟦<Operation as PartialEq>⟧.eq operations.new) }
+    ensures kept { KeepsNumbers operations.old operations.new }
+{
+    let operation = operation_of(alloc, row)?;
+    operations.intern(operation)
+}
+
+/// The number of what a row makes of the states that have these numbers, made anew. It ticks.
+fn make_state<D: Domain, L: Ledger>(
+    alloc: Global,
+    dom: &D,
+    states: &mut Table<D::State>,
+    row: &Row<'_>,
+    left: Option<usize>,
+    right: Option<usize>,
+    steps: &mut Steps<L>,
+) -> Result<usize, Memory>
+    requires there { IsSome (row_result (D.operations dom.now) row.now (state_at states.old left) (state_at states.old right)) }
+    requires left { IfSome left (λ n. n < length states.old) }
+    requires known { IfSome right (λ n. n < length states.old) }
+    ensures is { IfOk result (λ n. slice_get states.new n ≡ row_result (D.operations dom.now) row.now (state_at states.old left) (state_at states.old right)) }
+    ensures kept { KeepsNumbers states.old states.new }
+    ensures once { IsOnce states.old → IsOnce states.new }
+    ensures ticked { steps.new ≡ steps.old + D.counted dom.now }
+{
+    let state = apply(
+        alloc,
+        dom,
+        row,
+        operand(states, left),
+        operand(states, right),
+        steps,
+    )?;
+    states.intern(state)
+}
+
 /// The number of what a row makes of the states that have these numbers. It ticks where that is not remembered.
 fn result_of<D: Domain, L: Ledger>(
     alloc: Global,
@@ -165,7 +210,7 @@ fn result_of<D: Domain, L: Ledger>(
     ensures most { steps.new ≤ steps.old + D.counted dom.now }
     ensures remembered { IsRemembered store.old row.now left right → steps.new ≡ steps.old }
 {
-    let operation = store.operations.intern(operation_of(alloc, row)?)?;
+    let operation = operation_number(alloc, &mut store.operations, row)?;
     let key = Key {
         operation,
         left,
@@ -174,15 +219,7 @@ fn result_of<D: Domain, L: Ledger>(
     if let Some(state) = store.memo.get(&key) {
         return Ok(state);
     }
-    let state = apply(
-        alloc,
-        dom,
-        row,
-        operand(&store.states, left),
-        operand(&store.states, right),
-        steps,
-    )?;
-    let number = store.states.intern(state)?;
+    let number = make_state(alloc, dom, &mut store.states, row, left, right, steps)?;
     let _ = store.memo.keep(key, number);
     Ok(number)
 }

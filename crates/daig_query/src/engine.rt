@@ -36,12 +36,13 @@ impl<D: Domain + Drop> Engine<D> {
         ensures empty { IfOk result (λ e. (x : CellName) → kept e.store x ≡ false) }
         ensures right { IfOk result (λ e. (plan : Plan) → IsChecked plan.program → IsRight (D.operations e.domain) plan e.store) }
     {
+        let memo = Memo::new(alloc, memo)?;
         let store = Store {
             graph: Graph::new(alloc),
             names: Names::new(alloc),
             states: Table::new(alloc),
             operations: Table::new(alloc),
-            memo: Memo::new(alloc, memo)?,
+            memo,
         };
         Ok(Engine { domain, store })
     }

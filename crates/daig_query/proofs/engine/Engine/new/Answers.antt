@@ -5,11 +5,11 @@ use Rattle.daig_query.proofs.engine.Engine.new.Goals as goal
 
 pub returns-clause-empty : goal.returns-clause-empty
 returns-clause-empty g c = λ x.
-    let store : Store g.row.D-State.Denot = record { graph = c.new.result; names = c.new-2.result; states = c.new-3.result; operations = c.new-4.result; memo = c.in_ok-new.field-0 } in
-    none_kept store c.new-2.ensures.names x
+    let store : Store g.row.D-State.Denot = record { graph = c.new-2.result; names = c.new-3.result; states = c.new-4.result; operations = c.new-5.result; memo = c.in_ok-memo.memo } in
+    none_kept store c.new-3.ensures.names x
 
 pub returns-clause-right : goal.returns-clause-right
 returns-clause-right g c = λ plan checked.
     let dom = g.D.Domain.operations c.args.domain in
-    let store : Store g.row.D-State.Denot = record { graph = c.new.result; names = c.new-2.result; states = c.new-3.result; operations = c.new-4.result; memo = c.in_ok-new.field-0 } in
-    new_right store dom plan checked c.new.ensures.empty c.new-2.ensures.paths c.new-2.ensures.names c.new-3.ensures.empty (ap (λ m. m.entries) c.in_ok-new.ensures.empty)
+    let store : Store g.row.D-State.Denot = record { graph = c.new-2.result; names = c.new-3.result; states = c.new-4.result; operations = c.new-5.result; memo = c.in_ok-memo.memo } in
+    new_right store dom plan checked c.new-2.ensures.empty c.new-3.ensures.paths c.new-3.ensures.names c.new-4.ensures.empty (ap (λ m. m.entries) c.in_ok-memo.ensures.empty)
