@@ -11,6 +11,7 @@ pub mod Walks
 pub mod Looking
 pub mod Stepping
 pub mod Asking
+pub mod Taking
 pub mod Remembered
 pub mod Recalls
 pub mod Applied
@@ -20,6 +21,8 @@ pub mod Running
 pub mod Turns
 pub mod Starting
 pub mod Tops
+pub mod Turning
+pub mod Demands
 pub mod Holding
 pub mod Reading
 pub mod Beginning

@@ -1,5 +1,5 @@
 //! Filling.
-ghost use Rattle.std.specs.Prelude.{◌≡◌, ◌+◌, ◌*◌, ◌<◌, ◌≤◌, ◌↔◌, [], ◌∷◌, ◌++◌, Some, true, false, suc, length, map, min, IfOk, IfErr, IfSome, IsTrue, OnErr, OnOk};
+ghost use Rattle.std.specs.Prelude.{◌≡◌, ◌+◌, ◌*◌, ◌<◌, ◌≤◌, ◌↔◌, ◌⊎◌, [], ◌∷◌, ◌++◌, Some, true, false, suc, length, map, min, IfOk, IfErr, IfSome, IsTrue, OnErr, OnOk};
 ghost use Rattle.cell_rows.specs.Targets.{Target as PlainTarget};
 ghost use Rattle.imp_flow.specs.Reached.{target_of};
 ghost use Rattle.daig_query.specs.Kept.{kept, Grows};
@@ -77,6 +77,16 @@ fn hand_down(stack: &mut Vec<Open>, cell: usize)
     }
 }
 
+/// A name goes on the stack, and the next of its inputs on top of it.
+fn push_both(stack: &mut Vec<Open>, entry: Open, input: Open) -> Result<(), Memory>
+    ensures pushed { OnOk result (stack.new.items ≡ (stack.old.items ++ entry ∷ []) ++ input ∷ []) }
+    ensures err { OnErr result ((stack.new.items ≡ stack.old.items) ⊎ (stack.new.items ≡ stack.old.items ++ entry ∷ [])) }
+{
+    stack.push(entry)?;
+    stack.push(input)?;
+    Ok(())
+}
+
 /// With a name on top of the stack, which is taken off: its first missing input is pushed on it, or it is filled, and
 /// handed down.
 fn turn_open<D: Domain, L: Ledger>(
@@ -109,8 +119,7 @@ fn turn_open<D: Domain, L: Ledger>(
         unreachable!()
     };
     if let Some(input) = next_absent(alloc, dom, flow, store, &row, &mut entry)? {
-        walk.stack.push(entry)?;
-        walk.stack.push(input)?;
+        push_both(&mut walk.stack, entry, input)?;
         return Ok(Turn::Pushed);
     }
     if spent {

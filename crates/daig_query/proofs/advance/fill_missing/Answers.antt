@@ -1,161 +1,167 @@
-use Rattle.std.proofs.Common.{◌≡◌, ◌+◌, ◌-◌, ◌*◌, ◌<◌, ◌≤◌, map, length, sym, ap, subst, ◌∙◌, arith}
-use Rattle.std.specs.FinMap.{len}
+use Rattle.std.proofs.Common.{◌≡◌, ℕ, ◌-◌, map, Ok, Err, sym, ◌∙◌, arith}
+use Rattle.std.proofs.lemmas.Result.{err_from_is_err_and}
+use Rattle.plain_values.specs.declared.error.Memory.{Memory}
 use Rattle.imp_flow.specs.Reached.{target_of}
-use Rattle.daig_query.specs.declared.advance.Turn.TheVariants.{Pushed, Filled, Spent, Done}
-use Rattle.daig_query.specs.Filled.{added, missing}
-use Rattle.daig_query.specs.Turned.{fills_of, stacked_names, Obeys}
+use Rattle.daig_query.specs.Filled.{added}
+use Rattle.daig_query.specs.Turned.{stacked_names}
+use Rattle.daig_query.proofs.Demands.{limit_met, demand_failed, demand_spent, demand_done, come_pushed, pushed_smaller, come_filled, filled_smaller}
 use Rattle.daig_query.proofs.Starting.{starts}
-use Rattle.daig_query.proofs.Turns.{stops, pushes, pushes_smaller, fills_one, fills_smaller, fills_more, waits_more, ends_all, within_start, within_still, within_more, turned, limit_open, ticks_same, ticks_more}
+use Rattle.daig_query.proofs.Turning.{IsTurn}
+use Rattle.daig_query.proofs.Turns.{limit_open, within_start}
 use Rattle.daig_query.proofs.advance.fill_missing.Goals as goal
 
 pub turns-init : goal.turns-init
 turns-init g c =
     let dom = g.D.Domain.operations c.args.dom.now in
     let plan = c.args.flow.now in
+    let ts = map target_of c.args.targets.now in
     let store = c.args.store.now in
     record {
-      running = starts dom plan (map target_of c.args.targets.now) store c.args.walk.now c.drop_filled.new.self c.requires.right c.requires.walk c.drop_filled.ensures.is;
-      within = within_start dom plan (map target_of c.args.targets.now) c.args.limit store;
+      running = starts dom plan ts store c.args.walk.now c.drop_filled.new.self c.requires.right c.requires.walk c.drop_filled.ensures.is;
+      within = within_start dom plan ts c.args.limit store;
       least = omega arith;
       most = omega arith;
     }
 
-pub returns-in_err-take_turn-clause-fills : goal.returns-in_err-take_turn-clause-fills
-returns-in_err-take_turn-clause-fills g c =
+pub returns-in_err-take_turn : goal.returns-in_err-take_turn
+returns-in_err-take_turn g c =
     let dom = g.D.Domain.operations c.args.dom.now in
     let plan = c.args.flow.now in
     let ts = map target_of c.args.targets.now in
-    let first = c.args.store.now in
-    let old = c.turns.store in
-    let new = c.take_turn.new.store in
-    let before = c.turns.walk in
-    let after = c.take_turn.new.walk in
-    stops dom plan ts first old new before after c.turns.invariant.running c.take_turn.ensures.right c.take_turn.ensures.grows c.take_turn.ensures.walk c.in_err-take_turn.ensures.err
+    let each = g.D.Domain.counted c.args.dom.now in
+    let t : IsTurn {E = ℕ} dom plan ts c.turns.store c.take_turn.new.store (stacked_names c.turns.store c.turns.walk.stack.items) c.take_turn.new.walk c.eq-spent.result each c.turns.steps c.take_turn.new.steps (Err 0) = record {
+      right = c.take_turn.ensures.right;
+      grows = c.take_turn.ensures.grows;
+      walk = c.take_turn.ensures.walk;
+      turns = tt;
+      obeys = tt;
+      err = c.in_err-take_turn.ensures.err;
+      least = c.take_turn.ensures.least;
+      ticked = tt;
+      most = c.take_turn.ensures.most;
+    } in
+    let p = err_from_is_err_and c.from_residual.result c.from_residual.ensures.1 in
+    let d = demand_failed dom plan ts c.args.store.now c.args.limit each c.args.steps.now c.turns.store c.take_turn.new.store c.turns.walk c.take_turn.new.walk c.eq-spent.result c.turns.steps c.take_turn.new.steps c.turns.invariant t p.0 c.from_residual.result p.1 in
+    record { fills = d.fills; walk = d.walk; within = d.within; counted = d.counted; all = d.all; done = d.done; more = d.more; limited = d.limited; least = d.least; ticked = d.ticked; most = d.most }
 
 pub turns-smaller-in-Pushed : goal.turns-smaller-in-Pushed
 turns-smaller-in-Pushed g c =
     let dom = g.D.Domain.operations c.args.dom.now in
     let plan = c.args.flow.now in
     let ts = map target_of c.args.targets.now in
-    let first = c.args.store.now in
-    let old = c.turns.store in
-    let new = c.take_turn.new.store in
-    let before = c.turns.walk in
-    let after = c.take_turn.new.walk in
-    let turn = turned dom plan ts old new (stacked_names old before.stack.items) after c.in_ok-take_turn.field-0 Pushed c.in-Pushed.is c.in_ok-take_turn.ensures.turns in
-    pushes_smaller dom plan ts first old new before after c.turns.invariant.running c.take_turn.ensures.right c.take_turn.ensures.grows c.take_turn.ensures.walk turn
+    let each = g.D.Domain.counted c.args.dom.now in
+    let t : IsTurn {E = Memory} dom plan ts c.turns.store c.take_turn.new.store (stacked_names c.turns.store c.turns.walk.stack.items) c.take_turn.new.walk c.eq-spent.result each c.turns.steps c.take_turn.new.steps (Ok c.in_ok-take_turn.field-0) = record {
+      right = c.take_turn.ensures.right;
+      grows = c.take_turn.ensures.grows;
+      walk = c.take_turn.ensures.walk;
+      turns = c.in_ok-take_turn.ensures.turns;
+      obeys = c.in_ok-take_turn.ensures.obeys;
+      err = tt;
+      least = c.take_turn.ensures.least;
+      ticked = c.in_ok-take_turn.ensures.ticked;
+      most = c.take_turn.ensures.most;
+    } in
+    pushed_smaller dom plan ts c.args.store.now c.args.limit each c.args.steps.now c.turns.store c.take_turn.new.store c.turns.walk c.take_turn.new.walk c.eq-spent.result c.turns.steps c.take_turn.new.steps c.turns.invariant c.in_ok-take_turn.field-0 t c.in-Pushed.is
 
 pub turns-preserved-in-Pushed : goal.turns-preserved-in-Pushed
 turns-preserved-in-Pushed g c =
     let dom = g.D.Domain.operations c.args.dom.now in
     let plan = c.args.flow.now in
     let ts = map target_of c.args.targets.now in
-    let first = c.args.store.now in
-    let old = c.turns.store in
-    let new = c.take_turn.new.store in
-    let before = c.turns.walk in
-    let after = c.take_turn.new.walk in
-    let turn = turned dom plan ts old new (stacked_names old before.stack.items) after c.in_ok-take_turn.field-0 Pushed c.in-Pushed.is c.in_ok-take_turn.ensures.turns in
-    let same : added first new ≡ added first old = ap (λ m. len m.cells - len first.graph.cells) turn.only.graph in
-    record {
-      running = pushes dom plan ts first old new before after c.turns.invariant.running c.take_turn.ensures.right c.take_turn.ensures.grows c.take_turn.ensures.walk turn;
-      within = within_still dom plan ts c.args.limit (added first old) (added first new) same c.turns.invariant.within;
-      least = omega (arith, c.turns.invariant.least, c.take_turn.ensures.least);
-      most = ticks_same c.args.steps.now c.turns.steps c.take_turn.new.steps (g.D.Domain.counted c.args.dom.now) (added first old) (added first new) same c.turns.invariant.most (
-          subst (λ t. c.take_turn.new.steps ≤ c.turns.steps + g.D.Domain.counted c.args.dom.now * fills_of t) c.in-Pushed.is c.in_ok-take_turn.ensures.ticked
-          );
-    }
+    let each = g.D.Domain.counted c.args.dom.now in
+    let t : IsTurn {E = Memory} dom plan ts c.turns.store c.take_turn.new.store (stacked_names c.turns.store c.turns.walk.stack.items) c.take_turn.new.walk c.eq-spent.result each c.turns.steps c.take_turn.new.steps (Ok c.in_ok-take_turn.field-0) = record {
+      right = c.take_turn.ensures.right;
+      grows = c.take_turn.ensures.grows;
+      walk = c.take_turn.ensures.walk;
+      turns = c.in_ok-take_turn.ensures.turns;
+      obeys = c.in_ok-take_turn.ensures.obeys;
+      err = tt;
+      least = c.take_turn.ensures.least;
+      ticked = c.in_ok-take_turn.ensures.ticked;
+      most = c.take_turn.ensures.most;
+    } in
+    come_pushed dom plan ts c.args.store.now c.args.limit each c.args.steps.now c.turns.store c.take_turn.new.store c.turns.walk c.take_turn.new.walk c.eq-spent.result c.turns.steps c.take_turn.new.steps c.turns.invariant c.in_ok-take_turn.field-0 t c.in-Pushed.is
 
 pub turns-smaller : goal.turns-smaller
 turns-smaller g c =
     let dom = g.D.Domain.operations c.args.dom.now in
     let plan = c.args.flow.now in
     let ts = map target_of c.args.targets.now in
-    let first = c.args.store.now in
-    let old = c.turns.store in
-    let new = c.take_turn.new.store in
-    let before = c.turns.walk in
-    let after = c.take_turn.new.walk in
-    let turn = turned dom plan ts old new (stacked_names old before.stack.items) after c.in_ok-take_turn.field-0 Filled c.in-Filled.is c.in_ok-take_turn.ensures.turns in
-    fills_smaller dom plan ts first old new before after c.turns.invariant.running c.take_turn.ensures.right c.take_turn.ensures.grows c.take_turn.ensures.walk turn
+    let each = g.D.Domain.counted c.args.dom.now in
+    let t : IsTurn {E = Memory} dom plan ts c.turns.store c.take_turn.new.store (stacked_names c.turns.store c.turns.walk.stack.items) c.take_turn.new.walk c.eq-spent.result each c.turns.steps c.take_turn.new.steps (Ok c.in_ok-take_turn.field-0) = record {
+      right = c.take_turn.ensures.right;
+      grows = c.take_turn.ensures.grows;
+      walk = c.take_turn.ensures.walk;
+      turns = c.in_ok-take_turn.ensures.turns;
+      obeys = c.in_ok-take_turn.ensures.obeys;
+      err = tt;
+      least = c.take_turn.ensures.least;
+      ticked = c.in_ok-take_turn.ensures.ticked;
+      most = c.take_turn.ensures.most;
+    } in
+    filled_smaller dom plan ts c.args.store.now c.args.limit each c.args.steps.now c.turns.store c.take_turn.new.store c.turns.walk c.take_turn.new.walk c.eq-spent.result c.turns.steps c.take_turn.new.steps c.turns.invariant c.in_ok-take_turn.field-0 t c.in-Filled.is
 
 pub turns-preserved : goal.turns-preserved
 turns-preserved g c =
     let dom = g.D.Domain.operations c.args.dom.now in
     let plan = c.args.flow.now in
     let ts = map target_of c.args.targets.now in
-    let first = c.args.store.now in
-    let old = c.turns.store in
-    let new = c.take_turn.new.store in
-    let before = c.turns.walk in
-    let after = c.take_turn.new.walk in
-    let turn = turned dom plan ts old new (stacked_names old before.stack.items) after c.in_ok-take_turn.field-0 Filled c.in-Filled.is c.in_ok-take_turn.ensures.turns in
-    let more : added first new ≡ added first old + 1 = fills_more dom plan ts first old new before after c.turns.invariant.running c.take_turn.ensures.right c.take_turn.ensures.grows c.take_turn.ensures.walk turn in
-    record {
-      running = fills_one dom plan ts first old new before after c.turns.invariant.running c.take_turn.ensures.right c.take_turn.ensures.grows c.take_turn.ensures.walk turn;
-      within = within_more dom plan ts c.args.limit (added first old) (added first new) more (
-          limit_open c.args.limit (c.kept_count.result - c.kept_count-before.result) (added first old) (omega (arith, c.kept_count.ensures.count, c.kept_count-before.ensures.count)) (
-          sym c.eq-spent.ensures ∙ subst (Obeys c.eq-spent.result) c.in-Filled.is c.in_ok-take_turn.ensures.obeys
-          )
-          ) c.turns.invariant.within;
-      least = omega (arith, c.turns.invariant.least, c.take_turn.ensures.least);
-      most = ticks_more c.args.steps.now c.turns.steps c.take_turn.new.steps (g.D.Domain.counted c.args.dom.now) (added first old) (added first new) more c.turns.invariant.most (
-          subst (λ t. c.take_turn.new.steps ≤ c.turns.steps + g.D.Domain.counted c.args.dom.now * fills_of t) c.in-Filled.is c.in_ok-take_turn.ensures.ticked
-          );
-    }
+    let each = g.D.Domain.counted c.args.dom.now in
+    let t : IsTurn {E = Memory} dom plan ts c.turns.store c.take_turn.new.store (stacked_names c.turns.store c.turns.walk.stack.items) c.take_turn.new.walk c.eq-spent.result each c.turns.steps c.take_turn.new.steps (Ok c.in_ok-take_turn.field-0) = record {
+      right = c.take_turn.ensures.right;
+      grows = c.take_turn.ensures.grows;
+      walk = c.take_turn.ensures.walk;
+      turns = c.in_ok-take_turn.ensures.turns;
+      obeys = c.in_ok-take_turn.ensures.obeys;
+      err = tt;
+      least = c.take_turn.ensures.least;
+      ticked = c.in_ok-take_turn.ensures.ticked;
+      most = c.take_turn.ensures.most;
+    } in
+    let count = c.kept_count.result - c.kept_count-before.result in
+    let counted : count ≡ added c.args.store.now c.turns.store = omega (arith, c.kept_count.ensures.count, c.kept_count-before.ensures.count) in
+    come_filled dom plan ts c.args.store.now c.args.limit each c.args.steps.now c.turns.store c.take_turn.new.store c.turns.walk c.take_turn.new.walk c.eq-spent.result c.turns.steps c.take_turn.new.steps c.turns.invariant c.in_ok-take_turn.field-0 t c.in-Filled.is (λ o. limit_open c.args.limit count (added c.args.store.now c.turns.store) counted (sym c.eq-spent.ensures ∙ o))
 
-pub returns-in-Spent-clause-fills : goal.returns-in-Spent-clause-fills
-returns-in-Spent-clause-fills g c =
+pub returns-in-Spent : goal.returns-in-Spent
+returns-in-Spent g c =
     let dom = g.D.Domain.operations c.args.dom.now in
     let plan = c.args.flow.now in
     let ts = map target_of c.args.targets.now in
-    let first = c.args.store.now in
-    let old = c.turns.store in
-    let new = c.take_turn.new.store in
-    let before = c.turns.walk in
-    let after = c.take_turn.new.walk in
-    let turn = turned dom plan ts old new (stacked_names old before.stack.items) after c.in_ok-take_turn.field-0 Spent c.in-Spent.is c.in_ok-take_turn.ensures.turns in
-    stops dom plan ts first old new before after c.turns.invariant.running c.take_turn.ensures.right c.take_turn.ensures.grows c.take_turn.ensures.walk (ap (λ m. m.cells) turn.only.graph)
+    let each = g.D.Domain.counted c.args.dom.now in
+    let t : IsTurn {E = Memory} dom plan ts c.turns.store c.take_turn.new.store (stacked_names c.turns.store c.turns.walk.stack.items) c.take_turn.new.walk c.eq-spent.result each c.turns.steps c.take_turn.new.steps (Ok c.in_ok-take_turn.field-0) = record {
+      right = c.take_turn.ensures.right;
+      grows = c.take_turn.ensures.grows;
+      walk = c.take_turn.ensures.walk;
+      turns = c.in_ok-take_turn.ensures.turns;
+      obeys = c.in_ok-take_turn.ensures.obeys;
+      err = tt;
+      least = c.take_turn.ensures.least;
+      ticked = c.in_ok-take_turn.ensures.ticked;
+      most = c.take_turn.ensures.most;
+    } in
+    let count = c.kept_count.result - c.kept_count-before.result in
+    let counted : count ≡ added c.args.store.now c.turns.store = omega (arith, c.kept_count.ensures.count, c.kept_count-before.ensures.count) in
+    let d = demand_spent dom plan ts c.args.store.now c.args.limit each c.args.steps.now c.turns.store c.take_turn.new.store c.turns.walk c.take_turn.new.walk c.eq-spent.result c.turns.steps c.take_turn.new.steps c.turns.invariant c.in_ok-take_turn.field-0 t count counted c.in-Spent.is (λ o. limit_met c.args.limit count (sym c.eq-spent.ensures ∙ o)) {F = Memory} in
+    record { fills = d.fills; walk = d.walk; within = d.within; counted = d.counted; all = d.all; done = d.done; more = d.more; limited = d.limited; least = d.least; ticked = d.ticked; most = d.most }
 
-pub returns-in-Spent-clause-more : goal.returns-in-Spent-clause-more
-returns-in-Spent-clause-more g c =
+pub returns-in-Done : goal.returns-in-Done
+returns-in-Done g c =
     let dom = g.D.Domain.operations c.args.dom.now in
     let plan = c.args.flow.now in
     let ts = map target_of c.args.targets.now in
-    let first = c.args.store.now in
-    let old = c.turns.store in
-    let new = c.take_turn.new.store in
-    let before = c.turns.walk in
-    let after = c.take_turn.new.walk in
-    let turn = turned dom plan ts old new (stacked_names old before.stack.items) after c.in_ok-take_turn.field-0 Spent c.in-Spent.is c.in_ok-take_turn.ensures.turns in
-    let cells : len new.graph.cells ≡ len old.graph.cells = ap (λ m. len m.cells) turn.only.graph in
-    let more : added first new < length (missing dom plan ts first) = waits_more dom plan ts first old new before after c.turns.invariant.running c.take_turn.ensures.right c.take_turn.ensures.grows c.take_turn.ensures.walk turn in
-    λ _. omega (arith, c.kept_count.ensures.count, c.kept_count-before.ensures.count)
-
-pub returns-in-Done-clause-fills : goal.returns-in-Done-clause-fills
-returns-in-Done-clause-fills g c =
-    let dom = g.D.Domain.operations c.args.dom.now in
-    let plan = c.args.flow.now in
-    let ts = map target_of c.args.targets.now in
-    let first = c.args.store.now in
-    let old = c.turns.store in
-    let new = c.take_turn.new.store in
-    let before = c.turns.walk in
-    let after = c.take_turn.new.walk in
-    let turn = turned dom plan ts old new (stacked_names old before.stack.items) after c.in_ok-take_turn.field-0 Done c.in-Done.is c.in_ok-take_turn.ensures.turns in
-    stops dom plan ts first old new before after c.turns.invariant.running c.take_turn.ensures.right c.take_turn.ensures.grows c.take_turn.ensures.walk (ap (λ m. m.cells) turn.only.graph)
-
-pub returns-in-Done-clause-all : goal.returns-in-Done-clause-all
-returns-in-Done-clause-all g c =
-    let dom = g.D.Domain.operations c.args.dom.now in
-    let plan = c.args.flow.now in
-    let ts = map target_of c.args.targets.now in
-    let first = c.args.store.now in
-    let old = c.turns.store in
-    let new = c.take_turn.new.store in
-    let before = c.turns.walk in
-    let after = c.take_turn.new.walk in
-    let turn = turned dom plan ts old new (stacked_names old before.stack.items) after c.in_ok-take_turn.field-0 Done c.in-Done.is c.in_ok-take_turn.ensures.turns in
-    let cells : len new.graph.cells ≡ len old.graph.cells = ap (λ m. len m.cells) turn.only.graph in
-    let all : added first new ≡ length (missing dom plan ts first) = ends_all dom plan ts first old new before after c.turns.invariant.running c.take_turn.ensures.right c.take_turn.ensures.grows c.take_turn.ensures.walk turn in
-    λ _. omega (arith, c.kept_count.ensures.count, c.kept_count-before.ensures.count)
+    let each = g.D.Domain.counted c.args.dom.now in
+    let t : IsTurn {E = Memory} dom plan ts c.turns.store c.take_turn.new.store (stacked_names c.turns.store c.turns.walk.stack.items) c.take_turn.new.walk c.eq-spent.result each c.turns.steps c.take_turn.new.steps (Ok c.in_ok-take_turn.field-0) = record {
+      right = c.take_turn.ensures.right;
+      grows = c.take_turn.ensures.grows;
+      walk = c.take_turn.ensures.walk;
+      turns = c.in_ok-take_turn.ensures.turns;
+      obeys = c.in_ok-take_turn.ensures.obeys;
+      err = tt;
+      least = c.take_turn.ensures.least;
+      ticked = c.in_ok-take_turn.ensures.ticked;
+      most = c.take_turn.ensures.most;
+    } in
+    let count = c.kept_count.result - c.kept_count-before.result in
+    let counted : count ≡ added c.args.store.now c.turns.store = omega (arith, c.kept_count.ensures.count, c.kept_count-before.ensures.count) in
+    let d = demand_done dom plan ts c.args.store.now c.args.limit each c.args.steps.now c.turns.store c.take_turn.new.store c.turns.walk c.take_turn.new.walk c.eq-spent.result c.turns.steps c.take_turn.new.steps c.turns.invariant c.in_ok-take_turn.field-0 t count counted c.in-Done.is {F = Memory} in
+    record { fills = d.fills; walk = d.walk; within = d.within; counted = d.counted; all = d.all; done = d.done; more = d.more; limited = d.limited; least = d.least; ticked = d.ticked; most = d.most }

@@ -1,11 +1,13 @@
-use Rattle.std.proofs.Common.{[], ◌∷◌, ◌++◌, map, Some, None, option_map, refl, sym, ap, subst, ◌∙◌}
+use Rattle.std.proofs.Common.{[], ◌∷◌, ◌++◌, map, Some, None, option_map, refl, sym, ap, subst, ◌∙◌, inl, inr}
+use Rattle.std.proofs.lemmas.Result.{err_from_is_err_and}
+use Rattle.plain_values.specs.declared.error.Memory.{Memory}
 use Rattle.imp_flow.specs.Near.{row_in}
 use Rattle.imp_flow.specs.Reached.{target_of}
 use Rattle.daig_query.specs.Opened.{name_of, Looks}
-use Rattle.daig_query.proofs.Growing.{names_grow, grows_trans}
-use Rattle.daig_query.proofs.Filling.{computes_grow}
-use Rattle.daig_query.proofs.Walks.{good_grows}
+use Rattle.daig_query.specs.Turned.{stacked_names}
+use Rattle.daig_query.specs.Walked.{IsGood}
 use Rattle.daig_query.proofs.Tops.{open_at_end, lacks_row, good_rest, good_entry, good_pushed, good_handed, pushes_top, waits_top, fills_top, absent_mid}
+use Rattle.daig_query.proofs.Turning.{turn_failed, turn_pushed, turn_spent, turn_unfilled, turn_filled}
 use Rattle.daig_query.proofs.advance.turn_open.Goals as goal
 
 pub row_of-requires : goal.row_of-requires
@@ -32,8 +34,8 @@ next_absent-requires g c =
       };
     }
 
-pub returns-in_err-input-clause-walk : goal.returns-in_err-input-clause-walk
-returns-in_err-input-clause-walk g c =
+pub returns-in_err-input : goal.returns-in_err-input
+returns-in_err-input g c =
     let dom = g.D.Domain.operations c.args.dom.now in
     let plan = c.args.flow.now in
     let ts = map target_of c.args.targets.now in
@@ -41,10 +43,13 @@ returns-in_err-input-clause-walk g c =
     let mid = c.next_absent.new.store in
     let w = c.args.walk.now in
     let top = c.args.top in
-    good_rest dom plan ts old mid w top c.requires.right c.next_absent.ensures.right c.next_absent.ensures.names c.requires.placed c.requires.stacked w refl refl refl refl refl
+    let before = stacked_names old (w.stack.items ++ top ∷ []) in
+    let p = err_from_is_err_and c.from_residual.result c.from_residual.ensures.1 in
+    let t = turn_failed dom plan ts old mid before w c.args.spent (g.D.Domain.counted c.args.dom.now) c.args.steps.now c.next_absent.ensures.right c.next_absent.ensures.names (good_rest dom plan ts old mid w top c.requires.right c.next_absent.ensures.right c.next_absent.ensures.names c.requires.placed c.requires.stacked w refl refl refl refl refl) p.0 c.from_residual.result p.1 in
+    record { right = t.right; grows = t.grows; walk = t.walk; turns = t.turns; obeys = t.obeys; err = t.err; least = t.least; ticked = t.ticked; most = t.most }
 
-pub returns-in_err-push-clause-walk : goal.returns-in_err-push-clause-walk
-returns-in_err-push-clause-walk g c =
+pub returns-in_err-push_both : goal.returns-in_err-push_both
+returns-in_err-push_both g c =
     let dom = g.D.Domain.operations c.args.dom.now in
     let plan = c.args.flow.now in
     let ts = map target_of c.args.targets.now in
@@ -52,10 +57,18 @@ returns-in_err-push-clause-walk g c =
     let mid = c.next_absent.new.store in
     let w = c.args.walk.now in
     let top = c.args.top in
-    good_rest dom plan ts old mid w top c.requires.right c.next_absent.ensures.right c.next_absent.ensures.names c.requires.placed c.requires.stacked _ refl refl refl refl c.in_err-push.ensures.items
+    let before = stacked_names old (w.stack.items ++ top ∷ []) in
+    let looks = subst (Looks dom plan mid c.in-Some.row top c.next_absent.new.entry) c.in-Some-2.is c.in_ok-input.ensures.looks in
+    let good : IsGood dom plan ts mid (record w { stack = c.push_both.new.stack }) = elim c.in_err-push_both.ensures.err [
+      | inl e ↦ good_rest dom plan ts old mid w top c.requires.right c.next_absent.ensures.right c.next_absent.ensures.names c.requires.placed c.requires.stacked (record w { stack = c.push_both.new.stack }) refl refl refl refl e
+      | inr e ↦ good_entry dom plan ts old mid w top c.requires.right c.next_absent.ensures.right c.next_absent.ensures.names c.requires.placed c.requires.stacked c.in-Some.row c.next_absent.new.entry (Some c.in-Some-2.input) looks (record w { stack = c.push_both.new.stack }) refl refl refl refl e
+    ] in
+    let p = err_from_is_err_and c.from_residual-in_err-push_both.result c.from_residual-in_err-push_both.ensures.1 in
+    let t = turn_failed dom plan ts old mid before (record w { stack = c.push_both.new.stack }) c.args.spent (g.D.Domain.counted c.args.dom.now) c.args.steps.now c.next_absent.ensures.right c.next_absent.ensures.names good p.0 c.from_residual-in_err-push_both.result p.1 in
+    record { right = t.right; grows = t.grows; walk = t.walk; turns = t.turns; obeys = t.obeys; err = t.err; least = t.least; ticked = t.ticked; most = t.most }
 
-pub returns-in_err-push-2-clause-walk : goal.returns-in_err-push-2-clause-walk
-returns-in_err-push-2-clause-walk g c =
+pub returns-in-Some-2 : goal.returns-in-Some-2
+returns-in-Some-2 g c =
     let dom = g.D.Domain.operations c.args.dom.now in
     let plan = c.args.flow.now in
     let ts = map target_of c.args.targets.now in
@@ -63,11 +76,14 @@ returns-in_err-push-2-clause-walk g c =
     let mid = c.next_absent.new.store in
     let w = c.args.walk.now in
     let top = c.args.top in
-    good_entry dom plan ts old mid w top c.requires.right c.next_absent.ensures.right c.next_absent.ensures.names c.requires.placed c.requires.stacked c.in-Some.row c.next_absent.new.entry (Some c.in-Some-2.input)
-    (subst (Looks dom plan mid c.in-Some.row top c.next_absent.new.entry) c.in-Some-2.is c.in_ok-input.ensures.looks) _ refl refl refl refl (c.in_err-push-2.ensures.items ∙ c.in_ok-push.ensures.items)
+    let before = stacked_names old (w.stack.items ++ top ∷ []) in
+    let looks = subst (Looks dom plan mid c.in-Some.row top c.next_absent.new.entry) c.in-Some-2.is c.in_ok-input.ensures.looks in
+    let good = good_pushed dom plan ts old mid w top c.requires.right c.next_absent.ensures.right c.next_absent.ensures.names c.requires.placed c.requires.stacked c.in-Some.row c.next_absent.new.entry c.in-Some-2.input looks (record w { stack = c.push_both.new.stack }) refl refl refl refl c.in_ok-push_both.ensures.pushed in
+    let t = turn_pushed dom plan ts old mid before (record w { stack = c.push_both.new.stack }) c.args.spent (g.D.Domain.counted c.args.dom.now) c.args.steps.now c.next_absent.ensures.right c.next_absent.ensures.names good {E = Memory} (pushes_top dom plan ts old mid w top c.requires.right c.next_absent.ensures.right c.next_absent.ensures.names c.requires.placed c.requires.stacked c.in-Some.row c.next_absent.new.entry c.in-Some-2.input looks (record w { stack = c.push_both.new.stack }) c.in_ok-push_both.ensures.pushed) in
+    record { right = t.right; grows = t.grows; walk = t.walk; turns = t.turns; obeys = t.obeys; err = t.err; least = t.least; ticked = t.ticked; most = t.most }
 
-pub returns-in-Some-2-clause-walk : goal.returns-in-Some-2-clause-walk
-returns-in-Some-2-clause-walk g c =
+pub returns-in_err-push : goal.returns-in_err-push
+returns-in_err-push g c =
     let dom = g.D.Domain.operations c.args.dom.now in
     let plan = c.args.flow.now in
     let ts = map target_of c.args.targets.now in
@@ -75,11 +91,13 @@ returns-in-Some-2-clause-walk g c =
     let mid = c.next_absent.new.store in
     let w = c.args.walk.now in
     let top = c.args.top in
-    good_pushed dom plan ts old mid w top c.requires.right c.next_absent.ensures.right c.next_absent.ensures.names c.requires.placed c.requires.stacked c.in-Some.row c.next_absent.new.entry c.in-Some-2.input
-    (subst (Looks dom plan mid c.in-Some.row top c.next_absent.new.entry) c.in-Some-2.is c.in_ok-input.ensures.looks) _ refl refl refl refl (c.in_ok-push-2.ensures.items ∙ ap (λ xs. xs ++ c.in-Some-2.input ∷ []) c.in_ok-push.ensures.items)
+    let before = stacked_names old (w.stack.items ++ top ∷ []) in
+    let p = err_from_is_err_and c.from_residual-in_err-push.result c.from_residual-in_err-push.ensures.1 in
+    let t = turn_failed dom plan ts old mid before (record w { stack = c.push.new.self }) c.args.spent (g.D.Domain.counted c.args.dom.now) c.args.steps.now c.next_absent.ensures.right c.next_absent.ensures.names (good_rest dom plan ts old mid w top c.requires.right c.next_absent.ensures.right c.next_absent.ensures.names c.requires.placed c.requires.stacked (record w { stack = c.push.new.self }) refl refl refl refl c.in_err-push.ensures.items) p.0 c.from_residual-in_err-push.result p.1 in
+    record { right = t.right; grows = t.grows; walk = t.walk; turns = t.turns; obeys = t.obeys; err = t.err; least = t.least; ticked = t.ticked; most = t.most }
 
-pub returns-in-Some-2-clause-turns : goal.returns-in-Some-2-clause-turns
-returns-in-Some-2-clause-turns g c =
+pub returns-then-spent : goal.returns-then-spent
+returns-then-spent g c =
     let dom = g.D.Domain.operations c.args.dom.now in
     let plan = c.args.flow.now in
     let ts = map target_of c.args.targets.now in
@@ -87,43 +105,11 @@ returns-in-Some-2-clause-turns g c =
     let mid = c.next_absent.new.store in
     let w = c.args.walk.now in
     let top = c.args.top in
-    pushes_top dom plan ts old mid w top c.requires.right c.next_absent.ensures.right c.next_absent.ensures.names c.requires.placed c.requires.stacked c.in-Some.row c.next_absent.new.entry c.in-Some-2.input
-    (subst (Looks dom plan mid c.in-Some.row top c.next_absent.new.entry) c.in-Some-2.is c.in_ok-input.ensures.looks) _ (c.in_ok-push-2.ensures.items ∙ ap (λ xs. xs ++ c.in-Some-2.input ∷ []) c.in_ok-push.ensures.items)
-
-pub returns-in_err-push-3-clause-walk : goal.returns-in_err-push-3-clause-walk
-returns-in_err-push-3-clause-walk g c =
-    let dom = g.D.Domain.operations c.args.dom.now in
-    let plan = c.args.flow.now in
-    let ts = map target_of c.args.targets.now in
-    let old = c.args.store.now in
-    let mid = c.next_absent.new.store in
-    let w = c.args.walk.now in
-    let top = c.args.top in
-    good_rest dom plan ts old mid w top c.requires.right c.next_absent.ensures.right c.next_absent.ensures.names c.requires.placed c.requires.stacked _ refl refl refl refl c.in_err-push-3.ensures.items
-
-pub returns-then-spent-clause-walk : goal.returns-then-spent-clause-walk
-returns-then-spent-clause-walk g c =
-    let dom = g.D.Domain.operations c.args.dom.now in
-    let plan = c.args.flow.now in
-    let ts = map target_of c.args.targets.now in
-    let old = c.args.store.now in
-    let mid = c.next_absent.new.store in
-    let w = c.args.walk.now in
-    let top = c.args.top in
-    good_entry dom plan ts old mid w top c.requires.right c.next_absent.ensures.right c.next_absent.ensures.names c.requires.placed c.requires.stacked c.in-Some.row c.next_absent.new.entry None
-    (subst (Looks dom plan mid c.in-Some.row top c.next_absent.new.entry) c.in_default-2.is c.in_ok-input.ensures.looks) _ refl refl refl refl c.in_ok-push-3.ensures.items
-
-pub returns-then-spent-clause-turns : goal.returns-then-spent-clause-turns
-returns-then-spent-clause-turns g c =
-    let dom = g.D.Domain.operations c.args.dom.now in
-    let plan = c.args.flow.now in
-    let ts = map target_of c.args.targets.now in
-    let old = c.args.store.now in
-    let mid = c.next_absent.new.store in
-    let w = c.args.walk.now in
-    let top = c.args.top in
-    let looks = (subst (Looks dom plan mid c.in-Some.row top c.next_absent.new.entry) c.in_default-2.is c.in_ok-input.ensures.looks) in
-    waits_top dom plan ts old mid w top c.requires.right c.next_absent.ensures.right c.next_absent.ensures.names c.requires.placed c.requires.stacked c.in-Some.row c.next_absent.new.entry None looks _ looks.next c.in_ok-push-3.ensures.items
+    let before = stacked_names old (w.stack.items ++ top ∷ []) in
+    let looks = subst (Looks dom plan mid c.in-Some.row top c.next_absent.new.entry) c.in_default-2.is c.in_ok-input.ensures.looks in
+    let good = good_entry dom plan ts old mid w top c.requires.right c.next_absent.ensures.right c.next_absent.ensures.names c.requires.placed c.requires.stacked c.in-Some.row c.next_absent.new.entry None looks (record w { stack = c.push.new.self }) refl refl refl refl c.in_ok-push.ensures.items in
+    let t = turn_spent dom plan ts old mid before (record w { stack = c.push.new.self }) c.args.spent (g.D.Domain.counted c.args.dom.now) c.args.steps.now c.next_absent.ensures.right c.next_absent.ensures.names good {E = Memory} c.if-spent.true (waits_top dom plan ts old mid w top c.requires.right c.next_absent.ensures.right c.next_absent.ensures.names c.requires.placed c.requires.stacked c.in-Some.row c.next_absent.new.entry None looks (record w { stack = c.push.new.self }) looks.next c.in_ok-push.ensures.items) in
+    record { right = t.right; grows = t.grows; walk = t.walk; turns = t.turns; obeys = t.obeys; err = t.err; least = t.least; ticked = t.ticked; most = t.most }
 
 pub fill-requires-clause-absent : goal.fill-requires-clause-absent
 fill-requires-clause-absent g c =
@@ -134,11 +120,11 @@ fill-requires-clause-absent g c =
     let mid = c.next_absent.new.store in
     let w = c.args.walk.now in
     let top = c.args.top in
-    absent_mid dom plan ts old mid w top c.requires.right c.next_absent.ensures.right c.next_absent.ensures.names c.requires.placed c.requires.stacked c.in-Some.row c.next_absent.new.entry None
-    (subst (Looks dom plan mid c.in-Some.row top c.next_absent.new.entry) c.in_default-2.is c.in_ok-input.ensures.looks) c.requires.absent
+    let looks = subst (Looks dom plan mid c.in-Some.row top c.next_absent.new.entry) c.in_default-2.is c.in_ok-input.ensures.looks in
+    absent_mid dom plan ts old mid w top c.requires.right c.next_absent.ensures.right c.next_absent.ensures.names c.requires.placed c.requires.stacked c.in-Some.row c.next_absent.new.entry None looks c.requires.absent
 
-pub returns-in_err-fill-clause-grows : goal.returns-in_err-fill-clause-grows
-returns-in_err-fill-clause-grows g c =
+pub returns-in_err-fill : goal.returns-in_err-fill
+returns-in_err-fill g c =
     let dom = g.D.Domain.operations c.args.dom.now in
     let plan = c.args.flow.now in
     let ts = map target_of c.args.targets.now in
@@ -146,10 +132,13 @@ returns-in_err-fill-clause-grows g c =
     let mid = c.next_absent.new.store in
     let w = c.args.walk.now in
     let top = c.args.top in
-    grows_trans old mid c.fill.new.store (names_grow old mid c.next_absent.ensures.names) (computes_grow dom plan mid c.fill.new.store c.in_err-fill.ensures.err)
+    let before = stacked_names old (w.stack.items ++ top ∷ []) in
+    let p = err_from_is_err_and c.from_residual-in_err-fill.result c.from_residual-in_err-fill.ensures.1 in
+    let t = turn_unfilled dom plan ts old mid c.fill.new.store before c.args.spent (g.D.Domain.counted c.args.dom.now) c.args.steps.now c.fill.new.steps c.next_absent.ensures.names c.fill.ensures.least c.fill.ensures.most w c.in_err-fill.ensures.err (good_rest dom plan ts old mid w top c.requires.right c.next_absent.ensures.right c.next_absent.ensures.names c.requires.placed c.requires.stacked w refl refl refl refl refl) p.0 c.from_residual-in_err-fill.result p.1 in
+    record { right = t.right; grows = t.grows; walk = t.walk; turns = t.turns; obeys = t.obeys; err = t.err; least = t.least; ticked = t.ticked; most = t.most }
 
-pub returns-in_err-fill-clause-walk : goal.returns-in_err-fill-clause-walk
-returns-in_err-fill-clause-walk g c =
+pub returns : goal.returns
+returns g c =
     let dom = g.D.Domain.operations c.args.dom.now in
     let plan = c.args.flow.now in
     let ts = map target_of c.args.targets.now in
@@ -157,41 +146,9 @@ returns-in_err-fill-clause-walk g c =
     let mid = c.next_absent.new.store in
     let w = c.args.walk.now in
     let top = c.args.top in
-    good_grows dom plan ts mid c.fill.new.store w c.in_err-fill.ensures.err.right (computes_grow dom plan mid c.fill.new.store c.in_err-fill.ensures.err) (
-    good_rest dom plan ts old mid w top c.requires.right c.next_absent.ensures.right c.next_absent.ensures.names c.requires.placed c.requires.stacked w refl refl refl refl refl
-    )
-
-pub returns-clause-grows : goal.returns-clause-grows
-returns-clause-grows g c =
-    let dom = g.D.Domain.operations c.args.dom.now in
-    let plan = c.args.flow.now in
-    let ts = map target_of c.args.targets.now in
-    let old = c.args.store.now in
-    let mid = c.next_absent.new.store in
-    let w = c.args.walk.now in
-    let top = c.args.top in
-    grows_trans old mid c.fill.new.store (names_grow old mid c.next_absent.ensures.names) c.in_ok-fill.ensures.puts.grows
-
-pub returns-clause-walk : goal.returns-clause-walk
-returns-clause-walk g c =
-    let dom = g.D.Domain.operations c.args.dom.now in
-    let plan = c.args.flow.now in
-    let ts = map target_of c.args.targets.now in
-    let old = c.args.store.now in
-    let mid = c.next_absent.new.store in
-    let w = c.args.walk.now in
-    let top = c.args.top in
-    let looks = (subst (Looks dom plan mid c.in-Some.row top c.next_absent.new.entry) c.in_default-2.is c.in_ok-input.ensures.looks) in
-    good_handed dom plan ts old mid w top c.requires.right c.next_absent.ensures.right c.next_absent.ensures.names c.requires.placed c.requires.stacked c.in-Some.row c.next_absent.new.entry None looks c.fill.new.store _ refl refl refl refl c.in_ok-fill.ensures.puts c.hand_down.ensures.hands
-
-pub returns-clause-turns : goal.returns-clause-turns
-returns-clause-turns g c =
-    let dom = g.D.Domain.operations c.args.dom.now in
-    let plan = c.args.flow.now in
-    let ts = map target_of c.args.targets.now in
-    let old = c.args.store.now in
-    let mid = c.next_absent.new.store in
-    let w = c.args.walk.now in
-    let top = c.args.top in
-    let looks = (subst (Looks dom plan mid c.in-Some.row top c.next_absent.new.entry) c.in_default-2.is c.in_ok-input.ensures.looks) in
-    fills_top dom plan ts old mid w top c.requires.right c.next_absent.ensures.right c.next_absent.ensures.names c.requires.placed c.requires.stacked c.in-Some.row c.next_absent.new.entry None looks c.fill.new.store _ looks.next c.hand_down.ensures.hands c.in_ok-fill.ensures.puts
+    let before = stacked_names old (w.stack.items ++ top ∷ []) in
+    let looks = subst (Looks dom plan mid c.in-Some.row top c.next_absent.new.entry) c.in_default-2.is c.in_ok-input.ensures.looks in
+    let good = good_handed dom plan ts old mid w top c.requires.right c.next_absent.ensures.right c.next_absent.ensures.names c.requires.placed c.requires.stacked c.in-Some.row c.next_absent.new.entry None looks c.fill.new.store (record w { stack = c.hand_down.new.stack }) refl refl refl refl c.in_ok-fill.ensures.puts c.hand_down.ensures.hands in
+    let fills = fills_top dom plan ts old mid w top c.requires.right c.next_absent.ensures.right c.next_absent.ensures.names c.requires.placed c.requires.stacked c.in-Some.row c.next_absent.new.entry None looks c.fill.new.store (record w { stack = c.hand_down.new.stack }) looks.next c.hand_down.ensures.hands c.in_ok-fill.ensures.puts in
+    let t = turn_filled dom plan ts old mid c.fill.new.store before c.args.spent (g.D.Domain.counted c.args.dom.now) c.args.steps.now c.fill.new.steps c.next_absent.ensures.names c.fill.ensures.least c.fill.ensures.most (record w { stack = c.hand_down.new.stack }) (name_of mid c.next_absent.new.entry) c.in_ok-fill.ensures.puts good fills c.if-spent.false {E = Memory} in
+    record { right = t.right; grows = t.grows; walk = t.walk; turns = t.turns; obeys = t.obeys; err = t.err; least = t.least; ticked = t.ticked; most = t.most }

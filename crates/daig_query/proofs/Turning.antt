@@ -1,0 +1,102 @@
+-- What turns at the name on top of a stack come to.
+use Rattle.std.proofs.Common.{◌≡◌, ℕ, ◌+◌, ◌*◌, ◌≤◌, Bool, true, false, List, Result, Ok, Err, IfOk, OnErr, sym, ap, subst, ◌∙◌, arith}
+use Rattle.domain_laws.specs.Operations.{Operations}
+use Rattle.cell_names.specs.Paths.{CellName}
+use Rattle.cell_rows.specs.Targets.{Target}
+use Rattle.imp_flow.specs.Plans.{Plan}
+use Rattle.daig_query.specs.declared.advance.Turn.{Turn}
+use Rattle.daig_query.specs.declared.advance.Turn.TheVariants.{Pushed, Filled, Spent}
+use Rattle.daig_query.specs.declared.store.Store.{Store}
+use Rattle.daig_query.specs.declared.walk.Walk.{Walk}
+use Rattle.daig_query.specs.Kept.{Grows, Names}
+use Rattle.daig_query.specs.Right.{IsRight}
+use Rattle.daig_query.specs.Opened.{Computes, Puts}
+use Rattle.daig_query.specs.Turned.{fills_of, Obeys, Pushes, FillsTop, Waits, Turns}
+use Rattle.daig_query.specs.Walked.{IsGood}
+use Rattle.daig_query.proofs.Filling.{computes_grow}
+use Rattle.daig_query.proofs.Growing.{names_grow, grows_trans}
+use Rattle.daig_query.proofs.Walks.{good_grows}
+
+-- What the clauses of a turn say, of a result.
+pub record IsTurn {S E : Type 0} (dom : Operations S) (plan : Plan) (ts : List Target) (old new : Store S) (before : List CellName) (after : Walk) (spent : Bool) (each ticks later : ℕ) (result : Result Turn E) : Type 0 where
+  pub right : IsRight dom plan new
+  pub grows : Grows old new
+  pub walk : IsGood dom plan ts new after
+  pub turns : IfOk result (Turns dom plan ts old new before after)
+  pub obeys : IfOk result (Obeys spent)
+  pub err : OnErr result (new.graph.cells ≡ old.graph.cells)
+  pub least : ticks ≤ later
+  pub ticked : IfOk result (λ turn. later ≤ ticks + each * fills_of turn)
+  pub most : later ≤ ticks + each
+
+module _ {S : Type 0} (dom : Operations S) (plan : Plan) (ts : List Target) where
+  -- Turns that fill nothing, behind a look that gave names numbers.
+  module _ (old mid : Store S) (before : List CellName) (after : Walk) (spent : Bool) (each ticks : ℕ) (right : IsRight dom plan mid) (names : Names old mid) (good : IsGood dom plan ts mid after) where
+    pub turn_failed : {E : Type 0} (e : E) (r : Result Turn E) → r ≡ Err e → IsTurn dom plan ts old mid before after spent each ticks ticks r
+    turn_failed {E} e r is =
+        subst (IsTurn {E = E} dom plan ts old mid before after spent each ticks ticks) (sym is) (record {
+          right = right;
+          grows = names_grow old mid names;
+          walk = good;
+          turns = tt;
+          obeys = tt;
+          err = ap (λ g. g.cells) names.graph;
+          least = omega arith;
+          ticked = tt;
+          most = omega arith;
+        })
+
+    pub turn_pushed : {E : Type 0} → Pushes old mid before after → IsTurn {E = E} dom plan ts old mid before after spent each ticks ticks (Ok Pushed)
+    turn_pushed pushes = record {
+      right = right;
+      grows = names_grow old mid names;
+      walk = good;
+      turns = pushes;
+      obeys = tt;
+      err = tt;
+      least = omega arith;
+      ticked = omega arith;
+      most = omega arith;
+    }
+
+    pub turn_spent : {E : Type 0} → spent ≡ true → Waits dom plan ts old mid before after → IsTurn {E = E} dom plan ts old mid before after spent each ticks ticks (Ok Spent)
+    turn_spent is waits = record {
+      right = right;
+      grows = names_grow old mid names;
+      walk = good;
+      turns = waits;
+      obeys = is;
+      err = tt;
+      least = omega arith;
+      ticked = omega arith;
+      most = omega arith;
+    }
+
+  -- Turns that come to a fill, behind such a look.
+  module _ (old mid new : Store S) (before : List CellName) (spent : Bool) (each ticks later : ℕ) (names : Names old mid) (least : ticks ≤ later) (most : later ≤ ticks + each) where
+    pub turn_unfilled : (w : Walk) → Computes dom plan mid new → IsGood dom plan ts mid w → {E : Type 0} (e : E) (r : Result Turn E) → r ≡ Err e → IsTurn dom plan ts old new before w spent each ticks later r
+    turn_unfilled w computes good {E} e r is =
+        subst (IsTurn {E = E} dom plan ts old new before w spent each ticks later) (sym is) (record {
+          right = computes.right;
+          grows = grows_trans old mid new (names_grow old mid names) (computes_grow dom plan mid new computes);
+          walk = good_grows dom plan ts mid new w computes.right (computes_grow dom plan mid new computes) good;
+          turns = tt;
+          obeys = tt;
+          err = computes.cells ∙ ap (λ g. g.cells) names.graph;
+          least = least;
+          ticked = tt;
+          most = most;
+        })
+
+    pub turn_filled : (after : Walk) (x : CellName) → Puts dom plan mid new x → IsGood dom plan ts new after → FillsTop dom plan ts old new before after → spent ≡ false → {E : Type 0} → IsTurn {E = E} dom plan ts old new before after spent each ticks later (Ok Filled)
+    turn_filled after x puts good fills is = record {
+      right = puts.right;
+      grows = grows_trans old mid new (names_grow old mid names) puts.grows;
+      walk = good;
+      turns = fills;
+      obeys = is;
+      err = tt;
+      least = least;
+      ticked = omega (arith, most);
+      most = most;
+    }
