@@ -1,10 +1,55 @@
-use Rattle.std.proofs.Common.{refl, sym, ◌∙◌}
+use Rattle.std.proofs.Common.{◌≡◌, refl, sym, ap, subst, ◌∙◌}
 use Rattle.std.specs.FinMap.{get}
 use Rattle.imp_flow.specs.Near.{input_name}
+use Rattle.cell_names.specs.Known.{Known, KeepsNumbers, IsOnce}
+use Rattle.domain_laws.specs.Operations.{Operations}
+use Rattle.imp_flow.specs.Plans.{Plan}
+use Rattle.daig_query.specs.declared.store.Store.{Store}
+use Rattle.daig_query.specs.Kept.{Names}
 use Rattle.daig_query.specs.Opened.{name_of}
-use Rattle.daig_query.proofs.Growing.{names_trans}
+use Rattle.daig_query.specs.Right.{IsRight}
+use Rattle.daig_query.proofs.Growing.{keeps_same, keeps_trans, names_trans, right_named}
 use Rattle.daig_query.proofs.Looking.{named_by, later, looks, more, fewer, none_of}
 use Rattle.daig_query.proofs.opening.next_absent.Goals as goal
+
+-- a store that has more paths alone, by the names that stand at the end
+paths_more : {S : Type 0} (old : Store S) (mid last : Known) → KeepsNumbers old.names.paths mid.paths → mid.names ≡ old.names.names → last ≡ mid → Names old (record old { names = last })
+paths_more old mid last keeps same is = record {
+  paths = keeps_trans old.names.paths mid.paths last.paths keeps (keeps_same mid.paths last.paths (ap (λ (k : Known). k.paths) is));
+  names = keeps_same old.names.names last.names (ap (λ (k : Known). k.names) is ∙ same);
+  states = refl;
+  operations = refl;
+  memo = refl;
+  graph = refl;
+}
+
+paths_right : {S : Type 0} (dom : Operations S) (plan : Plan) (old : Store S) (mid last : Known) → IsRight dom plan old → KeepsNumbers old.names.paths mid.paths → mid.names ≡ old.names.names → last ≡ mid → IsRight dom plan (record old { names = last })
+paths_right dom plan old mid last right keeps same is =
+    right_named dom plan old (record old { names = last }) right (paths_more old mid last keeps same is) (subst (λ xs. IsOnce xs) (sym (ap (λ (k : Known). k.names) is ∙ same)) right.once)
+
+pub returns-in_err-name-clause-names : goal.returns-in_err-name-clause-names
+returns-in_err-name-clause-names g c =
+    let store = c.inputs.store in
+    names_trans c.args.store.now store _ c.inputs.invariant.names (paths_more store c.name.new.names c.name.new.names c.name.ensures.kept c.name.ensures.names refl)
+
+pub returns-in_err-name-clause-right : goal.returns-in_err-name-clause-right
+returns-in_err-name-clause-right g c =
+    paths_right (g.D.Domain.operations c.args.dom.now) c.args.flow.now c.inputs.store c.name.new.names c.name.new.names c.inputs.invariant.at.right c.name.ensures.kept c.name.ensures.names refl
+
+pub returns-in_err-cell-clause-names : goal.returns-in_err-cell-clause-names
+returns-in_err-cell-clause-names g c =
+    let store = c.inputs.store in
+    names_trans c.args.store.now store _ c.inputs.invariant.names (paths_more store c.name.new.names c.add.new.self c.name.ensures.kept c.name.ensures.names c.in_err-cell.ensures.err)
+
+pub returns-in_err-cell-clause-right : goal.returns-in_err-cell-clause-right
+returns-in_err-cell-clause-right g c =
+    paths_right (g.D.Domain.operations c.args.dom.now) c.args.flow.now c.inputs.store c.name.new.names c.add.new.self c.inputs.invariant.at.right c.name.ensures.kept c.name.ensures.names c.in_err-cell.ensures.err
+
+pub returns-clause-names : goal.returns-clause-names
+returns-clause-names g c = c.inputs.invariant.names
+
+pub returns-clause-right : goal.returns-clause-right
+returns-clause-right g c = c.inputs.invariant.at.right
 
 pub returns-then-not-there-clause-names : goal.returns-then-not-there-clause-names
 returns-then-not-there-clause-names g c =
