@@ -1,4 +1,4 @@
-//! Reading a call, its procedure and its arguments, for `parse_simple`.
+//! Reading a call, its procedure and its arguments, for `parsed`, `faulty` and `only` of `parse_simple`.
 ghost use Rattle.std.specs.Prelude.{◌≡◌, [], ◌∷◌, ◌<◌, ◌≤◌, length, IfOk};
 ghost use Rattle.imp_syntax.specs.Views.{operand_of};
 ghost use Rattle.imp_syntax.specs.ActionViews.{operands_of};

@@ -1,4 +1,4 @@
-//! Reading conditions and their sides, for `parse_cond`.
+//! Reading conditions and their sides, for `parsed`, `faulty` and `only` of `parse_cond`.
 ghost use Rattle.std.specs.Prelude.{◌≡◌, ◌<◌, ◌≤◌, length, IfOk};
 ghost use Rattle.imp_lex.specs.declared.token.Mark.TheVariants as m;
 ghost use Rattle.imp_syntax.specs.Plain.{Not};

@@ -17,6 +17,7 @@
 //! the text, and an allocation for each name and each node of the tree.
 #![tactic(auto)]
 
+mod assigned;
 mod call;
 mod condition;
 mod error;

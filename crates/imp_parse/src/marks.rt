@@ -1,4 +1,4 @@
-//! Single tokens that are wanted.
+//! Reading single tokens, for `parsed`, `faulty` and `only` of all five readings.
 ghost use Rattle.std.specs.Prelude.{◌≡◌, ◌<◌, length, IfOk};
 ghost use Rattle.imp_parse.specs.Kinds.{kinds};
 ghost use Rattle.imp_parse.specs.Judged.{Gives};

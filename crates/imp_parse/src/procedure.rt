@@ -1,4 +1,4 @@
-//! Procedures and programs.
+//! Reading procedures and programs, for `parsed`, `faulty` and `only` of `parse_proc` and `parse_program`.
 ghost use Rattle.std.specs.Prelude.{◌≡◌, [], ◌∷◌, ◌+◌, ◌^◌, ◌<◌, ◌≤◌, length, IfOk};
 ghost use Rattle.imp_parse.specs.Kinds.{kinds};
 ghost use Rattle.imp_parse.specs.Judged.{Gives};

@@ -1,34 +1,21 @@
-//! Reading simple statements, for `parse_simple`.
-ghost use Rattle.std.specs.Prelude.{◌≡◌, ◌<◌, ◌≤◌, length, IfOk};
+//! Reading simple statements, for `parsed`, `faulty` and `only` of `parse_simple`.
+ghost use Rattle.std.specs.Prelude.{◌≡◌, ◌<◌, length, IfOk};
 ghost use Rattle.imp_syntax.specs.StmtViews.{statement_of};
 ghost use Rattle.imp_parse.specs.Kinds.{kinds};
 ghost use Rattle.imp_parse.specs.Judged.{Gives};
-ghost use Rattle.imp_parse.specs.Parts.{made_at, ended_at, element_rhs_at, array_rhs_at, call_rhs_at, write_next_at, write_item_at, write_element_at, assignment_at, assertion_at, plain_call_at};
-ghost use Rattle.imp_parse.specs.StatementReading.{value_rhs_at, variable_rhs_at, field_rhs_at, named_rhs_at, rhs_at, field_at, element_at, named_at, simple_at};
+ghost use Rattle.imp_parse.specs.Parts.{ended_at, write_next_at, write_item_at, write_element_at, assignment_at, assertion_at, plain_call_at};
+ghost use Rattle.imp_parse.specs.StatementReading.{field_at, element_at, named_at, simple_at};
 
+use crate::assigned::{made, rhs};
 use crate::call::invoke;
 use crate::condition::condition;
 use crate::error::Stopped;
-use crate::expression::{expression, product_tail, sum_tail};
+use crate::expression::expression;
 use crate::marks::{mark, name};
 use imp_lex::{Kind, Mark, Token, Word};
-use imp_syntax::{Action, Call, Expr, ExprNode, Stmt, StmtId, StmtNode};
+use imp_syntax::{Action, Call, Expr, Stmt, StmtNode};
 use plain_values::Text;
 use std::alloc::Global;
-
-/// The statement of this number and outermost part, and the tokens behind it.
-fn made(
-    alloc: Global,
-    number: u32,
-    node: StmtNode,
-    rest: &[Token],
-) -> Result<(Stmt, &[Token]), Stopped>
-    ensures read { Gives (λ x. (x.0, kinds x.1.now)) result (made_at (statement_of number node) (kinds rest.now)) }
-    ensures shorter { IfOk result (λ x. length x.1.now ≤ length rest.now) }
-{
-    let stmt = Stmt::new(alloc, StmtId::new(number), node)?;
-    Ok((stmt, rest))
-}
 
 /// The statement of this number and outermost part, which a semicolon ends.
 fn ended(
@@ -42,227 +29,6 @@ fn ended(
 {
     let rest = mark(Mark::Semicolon, tokens)?;
     made(alloc, number, node, rest)
-}
-
-fn value_rhs(
-    alloc: Global,
-    number: u32,
-    target: Text,
-    tokens: &[Token],
-) -> Result<(Stmt, &[Token]), Stopped>
-    ensures read { Gives (λ x. (x.0, kinds x.1.now)) result (value_rhs_at number target (kinds tokens.now)) }
-    ensures shorter { IfOk result (λ x. length x.1.now < length tokens.now) }
-{
-    let (value, rest) = expression(alloc, tokens)?;
-    let node = StmtNode::Simple(Action::Assign(target, value));
-    made(alloc, number, node, rest)
-}
-
-/// An expression that begins with this variable, behind it.
-fn variable_rhs(
-    alloc: Global,
-    number: u32,
-    target: Text,
-    variable: Text,
-    tokens: &[Token],
-) -> Result<(Stmt, &[Token]), Stopped>
-    ensures read { Gives (λ x. (x.0, kinds x.1.now)) result (variable_rhs_at number target variable (kinds tokens.now)) }
-    ensures shorter { IfOk result (λ x. length x.1.now ≤ length tokens.now) }
-{
-    let variable = Expr::new(alloc, ExprNode::Variable(variable))?;
-    let (product, rest) = product_tail(alloc, variable, tokens)?;
-    let (value, rest) = sum_tail(alloc, product, rest)?;
-    let node = StmtNode::Simple(Action::Assign(target, value));
-    made(alloc, number, node, rest)
-}
-
-/// `next` or `item`, behind a name and a dot.
-fn field_rhs(
-    alloc: Global,
-    number: u32,
-    target: Text,
-    link: Text,
-    tokens: &[Token],
-) -> Result<(Stmt, &[Token]), Stopped>
-    ensures read { Gives (λ x. (x.0, kinds x.1.now)) result (field_rhs_at number target link (kinds tokens.now)) }
-    ensures shorter { IfOk result (λ x. length x.1.now < length tokens.now) }
-{
-    match tokens {
-        [
-            Token {
-                kind: Kind::Word(Word::Next),
-                ..
-            },
-            rest @ ..,
-        ] => {
-            let node = StmtNode::Simple(Action::ReadNext(target, link));
-            made(alloc, number, node, rest)
-        }
-        [
-            Token {
-                kind: Kind::Word(Word::Item),
-                ..
-            },
-            rest @ ..,
-        ] => {
-            let node = StmtNode::Simple(Action::ReadItem(target, link));
-            made(alloc, number, node, rest)
-        }
-        _ => Err(Stopped::Unexpected(tokens.len())),
-    }
-}
-
-/// The index of an element that is read, behind its bracket.
-fn element_rhs(
-    alloc: Global,
-    number: u32,
-    target: Text,
-    array: Text,
-    tokens: &[Token],
-) -> Result<(Stmt, &[Token]), Stopped>
-    ensures read { Gives (λ x. (x.0, kinds x.1.now)) result (element_rhs_at number target array (kinds tokens.now)) }
-    ensures shorter { IfOk result (λ x. length x.1.now < length tokens.now) }
-{
-    let (index, rest) = expression(alloc, tokens)?;
-    let rest = mark(Mark::CloseBracket, rest)?;
-    let node = StmtNode::Simple(Action::ReadElement(target, array, index));
-    made(alloc, number, node, rest)
-}
-
-/// What goes on behind a name.
-#[tactic(auto, unfolding(crate::specs::StatementReading::named_rhs_at))]
-fn named_rhs(
-    alloc: Global,
-    number: u32,
-    target: Text,
-    source: Text,
-    tokens: &[Token],
-) -> Result<(Stmt, &[Token]), Stopped>
-    ensures read { Gives (λ x. (x.0, kinds x.1.now)) result (named_rhs_at number target source (kinds tokens.now)) }
-    ensures shorter { IfOk result (λ x. length x.1.now ≤ length tokens.now) }
-{
-    match tokens {
-        [
-            Token {
-                kind: Kind::Mark(Mark::Dot),
-                ..
-            },
-            rest @ ..,
-        ] => { field_rhs(alloc, number, target, source, rest) }
-        [
-            Token {
-                kind: Kind::Mark(Mark::OpenBracket),
-                ..
-            },
-            rest @ ..,
-        ] => { element_rhs(alloc, number, target, source, rest) }
-        _ => variable_rhs(alloc, number, target, source, tokens),
-    }
-}
-
-/// The length of a new array.
-fn array_rhs(
-    alloc: Global,
-    number: u32,
-    target: Text,
-    tokens: &[Token],
-) -> Result<(Stmt, &[Token]), Stopped>
-    ensures read { Gives (λ x. (x.0, kinds x.1.now)) result (array_rhs_at number target (kinds tokens.now)) }
-    ensures shorter { IfOk result (λ x. length x.1.now < length tokens.now) }
-{
-    let (length, rest) = expression(alloc, tokens)?;
-    let node = StmtNode::Simple(Action::MakeArray(target, length));
-    made(alloc, number, node, rest)
-}
-
-/// A call whose result is assigned, behind its first word.
-fn call_rhs(
-    alloc: Global,
-    number: u32,
-    target: Text,
-    tokens: &[Token],
-) -> Result<(Stmt, &[Token]), Stopped>
-    ensures read { Gives (λ x. (x.0, kinds x.1.now)) result (call_rhs_at number target (kinds tokens.now)) }
-    ensures shorter { IfOk result (λ x. length x.1.now < length tokens.now) }
-{
-    let (callee, arguments, rest) = invoke(alloc, tokens)?;
-    let call = Call {
-        target: Some(target),
-        callee,
-        arguments,
-    };
-    made(alloc, number, StmtNode::Call(call), rest)
-}
-
-/// What is assigned to the target, as a statement of this number, and the tokens behind it.
-#[tactic(auto, unfolding(crate::specs::StatementReading::rhs_at))]
-fn rhs(
-    alloc: Global,
-    number: u32,
-    target: Text,
-    tokens: &[Token],
-) -> Result<(Stmt, &[Token]), Stopped>
-    ensures read { Gives (λ x. (x.0, kinds x.1.now)) result (rhs_at number target (kinds tokens.now)) }
-    ensures shorter { IfOk result (λ x. length x.1.now < length tokens.now) }
-{
-    match tokens {
-        [
-            Token {
-                kind: Kind::Word(Word::Input),
-                ..
-            },
-            rest @ ..,
-        ] => made(alloc, number, StmtNode::Simple(Action::Input(target)), rest),
-        [
-            Token {
-                kind: Kind::Word(Word::Array),
-                ..
-            },
-            rest @ ..,
-        ] => array_rhs(alloc, number, target, rest),
-        [
-            Token {
-                kind: Kind::Word(Word::Null),
-                ..
-            },
-            rest @ ..,
-        ] => made(
-            alloc,
-            number,
-            StmtNode::Simple(Action::SetNull(target)),
-            rest,
-        ),
-        [
-            Token {
-                kind: Kind::Word(Word::New),
-                ..
-            },
-            rest @ ..,
-        ] => made(
-            alloc,
-            number,
-            StmtNode::Simple(Action::MakeCell(target)),
-            rest,
-        ),
-        [
-            Token {
-                kind: Kind::Word(Word::Call),
-                ..
-            },
-            rest @ ..,
-        ] => call_rhs(alloc, number, target, rest),
-        [
-            Token {
-                kind: Kind::Name(source),
-                ..
-            },
-            rest @ ..,
-        ] => {
-            let source = source.clone()?;
-            named_rhs(alloc, number, target, source, rest)
-        }
-        _ => value_rhs(alloc, number, target, tokens),
-    }
 }
 
 /// What is assigned to the `next` of this variable.

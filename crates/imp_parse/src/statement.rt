@@ -1,4 +1,4 @@
-//! Statements and blocks.
+//! Reading statements and blocks, for `parsed`, `faulty` and `only` of `parse_stmts`.
 ghost use Rattle.std.specs.Prelude.{◌≡◌, ◌+◌, ◌^◌, ◌<◌, ◌≤◌, length, IfOk};
 ghost use Rattle.imp_syntax.specs.StmtViews.{statement_of};
 ghost use Rattle.imp_parse.specs.Kinds.{kinds};
