@@ -1,7 +1,13 @@
 -- The kinds of tokens, without where they stand.
-use Rattle.std.specs.Prelude.{List, map}
+use Rattle.std.specs.Prelude.{List, [], ◌∷◌, map, Option, Some, None}
+use Rattle.std.specs.Borrow.{Bor}
 use Rattle.imp_lex.specs.declared.token.Token.{Token}
 use Rattle.imp_lex.specs.declared.token.Kind.{Kind}
 
 abbrev pub kinds : List Token → List Kind
 kinds tokens = map (λ t. t.kind) tokens
+
+-- the first kind and those behind it, as one list
+abbrev pub joined : Option (Bor Kind × Bor (List Token)) → List Kind
+joined None = []
+joined (Some x) = x.0.now ∷ kinds x.1.now

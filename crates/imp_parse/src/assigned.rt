@@ -9,7 +9,7 @@ ghost use Rattle.imp_parse.specs.StatementReading.{value_rhs_at, variable_rhs_at
 use crate::call::invoke;
 use crate::error::Stopped;
 use crate::expression::{expression, product_tail, sum_tail};
-use crate::marks::mark;
+use crate::marks::{front, mark};
 use imp_lex::{Kind, Mark, Token, Word};
 use imp_syntax::{Action, Call, Expr, ExprNode, Stmt, StmtId, StmtNode};
 use plain_values::Text;
@@ -72,24 +72,12 @@ fn field_rhs(
     ensures read { Gives (λ x. (x.0, kinds x.1.now)) result (field_rhs_at number target link (kinds tokens.now)) }
     ensures shorter { IfOk result (λ x. length x.1.now < length tokens.now) }
 {
-    match tokens {
-        [
-            Token {
-                kind: Kind::Word(Word::Next),
-                ..
-            },
-            rest @ ..,
-        ] => {
+    match front(tokens) {
+        Some((Kind::Word(Word::Next), rest)) => {
             let node = StmtNode::Simple(Action::ReadNext(target, link));
             made(alloc, number, node, rest)
         }
-        [
-            Token {
-                kind: Kind::Word(Word::Item),
-                ..
-            },
-            rest @ ..,
-        ] => {
+        Some((Kind::Word(Word::Item), rest)) => {
             let node = StmtNode::Simple(Action::ReadItem(target, link));
             made(alloc, number, node, rest)
         }
@@ -126,21 +114,11 @@ fn named_rhs(
     ensures read { Gives (λ x. (x.0, kinds x.1.now)) result (named_rhs_at number target source (kinds tokens.now)) }
     ensures shorter { IfOk result (λ x. length x.1.now ≤ length tokens.now) }
 {
-    match tokens {
-        [
-            Token {
-                kind: Kind::Mark(Mark::Dot),
-                ..
-            },
-            rest @ ..,
-        ] => { field_rhs(alloc, number, target, source, rest) }
-        [
-            Token {
-                kind: Kind::Mark(Mark::OpenBracket),
-                ..
-            },
-            rest @ ..,
-        ] => { element_rhs(alloc, number, target, source, rest) }
+    match front(tokens) {
+        Some((Kind::Mark(Mark::Dot), rest)) => field_rhs(alloc, number, target, source, rest),
+        Some((Kind::Mark(Mark::OpenBracket), rest)) => {
+            element_rhs(alloc, number, target, source, rest)
+        }
         _ => variable_rhs(alloc, number, target, source, tokens),
     }
 }
@@ -190,59 +168,28 @@ pub(crate) fn rhs(
     ensures read { Gives (λ x. (x.0, kinds x.1.now)) result (rhs_at number target (kinds tokens.now)) }
     ensures shorter { IfOk result (λ x. length x.1.now < length tokens.now) }
 {
-    match tokens {
-        [
-            Token {
-                kind: Kind::Word(Word::Input),
-                ..
-            },
-            rest @ ..,
-        ] => made(alloc, number, StmtNode::Simple(Action::Input(target)), rest),
-        [
-            Token {
-                kind: Kind::Word(Word::Array),
-                ..
-            },
-            rest @ ..,
-        ] => array_rhs(alloc, number, target, rest),
-        [
-            Token {
-                kind: Kind::Word(Word::Null),
-                ..
-            },
-            rest @ ..,
-        ] => made(
+    match front(tokens) {
+        Some((Kind::Word(Word::Input), rest)) => made(
+            alloc,
+            number,
+            StmtNode::Simple(Action::Input(target)),
+            rest,
+        ),
+        Some((Kind::Word(Word::Array), rest)) => array_rhs(alloc, number, target, rest),
+        Some((Kind::Word(Word::Null), rest)) => made(
             alloc,
             number,
             StmtNode::Simple(Action::SetNull(target)),
             rest,
         ),
-        [
-            Token {
-                kind: Kind::Word(Word::New),
-                ..
-            },
-            rest @ ..,
-        ] => made(
+        Some((Kind::Word(Word::New), rest)) => made(
             alloc,
             number,
             StmtNode::Simple(Action::MakeCell(target)),
             rest,
         ),
-        [
-            Token {
-                kind: Kind::Word(Word::Call),
-                ..
-            },
-            rest @ ..,
-        ] => call_rhs(alloc, number, target, rest),
-        [
-            Token {
-                kind: Kind::Name(source),
-                ..
-            },
-            rest @ ..,
-        ] => {
+        Some((Kind::Word(Word::Call), rest)) => call_rhs(alloc, number, target, rest),
+        Some((Kind::Name(source), rest)) => {
             let source = source.clone()?;
             named_rhs(alloc, number, target, source, rest)
         }

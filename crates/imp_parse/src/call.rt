@@ -10,7 +10,7 @@ ghost use Rattle.imp_parse.specs.Reader.{fix};
 
 use crate::condition::side;
 use crate::error::Stopped;
-use crate::marks::{mark, name};
+use crate::marks::{front, mark, name};
 use imp_lex::{Kind, Mark, Token};
 use imp_syntax::Side;
 use plain_values::{Items, Text};
@@ -20,14 +20,8 @@ use std::alloc::Global;
 pub(crate) fn begins_with_comma(tokens: &[Token]) -> bool
     ensures is { result ≡ begun is_comma (kinds tokens.now) }
 {
-    match tokens {
-        [
-            Token {
-                kind: Kind::Mark(Mark::Comma),
-                ..
-            },
-            ..
-        ] => true,
+    match front(tokens) {
+        Some((Kind::Mark(Mark::Comma), _)) => true,
         _ => false,
     }
 }
@@ -73,14 +67,8 @@ fn arguments(alloc: Global, tokens: &[Token]) -> Result<(Items<Side>, &[Token]),
     ensures read { Gives (λ x. (operands_of x.0, kinds x.1.now)) result (arguments_at (kinds tokens.now)) }
     ensures shorter { IfOk result (λ x. length x.1.now < length tokens.now) }
 {
-    match tokens {
-        [
-            Token {
-                kind: Kind::Mark(Mark::CloseParenthesis),
-                ..
-            },
-            rest @ ..,
-        ] => { Ok((Items::new(alloc), rest)) }
+    match front(tokens) {
+        Some((Kind::Mark(Mark::CloseParenthesis), rest)) => Ok((Items::new(alloc), rest)),
         _ => some_arguments(alloc, tokens),
     }
 }

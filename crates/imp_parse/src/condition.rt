@@ -6,13 +6,11 @@ ghost use Rattle.imp_syntax.specs.Views.{operand_of, condition_of};
 ghost use Rattle.imp_parse.specs.Kinds.{kinds};
 ghost use Rattle.imp_parse.specs.Parts.{made_at, closed_at};
 ghost use Rattle.imp_parse.specs.Judged.{Gives};
-ghost use Rattle.imp_parse.specs.Reader.{fix};
-ghost use Rattle.imp_parse.specs.Reading.{side_at, compare_at, condition_step, unit_by, unit_at, condition_at, conjunction_at, and_at, and_by, or_at, or_by};
-ghost use Rattle.imp_parse.specs.Tables.{and_of, or_of};
+ghost use Rattle.imp_parse.specs.Reading.{side_at, compare_at, unit_at, condition_at, conjunction_at, and_at, or_at};
 
 use crate::error::Stopped;
 use crate::expression::expression;
-use crate::marks::{mark, relation};
+use crate::marks::{front, mark, relation};
 use imp_lex::{Kind, Mark, Token, Word};
 use imp_syntax::{Cond, CondNode, Side};
 use std::alloc::Global;
@@ -22,14 +20,8 @@ pub(crate) fn side(alloc: Global, tokens: &[Token]) -> Result<(Side, &[Token]), 
     ensures read { Gives (λ x. (operand_of x.0, kinds x.1.now)) result (side_at (kinds tokens.now)) }
     ensures shorter { IfOk result (λ x. length x.1.now < length tokens.now) }
 {
-    match tokens {
-        [
-            Token {
-                kind: Kind::Word(Word::Null),
-                ..
-            },
-            rest @ ..,
-        ] => Ok((Side::Null, rest)),
+    match front(tokens) {
+        Some((Kind::Word(Word::Null), rest)) => Ok((Side::Null, rest)),
         _ => {
             let (value, rest) = expression(alloc, tokens)?;
             Ok((Side::Expr(value), rest))
@@ -81,8 +73,8 @@ pub(crate) fn condition(alloc: Global, tokens: &[Token]) -> Result<(Cond, &[Toke
     ensures read { Gives (λ x. (x.0, kinds x.1.now)) result (condition_at (kinds tokens.now)) }
     ensures shorter { IfOk result (λ x. length x.1.now < length tokens.now) }
 {
-    let (first, rest) = conjunction(alloc, tokens)?;
-    or_tail(alloc, first, rest)
+    let (left, rest) = conjunction(alloc, tokens)?;
+    or_tail(alloc, left, rest)
 }
 
 /// What stands behind conjunctions that make `left`.
@@ -92,25 +84,12 @@ fn or_tail(alloc: Global, left: Cond, tokens: &[Token]) -> Result<(Cond, &[Token
     ensures read { Gives (λ x. (x.0, kinds x.1.now)) result (or_at left (kinds tokens.now)) }
     ensures shorter { IfOk result (λ x. length x.1.now ≤ length tokens.now) }
 {
-    or_by_front(alloc, left, tokens)
-}
-
-#[cycle(condition)]
-fn or_by_front(alloc: Global, left: Cond, tokens: &[Token]) -> Result<(Cond, &[Token]), Stopped>
-    ensures read { Gives (λ x. (x.0, kinds x.1.now)) result (or_by left (kinds tokens.now)) }
-    ensures shorter { IfOk result (λ x. length x.1.now ≤ length tokens.now) }
-{
-    match tokens {
-        [] => Ok((left, tokens)),
-        [token, rest @ ..] => match or_of(&token.kind) {
-            None => Ok((left, tokens)),
-            Some(_) => {
-                let (right, rest) = conjunction(alloc, rest)?;
-                let either = Cond::new(alloc, CondNode::Or(left, right))?;
-                or_tail(alloc, either, rest)
-            }
-        },
-    }
+    let Some((Kind::Mark(Mark::Or), rest)) = front(tokens) else {
+        return Ok((left, tokens));
+    };
+    let (right, rest) = conjunction(alloc, rest)?;
+    let either = Cond::new(alloc, CondNode::Or(left, right))?;
+    or_tail(alloc, either, rest)
 }
 
 #[cycle(condition)]
@@ -118,8 +97,8 @@ fn conjunction(alloc: Global, tokens: &[Token]) -> Result<(Cond, &[Token]), Stop
     ensures read { Gives (λ x. (x.0, kinds x.1.now)) result (conjunction_at (kinds tokens.now)) }
     ensures shorter { IfOk result (λ x. length x.1.now < length tokens.now) }
 {
-    let (first, rest) = unit(alloc, tokens)?;
-    and_tail(alloc, first, rest)
+    let (left, rest) = unit(alloc, tokens)?;
+    and_tail(alloc, left, rest)
 }
 
 /// What stands behind units that make `left`.
@@ -129,25 +108,12 @@ fn and_tail(alloc: Global, left: Cond, tokens: &[Token]) -> Result<(Cond, &[Toke
     ensures read { Gives (λ x. (x.0, kinds x.1.now)) result (and_at left (kinds tokens.now)) }
     ensures shorter { IfOk result (λ x. length x.1.now ≤ length tokens.now) }
 {
-    and_by_front(alloc, left, tokens)
-}
-
-#[cycle(condition)]
-fn and_by_front(alloc: Global, left: Cond, tokens: &[Token]) -> Result<(Cond, &[Token]), Stopped>
-    ensures read { Gives (λ x. (x.0, kinds x.1.now)) result (and_by left (kinds tokens.now)) }
-    ensures shorter { IfOk result (λ x. length x.1.now ≤ length tokens.now) }
-{
-    match tokens {
-        [] => Ok((left, tokens)),
-        [token, rest @ ..] => match and_of(&token.kind) {
-            None => Ok((left, tokens)),
-            Some(_) => {
-                let (right, rest) = unit(alloc, rest)?;
-                let both = Cond::new(alloc, CondNode::And(left, right))?;
-                and_tail(alloc, both, rest)
-            }
-        },
-    }
+    let Some((Kind::Mark(Mark::And), rest)) = front(tokens) else {
+        return Ok((left, tokens));
+    };
+    let (right, rest) = unit(alloc, rest)?;
+    let both = Cond::new(alloc, CondNode::And(left, right))?;
+    and_tail(alloc, both, rest)
 }
 
 #[cycle(condition)]
@@ -156,54 +122,16 @@ fn unit(alloc: Global, tokens: &[Token]) -> Result<(Cond, &[Token]), Stopped>
     ensures read { Gives (λ x. (x.0, kinds x.1.now)) result (unit_at (kinds tokens.now)) }
     ensures shorter { IfOk result (λ x. length x.1.now < length tokens.now) }
 {
-    unit_by_front(alloc, tokens)
-}
-
-#[cycle(condition)]
-fn unit_by_front(alloc: Global, tokens: &[Token]) -> Result<(Cond, &[Token]), Stopped>
-    ensures read { Gives (λ x. (x.0, kinds x.1.now)) result (unit_by (fix condition_step) (kinds tokens.now)) }
-    ensures shorter { IfOk result (λ x. length x.1.now < length tokens.now) }
-{
-    match tokens {
-        [
-            Token {
-                kind: Kind::Mark(Mark::Not),
-                ..
-            },
-            rest @ ..,
-        ] => {
+    match front(tokens) {
+        Some((Kind::Mark(Mark::Not), rest)) => {
             let rest = mark(Mark::OpenParenthesis, rest)?;
             let (inner, rest) = condition(alloc, rest)?;
             closed_not(alloc, inner, rest)
         }
-        [
-            Token {
-                kind: Kind::Mark(Mark::OpenParenthesis),
-                ..
-            },
-            rest @ ..,
-        ] => {
+        Some((Kind::Mark(Mark::OpenParenthesis), rest)) => {
             let (inner, rest) = condition(alloc, rest)?;
             closed(inner, rest)
         }
         _ => compare(alloc, tokens),
-    }
-}
-
-fn and_of(kind: &Kind) -> Option<()>
-    ensures is { result ≡ and_of kind.now }
-{
-    match kind {
-        Kind::Mark(Mark::And) => Some(()),
-        _ => None,
-    }
-}
-
-fn or_of(kind: &Kind) -> Option<()>
-    ensures is { result ≡ or_of kind.now }
-{
-    match kind {
-        Kind::Mark(Mark::Or) => Some(()),
-        _ => None,
     }
 }

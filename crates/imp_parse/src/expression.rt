@@ -5,12 +5,11 @@ ghost use Rattle.imp_syntax.specs.Views.{expression_of};
 ghost use Rattle.imp_parse.specs.Kinds.{kinds};
 ghost use Rattle.imp_parse.specs.Parts.{made_at, closed_at, variable_at, length_at};
 ghost use Rattle.imp_parse.specs.Judged.{Gives};
-ghost use Rattle.imp_parse.specs.Reading.{expression_at, term_at, factor_by, factor_at, product_by, product_at, sum_by, sum_at, expression_step};
-ghost use Rattle.imp_parse.specs.Reader.{fix};
+ghost use Rattle.imp_parse.specs.Reading.{expression_at, term_at, factor_at, product_at, sum_at};
 ghost use Rattle.imp_parse.specs.Tables.{additive, multiplicative};
 
 use crate::error::Stopped;
-use crate::marks::{mark, name};
+use crate::marks::{front, mark, name};
 use imp_lex::{Kind, Mark, Token, Word};
 use imp_syntax::{Expr, ExprNode, Operator};
 use std::alloc::Global;
@@ -58,8 +57,8 @@ pub(crate) fn expression(alloc: Global, tokens: &[Token]) -> Result<(Expr, &[Tok
     ensures read { Gives (λ x. (x.0, kinds x.1.now)) result (expression_at (kinds tokens.now)) }
     ensures shorter { IfOk result (λ x. length x.1.now < length tokens.now) }
 {
-    let (first, rest) = term(alloc, tokens)?;
-    sum_tail(alloc, first, rest)
+    let (left, rest) = term(alloc, tokens)?;
+    sum_tail(alloc, left, rest)
 }
 
 /// What stands behind terms that make `left`.
@@ -73,25 +72,15 @@ pub(crate) fn sum_tail(
     ensures read { Gives (λ x. (x.0, kinds x.1.now)) result (sum_at left (kinds tokens.now)) }
     ensures shorter { IfOk result (λ x. length x.1.now ≤ length tokens.now) }
 {
-    sum_by_front(alloc, left, tokens)
-}
-
-#[cycle(expression)]
-fn sum_by_front(alloc: Global, left: Expr, tokens: &[Token]) -> Result<(Expr, &[Token]), Stopped>
-    ensures read { Gives (λ x. (x.0, kinds x.1.now)) result (sum_by left (kinds tokens.now)) }
-    ensures shorter { IfOk result (λ x. length x.1.now ≤ length tokens.now) }
-{
-    match tokens {
-        [] => Ok((left, tokens)),
-        [token, rest @ ..] => match additive(&token.kind) {
-            None => Ok((left, tokens)),
-            Some(operator) => {
-                let (right, rest) = term(alloc, rest)?;
-                let sum = Expr::new(alloc, ExprNode::Binary(operator, left, right))?;
-                sum_tail(alloc, sum, rest)
-            }
-        },
-    }
+    let Some((kind, rest)) = front(tokens) else {
+        return Ok((left, tokens));
+    };
+    let Some(operator) = additive(kind) else {
+        return Ok((left, tokens));
+    };
+    let (right, rest) = term(alloc, rest)?;
+    let sum = Expr::new(alloc, ExprNode::Binary(operator, left, right))?;
+    sum_tail(alloc, sum, rest)
 }
 
 #[cycle(expression)]
@@ -99,8 +88,8 @@ fn term(alloc: Global, tokens: &[Token]) -> Result<(Expr, &[Token]), Stopped>
     ensures read { Gives (λ x. (x.0, kinds x.1.now)) result (term_at (kinds tokens.now)) }
     ensures shorter { IfOk result (λ x. length x.1.now < length tokens.now) }
 {
-    let (first, rest) = factor(alloc, tokens)?;
-    product_tail(alloc, first, rest)
+    let (left, rest) = factor(alloc, tokens)?;
+    product_tail(alloc, left, rest)
 }
 
 /// What stands behind factors that make `left`.
@@ -114,29 +103,15 @@ pub(crate) fn product_tail(
     ensures read { Gives (λ x. (x.0, kinds x.1.now)) result (product_at left (kinds tokens.now)) }
     ensures shorter { IfOk result (λ x. length x.1.now ≤ length tokens.now) }
 {
-    product_by_front(alloc, left, tokens)
-}
-
-#[cycle(expression)]
-fn product_by_front(
-    alloc: Global,
-    left: Expr,
-    tokens: &[Token],
-) -> Result<(Expr, &[Token]), Stopped>
-    ensures read { Gives (λ x. (x.0, kinds x.1.now)) result (product_by left (kinds tokens.now)) }
-    ensures shorter { IfOk result (λ x. length x.1.now ≤ length tokens.now) }
-{
-    match tokens {
-        [] => Ok((left, tokens)),
-        [token, rest @ ..] => match multiplicative(&token.kind) {
-            None => Ok((left, tokens)),
-            Some(operator) => {
-                let (right, rest) = factor(alloc, rest)?;
-                let product = Expr::new(alloc, ExprNode::Binary(operator, left, right))?;
-                product_tail(alloc, product, rest)
-            }
-        },
-    }
+    let Some((kind, rest)) = front(tokens) else {
+        return Ok((left, tokens));
+    };
+    let Some(operator) = multiplicative(kind) else {
+        return Ok((left, tokens));
+    };
+    let (right, rest) = factor(alloc, rest)?;
+    let product = Expr::new(alloc, ExprNode::Binary(operator, left, right))?;
+    product_tail(alloc, product, rest)
 }
 
 #[cycle(expression)]
@@ -145,53 +120,15 @@ fn factor(alloc: Global, tokens: &[Token]) -> Result<(Expr, &[Token]), Stopped>
     ensures read { Gives (λ x. (x.0, kinds x.1.now)) result (factor_at (kinds tokens.now)) }
     ensures shorter { IfOk result (λ x. length x.1.now < length tokens.now) }
 {
-    factor_by_front(alloc, tokens)
-}
-
-#[cycle(expression)]
-fn factor_by_front(alloc: Global, tokens: &[Token]) -> Result<(Expr, &[Token]), Stopped>
-    ensures read { Gives (λ x. (x.0, kinds x.1.now)) result (factor_by (fix expression_step) (kinds tokens.now)) }
-    ensures shorter { IfOk result (λ x. length x.1.now < length tokens.now) }
-{
-    match tokens {
-        [
-            Token {
-                kind: Kind::Number(n),
-                ..
-            },
-            rest @ ..,
-        ] => made(alloc, ExprNode::Literal(*n), rest),
-        [
-            Token {
-                kind: Kind::Name(_),
-                ..
-            },
-            ..
-        ] => variable(alloc, tokens),
-        [
-            Token {
-                kind: Kind::Word(Word::Len),
-                ..
-            },
-            rest @ ..,
-        ] => measured(alloc, rest),
-        [
-            Token {
-                kind: Kind::Mark(Mark::Minus),
-                ..
-            },
-            rest @ ..,
-        ] => {
+    match front(tokens) {
+        Some((Kind::Number(n), rest)) => made(alloc, ExprNode::Literal(*n), rest),
+        Some((Kind::Name(_), _)) => variable(alloc, tokens),
+        Some((Kind::Word(Word::Len), rest)) => measured(alloc, rest),
+        Some((Kind::Mark(Mark::Minus), rest)) => {
             let (inner, rest) = factor(alloc, rest)?;
             made(alloc, ExprNode::Negative(inner), rest)
         }
-        [
-            Token {
-                kind: Kind::Mark(Mark::OpenParenthesis),
-                ..
-            },
-            rest @ ..,
-        ] => {
+        Some((Kind::Mark(Mark::OpenParenthesis), rest)) => {
             let (inner, rest) = expression(alloc, rest)?;
             closed(inner, rest)
         }

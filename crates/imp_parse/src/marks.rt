@@ -1,6 +1,6 @@
 //! Reading single tokens, for `parsed`, `faulty` and `only` of all five readings.
-ghost use Rattle.std.specs.Prelude.{◌≡◌, ◌<◌, length, IfOk};
-ghost use Rattle.imp_parse.specs.Kinds.{kinds};
+ghost use Rattle.std.specs.Prelude.{◌≡◌, ◌<◌, length, IfOk, IfSome};
+ghost use Rattle.imp_parse.specs.Kinds.{kinds, joined};
 ghost use Rattle.imp_parse.specs.Judged.{Gives};
 ghost use Rattle.imp_parse.specs.Reading.{mark_at, name_at, relation_at};
 ghost use Rattle.imp_parse.specs.ProgramReading.{kind_at};
@@ -11,20 +11,25 @@ use imp_lex::{Kind, Mark, Token, Word};
 use imp_syntax::{Kind as VariableKind, Relation};
 use plain_values::Text;
 
+/// The kind of the first token, and the tokens behind it.
+pub(crate) fn front(tokens: &[Token]) -> Option<(&Kind, &[Token])>
+    ensures is { kinds tokens.now ≡ joined result }
+    ensures shorter { IfSome result (λ x. length x.1.now < length tokens.now) }
+{
+    match tokens {
+        [] => None,
+        [token, rest @ ..] => Some((&token.kind, rest)),
+    }
+}
+
 /// The tokens behind the wanted mark.
 #[tactic(auto, unfolding(crate::specs::Tables::same_mark))]
 pub(crate) fn mark(wanted: Mark, tokens: &[Token]) -> Result<&[Token], Stopped>
     ensures read { Gives (λ r. (tt, kinds r.now)) result (mark_at wanted (kinds tokens.now)) }
     ensures shorter { IfOk result (λ r. length r.now < length tokens.now) }
 {
-    match tokens {
-        [
-            Token {
-                kind: Kind::Mark(found),
-                ..
-            },
-            rest @ ..,
-        ] => {
+    match front(tokens) {
+        Some((Kind::Mark(found), rest)) => {
             if *found == wanted {
                 Ok(rest)
             } else {
@@ -40,14 +45,8 @@ pub(crate) fn name(tokens: &[Token]) -> Result<(Text, &[Token]), Stopped>
     ensures read { Gives (λ x. (x.0, kinds x.1.now)) result (name_at (kinds tokens.now)) }
     ensures shorter { IfOk result (λ x. length x.1.now < length tokens.now) }
 {
-    match tokens {
-        [
-            Token {
-                kind: Kind::Name(name),
-                ..
-            },
-            rest @ ..,
-        ] => {
+    match front(tokens) {
+        Some((Kind::Name(name), rest)) => {
             let name = name.clone()?;
             Ok((name, rest))
         }
@@ -60,9 +59,9 @@ pub(crate) fn relation(tokens: &[Token]) -> Result<(Relation, &[Token]), Stopped
     ensures read { Gives (λ x. (x.0, kinds x.1.now)) result (relation_at (kinds tokens.now)) }
     ensures shorter { IfOk result (λ x. length x.1.now < length tokens.now) }
 {
-    match tokens {
-        [] => Err(Stopped::Unexpected(0)),
-        [token, rest @ ..] => match relation_of(&token.kind) {
+    match front(tokens) {
+        None => Err(Stopped::Unexpected(0)),
+        Some((kind, rest)) => match relation_of(kind) {
             Some(relation) => Ok((relation, rest)),
             None => Err(Stopped::Unexpected(tokens.len())),
         },
@@ -88,9 +87,9 @@ pub(crate) fn variable_kind(tokens: &[Token]) -> Result<(VariableKind, &[Token])
     ensures read { Gives (λ x. (x.0, kinds x.1.now)) result (kind_at (kinds tokens.now)) }
     ensures shorter { IfOk result (λ x. length x.1.now < length tokens.now) }
 {
-    match tokens {
-        [] => Err(Stopped::Unexpected(0)),
-        [token, rest @ ..] => match kind_of(&token.kind) {
+    match front(tokens) {
+        None => Err(Stopped::Unexpected(0)),
+        Some((kind, rest)) => match kind_of(kind) {
             Some(kind) => Ok((kind, rest)),
             None => Err(Stopped::Unexpected(tokens.len())),
         },

@@ -10,7 +10,7 @@ ghost use Rattle.imp_parse.specs.ProgramReading.{declaration_at, declaration_by,
 
 use crate::call::begins_with_comma;
 use crate::error::Stopped;
-use crate::marks::{mark, name, variable_kind};
+use crate::marks::{front, mark, name, variable_kind};
 use crate::statement::statements;
 use imp_lex::{Kind, Mark, Token, Word};
 use imp_syntax::{Block, Declaration, Proc, Program, Stmt};
@@ -76,14 +76,8 @@ fn parameters(alloc: Global, tokens: &[Token]) -> Result<(Items<Declaration>, &[
     ensures read { Gives (λ x. (x.0, kinds x.1.now)) result (parameters_at (kinds tokens.now)) }
     ensures shorter { IfOk result (λ x. length x.1.now < length tokens.now) }
 {
-    match tokens {
-        [
-            Token {
-                kind: Kind::Mark(Mark::CloseParenthesis),
-                ..
-            },
-            rest @ ..,
-        ] => { Ok((Items::new(alloc), rest)) }
+    match front(tokens) {
+        Some((Kind::Mark(Mark::CloseParenthesis), rest)) => Ok((Items::new(alloc), rest)),
         _ => some_parameters(alloc, tokens),
     }
 }
@@ -94,14 +88,8 @@ fn outcome(tokens: &[Token]) -> Result<(Option<Declaration>, &[Token]), Stopped>
     ensures read { Gives (λ x. (x.0, kinds x.1.now)) result (outcome_at (kinds tokens.now)) }
     ensures shorter { IfOk result (λ x. length x.1.now ≤ length tokens.now) }
 {
-    match tokens {
-        [
-            Token {
-                kind: Kind::Mark(Mark::Arrow),
-                ..
-            },
-            rest @ ..,
-        ] => {
+    match front(tokens) {
+        Some((Kind::Mark(Mark::Arrow), rest)) => {
             let (outcome, rest) = declaration(rest)?;
             Ok((Some(outcome), rest))
         }
@@ -113,14 +101,8 @@ fn outcome(tokens: &[Token]) -> Result<(Option<Declaration>, &[Token]), Stopped>
 fn begins_local(tokens: &[Token]) -> bool
     ensures is { result ≡ begun begins_local (kinds tokens.now) }
 {
-    match tokens {
-        [
-            Token {
-                kind: Kind::Word(Word::Var),
-                ..
-            },
-            ..
-        ] => true,
+    match front(tokens) {
+        Some((Kind::Word(Word::Var), _)) => true,
         _ => false,
     }
 }
@@ -130,14 +112,8 @@ fn local(tokens: &[Token]) -> Result<(Declaration, &[Token]), Stopped>
     ensures read { Gives (λ x. ((x.0, tt), kinds x.1.now)) result (local_by (fix locals_step) tt (kinds tokens.now)) }
     ensures shorter { IfOk result (λ x. length x.1.now < length tokens.now) }
 {
-    match tokens {
-        [
-            Token {
-                kind: Kind::Word(Word::Var),
-                ..
-            },
-            rest @ ..,
-        ] => {
+    match front(tokens) {
+        Some((Kind::Word(Word::Var), rest)) => {
             let (declaration, rest) = declaration(rest)?;
             let rest = mark(Mark::Semicolon, rest)?;
             Ok((declaration, rest))
@@ -275,14 +251,8 @@ pub(crate) fn procedure(
     ensures shorter { IfOk result (λ x. length x.2.now < length tokens.now) }
     ensures numbers { IfOk result (λ x. x.1 + length x.2.now ≤ number + length tokens.now) }
 {
-    match tokens {
-        [
-            Token {
-                kind: Kind::Word(Word::Proc),
-                ..
-            },
-            rest @ ..,
-        ] => { procedure_behind_word(alloc, number, rest) }
+    match front(tokens) {
+        Some((Kind::Word(Word::Proc), rest)) => procedure_behind_word(alloc, number, rest),
         _ => Err(Stopped::Unexpected(tokens.len())),
     }
 }
@@ -291,14 +261,8 @@ pub(crate) fn procedure(
 fn begins_procedure(tokens: &[Token]) -> bool
     ensures is { result ≡ begun begins_procedure (kinds tokens.now) }
 {
-    match tokens {
-        [
-            Token {
-                kind: Kind::Word(Word::Proc),
-                ..
-            },
-            ..
-        ] => true,
+    match front(tokens) {
+        Some((Kind::Word(Word::Proc), _)) => true,
         _ => false,
     }
 }

@@ -11,7 +11,7 @@ use crate::call::invoke;
 use crate::condition::condition;
 use crate::error::Stopped;
 use crate::expression::expression;
-use crate::marks::{mark, name};
+use crate::marks::{front, mark, name};
 use imp_lex::{Kind, Mark, Token, Word};
 use imp_syntax::{Action, Call, Expr, Stmt, StmtNode};
 use plain_values::Text;
@@ -73,21 +73,9 @@ fn field(
     ensures read { Gives (λ x. (x.0, kinds x.1.now)) result (field_at number link (kinds tokens.now)) }
     ensures shorter { IfOk result (λ x. length x.1.now < length tokens.now) }
 {
-    match tokens {
-        [
-            Token {
-                kind: Kind::Word(Word::Next),
-                ..
-            },
-            rest @ ..,
-        ] => { write_next(alloc, number, link, rest) }
-        [
-            Token {
-                kind: Kind::Word(Word::Item),
-                ..
-            },
-            rest @ ..,
-        ] => { write_item(alloc, number, link, rest) }
+    match front(tokens) {
+        Some((Kind::Word(Word::Next), rest)) => write_next(alloc, number, link, rest),
+        Some((Kind::Word(Word::Item), rest)) => write_item(alloc, number, link, rest),
         _ => Err(Stopped::Unexpected(tokens.len())),
     }
 }
@@ -150,28 +138,10 @@ fn named(
     ensures read { Gives (λ x. (x.0, kinds x.1.now)) result (named_at number target (kinds tokens.now)) }
     ensures shorter { IfOk result (λ x. length x.1.now < length tokens.now) }
 {
-    match tokens {
-        [
-            Token {
-                kind: Kind::Mark(Mark::Equals),
-                ..
-            },
-            rest @ ..,
-        ] => { assignment(alloc, number, target, rest) }
-        [
-            Token {
-                kind: Kind::Mark(Mark::OpenBracket),
-                ..
-            },
-            rest @ ..,
-        ] => { element(alloc, number, target, rest) }
-        [
-            Token {
-                kind: Kind::Mark(Mark::Dot),
-                ..
-            },
-            rest @ ..,
-        ] => { field(alloc, number, target, rest) }
+    match front(tokens) {
+        Some((Kind::Mark(Mark::Equals), rest)) => assignment(alloc, number, target, rest),
+        Some((Kind::Mark(Mark::OpenBracket), rest)) => element(alloc, number, target, rest),
+        Some((Kind::Mark(Mark::Dot), rest)) => field(alloc, number, target, rest),
         _ => Err(Stopped::Unexpected(tokens.len())),
     }
 }
@@ -209,42 +179,17 @@ pub(crate) fn simple(
     ensures read { Gives (λ x. (x.0, kinds x.1.now)) result (simple_at number (kinds tokens.now)) }
     ensures shorter { IfOk result (λ x. length x.1.now < length tokens.now) }
 {
-    match tokens {
-        [
-            Token {
-                kind: Kind::Word(Word::Skip),
-                ..
-            },
-            rest @ ..,
-        ] => { ended(alloc, number, StmtNode::Simple(Action::Skip), rest) }
-        [
-            Token {
-                kind: Kind::Word(Word::Break),
-                ..
-            },
-            rest @ ..,
-        ] => { ended(alloc, number, StmtNode::Break, rest) }
-        [
-            Token {
-                kind: Kind::Word(Word::Assert),
-                ..
-            },
-            rest @ ..,
-        ] => { assertion(alloc, number, rest) }
-        [
-            Token {
-                kind: Kind::Word(Word::Call),
-                ..
-            },
-            rest @ ..,
-        ] => { plain_call(alloc, number, rest) }
-        [
-            Token {
-                kind: Kind::Name(target),
-                ..
-            },
-            rest @ ..,
-        ] => {
+    match front(tokens) {
+        Some((Kind::Word(Word::Skip), rest)) => ended(
+            alloc,
+            number,
+            StmtNode::Simple(Action::Skip),
+            rest,
+        ),
+        Some((Kind::Word(Word::Break), rest)) => ended(alloc, number, StmtNode::Break, rest),
+        Some((Kind::Word(Word::Assert), rest)) => assertion(alloc, number, rest),
+        Some((Kind::Word(Word::Call), rest)) => plain_call(alloc, number, rest),
+        Some((Kind::Name(target), rest)) => {
             let target = target.clone()?;
             named(alloc, number, target, rest)
         }

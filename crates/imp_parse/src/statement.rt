@@ -10,7 +10,7 @@ ghost use Rattle.imp_parse.specs.StatementReading.{begins_statement, statements_
 
 use crate::condition::condition;
 use crate::error::Stopped;
-use crate::marks::mark;
+use crate::marks::{front, mark};
 use crate::simple::simple;
 use imp_lex::{Kind, Mark, Token, Word};
 use imp_syntax::{Block, Stmt, StmtId, StmtNode};
@@ -21,9 +21,9 @@ use std::alloc::Global;
 fn begins_statement(tokens: &[Token]) -> bool
     ensures is { result ≡ begun begins_statement (kinds tokens.now) }
 {
-    match tokens {
-        [] => false,
-        [token, ..] => begins(&token.kind),
+    match front(tokens) {
+        None => false,
+        Some((kind, _)) => begins(kind),
     }
 }
 
@@ -98,21 +98,9 @@ fn statement(alloc: Global, number: u32, tokens: &[Token]) -> Result<(Stmt, u32,
     ensures shorter { IfOk result (λ x. length x.2.now < length tokens.now) }
     ensures numbers { IfOk result (λ x. x.1 + length x.2.now ≤ number + length tokens.now) }
 {
-    match tokens {
-        [
-            Token {
-                kind: Kind::Word(Word::If),
-                ..
-            },
-            rest @ ..,
-        ] => if_stmt(alloc, number, rest),
-        [
-            Token {
-                kind: Kind::Word(Word::While),
-                ..
-            },
-            rest @ ..,
-        ] => { while_stmt(alloc, number, rest) }
+    match front(tokens) {
+        Some((Kind::Word(Word::If), rest)) => if_stmt(alloc, number, rest),
+        Some((Kind::Word(Word::While), rest)) => while_stmt(alloc, number, rest),
         _ => numbered(alloc, number, tokens),
     }
 }
@@ -179,14 +167,8 @@ fn else_block(
     ensures shorter { IfOk result (λ x. length x.2.now ≤ length tokens.now) }
     ensures numbers { IfOk result (λ x. x.1 + length x.2.now ≤ number + length tokens.now) }
 {
-    match tokens {
-        [
-            Token {
-                kind: Kind::Word(Word::Else),
-                ..
-            },
-            rest @ ..,
-        ] => block(alloc, number, rest),
+    match front(tokens) {
+        Some((Kind::Word(Word::Else), rest)) => block(alloc, number, rest),
         _ => Ok((Block::empty(), number, tokens)),
     }
 }
