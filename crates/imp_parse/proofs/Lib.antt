@@ -7,6 +7,7 @@ pub mod Singles
 pub mod Expressions
 pub mod Conditions
 pub mod ListLayers
+pub mod Commas
 pub mod Calls
 pub mod Simples
 pub mod Blocks

@@ -13,13 +13,14 @@ use Rattle.imp_parse.specs.Reader.{Unexpected, Read, fix}
 use Rattle.imp_parse.specs.Tables.{same_mark, kind_of}
 use Rattle.imp_parse.specs.Programs.{IsDeclaration, declaration, IsDeclarations, declarations_end, declarations_more, IsParameters, no_parameters, parameters, IsOutcome, no_outcome, outcome, IsLocals, locals_end, locals_more, IsProcedure, procedure, IsProcedures, procedures_end, procedures_more, IsProgram, program}
 use Rattle.imp_parse.specs.Lists.{Lists, begun, with_front}
-use Rattle.imp_parse.specs.StatementReading.{is_comma, begins_statement}
-use Rattle.imp_parse.specs.ProgramReading.{declaration_at, declaration_by, declarations_step, declarations_at, parameters_at, outcome_at, begins_local, local_by, locals_step, locals_at, procedure_at, begins_procedure, procedures_step, procedures_at, program_at}
+use Rattle.imp_parse.specs.StatementReading.{begins_statement}
+use Rattle.imp_parse.specs.ProgramReading.{declaration_at, outcome_at, begins_local, local_by, locals_step, locals_at, procedure_at, begins_procedure, procedures_step, procedures_at, program_at}
 use Rattle.imp_parse.specs.declared.error.Stopped.{Stopped}
 use Rattle.imp_parse.specs.Judged.{Fails}
 use Rattle.imp_parse.proofs.Exact.{Free, Exact, Both, both}
 use Rattle.imp_parse.proofs.Pack.{Layer, strictly, loosely, Pack, Strict, Loose, loose, Nothing, nothing, done, read, read_some, one, Follows, then, next, never, until, free_never, Arm, Dead, Live, Other, arm_reader, arm_lang, IsOther, live, other, choose, strict_stops, Made, give, made_of, made}
 use Rattle.imp_parse.proofs.Layers.{Turn, layer_exact, alone, no_calls, alone_exact}
+use Rattle.imp_parse.proofs.Commas.{IsCommas, no_more, one_more, IsListed, none, some, is_close, Commas, listed}
 use Rattle.imp_parse.proofs.ListLayers.{IsList, ends, more, Listing, layer, is_live, turn, goes_on, stops_by, is_done}
 use Rattle.imp_parse.proofs.Singles.{IsMark, mark, a_mark, mark_follows, ended, refused, named, a_name, IsPicked, picked_as, picked_single}
 use Rattle.imp_parse.proofs.Blocks.{StatementsIn, some_statements, statements_on, statements_first}
@@ -58,122 +59,40 @@ declaration_some w d (declaration t is) = omega arith
 abbrev pub a_declaration : {L : Layer} → Strict L Declaration never
 a_declaration = read IsDeclaration never declaration_at declaration_exact (k.Name [] ∷ k.Mark m.Colon ∷ k.Word word.Int ∷ [], declared [] v.Int, declaration (k.Word word.Int) refl) declaration_some
 
--- ---- declarations behind commas
-
-pub data IsNext : List Kind → Declaration → Type 0 where
-  next_one : {w : List Kind} {d : Declaration} → IsDeclaration w d → IsNext (k.Mark m.Comma ∷ w) d
-
-abbrev pub NextIn : Unit {0} → Language (Declaration × Unit {0})
-NextIn s w x = IsNext w x.0
-
-abbrev pub DeclarationsIn : Unit {0} → Language (List Declaration × Unit {0})
-DeclarationsIn s w xs = IsDeclarations w xs.0
-
-pub declarations_to : (s : Unit {0}) (w : List Kind) (xs : List Declaration × Unit {0}) → IsList NextIn DeclarationsIn s w xs → DeclarationsIn s w xs
-declarations_to s w xs ends = declarations_end
-declarations_to s w xs (more (next_one g) h) = declarations_more g h
-
-pub declarations_list : (w : List Kind) (ds : List Declaration) → IsDeclarations w ds → IsList NextIn DeclarationsIn tt w (ds, tt)
-declarations_list w ds declarations_end = ends
-declarations_list w ds (declarations_more {d = d} {ds = ds'} g h) = more {x = (d, tt)} {xs = (ds', tt)} (next_one g) h
-
-abbrev pub declarations_listing : Listing Declaration (Unit {0}) is_comma never is_comma
-declarations_listing = record { Item = NextIn; Many = DeclarationsIn; to = declarations_to; from = λ s w xs g. declarations_list w xs.0 g; follow = λ s w xs rest g free. free_never (w ++ rest); stops = λ t h. h }
-
-abbrev pub declarations : Layer
-declarations = layer is_comma never is_comma declarations_listing
-
-abbrev pub next_arm : Unit {0} → Kind → Arm declarations (Declaration × Unit {0}) never
-next_arm s (k.Mark m.Comma) = Live (loose (give a_declaration (λ d. (d, tt))))
-next_arm s t = Dead
-
-pub next_to : (s : Unit {0}) (t : Kind) (w : List Kind) (x : Declaration × Unit {0}) → arm_lang (next_arm s t) w x → NextIn s (t ∷ w) x
-next_to s (k.Mark m.Comma) w x g = let q = made_of (λ d. (d, tt)) IsDeclaration w x g in subst (λ y. IsNext (k.Mark m.Comma ∷ w) y.0) q.2 (next_one q.1)
-next_to s t w x g = absurd g
-
-pub next_from : (s : Unit {0}) (w : List Kind) (x : Declaration × Unit {0}) → NextIn s w x → (t : Kind) × (v : List Kind) × (w ≡ t ∷ v) × arm_lang (next_arm s t) v x
-next_from s w x (next_one {w = u} {d = d} g) = (k.Mark m.Comma, u, refl, made (λ y. (y, tt)) IsDeclaration u d g)
-
-pub comma_is : (s : Unit {0}) (t : Kind) → is_comma t ≡ is_live is_comma never is_comma declarations_listing (next_arm s t)
-comma_is s (k.Mark m.Comma) = refl
-comma_is s t = refl
-
-pub next_is : (f : Lists Declaration (Unit {0})) (s : Unit {0}) (t : Kind) (rest : List Kind) → declaration_by f s (t ∷ rest) ≡ arm_reader (next_arm s t) f (λ ts. Err (Unexpected (length ts))) t rest
-unfolding same_mark
-next_is f s (k.Mark m.Comma) rest = refl
-next_is f s t rest = refl
-
-pub declarations_turn : (s : Unit {0}) → Turn declarations declarations_step s
-unfolding declarations_step
-declarations_turn s = turn is_comma never is_comma declarations_listing next_arm next_to next_from comma_is declaration_by next_is s
-
-pub declarations_exact : (n : ℕ) → Exact n (DeclarationsIn tt) is_comma declarations_at
-declarations_exact n = layer_exact declarations declarations_step declarations_turn n tt
-
-abbrev pub some_declarations : {L : Layer} → Loose L (List Declaration × Unit {0}) is_comma
-some_declarations = read_some (DeclarationsIn tt) is_comma declarations_at declarations_exact ([], ([], tt), declarations_end)
-
-pub declarations_go_on : (s : Unit {0}) (front : List Declaration) (ts : List Kind) (x : (Declaration × Unit {0}) × List Kind) (total : Read (List Declaration × Unit {0})) → begun is_comma ts ≡ true → declaration_by (fix declarations_step) s ts ≡ Ok x
-    → with_front front (fix declarations_step s ts) ≡ total → with_front (front ++ x.0.0 ∷ []) (fix declarations_step x.0.1 x.1) ≡ total
-unfolding declarations_step
-declarations_go_on = goes_on is_comma never is_comma declarations_listing next_arm next_to next_from comma_is declaration_by next_is
-
-pub declarations_stop : (s : Unit {0}) (front : List Declaration) (ts : List Kind) (e : Stopped) (total : Read (List Declaration × Unit {0})) → begun is_comma ts ≡ true → Fails e (declaration_by (fix declarations_step) s ts) → with_front front (fix declarations_step s ts) ≡ total → Fails e total
-unfolding declarations_step
-declarations_stop = stops_by is_comma never is_comma declarations_listing next_arm next_to next_from comma_is declaration_by next_is
-
-pub declarations_done : (s : Unit {0}) (front : List Declaration) (ts : List Kind) (total : Read (List Declaration × Unit {0})) → begun is_comma ts ≡ false → with_front front (fix declarations_step s ts) ≡ total → total ≡ Ok ((front, s), ts)
-unfolding declarations_step
-declarations_done = is_done is_comma never is_comma declarations_listing next_arm next_to next_from comma_is declaration_by next_is
-
 -- ---- parameters
 
--- one more in front
-abbrev pub behind : Declaration → List Declaration × Unit {0} → List Declaration × Unit {0}
-behind d ds = (d ∷ ds.0, ds.1)
+pub many_to : (w : List Kind) (ds : List Declaration) → IsCommas IsDeclaration IsDeclarations w ds → IsDeclarations w ds
+many_to w ds no_more = declarations_end
+many_to w ds (one_more g h) = declarations_more g h
 
-abbrev pub rest_of_parameters : Declaration → Loose alone (List Declaration) never
-rest_of_parameters d = then (give some_declarations (behind d)) (λ ds. ended m.CloseParenthesis ds.0) (λ ds. mark_follows m.CloseParenthesis _ is_comma never refl)
+pub many_from : (w : List Kind) (ds : List Declaration) → IsDeclarations w ds → IsCommas IsDeclaration IsDeclarations w ds
+many_from w ds declarations_end = no_more
+many_from w ds (declarations_more g h) = one_more g h
 
-pub rest_in : (d : Declaration) (w : List Kind) (ds : List Declaration) → (rest_of_parameters d).lang w ds → (v : List Kind) × (xs : List Declaration) × (w ≡ v ++ k.Mark m.CloseParenthesis ∷ []) × (d ∷ xs ≡ ds) × IsDeclarations v xs
-rest_in d w ds (both {v = v} g (both mark nothing)) = let q = made_of (behind d) (DeclarationsIn tt) v _ g in (v, q.0.0, refl, ap (λ y. y.0) q.2, q.1)
+pub all_to : (w : List Kind) (ds : List Declaration) → IsListed IsDeclaration IsDeclarations w ds → IsParameters w ds
+all_to w ds none = no_parameters
+all_to w ds (some g h) = parameters g h
 
-abbrev pub parameter_pack : Strict alone (List Declaration) never
-parameter_pack = next a_declaration rest_of_parameters
+pub all_from : (w : List Kind) (ds : List Declaration) → IsParameters w ds → IsListed IsDeclaration IsDeclarations w ds
+all_from w ds no_parameters = none
+all_from w ds (parameters g h) = some g h
 
-abbrev pub parameter_arm : Kind → Arm alone (List Declaration) never
-parameter_arm (k.Mark m.CloseParenthesis) = Live (loose (done never []))
-parameter_arm t = Other
+pub declaration_front : (v : List Kind) (d : Declaration) → IsDeclaration v d → (rest : List Kind) → begun is_close (v ++ rest) ≡ false
+declaration_front v d (declaration t is) rest = refl
 
-abbrev pub parameters_pack : Strict alone (List Declaration) never
-parameters_pack = choose parameter_arm parameter_pack (strict_stops parameter_arm parameter_pack) (k.Mark m.CloseParenthesis ∷ [], [], live {t = k.Mark m.CloseParenthesis} nothing)
-
-pub parameters_to : (w : List Kind) (ds : List Declaration) → parameters_pack.lang w ds → IsParameters w ds
-parameters_to w ds (live {t = k.Mark m.CloseParenthesis} nothing) = no_parameters
-parameters_to w ds (live {t = t} g) = absurd g
-parameters_to w ds (other o (both {v = y} {w = u} {a = d} g h)) = let q = rest_in d u ds h in subst (λ (r : List Kind). IsParameters (y ++ r) ds) (sym q.2) (subst (IsParameters (y ++ (q.0 ++ k.Mark m.CloseParenthesis ∷ []))) q.3 (parameters g q.4))
-
-parameter_other : {v : List Kind} {d : Declaration} → IsDeclaration v d → (rest : List Kind) → IsOther parameter_arm (v ++ rest)
-parameter_other (declaration t is) rest = refl
-
-pub parameters_from : (w : List Kind) (ds : List Declaration) → IsParameters w ds → parameters_pack.lang w ds
-parameters_from w ds no_parameters = live {t = k.Mark m.CloseParenthesis} nothing
-parameters_from w ds (parameters {w = u} {d = d} {ds = ds'} g h) = other (parameter_other g (u ++ k.Mark m.CloseParenthesis ∷ [])) (both {a = d} g (both {a = (d ∷ ds', tt)} (made (behind d) (DeclarationsIn tt) u (ds', tt) h) (both mark nothing)))
-
-pub parameters_is : (ts : List Kind) → parameters_at ts ≡ parameters_pack.reader no_calls ts
-unfolding parameters_at
-parameters_is [] = refl
-parameters_is (k.Mark m.CloseParenthesis ∷ rest) = refl
-parameters_is (t ∷ rest) = refl
-
-pub parameters_exact : (n : ℕ) → Exact n IsParameters never parameters_at
-parameters_exact n = alone_exact parameters_pack IsParameters parameters_at parameters_to parameters_from parameters_is n
-
-pub parameters_some : (w : List Kind) (ds : List Declaration) → IsParameters w ds → 0 < length w
-parameters_some w ds g = let p = parameters_pack in omega (arith, p.grows 0 w ds (parameters_from w ds g))
-
-abbrev pub some_parameters : {L : Layer} → Strict L (List Declaration) never
-some_parameters = read IsParameters never parameters_at parameters_exact (k.Mark m.CloseParenthesis ∷ [], [], no_parameters) parameters_some
+abbrev pub declarations : Commas IsDeclaration IsDeclarations IsParameters never declaration_at
+declarations = record {
+  exact = declaration_exact;
+  opens = (k.Name [] ∷ k.Mark m.Colon ∷ k.Word word.Int ∷ [], declared [] v.Int, declaration (k.Word word.Int) refl);
+  nonempty = declaration_some;
+  comma_apart = refl;
+  close_apart = refl;
+  front = declaration_front;
+  many_to = many_to;
+  many_from = many_from;
+  all_to = all_to;
+  all_from = all_from;
+}
 
 -- ---- the result
 
@@ -312,7 +231,7 @@ module _ (L : Layer) (n : ℕ) where
   body_pack x ps o = then some_locals (λ ls. then (some_statements n) (λ ss. loose (give (a_mark m.CloseBrace) (λ z. made_procedure x ps o ls.0 ss))) (λ ss. mark_follows m.CloseBrace _ statements_on never refl)) (λ ls. body_follows n (λ ss z. made_procedure x ps o ls.0 ss))
 
   abbrev pub behind_pack : Strict L (Procedure × ℕ) never
-  behind_pack = next a_name (λ x. loose (next (a_mark m.OpenParenthesis) (λ a. loose (next some_parameters (λ ps.
+  behind_pack = next a_name (λ x. loose (next (a_mark m.OpenParenthesis) (λ a. loose (next (listed declarations) (λ ps.
       then an_outcome (λ o. loose (next (a_mark m.OpenBrace) (λ b. body_pack x ps o))) (λ o. mark_follows m.OpenBrace _ is_arrow never refl))))))
 
 brace_text : (w : List Kind) (a : Unit {0}) → IsMark m.CloseBrace w a → w ≡ k.Mark m.CloseBrace ∷ []

@@ -6,6 +6,7 @@ pub mod Reading
 pub mod Statements
 pub mod Programs
 pub mod Lists
+pub mod Commas
 pub mod StatementReading
 pub mod ProgramReading
 pub mod Kinds

@@ -11,7 +11,8 @@ use Rattle.imp_parse.specs.Reader.{Unexpected, Read, ◌>>=◌, pick_at, Steps, 
 use Rattle.imp_parse.specs.Tables.{kind_of}
 use Rattle.imp_parse.specs.Reading.{mark_at, name_at}
 use Rattle.imp_parse.specs.Lists.{Lists, list_step, with_front}
-use Rattle.imp_parse.specs.StatementReading.{is_comma, statements_at}
+use Rattle.imp_parse.specs.Commas.{listed_at}
+use Rattle.imp_parse.specs.StatementReading.{statements_at}
 
 abbrev pub kind_at : List Kind → Read kinds.Kind
 kind_at ts = pick_at kind_of ts
@@ -23,26 +24,8 @@ declaration_at ts = do
   t ← kind_at z.1
   Ok (record { name = x.0; kind = t.0 }, t.1)
 
-abbrev pub declaration_by : Lists Declaration (Unit {0}) → Unit {0} → List Kind → Read (Declaration × Unit {0})
-declaration_by lists s ts = mark_at m.Comma ts >>= λ z. declaration_at z.1 >>= λ d. Ok ((d.0, tt), d.1)
-
-unfoldable pub declarations_step : Steps (Unit {0}) (List Declaration × Unit {0})
-declarations_step = list_step is_comma declaration_by
-
-abbrev pub declarations_at : List Kind → Read (List Declaration × Unit {0})
-declarations_at ts = fix declarations_step tt ts
-
-abbrev pub some_parameters_at : List Kind → Read (List Declaration)
-some_parameters_at ts = do
-  d ← declaration_at ts
-  ds ← with_front (d.0 ∷ []) (declarations_at d.1)
-  z ← mark_at m.CloseParenthesis ds.1
-  Ok (ds.0.0, z.1)
-
-unfoldable pub parameters_at : List Kind → Read (List Declaration)
-parameters_at [] = some_parameters_at []
-parameters_at (k.Mark m.CloseParenthesis ∷ rest) = Ok ([], rest)
-parameters_at (t ∷ rest) = some_parameters_at (t ∷ rest)
+abbrev pub parameters_at : List Kind → Read (List Declaration)
+parameters_at ts = listed_at declaration_at ts
 
 unfoldable pub outcome_at : List Kind → Read (Option Declaration)
 outcome_at [] = Ok (None, [])

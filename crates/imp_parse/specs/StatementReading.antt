@@ -8,34 +8,13 @@ use Rattle.imp_syntax.specs.Plain as plain
 use Rattle.imp_syntax.specs.Plain.{Operand, Statement, Simple, Break, Call, If, While, Statements, Ends, block_of}
 use Rattle.imp_parse.specs.Reader.{Unexpected, Read, ◌>>=◌, Steps, fix}
 use Rattle.imp_parse.specs.Reading.{mark_at, name_at, expression_at, product_at, sum_at, side_at, condition_at}
-use Rattle.imp_parse.specs.Lists.{Lists, list_step, with_front}
+use Rattle.imp_parse.specs.Lists.{Lists, list_step}
+use Rattle.imp_parse.specs.Commas.{listed_at}
 
 -- ---- calls
 
-abbrev pub is_comma : Kind → Bool
-is_comma (k.Mark m.Comma) = true
-is_comma t = false
-
-abbrev pub side_by : Lists Operand (Unit {0}) → Unit {0} → List Kind → Read (Operand × Unit {0})
-side_by lists s ts = mark_at m.Comma ts >>= λ z. side_at z.1 >>= λ e. Ok ((e.0, tt), e.1)
-
-unfoldable pub sides_step : Steps (Unit {0}) (List Operand × Unit {0})
-sides_step = list_step is_comma side_by
-
-abbrev pub sides_at : List Kind → Read (List Operand × Unit {0})
-sides_at ts = fix sides_step tt ts
-
-abbrev pub some_arguments_at : List Kind → Read (List Operand)
-some_arguments_at ts = do
-  e ← side_at ts
-  es ← with_front (e.0 ∷ []) (sides_at e.1)
-  z ← mark_at m.CloseParenthesis es.1
-  Ok (es.0.0, z.1)
-
 abbrev pub arguments_at : List Kind → Read (List Operand)
-arguments_at [] = some_arguments_at []
-arguments_at (k.Mark m.CloseParenthesis ∷ rest) = Ok ([], rest)
-arguments_at (t ∷ rest) = some_arguments_at (t ∷ rest)
+arguments_at ts = listed_at side_at ts
 
 -- a call behind its first word
 unfoldable pub invoke_at : List Kind → Read (List ℕ × List Operand)

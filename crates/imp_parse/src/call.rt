@@ -5,7 +5,9 @@ ghost use Rattle.imp_syntax.specs.ActionViews.{operands_of};
 ghost use Rattle.imp_parse.specs.Kinds.{kinds};
 ghost use Rattle.imp_parse.specs.Judged.{Gives};
 ghost use Rattle.imp_parse.specs.Lists.{begun, with_front};
-ghost use Rattle.imp_parse.specs.StatementReading.{is_comma, side_by, sides_step, sides_at, some_arguments_at, arguments_at, invoke_at};
+ghost use Rattle.imp_parse.specs.Reading.{side_at};
+ghost use Rattle.imp_parse.specs.Commas.{is_comma, next_by, commas_step, commas_at, some_listed_at};
+ghost use Rattle.imp_parse.specs.StatementReading.{arguments_at, invoke_at};
 ghost use Rattle.imp_parse.specs.Reader.{fix};
 
 use crate::condition::side;
@@ -20,16 +22,13 @@ use std::alloc::Global;
 pub(crate) fn begins_with_comma(tokens: &[Token]) -> bool
     ensures is { result ≡ begun is_comma (kinds tokens.now) }
 {
-    match front(tokens) {
-        Some((Kind::Mark(Mark::Comma), _)) => true,
-        _ => false,
-    }
+    matches!(front(tokens), Some((Kind::Mark(Mark::Comma), _)))
 }
 
 /// A comma and a side, and the tokens behind them.
 #[tactic(auto, unfolding(crate::specs::Tables::same_mark))]
 fn next_side(alloc: Global, tokens: &[Token]) -> Result<(Side, &[Token]), Stopped>
-    ensures read { Gives (λ x. ((operand_of x.0, tt), kinds x.1.now)) result (side_by (fix sides_step) tt (kinds tokens.now)) }
+    ensures read { Gives (λ x. ((operand_of x.0, tt), kinds x.1.now)) result (next_by side_at (fix (commas_step side_at)) tt (kinds tokens.now)) }
     ensures shorter { IfOk result (λ x. length x.1.now < length tokens.now) }
 {
     let rest = mark(Mark::Comma, tokens)?;
@@ -38,7 +37,7 @@ fn next_side(alloc: Global, tokens: &[Token]) -> Result<(Side, &[Token]), Stoppe
 
 /// The first side and those behind commas, and the tokens behind them.
 fn sides(alloc: Global, first: Side, tokens: &[Token]) -> Result<(Items<Side>, &[Token]), Stopped>
-    ensures read { Gives (λ x. ((operands_of x.0, tt), kinds x.1.now)) result (with_front (operand_of first ∷ []) (sides_at (kinds tokens.now))) }
+    ensures read { Gives (λ x. ((operands_of x.0, tt), kinds x.1.now)) result (with_front (operand_of first ∷ []) (commas_at side_at (kinds tokens.now))) }
     ensures shorter { IfOk result (λ x. length x.1.now ≤ length tokens.now) }
 {
     let mut found = Items::new(alloc);
@@ -53,7 +52,7 @@ fn sides(alloc: Global, first: Side, tokens: &[Token]) -> Result<(Items<Side>, &
 }
 
 fn some_arguments(alloc: Global, tokens: &[Token]) -> Result<(Items<Side>, &[Token]), Stopped>
-    ensures read { Gives (λ x. (operands_of x.0, kinds x.1.now)) result (some_arguments_at (kinds tokens.now)) }
+    ensures read { Gives (λ x. (operands_of x.0, kinds x.1.now)) result (some_listed_at side_at (kinds tokens.now)) }
     ensures shorter { IfOk result (λ x. length x.1.now < length tokens.now) }
 {
     let (first, rest) = side(alloc, tokens)?;

@@ -6,7 +6,8 @@ ghost use Rattle.imp_parse.specs.Lists.{begun, with_front};
 ghost use Rattle.imp_parse.specs.Reader.{fix};
 ghost use Rattle.imp_syntax.specs.Plain.{block_of};
 ghost use Rattle.imp_parse.specs.Parts.{behind_locals_at, behind_head_at, behind_parenthesis_at};
-ghost use Rattle.imp_parse.specs.ProgramReading.{declaration_at, declaration_by, declarations_step, declarations_at, some_parameters_at, parameters_at, outcome_at, begins_local, local_by, locals_step, locals_at, procedure_behind, procedure_at, begins_procedure, procedures_at, program_at};
+ghost use Rattle.imp_parse.specs.Commas.{next_by, commas_step, commas_at, some_listed_at};
+ghost use Rattle.imp_parse.specs.ProgramReading.{declaration_at, parameters_at, outcome_at, begins_local, local_by, locals_step, locals_at, procedure_behind, procedure_at, begins_procedure, procedures_at, program_at};
 
 use crate::call::begins_with_comma;
 use crate::error::Stopped;
@@ -30,7 +31,7 @@ fn declaration(tokens: &[Token]) -> Result<(Declaration, &[Token]), Stopped>
 }
 
 fn next_declaration(tokens: &[Token]) -> Result<(Declaration, &[Token]), Stopped>
-    ensures read { Gives (λ x. ((x.0, tt), kinds x.1.now)) result (declaration_by (fix declarations_step) tt (kinds tokens.now)) }
+    ensures read { Gives (λ x. ((x.0, tt), kinds x.1.now)) result (next_by declaration_at (fix (commas_step declaration_at)) tt (kinds tokens.now)) }
     ensures shorter { IfOk result (λ x. length x.1.now < length tokens.now) }
 {
     let rest = mark(Mark::Comma, tokens)?;
@@ -43,7 +44,7 @@ fn declarations(
     first: Declaration,
     tokens: &[Token],
 ) -> Result<(Items<Declaration>, &[Token]), Stopped>
-    ensures read { Gives (λ x. ((x.0, tt), kinds x.1.now)) result (with_front (first ∷ []) (declarations_at (kinds tokens.now))) }
+    ensures read { Gives (λ x. ((x.0, tt), kinds x.1.now)) result (with_front (first ∷ []) (commas_at declaration_at (kinds tokens.now))) }
     ensures shorter { IfOk result (λ x. length x.1.now ≤ length tokens.now) }
 {
     let mut found = Items::new(alloc);
@@ -61,7 +62,7 @@ fn some_parameters(
     alloc: Global,
     tokens: &[Token],
 ) -> Result<(Items<Declaration>, &[Token]), Stopped>
-    ensures read { Gives (λ x. (x.0, kinds x.1.now)) result (some_parameters_at (kinds tokens.now)) }
+    ensures read { Gives (λ x. (x.0, kinds x.1.now)) result (some_listed_at declaration_at (kinds tokens.now)) }
     ensures shorter { IfOk result (λ x. length x.1.now < length tokens.now) }
 {
     let (first, rest) = declaration(tokens)?;
@@ -71,7 +72,6 @@ fn some_parameters(
 }
 
 /// The parameters up to `)`, and the tokens behind it.
-#[tactic(auto, unfolding(crate::specs::ProgramReading::parameters_at))]
 fn parameters(alloc: Global, tokens: &[Token]) -> Result<(Items<Declaration>, &[Token]), Stopped>
     ensures read { Gives (λ x. (x.0, kinds x.1.now)) result (parameters_at (kinds tokens.now)) }
     ensures shorter { IfOk result (λ x. length x.1.now < length tokens.now) }
@@ -101,10 +101,7 @@ fn outcome(tokens: &[Token]) -> Result<(Option<Declaration>, &[Token]), Stopped>
 fn begins_local(tokens: &[Token]) -> bool
     ensures is { result ≡ begun begins_local (kinds tokens.now) }
 {
-    match front(tokens) {
-        Some((Kind::Word(Word::Var), _)) => true,
-        _ => false,
-    }
+    matches!(front(tokens), Some((Kind::Word(Word::Var), _)))
 }
 
 /// A local variable from `var` on, and the tokens behind it.
@@ -261,10 +258,7 @@ pub(crate) fn procedure(
 fn begins_procedure(tokens: &[Token]) -> bool
     ensures is { result ≡ begun begins_procedure (kinds tokens.now) }
 {
-    match front(tokens) {
-        Some((Kind::Word(Word::Proc), _)) => true,
-        _ => false,
-    }
+    matches!(front(tokens), Some((Kind::Word(Word::Proc), _)))
 }
 
 /// The first procedure and those behind it, the next number, and the tokens behind them.
