@@ -1,5 +1,7 @@
 //! Reading what is assigned to a variable, for `parsed`, `faulty` and `only` of `parse_simple`.
 ghost use Rattle.std.specs.Prelude.{◌≡◌, ◌<◌, ◌≤◌, length, IfOk};
+ghost use Rattle.imp_syntax.specs.Plain.{Simple};
+ghost use Rattle.imp_syntax.specs.ActionViews.{action_of};
 ghost use Rattle.imp_syntax.specs.StmtViews.{statement_of};
 ghost use Rattle.imp_parse.specs.Kinds.{kinds};
 ghost use Rattle.imp_parse.specs.Judged.{Gives};
@@ -29,6 +31,19 @@ pub(crate) fn made(
     Ok((stmt, rest))
 }
 
+/// The action as a statement of this number, and the tokens behind it.
+pub(crate) fn of_action(
+    alloc: Global,
+    number: u32,
+    action: Action,
+    rest: &[Token],
+) -> Result<(Stmt, &[Token]), Stopped>
+    ensures read { Gives (λ x. (x.0, kinds x.1.now)) result (made_at (Simple number (action_of action)) (kinds rest.now)) }
+    ensures shorter { IfOk result (λ x. length x.1.now ≤ length rest.now) }
+{
+    made(alloc, number, StmtNode::Simple(action), rest)
+}
+
 fn value_rhs(
     alloc: Global,
     number: u32,
@@ -39,8 +54,7 @@ fn value_rhs(
     ensures shorter { IfOk result (λ x. length x.1.now < length tokens.now) }
 {
     let (value, rest) = expression(alloc, tokens)?;
-    let node = StmtNode::Simple(Action::Assign(target, value));
-    made(alloc, number, node, rest)
+    of_action(alloc, number, Action::Assign(target, value), rest)
 }
 
 /// An expression that begins with this variable, behind it.
@@ -57,8 +71,7 @@ fn variable_rhs(
     let variable = Expr::new(alloc, ExprNode::Variable(variable))?;
     let (product, rest) = product_tail(alloc, variable, tokens)?;
     let (value, rest) = sum_tail(alloc, product, rest)?;
-    let node = StmtNode::Simple(Action::Assign(target, value));
-    made(alloc, number, node, rest)
+    of_action(alloc, number, Action::Assign(target, value), rest)
 }
 
 /// `next` or `item`, behind a name and a dot.
@@ -74,12 +87,10 @@ fn field_rhs(
 {
     match front(tokens) {
         Some((Kind::Word(Word::Next), rest)) => {
-            let node = StmtNode::Simple(Action::ReadNext(target, link));
-            made(alloc, number, node, rest)
+            of_action(alloc, number, Action::ReadNext(target, link), rest)
         }
         Some((Kind::Word(Word::Item), rest)) => {
-            let node = StmtNode::Simple(Action::ReadItem(target, link));
-            made(alloc, number, node, rest)
+            of_action(alloc, number, Action::ReadItem(target, link), rest)
         }
         _ => Err(Stopped::Unexpected(tokens.len())),
     }
@@ -98,8 +109,12 @@ fn element_rhs(
 {
     let (index, rest) = expression(alloc, tokens)?;
     let rest = mark(Mark::CloseBracket, rest)?;
-    let node = StmtNode::Simple(Action::ReadElement(target, array, index));
-    made(alloc, number, node, rest)
+    of_action(
+        alloc,
+        number,
+        Action::ReadElement(target, array, index),
+        rest,
+    )
 }
 
 /// What goes on behind a name.
@@ -134,8 +149,7 @@ fn array_rhs(
     ensures shorter { IfOk result (λ x. length x.1.now < length tokens.now) }
 {
     let (length, rest) = expression(alloc, tokens)?;
-    let node = StmtNode::Simple(Action::MakeArray(target, length));
-    made(alloc, number, node, rest)
+    of_action(alloc, number, Action::MakeArray(target, length), rest)
 }
 
 /// A call whose result is assigned, behind its first word.
@@ -169,25 +183,16 @@ pub(crate) fn rhs(
     ensures shorter { IfOk result (λ x. length x.1.now < length tokens.now) }
 {
     match front(tokens) {
-        Some((Kind::Word(Word::Input), rest)) => made(
-            alloc,
-            number,
-            StmtNode::Simple(Action::Input(target)),
-            rest,
-        ),
+        Some((Kind::Word(Word::Input), rest)) => {
+            of_action(alloc, number, Action::Input(target), rest)
+        }
         Some((Kind::Word(Word::Array), rest)) => array_rhs(alloc, number, target, rest),
-        Some((Kind::Word(Word::Null), rest)) => made(
-            alloc,
-            number,
-            StmtNode::Simple(Action::SetNull(target)),
-            rest,
-        ),
-        Some((Kind::Word(Word::New), rest)) => made(
-            alloc,
-            number,
-            StmtNode::Simple(Action::MakeCell(target)),
-            rest,
-        ),
+        Some((Kind::Word(Word::Null), rest)) => {
+            of_action(alloc, number, Action::SetNull(target), rest)
+        }
+        Some((Kind::Word(Word::New), rest)) => {
+            of_action(alloc, number, Action::MakeCell(target), rest)
+        }
         Some((Kind::Word(Word::Call), rest)) => call_rhs(alloc, number, target, rest),
         Some((Kind::Name(source), rest)) => {
             let source = source.clone()?;

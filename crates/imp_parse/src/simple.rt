@@ -1,12 +1,13 @@
 //! Reading simple statements, for `parsed`, `faulty` and `only` of `parse_simple`.
 ghost use Rattle.std.specs.Prelude.{◌≡◌, ◌<◌, length, IfOk};
-ghost use Rattle.imp_syntax.specs.StmtViews.{statement_of};
+ghost use Rattle.imp_syntax.specs.Plain.{Simple};
+ghost use Rattle.imp_syntax.specs.ActionViews.{action_of};
 ghost use Rattle.imp_parse.specs.Kinds.{kinds};
 ghost use Rattle.imp_parse.specs.Judged.{Gives};
 ghost use Rattle.imp_parse.specs.Parts.{ended_at, write_next_at, write_item_at, write_element_at, assignment_at, assertion_at, plain_call_at};
 ghost use Rattle.imp_parse.specs.StatementReading.{field_at, element_at, named_at, simple_at};
 
-use crate::assigned::{made, rhs};
+use crate::assigned::{made, of_action, rhs};
 use crate::call::invoke;
 use crate::condition::condition;
 use crate::error::Stopped;
@@ -17,18 +18,18 @@ use imp_syntax::{Action, Call, Expr, Stmt, StmtNode};
 use plain_values::Text;
 use std::alloc::Global;
 
-/// The statement of this number and outermost part, which a semicolon ends.
+/// The action as a statement of this number, which a semicolon ends.
 fn ended(
     alloc: Global,
     number: u32,
-    node: StmtNode,
+    action: Action,
     tokens: &[Token],
 ) -> Result<(Stmt, &[Token]), Stopped>
-    ensures read { Gives (λ x. (x.0, kinds x.1.now)) result (ended_at (statement_of number node) (kinds tokens.now)) }
+    ensures read { Gives (λ x. (x.0, kinds x.1.now)) result (ended_at (Simple number (action_of action)) (kinds tokens.now)) }
     ensures shorter { IfOk result (λ x. length x.1.now < length tokens.now) }
 {
     let rest = mark(Mark::Semicolon, tokens)?;
-    made(alloc, number, node, rest)
+    of_action(alloc, number, action, rest)
 }
 
 /// What is assigned to the `next` of this variable.
@@ -43,8 +44,7 @@ fn write_next(
 {
     let rest = mark(Mark::Equals, tokens)?;
     let (target, rest) = name(rest)?;
-    let node = StmtNode::Simple(Action::WriteNext(link, target));
-    ended(alloc, number, node, rest)
+    ended(alloc, number, Action::WriteNext(link, target), rest)
 }
 
 /// What is assigned to the `item` of this variable.
@@ -59,8 +59,7 @@ fn write_item(
 {
     let rest = mark(Mark::Equals, tokens)?;
     let (value, rest) = expression(alloc, rest)?;
-    let node = StmtNode::Simple(Action::WriteItem(link, value));
-    ended(alloc, number, node, rest)
+    ended(alloc, number, Action::WriteItem(link, value), rest)
 }
 
 /// `next` or `item` and what is assigned to it, behind a name and a dot.
@@ -93,8 +92,12 @@ fn write_element(
 {
     let rest = mark(Mark::Equals, tokens)?;
     let (value, rest) = expression(alloc, rest)?;
-    let node = StmtNode::Simple(Action::WriteElement(array, index, value));
-    ended(alloc, number, node, rest)
+    ended(
+        alloc,
+        number,
+        Action::WriteElement(array, index, value),
+        rest,
+    )
 }
 
 /// An index and what is assigned to the element, behind a name and a bracket.
@@ -152,7 +155,7 @@ fn assertion(alloc: Global, number: u32, tokens: &[Token]) -> Result<(Stmt, &[To
     ensures shorter { IfOk result (λ x. length x.1.now < length tokens.now) }
 {
     let (claim, rest) = condition(alloc, tokens)?;
-    ended(alloc, number, StmtNode::Simple(Action::Assert(claim)), rest)
+    ended(alloc, number, Action::Assert(claim), rest)
 }
 
 /// A call whose result is not assigned, behind its first word.
@@ -161,12 +164,13 @@ fn plain_call(alloc: Global, number: u32, tokens: &[Token]) -> Result<(Stmt, &[T
     ensures shorter { IfOk result (λ x. length x.1.now < length tokens.now) }
 {
     let (callee, arguments, rest) = invoke(alloc, tokens)?;
+    let rest = mark(Mark::Semicolon, rest)?;
     let call = Call {
         target: None,
         callee,
         arguments,
     };
-    ended(alloc, number, StmtNode::Call(call), rest)
+    made(alloc, number, StmtNode::Call(call), rest)
 }
 
 /// A simple statement of this number, and the tokens behind it.
@@ -180,13 +184,11 @@ pub(crate) fn simple(
     ensures shorter { IfOk result (λ x. length x.1.now < length tokens.now) }
 {
     match front(tokens) {
-        Some((Kind::Word(Word::Skip), rest)) => ended(
-            alloc,
-            number,
-            StmtNode::Simple(Action::Skip),
-            rest,
-        ),
-        Some((Kind::Word(Word::Break), rest)) => ended(alloc, number, StmtNode::Break, rest),
+        Some((Kind::Word(Word::Skip), rest)) => ended(alloc, number, Action::Skip, rest),
+        Some((Kind::Word(Word::Break), rest)) => {
+            let rest = mark(Mark::Semicolon, rest)?;
+            made(alloc, number, StmtNode::Break, rest)
+        }
         Some((Kind::Word(Word::Assert), rest)) => assertion(alloc, number, rest),
         Some((Kind::Word(Word::Call), rest)) => plain_call(alloc, number, rest),
         Some((Kind::Name(target), rest)) => {
