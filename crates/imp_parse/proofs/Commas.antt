@@ -1,5 +1,5 @@
 -- The readers of items with commas between them are exact.
-use Rattle.std.proofs.Common.{◌≡◌, ℕ, ◌<◌, Bool, true, false, List, [], ◌∷◌, ◌++◌, length, Ok, Err, refl, sym, ap, subst, arith, length-append}
+use Rattle.std.proofs.Common.{◌≡◌, ℕ, ◌<◌, Bool, true, false, List, [], ◌∷◌, ◌++◌, length, Ok, Err, refl, sym, ap, subst, arith}
 use Rattle.std.specs.Prelude.{◌||◌}
 use Rattle.imp_lex.specs.declared.token.Mark.TheVariants as m
 use Rattle.imp_lex.specs.declared.token.Kind.{Kind}
@@ -16,7 +16,7 @@ use Rattle.imp_parse.proofs.Pack.{Layer, Strict, Loose, loose, nothing, done, re
 use Rattle.imp_parse.proofs.Layers.{Turn, layer_exact, alone, no_calls, alone_exact}
 use Rattle.imp_parse.proofs.Chains.{or_first, or_second, free_less}
 use Rattle.imp_parse.proofs.ListLayers.{IsList, ends, more, Listing, layer, is_live, turn, goes_on, stops_by, is_done}
-use Rattle.imp_parse.proofs.Singles.{mark, a_mark, mark_follows, ended}
+use Rattle.imp_parse.proofs.Singles.{mark, mark_follows, ended}
 
 -- items, each behind a comma
 pub data IsCommas {X : Type 0} (G : Language X) (Many : Language (List X)) : List Kind → List X → Type 0 where

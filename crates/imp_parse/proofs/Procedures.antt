@@ -10,7 +10,7 @@ use Rattle.imp_syntax.specs.declared.words.Declaration.{Declaration}
 use Rattle.imp_syntax.specs.Plain.{Statement, Procedure, block_of}
 use Rattle.imp_parse.specs.Language.{Language, Opens}
 use Rattle.imp_parse.specs.Reader.{Unexpected, Read, fix}
-use Rattle.imp_parse.specs.Tables.{same_mark, kind_of}
+use Rattle.imp_parse.specs.Tables.{kind_of}
 use Rattle.imp_parse.specs.Programs.{IsDeclaration, declaration, IsDeclarations, declarations_end, declarations_more, IsParameters, no_parameters, parameters, IsOutcome, no_outcome, outcome, IsLocals, locals_end, locals_more, IsProcedure, procedure, IsProcedures, procedures_end, procedures_more, IsProgram, program}
 use Rattle.imp_parse.specs.Lists.{Lists, begun, with_front}
 use Rattle.imp_parse.specs.StatementReading.{begins_statement}
@@ -22,7 +22,7 @@ use Rattle.imp_parse.proofs.Pack.{Layer, strictly, loosely, Pack, Strict, Loose,
 use Rattle.imp_parse.proofs.Layers.{Turn, layer_exact, alone, no_calls, alone_exact}
 use Rattle.imp_parse.proofs.Commas.{IsCommas, no_more, one_more, IsListed, none, some, is_close, Commas, listed}
 use Rattle.imp_parse.proofs.ListLayers.{IsList, ends, more, Listing, layer, is_live, turn, goes_on, stops_by, is_done}
-use Rattle.imp_parse.proofs.Singles.{IsMark, mark, a_mark, mark_follows, ended, refused, named, a_name, IsPicked, picked_as, picked_single}
+use Rattle.imp_parse.proofs.Singles.{IsMark, mark, a_mark, mark_follows, refused, named, a_name, IsPicked, picked_as, picked_single}
 use Rattle.imp_parse.proofs.Blocks.{StatementsIn, some_statements, statements_on, statements_first}
 
 -- ---- a declaration
