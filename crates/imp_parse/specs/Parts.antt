@@ -29,10 +29,6 @@ length_at ts = name_at ts >>= λ x. Ok (plain.Length x.0, x.1)
 
 -- ---- simple statements, with number n
 
--- the semicolon behind a statement
-abbrev pub ended_at : Statement → List Kind → Read Statement
-ended_at s ts = mark_at m.Semicolon ts >>= λ z. Ok (s, z.1)
-
 abbrev pub element_rhs_at : ℕ → List ℕ → List ℕ → List Kind → Read Statement
 element_rhs_at n x a ts = expression_at ts >>= λ e. mark_at m.CloseBracket e.1 >>= λ z. Ok (Simple n (plain.ReadElement x a e.0), z.1)
 

@@ -1,10 +1,8 @@
 //! Reading simple statements, for `parsed`, `faulty` and `only` of `parse_simple`.
 ghost use Rattle.std.specs.Prelude.{◌≡◌, ◌<◌, length, IfOk};
-ghost use Rattle.imp_syntax.specs.Plain.{Simple};
-ghost use Rattle.imp_syntax.specs.ActionViews.{action_of};
 ghost use Rattle.imp_parse.specs.Kinds.{kinds};
 ghost use Rattle.imp_parse.specs.Judged.{Gives};
-ghost use Rattle.imp_parse.specs.Parts.{ended_at, write_next_at, write_item_at, write_element_at, assignment_at, assertion_at, plain_call_at};
+ghost use Rattle.imp_parse.specs.Parts.{write_next_at, write_item_at, write_element_at, assignment_at, assertion_at, plain_call_at};
 ghost use Rattle.imp_parse.specs.StatementReading.{field_at, element_at, named_at, simple_at};
 
 use crate::assigned::{made, of_action, rhs};
@@ -18,20 +16,6 @@ use imp_syntax::{Action, Call, Expr, Stmt, StmtNode};
 use plain_values::Text;
 use std::alloc::Global;
 
-/// The action as a statement of this number, which a semicolon ends.
-fn ended(
-    alloc: Global,
-    number: u32,
-    action: Action,
-    tokens: &[Token],
-) -> Result<(Stmt, &[Token]), Stopped>
-    ensures read { Gives (λ x. (x.0, kinds x.1.now)) result (ended_at (Simple number (action_of action)) (kinds tokens.now)) }
-    ensures shorter { IfOk result (λ x. length x.1.now < length tokens.now) }
-{
-    let rest = mark(Mark::Semicolon, tokens)?;
-    of_action(alloc, number, action, rest)
-}
-
 /// What is assigned to the `next` of this variable.
 fn write_next(
     alloc: Global,
@@ -44,7 +28,8 @@ fn write_next(
 {
     let rest = mark(Mark::Equals, tokens)?;
     let (target, rest) = name(rest)?;
-    ended(alloc, number, Action::WriteNext(link, target), rest)
+    let rest = mark(Mark::Semicolon, rest)?;
+    of_action(alloc, number, Action::WriteNext(link, target), rest)
 }
 
 /// What is assigned to the `item` of this variable.
@@ -59,7 +44,8 @@ fn write_item(
 {
     let rest = mark(Mark::Equals, tokens)?;
     let (value, rest) = expression(alloc, rest)?;
-    ended(alloc, number, Action::WriteItem(link, value), rest)
+    let rest = mark(Mark::Semicolon, rest)?;
+    of_action(alloc, number, Action::WriteItem(link, value), rest)
 }
 
 /// `next` or `item` and what is assigned to it, behind a name and a dot.
@@ -92,7 +78,8 @@ fn write_element(
 {
     let rest = mark(Mark::Equals, tokens)?;
     let (value, rest) = expression(alloc, rest)?;
-    ended(
+    let rest = mark(Mark::Semicolon, rest)?;
+    of_action(
         alloc,
         number,
         Action::WriteElement(array, index, value),
@@ -155,7 +142,8 @@ fn assertion(alloc: Global, number: u32, tokens: &[Token]) -> Result<(Stmt, &[To
     ensures shorter { IfOk result (λ x. length x.1.now < length tokens.now) }
 {
     let (claim, rest) = condition(alloc, tokens)?;
-    ended(alloc, number, Action::Assert(claim), rest)
+    let rest = mark(Mark::Semicolon, rest)?;
+    of_action(alloc, number, Action::Assert(claim), rest)
 }
 
 /// A call whose result is not assigned, behind its first word.
@@ -184,7 +172,10 @@ pub(crate) fn simple(
     ensures shorter { IfOk result (λ x. length x.1.now < length tokens.now) }
 {
     match front(tokens) {
-        Some((Kind::Word(Word::Skip), rest)) => ended(alloc, number, Action::Skip, rest),
+        Some((Kind::Word(Word::Skip), rest)) => {
+            let rest = mark(Mark::Semicolon, rest)?;
+            of_action(alloc, number, Action::Skip, rest)
+        }
         Some((Kind::Word(Word::Break), rest)) => {
             let rest = mark(Mark::Semicolon, rest)?;
             made(alloc, number, StmtNode::Break, rest)
