@@ -15,22 +15,10 @@ use Rattle.daig_query.specs.Right.{IsRight}
 use Rattle.open_tickets.specs.Tickets.{ticket, AreOpen}
 use Rattle.session_machine.specs.Machine.{beginning}
 use Rattle.daig_session.specs.declared.book.Book.{Book}
-use Rattle.daig_session.specs.Books.{flow_in, AreBelow, AreBehind, AreAhead}
+use Rattle.daig_session.specs.Books.{flow_in, AreBelow, AreBehind, AreAhead, IsFirst}
 use Rattle.daig_session.specs.Going.{AreWaiting}
 use Rattle.daig_session.specs.Holds.{Holds, IsReady}
 use Rattle.daig_session.proofs.Ordered.{set_again}
-
--- A book at first.
-pub record IsFirst (book : Book) (program : List Procedure) (e : Engine) (next : ℕ) : Type 0 where
-  pub now : book.history.now ≡ program
-  pub past_is : book.history.past ≡ []
-  pub future_is : book.history.future ≡ []
-  pub set : book.setting ≡ setting_of e (routines_of program)
-  pub next_is : book.next ≡ next
-  pub none : book.tickets.open_ones.items ≡ []
-  pub first : book.tickets.next ≡ 1
-  pub are_open : AreOpen book.tickets
-  pub cost : book.cost ≡ 0
 
 module _ {S : Type 0} (dom : Operations S) (store : Store S) (book : Book) (program : List Procedure) (e : Engine) (next : ℕ) (is : IsFirst book program e next) (fine : IsFine program) where
   pub begin_ready : 0 < next → next ≤ 1000001 → AreBelow next program → ((plan : Plan) → IsChecked plan.program → IsRight dom plan store) → IsReady dom store book

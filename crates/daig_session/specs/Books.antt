@@ -4,6 +4,7 @@ use Rattle.std.specs.List.{All}
 use Rattle.imp_syntax.specs.Plain.{Procedure, program_numbers}
 use Rattle.imp_check.specs.Fine.{IsFine}
 use Rattle.imp_check.specs.Slots.{routines_of}
+use Rattle.batch_meaning.specs.Batch.{Engine}
 use Rattle.call_contexts.specs.Settings.{setting_of}
 use Rattle.cell_names.specs.Paths.{CellName}
 use Rattle.imp_flow.specs.Plans.{Plan}
@@ -61,6 +62,18 @@ machine_of b kept = record {
   past = b.history.past;
   future = b.history.future;
 }
+
+-- A book at first.
+pub record IsFirst (book : Book) (program : List Procedure) (e : Engine) (next : ℕ) : Type 0 where
+  pub now : book.history.now ≡ program
+  pub past_is : book.history.past ≡ []
+  pub future_is : book.history.future ≡ []
+  pub set : book.setting ≡ setting_of e (routines_of program)
+  pub next_is : book.next ≡ next
+  pub none : book.tickets.open_ones.items ≡ []
+  pub first : book.tickets.next ≡ 1
+  pub are_open : AreOpen book.tickets
+  pub cost : book.cost ≡ 0
 
 -- Another program is the present one, with these behind it and ahead of it; the tickets begin anew.
 pub record IsTurned (old : Book) (program : List Procedure) (past future : List (List Procedure)) (next : ℕ) (new : Book) : Type 0 where

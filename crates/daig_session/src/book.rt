@@ -1,17 +1,20 @@
 //! What a session keeps beside its engine.
-ghost use Rattle.std.specs.Prelude.{◌≡◌, ◌<◌, [], ◌∷◌, length, take};
+ghost use Rattle.std.specs.Prelude.{◌≡◌, ◌<◌, [], ◌∷◌, length, take, IfOk};
+ghost use Rattle.imp_check.specs.Fine.{IsFine};
 ghost use Rattle.imp_check.specs.Slots.{routines_of};
-ghost use Rattle.call_contexts.specs.Settings.{setting_of};
+ghost use Rattle.call_contexts.specs.Settings.{engine_of, setting_of};
 ghost use Rattle.edit_history.specs.After.{after, Leads};
-ghost use Rattle.daig_session.specs.Books.{flow_in, IsSet, IsTurned};
+ghost use Rattle.daig_session.specs.Books.{flow_in, IsFirst, IsSet, IsTurned};
 
 use call_contexts::Setting;
 use daig_query::Walk;
 use edit_history::History;
-use imp_check::Change;
+use imp_check::{Change, Table};
 use imp_flow::{Flow, Target};
 use open_tickets::Tickets;
-use plain_values::Items;
+use plain_values::{Items, Memory};
+use program_chains::Widening;
+use std::alloc::Global;
 
 /// How far a ticket has come: its targets in the present program, and the walk along them.
 #[derive(Drop)]
@@ -32,6 +35,30 @@ pub(crate) struct Book {
 }
 
 impl Book {
+    /// The book of a program at first, whose loops take at most `budget` rounds and are widened so.
+    pub(crate) fn begun(
+        alloc: Global,
+        table: Table,
+        next: u32,
+        budget: u32,
+        widening: Widening,
+    ) -> Result<Book, Memory>
+        ensures fine { IfOk result (λ _. IsFine table.program) }
+        ensures first { IfOk result (λ b. IsFirst b table.program (engine_of budget widening) next) }
+    {
+        table.procs();
+        let setting = Setting::new(alloc, &table.view(), budget, widening)?;
+        let history = History::new(alloc, table)?;
+        let tickets = Tickets::new(alloc);
+        Ok(Book {
+            history,
+            setting,
+            next,
+            tickets,
+            cost: 0,
+        })
+    }
+
     /// The flow of the present program. It takes constant time.
     pub(crate) fn flow(&self) -> Flow<'_>
         requires set { IsSet self.now }

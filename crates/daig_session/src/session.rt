@@ -6,13 +6,10 @@ ghost use Rattle.daig_session.specs.Books.{AreBelow};
 ghost use Rattle.daig_session.specs.Holds.{Holds, IsReady};
 
 use crate::book::Book;
-use call_contexts::Setting;
 use daig_query::Engine;
 use domain_laws::Domain;
-use edit_history::History;
 use imp_check::Table;
 use imp_syntax::Location;
-use open_tickets::Tickets;
 use plain_values::Memory;
 use program_chains::Widening;
 use std::alloc::Global;
@@ -50,22 +47,9 @@ impl<D: Domain + Drop> Session<D> {
         ensures domain { IfOk result (λ s. s.engine.domain ≡ domain) }
         ensures begins { IfOk result (λ s. Holds (D.operations s.engine.domain) s.engine.store s.book (beginning table.program (engine_of budget widening) next)) }
     {
-        table.procs();
-        let setting = Setting::new(alloc, &table.view(), budget, widening)?;
+        let book = Book::begun(alloc, table, next, budget, widening)?;
         let engine = Engine::new(alloc, domain, memo)?;
-        let history = History::new(alloc, table)?;
-        let tickets = Tickets::new(alloc);
-        let cost = 0;
-        Ok(Session {
-            engine,
-            book: Book {
-                history,
-                setting,
-                next,
-                tickets,
-                cost,
-            },
-        })
+        Ok(Session { engine, book })
     }
 }
 

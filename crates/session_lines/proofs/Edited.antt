@@ -10,7 +10,9 @@ use Rattle.daig_query.specs.declared.store.Store.{Store}
 use Rattle.session_machine.specs.Machine.{Machine}
 use Rattle.session_machine.specs.Turns.{committed}
 use Rattle.daig_session.specs.declared.book.Book.{Book}
+use Rattle.daig_session.specs.Books.{IsSame}
 use Rattle.daig_session.specs.Holds.{Holds}
+use Rattle.daig_session.proofs.Unchanged.{same_holds}
 use Rattle.request_json.specs.declared.reply.Reply.TheVariants as r
 use Rattle.request_json.specs.declared.reply.Refusal.{Refusal}
 use Rattle.line_answers.specs.declared.edits.TextError.{TextError}
@@ -55,6 +57,11 @@ edit_follows ops d store book e m h stands there store2 book2 n line h2 same acc
     let number : n ≡ next_after e book.next = next ∙ ap (next_after e) (ap (λ (z : Machine). z.next) h2.is ∙ sym (ap (λ (z : Machine). z.next) h.is)) in
     let rep = edit_made (ops d) store book e m h stands n accepted number (subst (λ x. stands (committed (ops x) e m)) same after) in
     record { reply = is ∙ ap reply_text (sym rep.is); machine = rep.after }
+
+-- After want of room the machine is held as before.
+pub rest_holds : {S X : Type 0} (ops : X → Operations S) (d there : X) (store store2 : Store S) (book book2 : Book) → there ≡ d → store2 ≡ store → IsSame book book2 → (m : Machine) → Holds (ops d) store book m → Holds (ops there) store2 book2 m
+rest_holds ops d there store store2 book book2 same kept rest m h =
+    subst (λ x. Holds (ops x) store2 book2 m) (sym same) (subst (λ (s : Store _). Holds (ops d) s book2 m) (sym kept) (same_holds (ops d) store book book2 rest m h))
 
 -- what is made of a text, whatever its reading
 pub makes : {R : Type 0} (of : R → Result Edit Refusal) (made : Result Edit TextError) → IfOk made (λ e. (readings : R) → of readings ≡ Ok e) → IfErr made (λ e. (readings : R) → IsTextError (of readings) e) → (readings : R) → Makes (of readings) made

@@ -29,6 +29,11 @@ pub follows : {V E : Type 0} (r : Result V E) (items : V → List ℕ) (turn : T
 follows (Ok v) items turn stands reply h is = line_follows turn stands reply (items v) h is
 follows (Err e) items turn stands reply h is = tt
 
+-- .. where what is replied is known only if there is memory
+pub follows_where : {V E : Type 0} (r : Result V E) (items : V → List ℕ) (turn : Turn) (stands : Machine → Type 0) (reply : Reply) (A : Type 0) → IfOk r (λ v. A) → (A → IsReplied turn stands reply) → Writes r items reply → IsFollowed r items turn stands
+follows_where (Ok v) items turn stands reply A here h is = line_follows turn stands reply (items v) (h here) is
+follows_where (Err e) items turn stands reply A here h is = tt
+
 -- what holds in any case holds for want of memory
 pub on_error : {V E : Type 0} (r : Result V E) (A : Type 0) → A → IfErr r (λ _. A)
 on_error (Ok v) A h = tt

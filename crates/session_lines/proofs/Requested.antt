@@ -1,50 +1,54 @@
 -- Requests for edits.
-use Rattle.std.proofs.Common.{◌≡◌, ℕ, List, Result, Ok, sym, ap, subst, ◌∙◌}
-use Rattle.imp_syntax.specs.declared.edit.Edit.TheVariants as edit
-use Rattle.imp_syntax.specs.declared.edit.Place.{Place}
-use Rattle.imp_syntax.specs.declared.words.Kind.{Kind}
+use Rattle.std.proofs.Common.{◌≡◌, ℕ, List, Result, Ok, Err, refl, sym, ap, subst, ◌∙◌}
+use Rattle.imp_syntax.specs.declared.edit.Edit.{Edit}
 use Rattle.domain_laws.specs.Operations.{Operations}
 use Rattle.session_machine.specs.Machine.{Machine}
+use Rattle.request_json.specs.declared.reply.Reply.TheVariants as r
+use Rattle.request_json.specs.declared.reply.Refusal.{Refusal}
 use Rattle.request_json.specs.declared.request.Request.{Request}
 use Rattle.request_json.specs.declared.request.Request.TheVariants as q
-use Rattle.line_answers.specs.Edits.{add_of, guard_of, insert_of, replace_of}
+use Rattle.line_answers.specs.declared.edits.TextError.{TextError}
 use Rattle.line_answers.specs.Lines.{request_turn}
 use Rattle.line_answers.specs.Readings.{Readings}
-use Rattle.line_answers.specs.Turns.{edit_turn}
-use Rattle.session_lines.proofs.Replied.{IsFollowed}
+use Rattle.line_answers.specs.Turns.{Turn, edit_turn, refused}
+use Rattle.session_lines.specs.Followed.{edit_asked, Edits, Makes}
+use Rattle.session_lines.proofs.Replied.{IsFollowed, Writes, follows}
 
--- The line of an edit is that of the request for it, where the numbers begin at the machine's next one.
-module _ {V E S : Type 0} (r : Result V E) (items : V → List ℕ) (dom : Operations S) (readings : Readings) (m : Machine) (stands : Machine → Type 0) (request : Request) where
-  as_request : (is : Request) → request ≡ is → IsFollowed r items (request_turn readings dom is m) stands → IsFollowed r items (request_turn readings dom request m) stands
-  as_request is e h = subst (λ (x : Request). IsFollowed r items (request_turn readings dom x m) stands) (sym e) h
+-- what is made for a request is what is made for that which it is
+pub as_asked : (readings : Readings) (next : ℕ) (made : Result Edit TextError) (request is : Request) → request ≡ is → Makes (edit_asked readings next is) made → Makes (edit_asked readings next request) made
+as_asked readings next made request is e h = subst (λ (x : Request). Makes (edit_asked readings next x) made) (sym e) h
 
-  pub replace_follows : (id n : ℕ) (text read : List ℕ) → request ≡ q.Replace id text → n ≡ m.next → read ≡ text → IsFollowed r items (edit_turn dom (replace_of readings n id read) m) stands → IsFollowed r items (request_turn readings dom request m) stands
+module _ {S : Type 0} (dom : Operations S) (readings : Readings) (m : Machine) where
+  -- The turn of a request for an edit is that of the edit, where the numbers begin at the machine's next one.
+  asked_turn : (request : Request) → Edits request → request_turn readings dom request m ≡ edit_turn dom (edit_asked readings m.next request) m
   unfolding request_turn
-  replace_follows id n text read e number same h =
-      as_request (q.Replace id text) e (subst (λ x. IsFollowed r items (edit_turn dom x m) stands) (ap (λ (k : ℕ). replace_of readings k id read) number ∙ ap (λ (t : List ℕ). replace_of readings m.next id t) same) h)
+  asked_turn (q.Replace id text) edits = refl
+  asked_turn (q.Insert place text) edits = refl
+  asked_turn (q.Delete id) edits = refl
+  asked_turn (q.Guard id text) edits = refl
+  asked_turn (q.Declare proc name kind) edits = refl
+  asked_turn (q.Add before text) edits = refl
+  asked_turn (q.Drop proc) edits = refl
+  asked_turn (q.State query) edits = absurd edits
+  asked_turn q.Report edits = absurd edits
+  asked_turn q.Cost edits = absurd edits
+  asked_turn q.Program edits = absurd edits
+  asked_turn q.Listing edits = absurd edits
+  asked_turn (q.Run inputs fuel at) edits = absurd edits
+  asked_turn (q.Why query) edits = absurd edits
+  asked_turn q.Undo edits = absurd edits
+  asked_turn q.Redo edits = absurd edits
+  asked_turn (q.Ask query) edits = absurd edits
+  asked_turn (q.Step ticket n) edits = absurd edits
+  asked_turn (q.Cancel ticket) edits = absurd edits
 
-  pub insert_follows : (place : Place) (n : ℕ) (text read : List ℕ) → request ≡ q.Insert place text → n ≡ m.next → read ≡ text → IsFollowed r items (edit_turn dom (insert_of readings n place read) m) stands → IsFollowed r items (request_turn readings dom request m) stands
-  unfolding request_turn
-  insert_follows place n text read e number same h =
-      as_request (q.Insert place text) e (subst (λ x. IsFollowed r items (edit_turn dom x m) stands) (ap (λ (k : ℕ). insert_of readings k place read) number ∙ ap (λ (t : List ℕ). insert_of readings m.next place t) same) h)
+  module _ {V E : Type 0} (result : Result V E) (items : V → List ℕ) (stands : Machine → Type 0) (request : Request) (edits : Edits request) (n : ℕ) (number : n ≡ m.next) where
+    -- the line of what is made is that of the request
+    pub made_follows : (made : Result Edit Refusal) → edit_asked readings n request ≡ made → IsFollowed result items (edit_turn dom made m) stands → IsFollowed result items (request_turn readings dom request m) stands
+    made_follows made is h =
+        let e : request_turn readings dom request m ≡ edit_turn dom made m =
+        asked_turn request edits ∙ (ap (λ (k : ℕ). edit_turn dom (edit_asked readings k request) m) (sym number) ∙ ap (λ (x : Result Edit Refusal). edit_turn dom x m) is) in
+        subst (λ (turn : Turn). IsFollowed result items turn stands) (sym e) h
 
-  pub add_follows : (before : List ℕ) (n : ℕ) (text read : List ℕ) → request ≡ q.Add before text → n ≡ m.next → read ≡ text → IsFollowed r items (edit_turn dom (add_of readings n before read) m) stands → IsFollowed r items (request_turn readings dom request m) stands
-  unfolding request_turn
-  add_follows before n text read e number same h =
-      as_request (q.Add before text) e (subst (λ x. IsFollowed r items (edit_turn dom x m) stands) (ap (λ (k : ℕ). add_of readings k before read) number ∙ ap (λ (t : List ℕ). add_of readings m.next before t) same) h)
-
-  pub guard_follows : (id : ℕ) (text read : List ℕ) → request ≡ q.Guard id text → read ≡ text → IsFollowed r items (edit_turn dom (guard_of readings id read) m) stands → IsFollowed r items (request_turn readings dom request m) stands
-  unfolding request_turn
-  guard_follows id text read e same h = as_request (q.Guard id text) e (subst (λ (t : List ℕ). IsFollowed r items (edit_turn dom (guard_of readings id t) m) stands) same h)
-
-  pub delete_follows : (id : ℕ) → request ≡ q.Delete id → IsFollowed r items (edit_turn dom (Ok (edit.Delete id)) m) stands → IsFollowed r items (request_turn readings dom request m) stands
-  unfolding request_turn
-  delete_follows id e h = as_request (q.Delete id) e h
-
-  pub declare_follows : (proc name : List ℕ) (kind : Kind) → request ≡ q.Declare proc name kind → IsFollowed r items (edit_turn dom (Ok (edit.Declare proc (record { name = name; kind = kind }))) m) stands → IsFollowed r items (request_turn readings dom request m) stands
-  unfolding request_turn
-  declare_follows proc name kind e h = as_request (q.Declare proc name kind) e h
-
-  pub drop_follows : (proc : List ℕ) → request ≡ q.Drop proc → IsFollowed r items (edit_turn dom (Ok (edit.DropProc proc)) m) stands → IsFollowed r items (request_turn readings dom request m) stands
-  unfolding request_turn
-  drop_follows proc e h = as_request (q.Drop proc) e h
+    pub unmade_follows : (why : Refusal) → edit_asked readings n request ≡ Err why → stands m → Writes result items (r.Refused why) → IsFollowed result items (request_turn readings dom request m) stands
+    unmade_follows why is h line = made_follows (Err why) is (follows result items (refused why m) stands (r.Refused why) (record { is = refl; after = h }) line)

@@ -24,12 +24,17 @@ use Rattle.daig_session.specs.declared.book.Book.{Book}
 use Rattle.daig_session.specs.declared.book.Going.{Going}
 use Rattle.daig_session.specs.declared.error.QueryError.{QueryError}
 use Rattle.daig_session.specs.declared.error.QueryError.TheVariants as question
+use Rattle.daig_session.specs.declared.error.AskError.{AskError}
 use Rattle.daig_session.specs.declared.error.AskError.TheVariants as ask
+use Rattle.daig_session.specs.declared.error.StepError.{StepError}
+use Rattle.daig_session.specs.declared.error.StepError.TheVariants as step
+use Rattle.daig_session.specs.declared.error.UndoError.{UndoError}
 use Rattle.daig_session.specs.declared.error.UndoError.TheVariants as undo
+use Rattle.daig_session.specs.declared.stepping.Turn as stepping
 use Rattle.daig_session.specs.declared.stepping.Turn.TheVariants.{Pending, Done}
 use Rattle.daig_session.specs.Going.{AreWaiting, IsAnswered}
 use Rattle.daig_session.specs.Holds.{Holds, IsReady}
-use Rattle.daig_session.specs.Turns.{Cancels, Explains, Fails, Goes, IsStepOf, Opens, Questions}
+use Rattle.daig_session.specs.Turns.{Cancels, Explains, Fails, Goes, IsGone, IsStepOf, Opens, Questions}
 use Rattle.daig_session.proofs.Asked.{too_long}
 use Rattle.request_json.specs.declared.request.Query.{Query}
 use Rattle.request_json.specs.declared.reply.Reply.TheVariants as r
@@ -38,8 +43,8 @@ use Rattle.request_json.specs.declared.reply.Refusal.TheVariants as refusal
 use Rattle.line_replies.specs.States.{answer_reply, layout_at}
 use Rattle.line_answers.specs.Turns.{Turn, ask_by, ask_turn, cancel_by, goes, move_turn, refused, state_by, state_turn, step_by, step_of, told, why_by, why_turn}
 use Rattle.session_lines.proofs.Places.{missing_answered, says_answered, short_not_long}
-use Rattle.session_lines.specs.Followed.{Follows, IsHalted, TellsWhy}
-use Rattle.session_lines.proofs.Replied.{IsFollowed, IsReplied, Writes, follows, halted_before, never_ok, on_error}
+use Rattle.session_lines.specs.Followed.{ask_refusal, missing_for_ticket, move_refusal, query_refusal, step_refusal, Follows, IsHalted, Tells, TellsTurn}
+use Rattle.session_lines.proofs.Replied.{IsFollowed, IsReplied, Writes, follows, halted_after, halted_before, never_ok, on_error}
 
 -- the ticket that is found has the number
 pub number_found : (n : ℕ) (ts : List Ticket) → IfSome (ticket_of n ts) (λ t. t.number ≡ n)
@@ -79,7 +84,7 @@ module _ {S : Type 0} (dom : Operations S) (m : Machine) (stands : Machine → T
 
   -- a question without an answer, whose turn is refused where the program refuses the question
   module _ (query : Query) (turn : Turn) (refuses : (why : cause.Refusal) → answer_at dom query.at query.string m ≡ Refuses why → turn ≡ refused (refusal.Query why) m) {V E : Type 0} (line : Result V E) (items : V → List ℕ) where
-    pub unanswered_follows : (error : QueryError) → Fails dom m stands query.at query.string error → TellsWhy line items error → IsFollowed line items turn stands
+    pub unanswered_follows : (error : QueryError) → Fails dom m stands query.at query.string error → Tells line items (query_refusal error) → IsFollowed line items turn stands
     unanswered_follows (question.Refused why) h tells =
         subst (λ (t : Turn). IsFollowed line items t stands) (sym (refuses why h.0)) (follows line items (refused (refusal.Query why) m) stands (r.Refused (refusal.Query why)) (record { is = refl; after = h.1 }) tells)
     unanswered_follows question.Memory h tells = never_ok line (λ v. Follows turn stands (items v)) tells
@@ -123,11 +128,22 @@ module _ {S : Type 0} (dom : Operations S) (m : Machine) (query : Query) where
           | inr few ↦ room_turn (Refuses why) short (has_room few) is
         ])
 
-    pub ask_refused : (why : cause.Refusal) → Opens dom m stands query.at query.string (Err (ask.Refused why)) → IsReplied (ask_turn dom query m) stands (r.Refused (refusal.Query why))
+    ask_refused : (why : cause.Refusal) → Opens dom m stands query.at query.string (Err (ask.Refused why)) → IsReplied (ask_turn dom query m) stands (r.Refused (refusal.Query why))
     ask_refused why (is, first, h) = subst (λ (turn : Turn). IsReplied turn stands (r.Refused (refusal.Query why))) (sym (refused_turn why is first)) (record { is = refl; after = h })
 
-    pub ask_full : Opens dom m stands query.at query.string (Err ask.Full) → IsReplied (ask_turn dom query m) stands (r.Refused refusal.ManyTickets)
+    ask_full : Opens dom m stands query.at query.string (Err ask.Full) → IsReplied (ask_turn dom query m) stands (r.Refused refusal.ManyTickets)
     ask_full (short, many, h) = subst (λ (turn : Turn). IsReplied turn stands (r.Refused refusal.ManyTickets)) (sym (full_turn short (has_none many))) (record { is = refl; after = h })
+
+    -- a ticket that is not opened
+    pub unopened_stays : (error : AskError) → Opens dom m stands query.at query.string (Err error) → stands m
+    unopened_stays (ask.Refused why) h = h.2
+    unopened_stays ask.Full h = h.2
+    unopened_stays ask.Memory h = h
+
+    pub unopened_follows : {V E : Type 0} (line : Result V E) (items : V → List ℕ) (error : AskError) → Opens dom m stands query.at query.string (Err error) → Tells line items (ask_refusal error) → IsFollowed line items (ask_turn dom query m) stands
+    unopened_follows line items (ask.Refused why) h tells = follows line items (ask_turn dom query m) stands (r.Refused (refusal.Query why)) (ask_refused why h) tells
+    unopened_follows line items ask.Full h tells = follows line items (ask_turn dom query m) stands (r.Refused refusal.ManyTickets) (ask_full h) tells
+    unopened_follows line items ask.Memory h tells = never_ok line (λ v. Follows (ask_turn dom query m) stands (items v)) tells
 
 -- ---- a ticket is stepped
 
@@ -147,14 +163,14 @@ module _ {S : Type 0} (dom : Operations S) (m : Machine) (stands : Machine → T
       subst (λ (b : Answer S). IsReplied (step_by dom t most b m) stands (answer_reply dom (layout_at (routines_of m.program) t.at) b)) (sym is) (
       subst (λ (turn : Turn). IsReplied turn stands (told dom t.at v m)) (sym e) (record { is = refl; after = h }))
 
-  pub step_pending : (o : Option Ticket) (n : ℕ) → IsChecked (routines_of m.program) → IfSome o (λ t. nat_lt 2 (length t.string) ≡ false) → IsStepOf dom m stands most o (Ok (Pending n)) → IsReplied (step_of dom most o m) stands (r.Pending n)
+  step_pending : (o : Option Ticket) (n : ℕ) → IsChecked (routines_of m.program) → IfSome o (λ t. nat_lt 2 (length t.string) ≡ false) → IsStepOf dom m stands most o (Ok (Pending n)) → IsReplied (step_of dom most o m) stands (r.Pending n)
   step_pending None n checked short h = absurd (let e = h.0 in cc)
   step_pending (Some t) n checked short h =
       subst (λ (k : ℕ). IsReplied (step_of dom most (Some t) m) stands (r.Pending k)) (sym h.filled)
       (pending_by t (answer_at dom t.at t.string m) (missing_answered dom m t.at t.string checked short most h.more) h.more h.after)
 
   -- the answer's line is written by the variables at the ticket's location
-  pub step_done : {V E : Type 0} (line : Result V E) (items : V → List ℕ) (o : Option Ticket) (at : Location) (v : Value S) → Some at ≡ option_map (λ (t : Ticket). t.at) o → IsStepOf dom m stands most o (Ok (Done v)) →
+  step_done : {V E : Type 0} (line : Result V E) (items : V → List ℕ) (o : Option Ticket) (at : Location) (v : Value S) → Some at ≡ option_map (λ (t : Ticket). t.at) o → IsStepOf dom m stands most o (Ok (Done v)) →
       ((k : Machine) (a : Answer S) → stands k → Says a (Some v) → Writes line items (answer_reply dom (layout_at (routines_of k.program) at) a)) → IsFollowed line items (step_of dom most o m) stands
   step_done line items None at v there h is = absurd (let e = h.0 in cc)
   step_done line items (Some t) at v there h is =
@@ -162,6 +178,38 @@ module _ {S : Type 0} (dom : Operations S) (m : Machine) (stands : Machine → T
       let a = answer_at dom t.at t.string m in
       follows line items (step_by dom t most a m) stands (answer_reply dom (layout_at (routines_of m.program) t.at) a) (done_by t a (says_answered a v h.says) h.few h.after)
       (subst (λ (l : Location). Writes line items (answer_reply dom (layout_at (routines_of m.program) l) a)) same (is (ended dom t m) a h.after h.says))
+
+  pub step_follows : {V E : Type 0} (line : Result V E) (items : V → List ℕ) (o : Option Ticket) (at : Location) → IsChecked (routines_of m.program) → IfSome o (λ t. nat_lt 2 (length t.string) ≡ false) → Some at ≡ option_map (λ (t : Ticket). t.at) o →
+      (turn : stepping.Turn S) → IsStepOf dom m stands most o (Ok turn) → TellsTurn line items dom stands at turn → IsFollowed line items (step_of dom most o m) stands
+  step_follows line items o at checked short there (Pending n) h tells = follows line items (step_of dom most o m) stands (r.Pending n) (step_pending o n checked short h) tells
+  step_follows line items o at checked short there (Done v) h tells = step_done line items o at v there h tells
+
+  done_stands : (o : Option Ticket) (v : Value S) → IsStepOf dom m stands most o (Ok (Done v)) → stands (step_of dom most o m).machine
+  done_stands None v h = absurd (let e = h.0 in cc)
+  done_stands (Some t) v h = (done_by t (answer_at dom t.at t.string m) (says_answered (answer_at dom t.at t.string m) v h.says) h.few h.after).after
+
+  -- where the line of a step is not written, its machine stands
+  pub step_halts : {V E : Type 0} (line : Result V E) (o : Option Ticket) → IsChecked (routines_of m.program) → IfSome o (λ t. nat_lt 2 (length t.string) ≡ false) → (turn : stepping.Turn S) → IsStepOf dom m stands most o (Ok turn) → IfErr line (λ _. IsHalted (missing_for_ticket dom o m) (step_of dom most o m) m stands)
+  step_halts line o checked short (Pending n) h = halted_after line (missing_for_ticket dom o m) (step_of dom most o m) m stands (r.Pending n) (step_pending o n checked short h)
+  step_halts line o checked short (Done v) h = on_error line (IsHalted (missing_for_ticket dom o m) (step_of dom most o m) m stands) (inr (done_stands o v h))
+
+  -- a ticket that is not stepped
+  gone_replied : (t : Ticket) → IsGone dom m stands t most → IsReplied (step_by dom t most (answer_at dom t.at t.string m) m) stands (r.Refused refusal.Gone)
+  gone_replied t h = subst (λ (a : Answer S). IsReplied (step_by dom t most a m) stands (r.Refused refusal.Gone)) (sym h.refused) (record { is = refl; after = h.after })
+
+  pub unstepped_follows : {V E : Type 0} (line : Result V E) (items : V → List ℕ) (o : Option Ticket) (error : StepError) → IsStepOf dom m stands most o (Err error) → Tells line items (step_refusal error) → IsFollowed line items (step_of dom most o m) stands
+  unstepped_follows line items None error h tells =
+      let same : error ≡ step.NoTicket = let e = h.0 in cc in
+      follows line items (refused refusal.NoTicket m) stands (r.Refused refusal.NoTicket) (record { is = refl; after = h.1 }) (subst (λ (e : StepError). Tells line items (step_refusal e)) same tells)
+  unstepped_follows line items (Some t) step.NoTicket h tells = absurd h
+  unstepped_follows line items (Some t) step.Gone h tells = follows line items (step_of dom most (Some t) m) stands (r.Refused refusal.Gone) (gone_replied t h) tells
+  unstepped_follows line items (Some t) step.Memory h tells = never_ok line (λ v. Follows (step_of dom most (Some t) m) stands (items v)) tells
+
+  pub unstepped_halts : {V E : Type 0} (line : Result V E) (o : Option Ticket) (error : StepError) → IsStepOf dom m stands most o (Err error) → IfErr line (λ _. IsHalted (missing_for_ticket dom o m) (step_of dom most o m) m stands)
+  unstepped_halts line None error h = on_error line (IsHalted [] (refused refusal.NoTicket m) m stands) (halted_before [] (refused refusal.NoTicket m) m stands h.1)
+  unstepped_halts line (Some t) step.NoTicket h = absurd h
+  unstepped_halts line (Some t) step.Gone h = halted_after line (missing_at dom t.at t.string m) (step_of dom most (Some t) m) m stands (r.Refused refusal.Gone) (gone_replied t h)
+  unstepped_halts line (Some t) step.Memory h = on_error line (IsHalted (missing_at dom t.at t.string m) (step_of dom most (Some t) m) m stands) (inl h)
 
 -- ---- a ticket is closed
 
@@ -177,5 +225,13 @@ module _ (m : Machine) (stands : Machine → Type 0) where
 
   -- ---- undo and redo
 
-  pub move_none : (side : List (List Procedure)) (otherwise : Refusal) (there : Machine) → Goes m stands side there (Err undo.Nothing) → IsReplied (move_turn side otherwise there m) stands (r.Refused otherwise)
+  move_none : (side : List (List Procedure)) (otherwise : Refusal) (there : Machine) → Goes m stands side there (Err undo.Nothing) → IsReplied (move_turn side otherwise there m) stands (r.Refused otherwise)
   move_none side otherwise there h = subst (λ (ps : List (List Procedure)). IsReplied (move_turn ps otherwise there m) stands (r.Refused otherwise)) (sym h.0) (record { is = refl; after = h.1 })
+
+  pub unmoved_stays : (side : List (List Procedure)) (there : Machine) (error : UndoError) → Goes m stands side there (Err error) → stands m
+  unmoved_stays side there undo.Nothing h = h.1
+  unmoved_stays side there undo.Memory h = h
+
+  pub unmoved_follows : {V E : Type 0} (line : Result V E) (items : V → List ℕ) (side : List (List Procedure)) (otherwise : Refusal) (there : Machine) (error : UndoError) → Goes m stands side there (Err error) → Tells line items (move_refusal error otherwise) → IsFollowed line items (move_turn side otherwise there m) stands
+  unmoved_follows line items side otherwise there undo.Nothing h tells = follows line items (move_turn side otherwise there m) stands (r.Refused otherwise) (move_none side otherwise there h) tells
+  unmoved_follows line items side otherwise there undo.Memory h tells = never_ok line (λ v. Follows (move_turn side otherwise there m) stands (items v)) tells

@@ -2,7 +2,9 @@
 ghost use Rattle.std.specs.Prelude.{◌≡◌, ◌+◌, ◌≤◌, ◌<◌, ◌^◌, Ok, IfOk, IfErr};
 ghost use Rattle.session_machine.specs.Machine.{Machine};
 ghost use Rattle.daig_session.specs.Holds.{Holds, IsReady};
+ghost use Rattle.request_json.specs.Replies.{reply_text};
 ghost use Rattle.request_json.specs.Requests.{request_of};
+ghost use Rattle.line_replies.specs.Refusals.{line_refusal};
 ghost use Rattle.line_answers.specs.Readings.{Readings};
 ghost use Rattle.line_answers.specs.Lines.{line_turn, request_turn};
 ghost use Rattle.session_lines.specs.Followed.{missing_of, Fills, Follows, IsHalted};
@@ -11,11 +13,12 @@ use crate::edits::edit_request;
 use crate::questions::{report_line, state_line, why_line};
 use crate::tickets::{ask_line, cancel_line, redo_line, step_line, undo_line};
 use crate::told::{cost_line, listing_line, program_line, run_line};
+use crate::written::line_of;
 use daig_session::Session;
 use domain_laws::{Domain, Steps};
 use line_replies::line_refusal;
 use plain_values::Memory;
-use request_json::{Request, read_request, reply_line};
+use request_json::{ReadError, Reply, Request, read_request};
 use std::alloc::Global;
 use std::sync::ledger::Ledger;
 
@@ -57,6 +60,15 @@ fn request_line<D: Domain, L: Ledger>(
     }
 }
 
+/// The line that tells why a line is no request. For want of memory there is none.
+fn unread_line(alloc: Global, error: ReadError) -> Result<Vec<u8>, Memory>
+    ensures line { IfOk result (λ v. v.items ≡ reply_text (Reply.Refused (line_refusal error))) }
+    ensures no_memory { IfOk result (λ _. error ≡ ReadError.Memory → ⊥) }
+{
+    let reply = line_refusal(error)?;
+    line_of(alloc, reply)
+}
+
 /// The answer to a line: what the machine that the session stands for replies, and the session then stands for the machine
 /// after it. The number of the next ticket rises by one at most.
 ///
@@ -85,9 +97,6 @@ pub fn answer_line<D: Domain, L: Ledger>(
 {
     match read_request(alloc, line) {
         Ok(request) => request_line(alloc, session, request, steps),
-        Err(error) => {
-            let reply = line_refusal(error)?;
-            reply_line(alloc, &reply)
-        }
+        Err(error) => unread_line(alloc, error),
     }
 }

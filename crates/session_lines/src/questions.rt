@@ -9,9 +9,9 @@ ghost use Rattle.request_json.specs.Replies.{reply_text};
 ghost use Rattle.line_replies.specs.States.{answer_reply, layout_at};
 ghost use Rattle.imp_check.specs.Slots.{routines_of};
 ghost use Rattle.line_answers.specs.Turns.{report_turn, state_turn, why_turn};
-ghost use Rattle.session_lines.specs.Followed.{Follows, IsHalted, TellsWhy};
+ghost use Rattle.session_lines.specs.Followed.{query_refusal, Follows, IsHalted};
 
-use crate::written::{line_of, refused};
+use crate::written::{line_of, refused_if};
 use daig_graph::Value;
 use daig_session::{QueryError, Session};
 use domain_laws::{Domain, Steps};
@@ -45,13 +45,13 @@ pub(crate) fn value_line<D: Domain>(
     line_of(alloc, reply)
 }
 
-/// The line of a question without an answer, which tells why it is refused. For want of memory there is none.
-fn unanswered_line(alloc: Global, error: QueryError) -> Result<Vec<u8>, Memory>
-    ensures tells { TellsWhy result (λ v. v.items) error }
+/// Why a question has no answer; nothing for want of memory.
+fn query_refusal(error: QueryError) -> Option<Refusal>
+    ensures is { result ≡ query_refusal error }
 {
     match error {
-        QueryError::Refused(why) => refused(alloc, Refusal::Query(why)),
-        QueryError::Memory => Err(Memory),
+        QueryError::Refused(why) => Some(Refusal::Query(why)),
+        QueryError::Memory => None,
     }
 }
 
@@ -74,7 +74,7 @@ pub(crate) fn state_line<D: Domain, L: Ledger>(
     let string = numbers_of(alloc, &query.string)?;
     match session.query(alloc, &query.at, string.as_slice(), steps) {
         Ok(value) => value_line(alloc, session, &query.at, &value),
-        Err(error) => unanswered_line(alloc, error),
+        Err(error) => refused_if(alloc, query_refusal(error)),
     }
 }
 
@@ -97,7 +97,7 @@ pub(crate) fn why_line<D: Domain, L: Ledger>(
     let string = numbers_of(alloc, &query.string)?;
     match session.why(alloc, &query.at, string.as_slice(), steps) {
         Ok(stmts) => line_of(alloc, Reply::Why(stmts)),
-        Err(error) => unanswered_line(alloc, error),
+        Err(error) => refused_if(alloc, query_refusal(error)),
     }
 }
 

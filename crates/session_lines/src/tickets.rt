@@ -3,10 +3,10 @@ ghost use Rattle.std.specs.Prelude.{◌≡◌, ◌+◌, ◌<◌, ◌≤◌, ◌^
 ghost use Rattle.session_machine.specs.Machine.{Machine, ticket_of};
 ghost use Rattle.daig_session.specs.Holds.{Holds, IsReady};
 ghost use Rattle.line_answers.specs.Turns.{ask_turn, cancel_turn, redo_turn, step_turn, undo_turn};
-ghost use Rattle.session_lines.specs.Followed.{missing_for_ticket, Follows, IsHalted};
+ghost use Rattle.session_lines.specs.Followed.{ask_refusal, missing_for_ticket, move_refusal, step_refusal, Follows, IsHalted, TellsTurn};
 
 use crate::questions::value_line;
-use crate::written::{line_of, refused};
+use crate::written::{line_of, refused, refused_if};
 use daig_session::{AskError, Session, StepError, Turn, UndoError};
 use domain_laws::{Domain, Steps};
 use imp_syntax::Location;
@@ -15,6 +15,38 @@ use plain_values::Memory;
 use request_json::{Query, Refusal, Reply};
 use std::alloc::Global;
 use std::sync::ledger::Ledger;
+
+/// Why a ticket is not opened; nothing for want of memory.
+fn ask_refusal(error: AskError) -> Option<Refusal>
+    ensures is { result ≡ ask_refusal error }
+{
+    match error {
+        AskError::Refused(why) => Some(Refusal::Query(why)),
+        AskError::Full => Some(Refusal::ManyTickets),
+        AskError::Memory => None,
+    }
+}
+
+/// Why a ticket is not stepped; nothing for want of memory.
+fn step_refusal(error: StepError) -> Option<Refusal>
+    ensures is { result ≡ step_refusal error }
+{
+    match error {
+        StepError::NoTicket => Some(Refusal::NoTicket),
+        StepError::Gone => Some(Refusal::Gone),
+        StepError::Memory => None,
+    }
+}
+
+/// Why the program stays: this, where there is none to go to; nothing for want of memory.
+fn move_refusal(error: UndoError, otherwise: Refusal) -> Option<Refusal>
+    ensures is { result ≡ move_refusal error otherwise }
+{
+    match error {
+        UndoError::Nothing => Some(otherwise),
+        UndoError::Memory => None,
+    }
+}
 
 /// A ticket for the state at a location.
 pub(crate) fn ask_line<D: Domain>(
@@ -37,9 +69,7 @@ pub(crate) fn ask_line<D: Domain>(
     let string = numbers_of(alloc, &string)?;
     match session.ask(alloc, at, string) {
         Ok(_) => Ok(line),
-        Err(AskError::Refused(why)) => refused(alloc, Refusal::Query(why)),
-        Err(AskError::Full) => refused(alloc, Refusal::ManyTickets),
-        Err(AskError::Memory) => Err(Memory),
+        Err(error) => refused_if(alloc, ask_refusal(error)),
     }
 }
 
@@ -52,6 +82,21 @@ fn copied(at: &Location) -> Result<Location, Memory>
         Location::After(n) => Ok(Location::After(*n)),
         Location::Head(n) => Ok(Location::Head(*n)),
         Location::End(name) => Ok(Location::End(name.clone()?)),
+    }
+}
+
+/// The line of a step: how many cells it filled, or the answer, told by the variables at a location.
+fn turn_line<D: Domain>(
+    alloc: Global,
+    session: &Session<D>,
+    at: &Location,
+    turn: Turn<D::State>,
+) -> Result<Vec<u8>, Memory>
+    ensures tells { TellsTurn result (λ v. v.items) (D.operations session.now.engine.domain) (Holds (D.operations session.now.engine.domain) session.now.engine.store session.now.book) at.now turn }
+{
+    match turn {
+        Turn::Pending(filled) => line_of(alloc, Reply::Pending(filled as u64)),
+        Turn::Done(value) => value_line(alloc, session, at, &value),
     }
 }
 
@@ -77,11 +122,8 @@ pub(crate) fn step_line<D: Domain, L: Ledger>(
     };
     let at = copied(at)?;
     match session.step(alloc, ticket, n, steps) {
-        Ok(Turn::Pending(filled)) => line_of(alloc, Reply::Pending(filled as u64)),
-        Ok(Turn::Done(value)) => value_line(alloc, session, &at, &value),
-        Err(StepError::NoTicket) => refused(alloc, Refusal::NoTicket),
-        Err(StepError::Gone) => refused(alloc, Refusal::Gone),
-        Err(StepError::Memory) => Err(Memory),
+        Ok(turn) => turn_line(alloc, session, &at, turn),
+        Err(error) => refused_if(alloc, step_refusal(error)),
     }
 }
 
@@ -124,8 +166,7 @@ pub(crate) fn undo_line<D: Domain>(
     let line = line_of(alloc, Reply::Next(session.next()))?;
     match session.undo(alloc) {
         Ok(_) => Ok(line),
-        Err(UndoError::Nothing) => refused(alloc, Refusal::NothingToUndo),
-        Err(UndoError::Memory) => Err(Memory),
+        Err(error) => refused_if(alloc, move_refusal(error, Refusal::NothingToUndo)),
     }
 }
 
@@ -146,7 +187,6 @@ pub(crate) fn redo_line<D: Domain>(
     let line = line_of(alloc, Reply::Next(session.next()))?;
     match session.redo(alloc) {
         Ok(_) => Ok(line),
-        Err(UndoError::Nothing) => refused(alloc, Refusal::NothingToRedo),
-        Err(UndoError::Memory) => Err(Memory),
+        Err(error) => refused_if(alloc, move_refusal(error, Refusal::NothingToRedo)),
     }
 }

@@ -3,7 +3,7 @@ ghost use Rattle.std.specs.Prelude.{◌≡◌, ◌<◌, IfOk};
 ghost use Rattle.daig_session.specs.Holds.{IsReady};
 
 use crate::texts::{next_of, table_of};
-use crate::turns::{asked, queried, replaced, stepped};
+use crate::turns::{asked, queried, queried_twice, replaced, stepped};
 use daig_session::Session;
 use domain_laws::{Domain, Steps};
 use imp_syntax::{Location, StmtId};
@@ -20,6 +20,8 @@ pub(crate) enum Line<'a> {
     After(u32),
     /// What is answered in front of a statement.
     Before(u32),
+    /// What is answered behind a statement, twice, each with its cost.
+    Twice(u32),
     /// A ticket for the place behind a statement is opened.
     Ask(u32),
     /// So many cells are filled for a ticket.
@@ -38,11 +40,7 @@ pub(crate) struct Setup<'a> {
 }
 
 /// A session with a program.
-pub(crate) fn started<D: Domain + Drop>(
-    alloc: Global,
-    domain: D,
-    setup: Setup<'_>,
-) -> Result<Session<D>, Fail>
+fn started<D: Domain + Drop>(alloc: Global, domain: D, setup: Setup<'_>) -> Result<Session<D>, Fail>
     ensures ready { IfOk result (λ s. IsReady (D.operations s.engine.domain) s.engine.store s.book) }
 {
     if setup.memo == 0 {
@@ -66,7 +64,7 @@ pub(crate) fn started<D: Domain + Drop>(
 }
 
 /// What a line tells.
-pub(crate) fn play<D: Domain, L: Ledger>(
+fn play<D: Domain, L: Ledger>(
     alloc: Global,
     session: &mut Session<D>,
     line: Line<'_>,
@@ -78,6 +76,9 @@ pub(crate) fn play<D: Domain, L: Ledger>(
     match line {
         Line::After(stmt) => queried(alloc, session, &Location::After(StmtId::new(stmt)), steps),
         Line::Before(stmt) => queried(alloc, session, &Location::Before(StmtId::new(stmt)), steps),
+        Line::Twice(stmt) => {
+            queried_twice(alloc, session, &Location::After(StmtId::new(stmt)), steps)
+        }
         Line::Ask(stmt) => asked(alloc, session, Location::After(StmtId::new(stmt))),
         Line::Step(ticket, most) => stepped(alloc, session, ticket, most, steps),
         Line::Replace(stmt, text) => replaced(alloc, session, stmt, text),
@@ -102,20 +103,20 @@ fn lines<D: Domain, L: Ledger>(
     Ok(all)
 }
 
-fn counted<D: Domain + Drop, L: Ledger>(
+/// What the lines tell; nothing is counted.
+fn counted<D: Domain, L: Ledger>(
     alloc: Global,
     blank: Blank,
-    domain: D,
-    setup: Setup<'_>,
+    session: &mut Session<D>,
     script: &[Line<'_>],
 ) -> Result<String, Fail>
     requires name { blank.name ≡ L.name }
     requires parts { blank.parts ≡ L.parts }
     requires some { 0 < blank.parts }
+    requires ready { IsReady (D.operations session.old.engine.domain) session.old.engine.store session.old.book }
 {
     let mut steps = Steps::<L>::new(blank);
-    let mut session = started(alloc, domain, setup)?;
-    lines(alloc, &mut session, script, &mut steps)
+    lines(alloc, session, script, &mut steps)
 }
 
 /// What a script tells of a program, over a domain.
@@ -125,5 +126,6 @@ pub(crate) fn told<D: Domain + Drop>(
     setup: Setup<'_>,
     script: &[Line<'_>],
 ) -> Result<String, Fail> {
-    counted::<D, Brand>(alloc, Blank::new(1), domain, setup, script)
+    let mut session = started(alloc, domain, setup)?;
+    counted::<D, Brand>(alloc, Blank::new(1), &mut session, script)
 }

@@ -1,5 +1,6 @@
 //! Calls of a session, and the texts of what they answer.
 ghost use Rattle.std.specs.Prelude.{◌≡◌, IfOk};
+ghost use Rattle.imp_edit.specs.Edited.{Continues};
 ghost use Rattle.daig_session.specs.Holds.{IsReady};
 
 use crate::edits::replacement;
@@ -9,7 +10,8 @@ use daig_graph::Value;
 use daig_session::{Session, Turn};
 use domain_laws::{Domain, Steps};
 use imp_check::Table;
-use imp_syntax::{Location, ProcId};
+use imp_edit::EditError;
+use imp_syntax::{Edit, Location, ProcId};
 use plain_values::Items;
 use std::alloc::Global;
 use std::sync::ledger::Ledger;
@@ -56,6 +58,25 @@ pub(crate) fn queried<D: Domain, L: Ledger>(
     }
 }
 
+/// What is answered at a location, with its cost; and what is answered there again, with its cost and the cells that the
+/// first question kept.
+pub(crate) fn queried_twice<D: Domain, L: Ledger>(
+    alloc: Global,
+    session: &mut Session<D>,
+    at: &Location,
+    steps: &mut Steps<L>,
+) -> Result<String, Fail>
+    requires ready { IsReady (D.operations session.old.engine.domain) session.old.engine.store session.old.book }
+    ensures ready { IfOk result (λ _. IsReady (D.operations session.new.engine.domain) session.new.engine.store session.new.book) }
+{
+    let first = queried(alloc, session, at, steps)?;
+    let none = session.cost();
+    let kept = session.kept_count() as u64;
+    let again = queried(alloc, session, at, steps)?;
+    let all = session.cost().saturating_add(kept);
+    Ok(format!(in alloc; "{first} {none}; {again} {all}")?)
+}
+
 /// Opens a ticket for a location.
 pub(crate) fn asked<D: Domain>(
     alloc: Global,
@@ -96,6 +117,32 @@ pub(crate) fn stepped<D: Domain, L: Ledger>(
     }
 }
 
+/// The text of the next number.
+fn next_text(alloc: Global, next: u32) -> Result<String, Fail> {
+    Ok(format!(in alloc; "next {next}")?)
+}
+
+/// The text of why an edit is refused.
+fn refusal_text(alloc: Global, why: EditError) -> Result<String, Fail> {
+    Ok(format!(in alloc; "{why}")?)
+}
+
+/// Makes an edit.
+fn edited<D: Domain>(alloc: Global, session: &mut Session<D>, edit: &Edit) -> Result<String, Fail>
+    requires ready { IsReady (D.operations session.old.engine.domain) session.old.engine.store session.old.book }
+    requires continues { Continues edit.now session.old.book.next }
+    ensures ready { IfOk result (λ _. IsReady (D.operations session.new.engine.domain) session.new.engine.store session.new.book) }
+{
+    match session.prepare(alloc, edit) {
+        Ok(prepared) => {
+            let next = prepared.next();
+            prepared.commit();
+            next_text(alloc, next)
+        }
+        Err(why) => refusal_text(alloc, why),
+    }
+}
+
 /// Makes the action of a text of a statement.
 pub(crate) fn replaced<D: Domain>(
     alloc: Global,
@@ -107,12 +154,5 @@ pub(crate) fn replaced<D: Domain>(
     ensures ready { IfOk result (λ _. IsReady (D.operations session.new.engine.domain) session.new.engine.store session.new.book) }
 {
     let edit = replacement(alloc, stmt, text, session.next())?;
-    match session.prepare(alloc, &edit) {
-        Ok(prepared) => {
-            let next = prepared.next();
-            prepared.commit();
-            Ok(format!(in alloc; "next {next}")?)
-        }
-        Err(why) => Ok(format!(in alloc; "{why}")?),
-    }
+    edited(alloc, session, &edit)
 }

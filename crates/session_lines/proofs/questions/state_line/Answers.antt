@@ -1,10 +1,12 @@
-use Rattle.std.proofs.Common.{◌≡◌, ℕ, List, Ok, ap, subst, ◌∙◌}
+use Rattle.std.proofs.Common.{◌≡◌, ℕ, List, Option, Ok, ap, subst, ◌∙◌}
 use Rattle.imp_check.specs.Slots.{routines_of}
 use Rattle.session_machine.specs.Turns.{answer_at, asked}
 use Rattle.daig_session.specs.Holds.{Holds}
 use Rattle.daig_session.specs.Turns.{Fails, Questions}
+use Rattle.request_json.specs.declared.reply.Refusal.{Refusal}
 use Rattle.line_replies.specs.States.{answer_reply, layout_at}
 use Rattle.line_answers.specs.Turns.{state_by, state_turn}
+use Rattle.session_lines.specs.Followed.{Tells}
 use Rattle.session_lines.proofs.Replied.{Writes, follows}
 use Rattle.session_lines.proofs.Turned.{state_answered, unanswered_follows, unanswered_halts}
 use Rattle.session_lines.proofs.questions.state_line.Goals as goal
@@ -28,7 +30,8 @@ returns-clause-turn g c = λ m h.
     let stands = Holds (g.D.Domain.operations c.query.new.self.engine.domain) c.query.new.self.engine.store c.query.new.self.book in
     let string : c.as_slice.result.now ≡ query.string = c.as_slice.ensures.same ∙ c.in_ok-string.ensures.numbers in
     let fails : Fails dom m stands query.at query.string c.in-Err.error = subst (λ (s : List ℕ). Fails dom m stands query.at s c.in-Err.error) string (c.in-Err.ensures.answers m h) in
-    unanswered_follows dom m stands query (state_turn dom query m) (λ why is. ap (λ a. state_by dom query a m) is) c.unanswered_line.result (λ v. v.items) c.in-Err.error fails c.unanswered_line.ensures.tells
+    unanswered_follows dom m stands query (state_turn dom query m) (λ why is. ap (λ a. state_by dom query a m) is) c.refused_if.result (λ v. v.items) c.in-Err.error fails
+    (subst (λ (why : Option Refusal). Tells c.refused_if.result (λ v. v.items) why) c.query_refusal.ensures.is c.refused_if.ensures.tells)
 
 pub returns-clause-between : goal.returns-clause-between
 returns-clause-between g c = λ m h.
@@ -37,4 +40,4 @@ returns-clause-between g c = λ m h.
     let stands = Holds (g.D.Domain.operations c.query.new.self.engine.domain) c.query.new.self.engine.store c.query.new.self.book in
     let string : c.as_slice.result.now ≡ query.string = c.as_slice.ensures.same ∙ c.in_ok-string.ensures.numbers in
     let fails : Fails dom m stands query.at query.string c.in-Err.error = subst (λ (s : List ℕ). Fails dom m stands query.at s c.in-Err.error) string (c.in-Err.ensures.answers m h) in
-    unanswered_halts dom m stands query (state_turn dom query m) (λ why is. ap (λ a. state_by dom query a m) is) c.unanswered_line.result (λ v. v.items) c.in-Err.error fails
+    unanswered_halts dom m stands query (state_turn dom query m) (λ why is. ap (λ a. state_by dom query a m) is) c.refused_if.result (λ v. v.items) c.in-Err.error fails

@@ -1,9 +1,11 @@
-use Rattle.std.proofs.Common.{◌≡◌, ℕ, List, Ok, ap, subst, ◌∙◌}
+use Rattle.std.proofs.Common.{◌≡◌, ℕ, List, Option, Ok, ap, subst, ◌∙◌}
 use Rattle.session_machine.specs.Turns.{missing_at}
 use Rattle.daig_session.specs.Holds.{Holds}
 use Rattle.daig_session.specs.Turns.{Explains, Fails}
 use Rattle.request_json.specs.declared.reply.Reply.TheVariants as r
+use Rattle.request_json.specs.declared.reply.Refusal.{Refusal}
 use Rattle.line_answers.specs.Turns.{why_by, why_turn}
+use Rattle.session_lines.specs.Followed.{Tells}
 use Rattle.session_lines.proofs.Replied.{follows, halted_after}
 use Rattle.session_lines.proofs.Turned.{why_answered, unanswered_follows, unanswered_halts}
 use Rattle.session_lines.proofs.questions.why_line.Goals as goal
@@ -33,7 +35,8 @@ returns-clause-turn g c = λ m h.
     let stands = Holds (g.D.Domain.operations c.why.new.self.engine.domain) c.why.new.self.engine.store c.why.new.self.book in
     let string : c.as_slice.result.now ≡ query.string = c.as_slice.ensures.same ∙ c.in_ok-string.ensures.numbers in
     let fails : Fails dom m stands query.at query.string c.in-Err.error = subst (λ (s : List ℕ). Fails dom m stands query.at s c.in-Err.error) string (c.in-Err.ensures.explains m h) in
-    unanswered_follows dom m stands query (why_turn dom query m) (λ why is. ap (λ a. why_by dom query a m) is) c.unanswered_line.result (λ v. v.items) c.in-Err.error fails c.unanswered_line.ensures.tells
+    unanswered_follows dom m stands query (why_turn dom query m) (λ why is. ap (λ a. why_by dom query a m) is) c.refused_if.result (λ v. v.items) c.in-Err.error fails
+    (subst (λ (why : Option Refusal). Tells c.refused_if.result (λ v. v.items) why) c.query_refusal.ensures.is c.refused_if.ensures.tells)
 
 pub returns-clause-between : goal.returns-clause-between
 returns-clause-between g c = λ m h.
@@ -42,4 +45,4 @@ returns-clause-between g c = λ m h.
     let stands = Holds (g.D.Domain.operations c.why.new.self.engine.domain) c.why.new.self.engine.store c.why.new.self.book in
     let string : c.as_slice.result.now ≡ query.string = c.as_slice.ensures.same ∙ c.in_ok-string.ensures.numbers in
     let fails : Fails dom m stands query.at query.string c.in-Err.error = subst (λ (s : List ℕ). Fails dom m stands query.at s c.in-Err.error) string (c.in-Err.ensures.explains m h) in
-    unanswered_halts dom m stands query (why_turn dom query m) (λ why is. ap (λ a. why_by dom query a m) is) c.unanswered_line.result (λ v. v.items) c.in-Err.error fails
+    unanswered_halts dom m stands query (why_turn dom query m) (λ why is. ap (λ a. why_by dom query a m) is) c.refused_if.result (λ v. v.items) c.in-Err.error fails

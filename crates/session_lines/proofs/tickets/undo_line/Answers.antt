@@ -1,33 +1,22 @@
-use Rattle.std.proofs.Common.{Err, subst}
+use Rattle.std.proofs.Common.{Option, subst}
 use Rattle.session_machine.specs.Turns.{undone}
-use Rattle.daig_session.specs.declared.error.UndoError.TheVariants as undo
 use Rattle.daig_session.specs.Holds.{Holds}
-use Rattle.daig_session.specs.Turns.{Goes}
-use Rattle.request_json.specs.declared.reply.Reply.TheVariants as r
+use Rattle.request_json.specs.declared.reply.Refusal.{Refusal}
 use Rattle.request_json.specs.declared.reply.Refusal.TheVariants as refusal
-use Rattle.line_answers.specs.Turns.{undo_turn}
-use Rattle.session_lines.proofs.Replied.{follows, on_error}
-use Rattle.session_lines.proofs.Turned.{move_none}
+use Rattle.session_lines.specs.Followed.{Tells}
+use Rattle.session_lines.proofs.Replied.{on_error}
+use Rattle.session_lines.proofs.Turned.{unmoved_follows, unmoved_stays}
 use Rattle.session_lines.proofs.tickets.undo_line.Goals as goal
 
-pub returns-in-Err-Nothing-clause-turn : goal.returns-in-Err-Nothing-clause-turn
-returns-in-Err-Nothing-clause-turn g c = λ m h.
+pub returns-clause-turn : goal.returns-clause-turn
+returns-clause-turn g c = λ m h.
     let dom = g.D.Domain.operations c.args.session.now.engine.domain in
     let stands = Holds (g.D.Domain.operations c.undo.new.self.engine.domain) c.undo.new.self.engine.store c.undo.new.self.book in
-    let goes : Goes m stands m.past (undone dom m) (Err undo.Nothing) =
-    subst (λ why. Goes m stands m.past (undone dom m) (Err why)) c.in-Err-Nothing.field-0-is (c.in-Err-Nothing.ensures.goes m h) in
-    follows c.refused.result (λ v. v.items) (undo_turn dom m) stands (r.Refused refusal.NothingToUndo) (move_none m stands m.past refusal.NothingToUndo (undone dom m) goes) c.refused.ensures.line
-
-pub returns-in-Err-Nothing-clause-unchanged : goal.returns-in-Err-Nothing-clause-unchanged
-returns-in-Err-Nothing-clause-unchanged g c = λ m h.
-    let dom = g.D.Domain.operations c.args.session.now.engine.domain in
-    let stands = Holds (g.D.Domain.operations c.undo.new.self.engine.domain) c.undo.new.self.engine.store c.undo.new.self.book in
-    let goes : Goes m stands m.past (undone dom m) (Err undo.Nothing) =
-    subst (λ why. Goes m stands m.past (undone dom m) (Err why)) c.in-Err-Nothing.field-0-is (c.in-Err-Nothing.ensures.goes m h) in
-    on_error c.refused.result (stands m) goes.1
+    unmoved_follows m stands c.refused_if.result (λ v. v.items) m.past refusal.NothingToUndo (undone dom m) c.in-Err.error (c.in-Err.ensures.goes m h)
+    (subst (λ (why : Option Refusal). Tells c.refused_if.result (λ v. v.items) why) c.move_refusal.ensures.is c.refused_if.ensures.tells)
 
 pub returns-clause-unchanged : goal.returns-clause-unchanged
 returns-clause-unchanged g c = λ m h.
     let dom = g.D.Domain.operations c.args.session.now.engine.domain in
     let stands = Holds (g.D.Domain.operations c.undo.new.self.engine.domain) c.undo.new.self.engine.store c.undo.new.self.book in
-    subst (λ why. Goes m stands m.past (undone dom m) (Err why)) c.in-Err-Memory.field-0-is (c.in-Err-Memory.ensures.goes m h)
+    on_error c.refused_if.result (stands m) (unmoved_stays m stands m.past (undone dom m) c.in-Err.error (c.in-Err.ensures.goes m h))
