@@ -1,11 +1,9 @@
-use Rattle.std.proofs.Common.{◌≡◌, refl}
+use Rattle.std.proofs.Common.{refl}
 use Rattle.std.specs.Option.{option_copied}
-use Rattle.request_json.specs.declared.request.Request.{Request}
 use Rattle.request_json.specs.declared.request.Request.TheVariants as q
 use Rattle.line_answers.specs.Turns.{cost_turn, listing_turn, program_turn}
 use Rattle.line_answers.specs.Lines.{request_turn}
-use Rattle.session_lines.specs.Followed.{Edits}
-use Rattle.session_lines.proofs.Answered.{halted, ran, told, turned}
+use Rattle.session_lines.proofs.Answered.{edits_not_filled, filled_not, halted, not_filled, only_edits, ran, told, turned}
 use Rattle.session_lines.proofs.answer.request_line.Goals as goal
 
 pub returns-in-State-clause-turn : goal.returns-in-State-clause-turn
@@ -92,29 +90,50 @@ returns-in-Run-clause-turn g c = λ readings m h.
     turned c.run_line.result (λ v. v.items) (g.D.Domain.operations c.args.session.now.engine.domain) m _ readings c.args.request (q.Run c.in-Run.inputs c.in-Run.fuel c.in-Run.at) c.in-Run.is
     (ran c.run_line.result (λ v. v.items) m _ c.in-Run.inputs c.as_slice.result.now c.in-Run.fuel c.in-Run.at (option_copied c.as_ref.result) c.as_slice.ensures.same c.as_ref.ensures.value h (c.run_line.ensures.line m h))
 
+pub returns-in-State-clause-unchanged : goal.returns-in-State-clause-unchanged
+returns-in-State-clause-unchanged g c = λ m h other. filled_not c.args.request (q.State c.in-State.query) c.in-State.is tt other
+
+pub returns-in-Why-clause-unchanged : goal.returns-in-Why-clause-unchanged
+returns-in-Why-clause-unchanged g c = λ m h other. filled_not c.args.request (q.Why c.in-Why.query) c.in-Why.is tt other
+
+pub returns-in-Report-clause-unchanged : goal.returns-in-Report-clause-unchanged
+returns-in-Report-clause-unchanged g c = λ m h other. filled_not c.args.request q.Report c.in-Report.is tt other
+
+pub returns-in-Step-clause-unchanged : goal.returns-in-Step-clause-unchanged
+returns-in-Step-clause-unchanged g c = λ m h other. filled_not c.args.request (q.Step c.in-Step.ticket c.in-Step.n) c.in-Step.is tt other
+
+pub returns-in-Undo-clause-between : goal.returns-in-Undo-clause-between
+returns-in-Undo-clause-between g c = λ readings m fills h. not_filled c.args.request q.Undo c.in-Undo.is (λ none. none) fills
+
+pub returns-in-Redo-clause-between : goal.returns-in-Redo-clause-between
+returns-in-Redo-clause-between g c = λ readings m fills h. not_filled c.args.request q.Redo c.in-Redo.is (λ none. none) fills
+
+pub returns-in-Ask-clause-between : goal.returns-in-Ask-clause-between
+returns-in-Ask-clause-between g c = λ readings m fills h. not_filled c.args.request (q.Ask c.in-Ask.query) c.in-Ask.is (λ none. none) fills
+
+pub returns-in-Cancel-clause-between : goal.returns-in-Cancel-clause-between
+returns-in-Cancel-clause-between g c = λ readings m fills h. not_filled c.args.request (q.Cancel c.in-Cancel.ticket) c.in-Cancel.is (λ none. none) fills
+
+pub returns-in-Cost-clause-between : goal.returns-in-Cost-clause-between
+returns-in-Cost-clause-between g c = λ readings m fills h. not_filled c.args.request q.Cost c.in-Cost.is (λ none. none) fills
+
+pub returns-in-Program-clause-between : goal.returns-in-Program-clause-between
+returns-in-Program-clause-between g c = λ readings m fills h. not_filled c.args.request q.Program c.in-Program.is (λ none. none) fills
+
+pub returns-in-Listing-clause-between : goal.returns-in-Listing-clause-between
+returns-in-Listing-clause-between g c = λ readings m fills h. not_filled c.args.request q.Listing c.in-Listing.is (λ none. none) fills
+
+pub returns-in-Run-clause-between : goal.returns-in-Run-clause-between
+returns-in-Run-clause-between g c = λ readings m fills h. not_filled c.args.request (q.Run c.in-Run.inputs c.in-Run.fuel c.in-Run.at) c.in-Run.is (λ none. none) fills
+
 pub returns-in_default-clause-turn : goal.returns-in_default-clause-turn
 returns-in_default-clause-turn g c = λ readings m h.
     let other = c.in_default in
-    let edits : Edits c.args.request =
-    (elim c.args.request as (λ (z : Request). c.args.request ≡ z → Edits z) [
-      | q.State query ↦ λ is. absurd (other.not-State query is)
-      | q.Report ↦ λ is. absurd (other.not-Report is)
-      | q.Cost ↦ λ is. absurd (other.not-Cost is)
-      | q.Program ↦ λ is. absurd (other.not-Program is)
-      | q.Listing ↦ λ is. absurd (other.not-Listing is)
-      | q.Run inputs fuel at ↦ λ is. absurd (other.not-Run inputs fuel at is)
-      | q.Replace id text ↦ λ is. tt
-      | q.Insert place text ↦ λ is. tt
-      | q.Delete id ↦ λ is. tt
-      | q.Guard id text ↦ λ is. tt
-      | q.Declare proc name kind ↦ λ is. tt
-      | q.Add before text ↦ λ is. tt
-      | q.Drop proc ↦ λ is. tt
-      | q.Why query ↦ λ is. absurd (other.not-Why query is)
-      | q.Undo ↦ λ is. absurd (other.not-Undo is)
-      | q.Redo ↦ λ is. absurd (other.not-Redo is)
-      | q.Ask query ↦ λ is. absurd (other.not-Ask query is)
-      | q.Step ticket n ↦ λ is. absurd (other.not-Step ticket n is)
-      | q.Cancel ticket ↦ λ is. absurd (other.not-Cancel ticket is)
-    ]) refl in
+    let edits = only_edits c.args.request other.not-State other.not-Report other.not-Cost other.not-Program other.not-Listing other.not-Run other.not-Why other.not-Undo other.not-Redo other.not-Ask other.not-Step other.not-Cancel in
     c.edit_request.ensures.turn readings m edits h
+
+pub returns-in_default-clause-between : goal.returns-in_default-clause-between
+returns-in_default-clause-between g c = λ readings m fills h.
+    let other = c.in_default in
+    let edits = only_edits c.args.request other.not-State other.not-Report other.not-Cost other.not-Program other.not-Listing other.not-Run other.not-Why other.not-Undo other.not-Redo other.not-Ask other.not-Step other.not-Cancel in
+    absurd (edits_not_filled c.args.request edits fills)
