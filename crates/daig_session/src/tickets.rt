@@ -1,9 +1,11 @@
 //! Tickets: questions that are answered in steps.
-ghost use Rattle.std.specs.Prelude.{◌≡◌, ◌+◌, ◌<◌, ◌≤◌, ◌^◌, length, Some, slice_get, slice_set};
+ghost use Rattle.std.specs.Prelude.{◌≡◌, ◌+◌, ◌<◌, ◌≤◌, ◌^◌, length, Err, IfErr, IfOk, OnOk, Some, slice_get, slice_set};
 ghost use Rattle.session_machine.specs.Machine.{Machine, ticket_of};
 ghost use Rattle.open_tickets.specs.declared.tickets.Open.{Open as AnyOpen};
 ghost use Rattle.open_tickets.specs.Tickets.{anew};
 ghost use Rattle.daig_session.specs.declared.book.Going.{Going as AnyGoing};
+ghost use Rattle.daig_session.specs.Books.{flow_in};
+ghost use Rattle.daig_session.specs.Going.{IsGoing};
 ghost use Rattle.daig_session.specs.Holds.{Holds, IsReady};
 ghost use Rattle.daig_session.specs.Turns.{Cancels, Opens};
 
@@ -52,6 +54,25 @@ impl From<QueryError> for AskError {
 }
 
 impl<D: Domain> Session<D> {
+    /// A question that a ticket is to be opened for, or why none is opened.
+    fn asked_going(&self, alloc: Global, at: &Location, string: &[u32]) -> Result<Going, AskError>
+        requires ready { IsReady (D.operations self.now.engine.domain) self.now.engine.store self.now.book }
+        ensures few { OnOk result (length self.now.book.tickets.open_ones.items < 16) }
+        ensures going { IfOk result (IsGoing (D.operations self.now.engine.domain) (flow_in self.now.book) self.now.engine.store at.now string.now) }
+        ensures unopened { (m : Machine) → Holds (D.operations self.now.engine.domain) self.now.engine.store self.now.book m →
+            IfErr result (λ e. Opens (D.operations self.now.engine.domain) m (Holds (D.operations self.now.engine.domain) self.now.engine.store self.now.book) at.now string.now (Err e)) }
+    {
+        if string.len() > 2 {
+            return Err(AskError::Refused(Refusal::LongString));
+        }
+        if self.book.tickets.is_full() {
+            return Err(AskError::Full);
+        }
+        let flow = self.book.flow();
+        let going = begun(alloc, &self.engine, &flow, at, string)?;
+        Ok(going)
+    }
+
     /// Opens a ticket for a question, and gives its number. Nothing is computed yet.
     ///
     /// # Errors
@@ -68,14 +89,7 @@ impl<D: Domain> Session<D> {
         ensures opens { (m : Machine) → Holds (D.operations self.old.engine.domain) self.old.engine.store self.old.book m →
             Opens (D.operations self.old.engine.domain) m (Holds (D.operations self.new.engine.domain) self.new.engine.store self.new.book) at string result }
     {
-        if string.len() > 2 {
-            return Err(AskError::Refused(Refusal::LongString));
-        }
-        if self.book.tickets.is_full() {
-            return Err(AskError::Full);
-        }
-        let flow = self.book.flow();
-        let going = begun(alloc, &self.engine, &flow, &at, string.as_slice())?;
+        let going = self.asked_going(alloc, &at, string.as_slice())?;
         let number = self.book.tickets.add(at, string, going)?;
         Ok(number)
     }
