@@ -29,8 +29,8 @@ returns-in-Ok-clause-between g c = λ readings m fills h.
 pub returns-in-Ok-clause-unchanged : goal.returns-in-Ok-clause-unchanged
 returns-in-Ok-clause-unchanged g c = λ m h other. c.request_line.ensures.unchanged m h (λ fills. other (subst Fills (sym c.in-Ok.ensures.request) fills))
 
-pub returns-clause-turn : goal.returns-clause-turn
-returns-clause-turn g c = λ readings m h.
+pub returns-in-Err-clause-turn : goal.returns-in-Err-clause-turn
+returns-in-Err-clause-turn g c = λ readings m h.
     let now = c.args.session.now in
     let dom = g.D.Domain.operations now.engine.domain in
     let stands = Holds dom now.engine.store now.book in
@@ -39,8 +39,8 @@ returns-clause-turn g c = λ readings m h.
     (λ other. subst (λ (q : Result Request ReadError). IsReplied (read_turn readings dom q m) stands reply) (sym (c.in-Err.ensures.refused other)) (record { is = refl; after = h }))
     c.unread_line.ensures.line
 
-pub returns-clause-between : goal.returns-clause-between
-returns-clause-between g c = λ readings m fills h.
+pub returns-in-Err-clause-between : goal.returns-in-Err-clause-between
+returns-in-Err-clause-between g c = λ readings m fills h.
     let now = c.args.session.now in
     let dom = g.D.Domain.operations now.engine.domain in
     let stands = Holds dom now.engine.store now.book in

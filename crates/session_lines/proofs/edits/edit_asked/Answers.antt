@@ -1,4 +1,5 @@
 use Rattle.std.proofs.Common.{◌≡◌, ℕ, List, Ok, Err, refl, subst}
+use Rattle.imp_syntax.specs.declared.edit.Edit.TheVariants as edit
 use Rattle.request_json.specs.declared.request.Request.{Request}
 use Rattle.request_json.specs.declared.request.Request.TheVariants as q
 use Rattle.request_json.specs.declared.reply.Refusal.TheVariants as refusal
@@ -39,17 +40,17 @@ returns-in-Add-clause-makes c = λ readings.
     (makes (λ (k : Readings). add_of k c.args.next c.in-Add.before c.as_slice-in-Add.result.now) made c.add_of.ensures.made c.add_of.ensures.refused readings))
 
 pub returns-in-Delete-clause-makes : goal.returns-in-Delete-clause-makes
-returns-in-Delete-clause-makes c = λ readings. as_asked readings c.args.next _ c.args.request (q.Delete c.in-Delete.id) c.in-Delete.is refl
+returns-in-Delete-clause-makes c = λ readings. as_asked readings c.args.next (Ok (edit.Delete c.in-Delete.id)) c.args.request (q.Delete c.in-Delete.id) c.in-Delete.is refl
 
 pub returns-in-Declare-clause-makes : goal.returns-in-Declare-clause-makes
 returns-in-Declare-clause-makes c = λ readings.
-    as_asked readings c.args.next _ c.args.request (q.Declare c.in-Declare.proc c.in-Declare.name c.in-Declare.kind) c.in-Declare.is refl
+    as_asked readings c.args.next (Ok (edit.Declare c.in-Declare.proc (record { name = c.in-Declare.name; kind = c.in-Declare.kind }))) c.args.request (q.Declare c.in-Declare.proc c.in-Declare.name c.in-Declare.kind) c.in-Declare.is refl
 
 pub returns-in-Drop-clause-makes : goal.returns-in-Drop-clause-makes
-returns-in-Drop-clause-makes c = λ readings. as_asked readings c.args.next _ c.args.request (q.Drop c.in-Drop.proc) c.in-Drop.is refl
+returns-in-Drop-clause-makes c = λ readings. as_asked readings c.args.next (Ok (edit.DropProc c.in-Drop.proc)) c.args.request (q.Drop c.in-Drop.proc) c.in-Drop.is refl
 
-pub returns-in_default-clause-makes : goal.returns-in_default-clause-makes
-returns-in_default-clause-makes c = λ readings.
+pub returns-clause-makes : goal.returns-clause-makes
+returns-clause-makes c = λ readings.
     let other = c.in_default in
     (elim c.args.request as (λ (z : Request). c.args.request ≡ z → Makes (edit_asked readings c.args.next z) (Err (t.Refused refusal.NoRequest))) [
       | q.State query ↦ λ is. refl

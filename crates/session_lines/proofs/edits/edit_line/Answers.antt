@@ -26,8 +26,8 @@ returns-in-Err-line_of-clause-unchanged g c = λ m h.
     let held = subst (λ (s : Session _ _). Holds (g.D.Domain.operations s.engine.domain) s.engine.store s.book m) (sym c.give_up.ensures.same) (c.in-Ok.ensures.holds m h) in
     search rules
 
-pub returns-clause-turn : goal.returns-clause-turn
-returns-clause-turn g c = λ m h.
+pub returns-in-Err-clause-turn : goal.returns-in-Err-clause-turn
+returns-in-Err-clause-turn g c = λ m h.
     let ops = g.D.Domain.operations in
     let now = c.args.session.now in
     let then = c.prepare.follows.lender-at-none in

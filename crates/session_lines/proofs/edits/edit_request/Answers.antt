@@ -7,7 +7,7 @@ use Rattle.session_lines.proofs.Requested.{made_follows, unmade_follows}
 use Rattle.session_lines.proofs.edits.edit_request.Goals as goal
 
 pub edit_asked-requires : goal.edit_asked-requires
-edit_asked-requires g c = subst (λ (n : ℕ). n ≤ 1000001) (sym c.next-next.ensures.same) c.requires.ready.order.low
+edit_asked-requires g c = record { low = subst (λ (n : ℕ). n ≤ 1000001) (sym c.next-next.ensures.same) c.requires.ready.order.low }
 
 pub edit_line-requires : goal.edit_line-requires
 edit_line-requires g c = record { ready = c.requires.ready; continues = subst (Continues c.in-Ok.edit) c.next-next.ensures.same c.in-Ok.ensures.continues }

@@ -8,15 +8,15 @@ use Rattle.session_lines.proofs.Replied.{on_error}
 use Rattle.session_lines.proofs.Turned.{unmoved_follows, unmoved_stays}
 use Rattle.session_lines.proofs.tickets.redo_line.Goals as goal
 
-pub returns-clause-turn : goal.returns-clause-turn
-returns-clause-turn g c = λ m h.
+pub returns-in-Err-clause-turn : goal.returns-in-Err-clause-turn
+returns-in-Err-clause-turn g c = λ m h.
     let dom = g.D.Domain.operations c.args.session.now.engine.domain in
     let stands = Holds (g.D.Domain.operations c.redo.new.self.engine.domain) c.redo.new.self.engine.store c.redo.new.self.book in
     unmoved_follows m stands c.refused_if.result (λ v. v.items) m.future refusal.NothingToRedo (redone dom m) c.in-Err.error (c.in-Err.ensures.goes m h)
     (subst (λ (why : Option Refusal). Tells c.refused_if.result (λ v. v.items) why) c.move_refusal.ensures.is c.refused_if.ensures.tells)
 
-pub returns-clause-unchanged : goal.returns-clause-unchanged
-returns-clause-unchanged g c = λ m h.
+pub returns-in-Err-clause-unchanged : goal.returns-in-Err-clause-unchanged
+returns-in-Err-clause-unchanged g c = λ m h.
     let dom = g.D.Domain.operations c.args.session.now.engine.domain in
     let stands = Holds (g.D.Domain.operations c.redo.new.self.engine.domain) c.redo.new.self.engine.store c.redo.new.self.book in
     on_error c.refused_if.result (stands m) (unmoved_stays m stands m.future (redone dom m) c.in-Err.error (c.in-Err.ensures.goes m h))

@@ -10,8 +10,8 @@ returns-in-Pending g c =
     let dom = g.D.Domain.operations now.engine.domain in
     record { tells = subst (λ (t : stepping.Turn g.row.D-State.Denot). TellsTurn c.line_of.result (λ v. v.items) dom (Holds dom now.engine.store now.book) c.args.at.now t) (sym c.in-Pending.is) c.line_of.ensures.line }
 
-pub returns : goal.returns
-returns g c =
+pub returns-in-Done : goal.returns-in-Done
+returns-in-Done g c =
     let now = c.args.session.now in
     let dom = g.D.Domain.operations now.engine.domain in
     record { tells = subst (λ (t : stepping.Turn g.row.D-State.Denot). TellsTurn c.value_line.result (λ v. v.items) dom (Holds dom now.engine.store now.book) c.args.at.now t) (sym c.in-Done.is) c.value_line.ensures.line }
