@@ -11,7 +11,7 @@ ghost use Rattle.batch_interp.specs.Reporting.{befores, before_one, in_front, cl
 
 use crate::Answer;
 use crate::claim::Claim;
-use crate::frames::{Frame, Plan};
+use crate::frames::Walk;
 use crate::spots::{assumed, behind_node, copy_of, head_answer};
 use domain_laws::{Domain, Steps, check_of_action};
 use imp_slots::{SlotAction, SlotBlock, SlotNode};
@@ -76,21 +76,18 @@ fn add_claims_in(node: &SlotNode, found: &mut Items<Claim>) -> Result<(), Memory
 #[cycle(befores)]
 #[tactic(auto, using(imp_slots::specs::BlockFalls::node_falls))]
 pub(crate) fn add_befores<D: Domain, L: Ledger>(
-    alloc: Global,
-    dom: &D,
-    plan: &Plan,
-    frame: &Frame,
+    walk: &Walk<D>,
     block: &SlotBlock,
     before: Answer<D::State>,
     found: &mut Items<Answer<D::State>>,
     steps: &mut Steps<L>,
 ) -> Result<(), Memory>
-    ensures added { OnOk result (map value_of found.new ≡ map value_of found.old ++ befores (D.operations dom.now) plan.now frame.now.place frame.now.sites block.now (value_of before)) }
+    ensures added { OnOk result (map value_of found.new ≡ map value_of found.old ++ befores (D.operations walk.now.dom.now) walk.now.plan.now walk.now.frame.now.place walk.now.frame.now.sites block.now (value_of before)) }
 {
     let mut now = before;
     for node in block.statements() {
-        add_in_front(alloc, dom, plan, frame, node, &now, found, steps)?;
-        now = behind_node(alloc, dom, plan, frame, node, now, steps)?;
+        add_in_front(walk, node, &now, found, steps)?;
+        now = behind_node(walk, node, now, steps)?;
     }
     Ok(())
 }
@@ -98,30 +95,27 @@ pub(crate) fn add_befores<D: Domain, L: Ledger>(
 /// Adds what is known in front of a statement, if it has a check, or of those inside it that have one.
 #[cycle(befores)]
 fn add_in_front<D: Domain, L: Ledger>(
-    alloc: Global,
-    dom: &D,
-    plan: &Plan,
-    frame: &Frame,
+    walk: &Walk<D>,
     node: &SlotNode,
     before: &Answer<D::State>,
     found: &mut Items<Answer<D::State>>,
     steps: &mut Steps<L>,
 ) -> Result<(), Memory>
-    ensures added { OnOk result (map value_of found.new ≡ map value_of found.old ++ in_front (D.operations dom.now) plan.now frame.now.place frame.now.sites node.now (value_of before.now)) }
+    ensures added { OnOk result (map value_of found.new ≡ map value_of found.old ++ in_front (D.operations walk.now.dom.now) walk.now.plan.now walk.now.frame.now.place walk.now.frame.now.sites node.now (value_of before.now)) }
 {
     match node {
-        SlotNode::Simple(_, action) => add_one(alloc, dom, action, before, found),
+        SlotNode::Simple(_, action) => add_one(walk.alloc, walk.dom, action, before, found),
         SlotNode::If(_, cond, then, els) => {
-            let holds = assumed(alloc, dom, cond, true, before, steps)?;
-            add_befores(alloc, dom, plan, frame, then, holds, found, steps)?;
-            let fails = assumed(alloc, dom, cond, false, before, steps)?;
-            add_befores(alloc, dom, plan, frame, els, fails, found, steps)
+            let holds = assumed(walk, cond, true, before, steps)?;
+            add_befores(walk, then, holds, found, steps)?;
+            let fails = assumed(walk, cond, false, before, steps)?;
+            add_befores(walk, els, fails, found, steps)
         }
         SlotNode::While(n, cond, body) => {
-            let copy = copy_of(alloc, dom, before)?;
-            let head = head_answer(alloc, dom, plan, frame, *n, cond, body, copy, steps)?;
-            let inside = assumed(alloc, dom, cond, true, &head, steps)?;
-            add_befores(alloc, dom, plan, frame, body, inside, found, steps)
+            let copy = copy_of(walk.alloc, walk.dom, before)?;
+            let head = head_answer(walk, *n, cond, body, copy, steps)?;
+            let inside = assumed(walk, cond, true, &head, steps)?;
+            add_befores(walk, body, inside, found, steps)
         }
         SlotNode::Call(_, _, _) => Ok(()),
         SlotNode::Break(_) => Ok(()),

@@ -10,7 +10,7 @@ ghost use Rattle.batch_interp.specs.Frames.{marks_at, calls_in, passed};
 ghost use Rattle.batch_interp.specs.Passing.{states, Ends, IsFixed};
 
 use crate::Answer;
-use crate::frames::{Frame, Plan};
+use crate::frames::Walk;
 use domain_laws::{Domain, Steps};
 use imp_slots::{SlotAction, SlotBlock, SlotCall, SlotCond, SlotNode, SlotStmt};
 use imp_syntax::{Chain, StmtId};
@@ -58,21 +58,18 @@ pub fn behind_break<D: Domain, L: Ledger>(
 
 /// The next iterate of a loop behind the k-th: joined below the delay, else widened.
 fn next_iterate<D: Domain, L: Ledger>(
-    alloc: Global,
-    dom: &D,
-    plan: &Plan,
-    frame: &Frame,
+    walk: &Walk<D>,
     k: u32,
     state: &D::State,
     end: &D::State,
     steps: &mut Steps<L>,
 ) -> Result<D::State, Memory>
-    ensures value { IfOk result (λ t. t ≡ next_of (D.operations dom.now) plan.now.engine (marks_at plan.now frame.now.place) k state.now end.now) }
+    ensures value { IfOk result (λ t. t ≡ next_of (D.operations walk.now.dom.now) walk.now.plan.now.engine (marks_at walk.now.plan.now walk.now.frame.now.place) k state.now end.now) }
 {
-    if k < plan.delay() {
-        dom.join(alloc, state, end, steps)
+    if k < walk.plan.delay() {
+        walk.dom.join(walk.alloc, state, end, steps)
     } else {
-        dom.widen(alloc, plan.marks(frame.place), state, end, steps)
+        walk.dom.widen(walk.alloc, walk.plan.marks(walk.frame.place), state, end, steps)
     }
 }
 
@@ -98,20 +95,17 @@ pub fn joined_states<D: Domain, L: Ledger>(
 #[cycle(blocks)]
 #[tactic(auto, using(imp_slots::specs::BlockFalls::node_falls))]
 pub(crate) fn block_answer<D: Domain, L: Ledger>(
-    alloc: Global,
-    dom: &D,
-    plan: &Plan,
-    frame: &Frame,
+    walk: &Walk<D>,
     block: &SlotBlock,
     state: D::State,
     leaving: &mut Items<D::State>,
     steps: &mut Steps<L>,
 ) -> Result<Answer<D::State>, Memory>
-    ensures is { IfOk result (Ends leaving.old leaving.new (passed (D.operations dom.now) plan.now frame.now.place frame.now.sites block.now (plain.State state))) }
+    ensures is { IfOk result (Ends leaving.old leaving.new (passed (D.operations walk.now.dom.now) walk.now.plan.now walk.now.frame.now.place walk.now.frame.now.sites block.now (plain.State state))) }
 {
     let mut now = state;
     for node in block.statements() {
-        match node_answer(alloc, dom, plan, frame, node, &now, leaving, steps)? {
+        match node_answer(walk, node, &now, leaving, steps)? {
             Answer::State(next) => now = next,
             Answer::Over { head, chain } => return Ok(Answer::Over { head, chain }),
         }
@@ -122,35 +116,32 @@ pub(crate) fn block_answer<D: Domain, L: Ledger>(
 /// A statement alone, as a block.
 #[cycle(blocks)]
 pub(crate) fn node_answer<D: Domain, L: Ledger>(
-    alloc: Global,
-    dom: &D,
-    plan: &Plan,
-    frame: &Frame,
+    walk: &Walk<D>,
     node: &SlotNode,
     state: &D::State,
     leaving: &mut Items<D::State>,
     steps: &mut Steps<L>,
 ) -> Result<Answer<D::State>, Memory>
-    ensures is { IfOk result (Ends leaving.old leaving.new (passed (D.operations dom.now) plan.now frame.now.place frame.now.sites (before_code node.now Stop) (plain.State state.now))) }
+    ensures is { IfOk result (Ends leaving.old leaving.new (passed (D.operations walk.now.dom.now) walk.now.plan.now walk.now.frame.now.place walk.now.frame.now.sites (before_code node.now Stop) (plain.State state.now))) }
 {
     match node {
         SlotNode::Simple(_, action) => {
-            let next = behind_action(alloc, dom, action, state, steps)?;
+            let next = behind_action(walk.alloc, walk.dom, action, state, steps)?;
             Ok(Answer::State(next))
         }
         SlotNode::If(_, cond, then, els) => {
             if_answer(
-                alloc, dom, plan, frame, cond, then, els, state, leaving, steps,
+                walk, cond, then, els, state, leaving, steps,
             )
         }
         SlotNode::While(n, cond, body) => {
-            while_answer(alloc, dom, plan, frame, *n, cond, body, state, steps)
+            while_answer(walk, *n, cond, body, state, steps)
         }
         SlotNode::Call(n, call, callee) => {
-            call_answer(alloc, dom, plan, frame, *n, call, *callee, state, steps)
+            call_answer(walk, *n, call, *callee, state, steps)
         }
         SlotNode::Break(_) => {
-            let next = behind_break(alloc, dom, state, leaving, steps)?;
+            let next = behind_break(walk.alloc, walk.dom, state, leaving, steps)?;
             Ok(Answer::State(next))
         }
     }
@@ -159,10 +150,7 @@ pub(crate) fn node_answer<D: Domain, L: Ledger>(
 /// Both blocks of an if, joined. The states that leave the first one stand first.
 #[cycle(blocks)]
 fn if_answer<D: Domain, L: Ledger>(
-    alloc: Global,
-    dom: &D,
-    plan: &Plan,
-    frame: &Frame,
+    walk: &Walk<D>,
     cond: &SlotCond,
     then: &SlotBlock,
     els: &SlotBlock,
@@ -170,40 +158,37 @@ fn if_answer<D: Domain, L: Ledger>(
     leaving: &mut Items<D::State>,
     steps: &mut Steps<L>,
 ) -> Result<Answer<D::State>, Memory>
-    ensures is { IfOk result (Ends leaving.old leaving.new (passed (D.operations dom.now) plan.now frame.now.place frame.now.sites (If 0 cond.now then.now els.now Stop) (plain.State state.now))) }
+    ensures is { IfOk result (Ends leaving.old leaving.new (passed (D.operations walk.now.dom.now) walk.now.plan.now walk.now.frame.now.place walk.now.frame.now.sites (If 0 cond.now then.now els.now Stop) (plain.State state.now))) }
 {
-    let holds = dom.assume(alloc, cond, true, state, steps)?;
-    let left = match block_answer(alloc, dom, plan, frame, then, holds, leaving, steps)? {
+    let holds = walk.dom.assume(walk.alloc, cond, true, state, steps)?;
+    let left = match block_answer(walk, then, holds, leaving, steps)? {
         Answer::State(left) => left,
         Answer::Over { head, chain } => return Ok(Answer::Over { head, chain }),
     };
-    let fails = dom.assume(alloc, cond, false, state, steps)?;
-    let right = match block_answer(alloc, dom, plan, frame, els, fails, leaving, steps)? {
+    let fails = walk.dom.assume(walk.alloc, cond, false, state, steps)?;
+    let right = match block_answer(walk, els, fails, leaving, steps)? {
         Answer::State(right) => right,
         Answer::Over { head, chain } => return Ok(Answer::Over { head, chain }),
     };
-    Ok(Answer::State(dom.join(alloc, &left, &right, steps)?))
+    Ok(Answer::State(walk.dom.join(walk.alloc, &left, &right, steps)?))
 }
 
 /// A loop: its head where the condition is false, joined with what leaves the body.
 #[cycle(blocks)]
 fn while_answer<D: Domain, L: Ledger>(
-    alloc: Global,
-    dom: &D,
-    plan: &Plan,
-    frame: &Frame,
+    walk: &Walk<D>,
     n: u32,
     cond: &SlotCond,
     body: &SlotBlock,
     state: &D::State,
     steps: &mut Steps<L>,
 ) -> Result<Answer<D::State>, Memory>
-    ensures is { IfOk result (λ a. value_of a ≡ (passed (D.operations dom.now) plan.now frame.now.place frame.now.sites (While n cond.now body.now Stop) (plain.State state.now)).value) }
+    ensures is { IfOk result (λ a. value_of a ≡ (passed (D.operations walk.now.dom.now) walk.now.plan.now walk.now.frame.now.place walk.now.frame.now.sites (While n cond.now body.now Stop) (plain.State state.now)).value) }
 {
-    match loop_head(alloc, dom, plan, frame, n, cond, body, state, steps)? {
+    match loop_head(walk, n, cond, body, state, steps)? {
         Fixed::At { head, leaving } => {
-            let out = dom.assume(alloc, cond, false, &head, steps)?;
-            let all = joined_states(alloc, dom, out, leaving.as_slice(), steps)?;
+            let out = walk.dom.assume(walk.alloc, cond, false, &head, steps)?;
+            let all = joined_states(walk.alloc, walk.dom, out, leaving.as_slice(), steps)?;
             Ok(Answer::State(all))
         }
         Fixed::Over { head, chain } => Ok(Answer::Over { head, chain }),
@@ -213,27 +198,24 @@ fn while_answer<D: Domain, L: Ledger>(
 /// The iterates of a loop, from the state in front of it until one is the one before it.
 #[cycle(blocks)]
 pub(crate) fn loop_head<D: Domain, L: Ledger>(
-    alloc: Global,
-    dom: &D,
-    plan: &Plan,
-    frame: &Frame,
+    walk: &Walk<D>,
     n: u32,
     cond: &SlotCond,
     body: &SlotBlock,
     state: &D::State,
     steps: &mut Steps<L>,
 ) -> Result<Fixed<D::State>, Memory>
-    ensures is { IfOk result (IsFixed (D.operations dom.now) (head_of (D.operations dom.now) plan.now.engine (marks_at plan.now frame.now.place) frame.now.sites n cond.now (passed (D.operations dom.now) plan.now frame.now.place frame.now.sites body.now) (plain.State state.now)) cond.now (passed (D.operations dom.now) plan.now frame.now.place frame.now.sites body.now)) }
+    ensures is { IfOk result (IsFixed (D.operations walk.now.dom.now) (head_of (D.operations walk.now.dom.now) walk.now.plan.now.engine (marks_at walk.now.plan.now walk.now.frame.now.place) walk.now.frame.now.sites n cond.now (passed (D.operations walk.now.dom.now) walk.now.plan.now walk.now.frame.now.place walk.now.frame.now.sites body.now) (plain.State state.now)) cond.now (passed (D.operations walk.now.dom.now) walk.now.plan.now walk.now.frame.now.place walk.now.frame.now.sites body.now)) }
 {
-    let mut now = dom.copy(alloc, state)?;
-    for k in 0..plan.budget() {
-        let mut leaving = Items::new(alloc);
-        let inside = dom.assume(alloc, cond, true, &now, steps)?;
-        let end = match block_answer(alloc, dom, plan, frame, body, inside, &mut leaving, steps)? {
+    let mut now = walk.dom.copy(walk.alloc, state)?;
+    for k in 0..walk.plan.budget() {
+        let mut leaving = Items::new(walk.alloc);
+        let inside = walk.dom.assume(walk.alloc, cond, true, &now, steps)?;
+        let end = match block_answer(walk, body, inside, &mut leaving, steps)? {
             Answer::State(end) => end,
             Answer::Over { head, chain } => return Ok(Fixed::Over { head, chain }),
         };
-        let next = next_iterate(alloc, dom, plan, frame, k, &now, &end, steps)?;
+        let next = next_iterate(walk, k, &now, &end, steps)?;
         if next == now {
             return Ok(Fixed::At { head: now, leaving });
         }
@@ -241,28 +223,25 @@ pub(crate) fn loop_head<D: Domain, L: Ledger>(
     }
     Ok(Fixed::Over {
         head: StmtId::new(n),
-        chain: frame.chain(alloc)?,
+        chain: walk.frame.chain(walk.alloc)?,
     })
 }
 
 /// A call: its procedure is entered and left.
 #[cycle(blocks)]
 fn call_answer<D: Domain, L: Ledger>(
-    alloc: Global,
-    dom: &D,
-    plan: &Plan,
-    frame: &Frame,
+    walk: &Walk<D>,
     n: u32,
     call: &SlotCall,
     callee: u32,
     state: &D::State,
     steps: &mut Steps<L>,
 ) -> Result<Answer<D::State>, Memory>
-    ensures is { IfOk result (λ a. value_of a ≡ (passed (D.operations dom.now) plan.now frame.now.place frame.now.sites (Call n call.now callee Stop) (plain.State state.now)).value) }
+    ensures is { IfOk result (λ a. value_of a ≡ (passed (D.operations walk.now.dom.now) walk.now.plan.now walk.now.frame.now.place walk.now.frame.now.sites (Call n call.now callee Stop) (plain.State state.now)).value) }
 {
-    let entered = dom.enter(alloc, call, state, steps)?;
-    match callee_answer(alloc, dom, plan, frame, n, callee as usize, entered, steps)? {
-        Answer::State(done) => Ok(Answer::State(dom.leave(alloc, call, state, &done, steps)?)),
+    let entered = walk.dom.enter(walk.alloc, call, state, steps)?;
+    match callee_answer(walk, n, callee as usize, entered, steps)? {
+        Answer::State(done) => Ok(Answer::State(walk.dom.leave(walk.alloc, call, state, &done, steps)?)),
         Answer::Over { head, chain } => Ok(Answer::Over { head, chain }),
     }
 }
@@ -271,32 +250,26 @@ fn call_answer<D: Domain, L: Ledger>(
 #[cycle(blocks)]
 #[tactic(auto, using(crate::proofs::Weights::weight_falls))]
 fn callee_answer<D: Domain, L: Ledger>(
-    alloc: Global,
-    dom: &D,
-    plan: &Plan,
-    frame: &Frame,
+    walk: &Walk<D>,
     n: u32,
     callee: usize,
     entered: D::State,
     steps: &mut Steps<L>,
 ) -> Result<Answer<D::State>, Memory>
-    ensures is { IfOk result (λ a. value_of a ≡ calls_in (D.operations dom.now) plan.now frame.now.place frame.now.sites n callee (plain.State entered)) }
+    ensures is { IfOk result (λ a. value_of a ≡ calls_in (D.operations walk.now.dom.now) walk.now.plan.now walk.now.frame.now.place walk.now.frame.now.sites n callee (plain.State entered)) }
 {
-    match plan.callee(frame.place, callee) {
+    match walk.plan.callee(walk.frame.place, callee) {
         None => Ok(Answer::State(entered)),
         Some(routine) => {
-            let inner = frame.callee(alloc, n, callee)?;
-            let mut leaving = Items::new(alloc);
-            block_answer(
-                alloc,
-                dom,
-                plan,
-                &inner,
-                routine.body(),
-                entered,
-                &mut leaving,
-                steps,
-            )
+            let inner = walk.frame.callee(walk.alloc, n, callee)?;
+            let mut leaving = Items::new(walk.alloc);
+            let there = Walk {
+                alloc: walk.alloc,
+                dom: walk.dom,
+                plan: walk.plan,
+                frame: &inner,
+            };
+            block_answer(&there, routine.body(), entered, &mut leaving, steps)
         }
     }
 }

@@ -43,6 +43,15 @@ pub struct Frame {
     pub sites: Items<StmtId>,
 }
 
+/// What each step of a walk through a block is lent: the domain, the program, and where the block stands.
+#[derive(Drop)]
+pub(crate) struct Walk<'a, D> {
+    pub(crate) alloc: Global,
+    pub(crate) dom: &'a D,
+    pub(crate) plan: &'a Plan<'a>,
+    pub(crate) frame: &'a Frame,
+}
+
 impl<'a> Plan<'a> {
     /// The plan of a program by its setting.
     pub(crate) fn new(routines: &'a [Routine], setting: &'a Setting) -> Plan<'a>

@@ -8,7 +8,7 @@ ghost use Rattle.batch_interp.specs.Answered.{value_of};
 ghost use Rattle.batch_interp.specs.Heads.{head_told, heads_under, loop_value, loop_values, values_inside};
 
 use crate::Answer;
-use crate::frames::{Frame, Plan};
+use crate::frames::{Plan, Walk};
 use crate::spots::{assumed, behind_node, copy_of, head_answer};
 use crate::totals::enter_procedure;
 use crate::walks::Entered;
@@ -35,21 +35,18 @@ pub struct Head<S> {
 #[cycle(heads)]
 #[tactic(auto, using(imp_slots::specs::BlockFalls::node_falls))]
 fn add_heads<D: Domain, L: Ledger>(
-    alloc: Global,
-    dom: &D,
-    plan: &Plan,
-    frame: &Frame,
+    walk: &Walk<D>,
     block: &SlotBlock,
     before: Answer<D::State>,
     found: &mut Items<Head<D::State>>,
     steps: &mut Steps<L>,
 ) -> Result<(), Memory>
-    ensures added { OnOk result (map loop_value found.new ≡ map loop_value found.old ++ loop_values (D.operations dom.now) plan.now frame.now.place frame.now.sites block.now (value_of before)) }
+    ensures added { OnOk result (map loop_value found.new ≡ map loop_value found.old ++ loop_values (D.operations walk.now.dom.now) walk.now.plan.now walk.now.frame.now.place walk.now.frame.now.sites block.now (value_of before)) }
 {
     let mut now = before;
     for node in block.statements() {
-        add_heads_in(alloc, dom, plan, frame, node, &now, found, steps)?;
-        now = behind_node(alloc, dom, plan, frame, node, now, steps)?;
+        add_heads_in(walk, node, &now, found, steps)?;
+        now = behind_node(walk, node, now, steps)?;
     }
     Ok(())
 }
@@ -57,27 +54,24 @@ fn add_heads<D: Domain, L: Ledger>(
 /// Adds a statement, if it is a loop, and the loops inside it.
 #[cycle(heads)]
 fn add_heads_in<D: Domain, L: Ledger>(
-    alloc: Global,
-    dom: &D,
-    plan: &Plan,
-    frame: &Frame,
+    walk: &Walk<D>,
     node: &SlotNode,
     before: &Answer<D::State>,
     found: &mut Items<Head<D::State>>,
     steps: &mut Steps<L>,
 ) -> Result<(), Memory>
-    ensures added { OnOk result (map loop_value found.new ≡ map loop_value found.old ++ values_inside (D.operations dom.now) plan.now frame.now.place frame.now.sites node.now (value_of before.now)) }
+    ensures added { OnOk result (map loop_value found.new ≡ map loop_value found.old ++ values_inside (D.operations walk.now.dom.now) walk.now.plan.now walk.now.frame.now.place walk.now.frame.now.sites node.now (value_of before.now)) }
 {
     match node {
         SlotNode::If(_, cond, then, els) => {
-            let holds = assumed(alloc, dom, cond, true, before, steps)?;
-            add_heads(alloc, dom, plan, frame, then, holds, found, steps)?;
-            let fails = assumed(alloc, dom, cond, false, before, steps)?;
-            add_heads(alloc, dom, plan, frame, els, fails, found, steps)
+            let holds = assumed(walk, cond, true, before, steps)?;
+            add_heads(walk, then, holds, found, steps)?;
+            let fails = assumed(walk, cond, false, before, steps)?;
+            add_heads(walk, els, fails, found, steps)
         }
         SlotNode::While(n, cond, body) => {
             add_loop(
-                alloc, dom, plan, frame, *n, cond, body, before, found, steps,
+                walk, *n, cond, body, before, found, steps,
             )
         }
         SlotNode::Simple(_, _) => Ok(()),
@@ -89,10 +83,7 @@ fn add_heads_in<D: Domain, L: Ledger>(
 /// Adds a loop, and those inside it.
 #[cycle(heads)]
 fn add_loop<D: Domain, L: Ledger>(
-    alloc: Global,
-    dom: &D,
-    plan: &Plan,
-    frame: &Frame,
+    walk: &Walk<D>,
     n: u32,
     cond: &SlotCond,
     body: &SlotBlock,
@@ -100,14 +91,14 @@ fn add_loop<D: Domain, L: Ledger>(
     found: &mut Items<Head<D::State>>,
     steps: &mut Steps<L>,
 ) -> Result<(), Memory>
-    ensures added { OnOk result (map loop_value found.new ≡ map loop_value found.old ++ values_inside (D.operations dom.now) plan.now frame.now.place frame.now.sites (node.While n cond.now body.now) (value_of before.now)) }
+    ensures added { OnOk result (map loop_value found.new ≡ map loop_value found.old ++ values_inside (D.operations walk.now.dom.now) walk.now.plan.now walk.now.frame.now.place walk.now.frame.now.sites (node.While n cond.now body.now) (value_of before.now)) }
 {
-    let copy = copy_of(alloc, dom, before)?;
-    let value = head_answer(alloc, dom, plan, frame, n, cond, body, copy, steps)?;
-    let inside = assumed(alloc, dom, cond, true, &value, steps)?;
+    let copy = copy_of(walk.alloc, walk.dom, before)?;
+    let value = head_answer(walk, n, cond, body, copy, steps)?;
+    let inside = assumed(walk, cond, true, &value, steps)?;
     let stmt = StmtId::new(n);
     found.push(Head { stmt, value })?;
-    add_heads(alloc, dom, plan, frame, body, inside, found, steps)
+    add_heads(walk, body, inside, found, steps)
 }
 
 /// The loops of a procedure that is entered.
@@ -123,7 +114,13 @@ fn heads_of<D: Domain, L: Ledger>(
 {
     let Entered { frame, before } = entered;
     let mut found = Items::new(alloc);
-    add_heads(alloc, dom, plan, &frame, body, before, &mut found, steps)?;
+    let walk = Walk {
+        alloc,
+        dom,
+        plan,
+        frame: &frame,
+    };
+    add_heads(&walk, body, before, &mut found, steps)?;
     Ok(found)
 }
 

@@ -11,7 +11,7 @@ ghost use Rattle.batch_interp.specs.Seeking.{places, spot_of, inner_of, holds_in
 
 use crate::Answer;
 use crate::blocks::{Fixed, block_answer, loop_head, node_answer};
-use crate::frames::{Frame, Plan};
+use crate::frames::Walk;
 use call_contexts::holds;
 use domain_laws::{Domain, Steps};
 use imp_slots::{SlotBlock, SlotCond, SlotNode};
@@ -54,40 +54,36 @@ pub(crate) fn copy_of<D: Domain>(
 
 /// Where a condition has a truth value.
 pub(crate) fn assumed<D: Domain, L: Ledger>(
-    alloc: Global,
-    dom: &D,
+    walk: &Walk<D>,
     cond: &SlotCond,
     sense: bool,
     before: &Answer<D::State>,
     steps: &mut Steps<L>,
 ) -> Result<Answer<D::State>, Memory>
-    ensures is { IfOk result (λ a. value_of a ≡ lift ((D.operations dom.now).assume cond.now sense) (value_of before.now)) }
+    ensures is { IfOk result (λ a. value_of a ≡ lift ((D.operations walk.now.dom.now).assume cond.now sense) (value_of before.now)) }
 {
     match before {
-        Answer::State(state) => Ok(Answer::State(dom.assume(alloc, cond, sense, state, steps)?)),
+        Answer::State(state) => Ok(Answer::State(walk.dom.assume(walk.alloc, cond, sense, state, steps)?)),
         Answer::Over { head, chain } => Ok(Answer::Over {
             head: *head,
-            chain: copy_of_chain(alloc, chain)?,
+            chain: copy_of_chain(walk.alloc, chain)?,
         }),
     }
 }
 
 /// Behind a block.
 pub(crate) fn behind_block<D: Domain, L: Ledger>(
-    alloc: Global,
-    dom: &D,
-    plan: &Plan,
-    frame: &Frame,
+    walk: &Walk<D>,
     block: &SlotBlock,
     before: Answer<D::State>,
     steps: &mut Steps<L>,
 ) -> Result<Answer<D::State>, Memory>
-    ensures is { IfOk result (λ a. value_of a ≡ (passed (D.operations dom.now) plan.now frame.now.place frame.now.sites block.now (value_of before)).value) }
+    ensures is { IfOk result (λ a. value_of a ≡ (passed (D.operations walk.now.dom.now) walk.now.plan.now walk.now.frame.now.place walk.now.frame.now.sites block.now (value_of before)).value) }
 {
     match before {
         Answer::State(state) => {
-            let mut leaving = Items::new(alloc);
-            block_answer(alloc, dom, plan, frame, block, state, &mut leaving, steps)
+            let mut leaving = Items::new(walk.alloc);
+            block_answer(walk, block, state, &mut leaving, steps)
         }
         Answer::Over { head, chain } => Ok(Answer::Over { head, chain }),
     }
@@ -95,20 +91,17 @@ pub(crate) fn behind_block<D: Domain, L: Ledger>(
 
 /// Behind a statement.
 pub(crate) fn behind_node<D: Domain, L: Ledger>(
-    alloc: Global,
-    dom: &D,
-    plan: &Plan,
-    frame: &Frame,
+    walk: &Walk<D>,
     node: &SlotNode,
     before: Answer<D::State>,
     steps: &mut Steps<L>,
 ) -> Result<Answer<D::State>, Memory>
-    ensures is { IfOk result (λ a. value_of a ≡ (passed (D.operations dom.now) plan.now frame.now.place frame.now.sites (before_code node.now Stop) (value_of before)).value) }
+    ensures is { IfOk result (λ a. value_of a ≡ (passed (D.operations walk.now.dom.now) walk.now.plan.now walk.now.frame.now.place walk.now.frame.now.sites (before_code node.now Stop) (value_of before)).value) }
 {
     match before {
         Answer::State(state) => {
-            let mut leaving = Items::new(alloc);
-            node_answer(alloc, dom, plan, frame, node, &state, &mut leaving, steps)
+            let mut leaving = Items::new(walk.alloc);
+            node_answer(walk, node, &state, &mut leaving, steps)
         }
         Answer::Over { head, chain } => Ok(Answer::Over { head, chain }),
     }
@@ -116,21 +109,18 @@ pub(crate) fn behind_node<D: Domain, L: Ledger>(
 
 /// The head of a loop.
 pub(crate) fn head_answer<D: Domain, L: Ledger>(
-    alloc: Global,
-    dom: &D,
-    plan: &Plan,
-    frame: &Frame,
+    walk: &Walk<D>,
     n: u32,
     cond: &SlotCond,
     body: &SlotBlock,
     before: Answer<D::State>,
     steps: &mut Steps<L>,
 ) -> Result<Answer<D::State>, Memory>
-    ensures is { IfOk result (λ a. value_of a ≡ (head_of (D.operations dom.now) plan.now.engine (marks_at plan.now frame.now.place) frame.now.sites n cond.now (passed (D.operations dom.now) plan.now frame.now.place frame.now.sites body.now) (value_of before)).value) }
+    ensures is { IfOk result (λ a. value_of a ≡ (head_of (D.operations walk.now.dom.now) walk.now.plan.now.engine (marks_at walk.now.plan.now walk.now.frame.now.place) walk.now.frame.now.sites n cond.now (passed (D.operations walk.now.dom.now) walk.now.plan.now walk.now.frame.now.place walk.now.frame.now.sites body.now) (value_of before)).value) }
 {
     match before {
         Answer::State(state) => {
-            match loop_head(alloc, dom, plan, frame, n, cond, body, &state, steps)? {
+            match loop_head(walk, n, cond, body, &state, steps)? {
                 Fixed::At { head, leaving: _ } => Ok(Answer::State(head)),
                 Fixed::Over { head, chain } => Ok(Answer::Over { head, chain }),
             }
@@ -155,16 +145,13 @@ fn holds_inside(node: &SlotNode, number: u32) -> bool
 #[cycle(seeking)]
 #[tactic(auto, using(imp_slots::specs::BlockFalls::node_falls))]
 pub(crate) fn seek<D: Domain, L: Ledger>(
-    alloc: Global,
-    dom: &D,
-    plan: &Plan,
-    frame: &Frame,
+    walk: &Walk<D>,
     block: &SlotBlock,
     before: Answer<D::State>,
     number: u32,
     steps: &mut Steps<L>,
 ) -> Result<Option<Seen<D::State>>, Memory>
-    ensures is { IfOk result (λ s. option_map (spot_of (D.operations dom.now) plan.now frame.now.place frame.now.sites) s ≡ find number (places (D.operations dom.now) plan.now frame.now.place frame.now.sites block.now (value_of before))) }
+    ensures is { IfOk result (λ s. option_map (spot_of (D.operations walk.now.dom.now) walk.now.plan.now walk.now.frame.now.place walk.now.frame.now.sites) s ≡ find number (places (D.operations walk.now.dom.now) walk.now.plan.now walk.now.frame.now.place walk.now.frame.now.sites block.now (value_of before))) }
 {
     let mut now = before;
     for node in block.statements() {
@@ -175,9 +162,9 @@ pub(crate) fn seek<D: Domain, L: Ledger>(
             }));
         }
         if holds_inside(node, number) {
-            return seek_inside(alloc, dom, plan, frame, node, now, number, steps);
+            return seek_inside(walk, node, now, number, steps);
         }
-        now = behind_node(alloc, dom, plan, frame, node, now, steps)?;
+        now = behind_node(walk, node, now, steps)?;
     }
     Ok(None)
 }
@@ -185,31 +172,28 @@ pub(crate) fn seek<D: Domain, L: Ledger>(
 /// The first statement of this number inside a statement.
 #[cycle(seeking)]
 fn seek_inside<D: Domain, L: Ledger>(
-    alloc: Global,
-    dom: &D,
-    plan: &Plan,
-    frame: &Frame,
+    walk: &Walk<D>,
     node: &SlotNode,
     before: Answer<D::State>,
     number: u32,
     steps: &mut Steps<L>,
 ) -> Result<Option<Seen<D::State>>, Memory>
-    ensures is { IfOk result (λ s. option_map (spot_of (D.operations dom.now) plan.now frame.now.place frame.now.sites) s ≡ find number (inner_of (D.operations dom.now) plan.now frame.now.place frame.now.sites node.now (value_of before))) }
+    ensures is { IfOk result (λ s. option_map (spot_of (D.operations walk.now.dom.now) walk.now.plan.now walk.now.frame.now.place walk.now.frame.now.sites) s ≡ find number (inner_of (D.operations walk.now.dom.now) walk.now.plan.now walk.now.frame.now.place walk.now.frame.now.sites node.now (value_of before))) }
 {
     match node {
         SlotNode::If(_, cond, then, els) => {
             if holds(then, number) {
-                let inside = assumed(alloc, dom, cond, true, &before, steps)?;
-                seek(alloc, dom, plan, frame, then, inside, number, steps)
+                let inside = assumed(walk, cond, true, &before, steps)?;
+                seek(walk, then, inside, number, steps)
             } else {
-                let inside = assumed(alloc, dom, cond, false, &before, steps)?;
-                seek(alloc, dom, plan, frame, els, inside, number, steps)
+                let inside = assumed(walk, cond, false, &before, steps)?;
+                seek(walk, els, inside, number, steps)
             }
         }
         SlotNode::While(n, cond, body) => {
-            let head = head_answer(alloc, dom, plan, frame, *n, cond, body, before, steps)?;
-            let inside = assumed(alloc, dom, cond, true, &head, steps)?;
-            seek(alloc, dom, plan, frame, body, inside, number, steps)
+            let head = head_answer(walk, *n, cond, body, before, steps)?;
+            let inside = assumed(walk, cond, true, &head, steps)?;
+            seek(walk, body, inside, number, steps)
         }
         SlotNode::Simple(_, _) => Ok(None),
         SlotNode::Call(_, _, _) => Ok(None),

@@ -10,7 +10,7 @@ ghost use Rattle.batch_interp.specs.Totalling.{all_added, AreTotals, LeadsTo, Al
 
 use crate::Answer;
 use crate::befores::add_befores;
-use crate::frames::Plan;
+use crate::frames::{Plan, Walk};
 use crate::sums::added;
 use crate::walks::{Entered, enter_chain};
 use domain_laws::{Domain, Steps};
@@ -54,7 +54,13 @@ fn befores_of<D: Domain, L: Ledger>(
 {
     let Entered { frame, before } = entered;
     let mut found = Items::new(alloc);
-    add_befores(alloc, dom, plan, &frame, body, before, &mut found, steps)?;
+    let walk = Walk {
+        alloc,
+        dom,
+        plan,
+        frame: &frame,
+    };
+    add_befores(&walk, body, before, &mut found, steps)?;
     Ok(found)
 }
 

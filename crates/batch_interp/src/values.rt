@@ -6,7 +6,7 @@ ghost use Rattle.batch_interp.specs.Frames.{earlier};
 ghost use Rattle.batch_interp.specs.Seeking.{places, head_at};
 
 use crate::Answer;
-use crate::frames::{Frame, Plan};
+use crate::frames::{Plan, Walk};
 use crate::spots::{Seen, behind_block, behind_node, head_answer, seek};
 use crate::walks::{Entered, enter_chain};
 use domain_laws::{Domain, Steps};
@@ -18,18 +18,15 @@ use std::sync::ledger::Ledger;
 
 /// In front of the statement of a number.
 fn before_number<D: Domain, L: Ledger>(
-    alloc: Global,
-    dom: &D,
-    plan: &Plan,
-    frame: &Frame,
+    walk: &Walk<D>,
     body: &SlotBlock,
     before: Answer<D::State>,
     number: u32,
     steps: &mut Steps<L>,
 ) -> Result<Option<Answer<D::State>>, Memory>
-    ensures is { IfOk result (λ o. option_map value_of o ≡ if_some (find number (places (D.operations dom.now) plan.now frame.now.place frame.now.sites body.now (value_of before))) (λ s. Some s.before)) }
+    ensures is { IfOk result (λ o. option_map value_of o ≡ if_some (find number (places (D.operations walk.now.dom.now) walk.now.plan.now walk.now.frame.now.place walk.now.frame.now.sites body.now (value_of before))) (λ s. Some s.before)) }
 {
-    match seek(alloc, dom, plan, frame, body, before, number, steps)? {
+    match seek(walk, body, before, number, steps)? {
         None => Ok(None),
         Some(seen) => Ok(Some(seen.before)),
     }
@@ -37,22 +34,19 @@ fn before_number<D: Domain, L: Ledger>(
 
 /// Behind the statement of a number.
 fn after_number<D: Domain, L: Ledger>(
-    alloc: Global,
-    dom: &D,
-    plan: &Plan,
-    frame: &Frame,
+    walk: &Walk<D>,
     body: &SlotBlock,
     before: Answer<D::State>,
     number: u32,
     steps: &mut Steps<L>,
 ) -> Result<Option<Answer<D::State>>, Memory>
-    ensures is { IfOk result (λ o. option_map value_of o ≡ if_some (find number (places (D.operations dom.now) plan.now frame.now.place frame.now.sites body.now (value_of before))) (λ s. Some s.after)) }
+    ensures is { IfOk result (λ o. option_map value_of o ≡ if_some (find number (places (D.operations walk.now.dom.now) walk.now.plan.now walk.now.frame.now.place walk.now.frame.now.sites body.now (value_of before))) (λ s. Some s.after)) }
 {
-    match seek(alloc, dom, plan, frame, body, before, number, steps)? {
+    match seek(walk, body, before, number, steps)? {
         None => Ok(None),
         Some(seen) => {
             let Seen { node, before } = seen;
-            let after = behind_node(alloc, dom, plan, frame, &node, before, steps)?;
+            let after = behind_node(walk, &node, before, steps)?;
             Ok(Some(after))
         }
     }
@@ -60,19 +54,16 @@ fn after_number<D: Domain, L: Ledger>(
 
 /// At the head of a statement, if it is a loop.
 fn head_of_seen<D: Domain, L: Ledger>(
-    alloc: Global,
-    dom: &D,
-    plan: &Plan,
-    frame: &Frame,
+    walk: &Walk<D>,
     seen: Seen<D::State>,
     steps: &mut Steps<L>,
 ) -> Result<Option<Answer<D::State>>, Memory>
-    ensures is { IfOk result (λ o. option_map value_of o ≡ if_some (head_at (D.operations dom.now) plan.now frame.now.place frame.now.sites seen.node (value_of seen.before)) (λ h. Some h.value)) }
+    ensures is { IfOk result (λ o. option_map value_of o ≡ if_some (head_at (D.operations walk.now.dom.now) walk.now.plan.now walk.now.frame.now.place walk.now.frame.now.sites seen.node (value_of seen.before)) (λ h. Some h.value)) }
 {
     let Seen { node, before } = seen;
     match node {
         SlotNode::While(n, cond, body) => {
-            let head = head_answer(alloc, dom, plan, frame, n, &cond, &body, before, steps)?;
+            let head = head_answer(walk, n, &cond, &body, before, steps)?;
             Ok(Some(head))
         }
         _ => Ok(None),
@@ -81,20 +72,17 @@ fn head_of_seen<D: Domain, L: Ledger>(
 
 /// At the head of the loop of a number.
 fn head_of_number<D: Domain, L: Ledger>(
-    alloc: Global,
-    dom: &D,
-    plan: &Plan,
-    frame: &Frame,
+    walk: &Walk<D>,
     body: &SlotBlock,
     before: Answer<D::State>,
     number: u32,
     steps: &mut Steps<L>,
 ) -> Result<Option<Answer<D::State>>, Memory>
-    ensures is { IfOk result (λ o. option_map value_of o ≡ if_some (find number (places (D.operations dom.now) plan.now frame.now.place frame.now.sites body.now (value_of before))) head_value) }
+    ensures is { IfOk result (λ o. option_map value_of o ≡ if_some (find number (places (D.operations walk.now.dom.now) walk.now.plan.now walk.now.frame.now.place walk.now.frame.now.sites body.now (value_of before))) head_value) }
 {
-    match seek(alloc, dom, plan, frame, body, before, number, steps)? {
+    match seek(walk, body, before, number, steps)? {
         None => Ok(None),
-        Some(seen) => head_of_seen(alloc, dom, plan, frame, seen, steps),
+        Some(seen) => head_of_seen(walk, seen, steps),
     }
 }
 
@@ -113,40 +101,19 @@ fn value_in<D: Domain, L: Ledger>(
     let Entered { frame, before } = entered;
     let routine = &plan.routines()[frame.place];
     let body = routine.body();
+    let walk = Walk {
+        alloc,
+        dom,
+        plan,
+        frame: &frame,
+    };
     match at {
-        Location::Before(n) => before_number(
-            alloc,
-            dom,
-            plan,
-            &frame,
-            body,
-            before,
-            n.number(),
-            steps,
-        ),
-        Location::After(n) => after_number(
-            alloc,
-            dom,
-            plan,
-            &frame,
-            body,
-            before,
-            n.number(),
-            steps,
-        ),
-        Location::Head(n) => head_of_number(
-            alloc,
-            dom,
-            plan,
-            &frame,
-            body,
-            before,
-            n.number(),
-            steps,
-        ),
+        Location::Before(n) => before_number(&walk, body, before, n.number(), steps),
+        Location::After(n) => after_number(&walk, body, before, n.number(), steps),
+        Location::Head(n) => head_of_number(&walk, body, before, n.number(), steps),
         Location::End(name) => {
             if name == routine.name() {
-                let end = behind_block(alloc, dom, plan, &frame, body, before, steps)?;
+                let end = behind_block(&walk, body, before, steps)?;
                 Ok(Some(end))
             } else {
                 Ok(None)

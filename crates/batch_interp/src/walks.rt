@@ -7,7 +7,7 @@ ghost use Rattle.batch_interp.specs.Seeking.{call_at};
 ghost use Rattle.batch_interp.specs.Walking.{entered_of, IsEntered, called_from};
 
 use crate::Answer;
-use crate::frames::{Frame, Plan};
+use crate::frames::{Frame, Plan, Walk};
 use crate::spots::{Seen, seek};
 use domain_laws::{Domain, Steps};
 use imp_slots::{SlotCall, SlotNode};
@@ -62,23 +62,20 @@ fn entered_value<D: Domain, L: Ledger>(
 
 /// The procedure of a call, entered, where it stands in front of its caller.
 fn enter_callee<D: Domain, L: Ledger>(
-    alloc: Global,
-    dom: &D,
-    plan: &Plan,
-    frame: &Frame,
+    walk: &Walk<D>,
     site: u32,
     call: &SlotCall,
     callee: usize,
     before: Answer<D::State>,
     steps: &mut Steps<L>,
 ) -> Result<Option<Entered<D::State>>, Memory>
-    ensures is { IfOk result (λ o. IsEntered plan.now.program (site ∷ frame.now.sites) o (called_from (D.operations dom.now) plan.now.program frame.now.place (value_of before) (Some (call.now, callee)))) }
+    ensures is { IfOk result (λ o. IsEntered walk.now.plan.now.program (site ∷ walk.now.frame.now.sites) o (called_from (D.operations walk.now.dom.now) walk.now.plan.now.program walk.now.frame.now.place (value_of before) (Some (call.now, callee)))) }
 {
-    match plan.callee(frame.place, callee) {
+    match walk.plan.callee(walk.frame.place, callee) {
         None => Ok(None),
         Some(_) => {
-            let before = entered_value(alloc, dom, call, before, steps)?;
-            let frame = frame.callee(alloc, site, callee)?;
+            let before = entered_value(walk.alloc, walk.dom, call, before, steps)?;
+            let frame = walk.frame.callee(walk.alloc, site, callee)?;
             Ok(Some(Entered { frame, before }))
         }
     }
@@ -86,23 +83,17 @@ fn enter_callee<D: Domain, L: Ledger>(
 
 /// The procedure that a statement calls, entered.
 fn enter_seen<D: Domain, L: Ledger>(
-    alloc: Global,
-    dom: &D,
-    plan: &Plan,
-    frame: &Frame,
+    walk: &Walk<D>,
     site: u32,
     seen: Seen<D::State>,
     steps: &mut Steps<L>,
 ) -> Result<Option<Entered<D::State>>, Memory>
-    ensures is { IfOk result (λ o. IsEntered plan.now.program (site ∷ frame.now.sites) o (called_from (D.operations dom.now) plan.now.program frame.now.place (value_of seen.before) (call_at seen.node))) }
+    ensures is { IfOk result (λ o. IsEntered walk.now.plan.now.program (site ∷ walk.now.frame.now.sites) o (called_from (D.operations walk.now.dom.now) walk.now.plan.now.program walk.now.frame.now.place (value_of seen.before) (call_at seen.node))) }
 {
     let Seen { node, before } = seen;
     match node {
         SlotNode::Call(_, call, callee) => enter_callee(
-            alloc,
-            dom,
-            plan,
-            frame,
+            walk,
             site,
             &call,
             callee as usize,
@@ -127,9 +118,15 @@ fn enter_call<D: Domain, L: Ledger>(
 {
     let Entered { frame, before } = caller;
     let body = plan.routines()[frame.place].body();
-    match seek(alloc, dom, plan, &frame, body, before, site, steps)? {
+    let walk = Walk {
+        alloc,
+        dom,
+        plan,
+        frame: &frame,
+    };
+    match seek(&walk, body, before, site, steps)? {
         None => Ok(None),
-        Some(seen) => enter_seen(alloc, dom, plan, &frame, site, seen, steps),
+        Some(seen) => enter_seen(&walk, site, seen, steps),
     }
 }
 

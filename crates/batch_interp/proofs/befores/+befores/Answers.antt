@@ -7,5 +7,5 @@ pub add_in_front-returns-in_ok-inside-in-While : goal.add_in_front-returns-in_ok
 add_in_front-returns-in_ok-inside-in-While g t c =
     record {
       added = on_ok_along _ _ _ _ _ c.add_befores-in-While.ensures.added
-          (while_front (g.D.Domain.operations c.args.dom.now) c.args.plan.now c.args.frame.now.place c.args.frame.now.sites c.args.node.now c.in-While.n c.in-While.cond c.in-While.body (value_of c.args.before.now) (value_of c.in_ok-copy-in-While.copy) (value_of c.in_ok-head-in-While.head) (value_of c.in_ok-inside-in-While.inside) c.in-While.is c.in_ok-copy-in-While.ensures.same c.in_ok-head-in-While.ensures.is c.in_ok-inside-in-While.ensures.is);
+          (while_front (g.D.Domain.operations c.args.walk.now.dom.now) c.args.walk.now.plan.now c.args.walk.now.frame.now.place c.args.walk.now.frame.now.sites c.args.node.now c.in-While.n c.in-While.cond c.in-While.body (value_of c.args.before.now) (value_of c.in_ok-copy-in-While.copy) (value_of c.in_ok-head-in-While.head) (value_of c.in_ok-inside-in-While.inside) c.in-While.is c.in_ok-copy-in-While.ensures.same c.in_ok-head-in-While.ensures.is c.in_ok-inside-in-While.ensures.is);
     }

@@ -13,7 +13,7 @@ decreases-add_in_front g l = node_size l.node.now
 
 abbrev pub invariant-add_befores-loop-node : goal.invariant-add_befores-loop-node
 invariant-add_befores-loop-node g l =
-    let rest = befores (g.D.Domain.operations l.dom) l.plan l.frame.place l.frame.sites in
+    let rest = befores (g.D.Domain.operations l.walk.dom.now) l.walk.plan.now l.walk.frame.now.place l.walk.frame.now.sites in
     record {
       is : code_of l.node-items ≡ l.block;
       told : map value_of l.found ++ rest (code_of (drop l.node-index l.node-items)) (value_of l.now) ≡ map value_of l.initial.found ++ rest l.block (value_of l.fn.before);

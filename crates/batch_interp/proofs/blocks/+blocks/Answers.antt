@@ -11,18 +11,18 @@ use Rattle.batch_interp.proofs.blocks.+blocks.Goals as goal
 
 pub block_answer-loop-node-init : goal.block_answer-loop-node-init
 block_answer-loop-node-init g t c =
-    let dom = g.D.Domain.operations c.args.dom.now in
+    let dom = g.D.Domain.operations c.args.walk.now.dom.now in
     record {
       is = c.statements-node-items.ensures.same;
-      told = ap (λ b. after (states c.args.leaving.now) (passed dom c.args.plan.now c.args.frame.now.place c.args.frame.now.sites b (plain.State c.args.state))) c.statements-node-items.ensures.same;
+      told = ap (λ b. after (states c.args.leaving.now) (passed dom c.args.walk.now.plan.now c.args.walk.now.frame.now.place c.args.walk.now.frame.now.sites b (plain.State c.args.state))) c.statements-node-items.ensures.same;
     }
 
 pub block_answer-returns-in-Over : goal.block_answer-returns-in-Over
 block_answer-returns-in-Over g t c =
-    let dom = g.D.Domain.operations c.args.dom.now in
-    let plan = c.args.plan.now in
-    let place = c.args.frame.now.place in
-    let z = c.args.frame.now.sites in
+    let dom = g.D.Domain.operations c.args.walk.now.dom.now in
+    let plan = c.args.walk.now.plan.now in
+    let place = c.args.walk.now.frame.now.place in
+    let z = c.args.walk.now.frame.now.sites in
     let h = rw c.in-Over.is at c.in_ok-next.ensures.is in
     record {
       is =
@@ -32,10 +32,10 @@ block_answer-returns-in-Over g t c =
 
 pub block_answer-loop-node-preserved : goal.block_answer-loop-node-preserved
 block_answer-loop-node-preserved g t c =
-    let dom = g.D.Domain.operations c.args.dom.now in
-    let plan = c.args.plan.now in
-    let place = c.args.frame.now.place in
-    let z = c.args.frame.now.sites in
+    let dom = g.D.Domain.operations c.args.walk.now.dom.now in
+    let plan = c.args.walk.now.plan.now in
+    let place = c.args.walk.now.frame.now.place in
+    let z = c.args.walk.now.frame.now.sites in
     let h = rw c.in-State.is at c.in_ok-next.ensures.is in
     record {
       is = c.loop-node.invariant.is;
@@ -44,10 +44,10 @@ block_answer-loop-node-preserved g t c =
 
 pub block_answer-returns : goal.block_answer-returns
 block_answer-returns g t c =
-    let dom = g.D.Domain.operations c.args.dom.now in
-    let plan = c.args.plan.now in
-    let place = c.args.frame.now.place in
-    let z = c.args.frame.now.sites in
+    let dom = g.D.Domain.operations c.args.walk.now.dom.now in
+    let plan = c.args.walk.now.plan.now in
+    let place = c.args.walk.now.frame.now.place in
+    let z = c.args.walk.now.frame.now.sites in
     record {
       is =
           sym c.loop-node.invariant.told
@@ -56,18 +56,18 @@ block_answer-returns g t c =
 
 pub callee_answer-returns-in-None : goal.callee_answer-returns-in-None
 callee_answer-returns-in-None g t c =
-    record { is = sym (call_gone (g.D.Domain.operations c.args.dom.now) c.args.plan.now c.args.frame.now.place c.args.frame.now.sites c.args.n c.args.callee (plain.State c.args.entered) (sym c.in-None.ensures.is)) }
+    record { is = sym (call_gone (g.D.Domain.operations c.args.walk.now.dom.now) c.args.walk.now.plan.now c.args.walk.now.frame.now.place c.args.walk.now.frame.now.sites c.args.n c.args.callee (plain.State c.args.entered) (sym c.in-None.ensures.is)) }
 
 pub callee_answer-returns-in_ok-inner-in-Some : goal.callee_answer-returns-in_ok-inner-in-Some
 callee_answer-returns-in_ok-inner-in-Some g t c =
-    record { is = of_callee (g.D.Domain.operations c.args.dom.now) c.args.plan.now c.block_answer.result c.new-leaving.result c.block_answer.new.leaving c.args.frame.now.place c.args.frame.now.sites c.args.n c.args.callee c.in-Some.routine.now c.body.result.now c.in_ok-inner-in-Some.inner (plain.State c.args.entered) c.in-Some.ensures.is c.in_ok-inner-in-Some.ensures.is c.body.ensures.same c.block_answer.ensures.is }
+    record { is = of_callee (g.D.Domain.operations c.args.walk.now.dom.now) c.args.walk.now.plan.now c.block_answer.result c.new-leaving.result c.block_answer.new.leaving c.args.walk.now.frame.now.place c.args.walk.now.frame.now.sites c.args.n c.args.callee c.in-Some.routine.now c.body.result.now c.in_ok-inner-in-Some.inner (plain.State c.args.entered) c.in-Some.ensures.is c.in_ok-inner-in-Some.ensures.is c.body.ensures.same c.block_answer.ensures.is }
 
 pub loop_head-returns-in-Over : goal.loop_head-returns-in-Over
 loop_head-returns-in-Over g t c =
-    let dom = g.D.Domain.operations c.args.dom.now in
-    let plan = c.args.plan.now in
-    let place = c.args.frame.now.place in
-    let z = c.args.frame.now.sites in
+    let dom = g.D.Domain.operations c.args.walk.now.dom.now in
+    let plan = c.args.walk.now.plan.now in
+    let place = c.args.walk.now.frame.now.place in
+    let z = c.args.walk.now.frame.now.sites in
     let h = rw c.in-Over.is at c.in_ok-end.ensures.is in
     let e : plan.engine.budget - c.loop-k.k ≡ suc (plan.engine.budget - (c.loop-k.k + 1)) = omega arith in
     record {
@@ -79,13 +79,13 @@ loop_head-returns-in-Over g t c =
 
 pub loop_head-returns-then-eq : goal.loop_head-returns-then-eq
 loop_head-returns-then-eq g t c =
-    let dom = g.D.Domain.operations c.args.dom.now in
-    let plan = c.args.plan.now in
-    let place = c.args.frame.now.place in
-    let z = c.args.frame.now.sites in
+    let dom = g.D.Domain.operations c.args.walk.now.dom.now in
+    let plan = c.args.walk.now.plan.now in
+    let place = c.args.walk.now.frame.now.place in
+    let z = c.args.walk.now.frame.now.sites in
     let h = rw c.in-State.is at c.in_ok-end.ensures.is in
     let e : plan.engine.budget - c.loop-k.k ≡ suc (plan.engine.budget - (c.loop-k.k + 1)) = omega arith in
-    let same : dom.same c.in_ok-next.next c.loop-k.now ≡ true = g.met.D.Domain.tests_equality c.args.dom.now c.in_ok-next.next c.loop-k.now ∙ sym c.if-eq.ensures in
+    let same : dom.same c.in_ok-next.next c.loop-k.now ≡ true = g.met.D.Domain.tests_equality c.args.walk.now.dom.now c.in_ok-next.next c.loop-k.now ∙ sym c.if-eq.ensures in
     record {
       is = (
         ap (λ (f : meaning.Fixed g.row.D-State.Denot). f.value)
@@ -97,13 +97,13 @@ loop_head-returns-then-eq g t c =
 
 pub loop_head-loop-k-preserved : goal.loop_head-loop-k-preserved
 loop_head-loop-k-preserved g t c =
-    let dom = g.D.Domain.operations c.args.dom.now in
-    let plan = c.args.plan.now in
-    let place = c.args.frame.now.place in
-    let z = c.args.frame.now.sites in
+    let dom = g.D.Domain.operations c.args.walk.now.dom.now in
+    let plan = c.args.walk.now.plan.now in
+    let place = c.args.walk.now.frame.now.place in
+    let z = c.args.walk.now.frame.now.sites in
     let h = rw c.in-State.is at c.in_ok-end.ensures.is in
     let e : plan.engine.budget - c.loop-k.k ≡ suc (plan.engine.budget - (c.loop-k.k + 1)) = omega arith in
-    let other : dom.same c.in_ok-next.next c.loop-k.now ≡ false = g.met.D.Domain.tests_equality c.args.dom.now c.in_ok-next.next c.loop-k.now ∙ sym c.if-eq.ensures in
+    let other : dom.same c.in_ok-next.next c.loop-k.now ≡ false = g.met.D.Domain.tests_equality c.args.walk.now.dom.now c.in_ok-next.next c.loop-k.now ∙ sym c.if-eq.ensures in
     let F = iterate dom plan.engine (marks_at plan place) (λ x. (passed dom plan place z c.args.body.now (lift (dom.assume c.args.cond.now true) x)).value) (plain.Over c.args.n z) in
     let k : c.loop-k.k + 1 ≡ suc c.loop-k.k = omega arith in
     record {
@@ -115,10 +115,10 @@ loop_head-loop-k-preserved g t c =
 
 pub while_answer-returns-in_ok-all-in-At : goal.while_answer-returns-in_ok-all-in-At
 while_answer-returns-in_ok-all-in-At g t c =
-    let dom = g.D.Domain.operations c.args.dom.now in
-    let plan = c.args.plan.now in
-    let place = c.args.frame.now.place in
-    let z = c.args.frame.now.sites in
+    let dom = g.D.Domain.operations c.args.walk.now.dom.now in
+    let plan = c.args.walk.now.plan.now in
+    let place = c.args.walk.now.frame.now.place in
+    let z = c.args.walk.now.frame.now.sites in
     let body = passed dom plan place z c.args.body.now in
     let v = (head_of dom plan.engine (marks_at plan place) z c.args.n c.args.cond.now body (plain.State c.args.state.now)).value in
     let h = rw c.in-At.is at c.in_ok-head.ensures.is in
@@ -126,10 +126,10 @@ while_answer-returns-in_ok-all-in-At g t c =
 
 pub while_answer-returns-in-Over : goal.while_answer-returns-in-Over
 while_answer-returns-in-Over g t c =
-    let dom = g.D.Domain.operations c.args.dom.now in
-    let plan = c.args.plan.now in
-    let place = c.args.frame.now.place in
-    let z = c.args.frame.now.sites in
+    let dom = g.D.Domain.operations c.args.walk.now.dom.now in
+    let plan = c.args.walk.now.plan.now in
+    let place = c.args.walk.now.frame.now.place in
+    let z = c.args.walk.now.frame.now.sites in
     let body = passed dom plan place z c.args.body.now in
     let v = (head_of dom plan.engine (marks_at plan place) z c.args.n c.args.cond.now body (plain.State c.args.state.now)).value in
     let h = rw c.in-Over.is at c.in_ok-head.ensures.is in

@@ -15,7 +15,7 @@ decreases-seek_inside g l = node_size l.node.now
 -- what is left of the block, from what is known so far, has the statement where the block has it
 abbrev pub invariant-seek-loop-node : goal.invariant-seek-loop-node
 invariant-seek-loop-node g l =
-    let all = places (g.D.Domain.operations l.dom) l.plan l.frame.place l.frame.sites in
+    let all = places (g.D.Domain.operations l.walk.dom.now) l.walk.plan.now l.walk.frame.now.place l.walk.frame.now.sites in
     record {
       is : code_of l.node-items ≡ l.block;
       told : find l.number (all (code_of (drop l.node-index l.node-items)) (value_of l.now)) ≡ find l.number (all l.block (value_of l.fn.before));
