@@ -90,7 +90,5 @@ module _ {S : Type 0} (dom : Operations S) (plan : Plan) (place : ℕ) (z : List
   pub befores_end : (ss : List SlotNode) (i : ℕ) (v : Value S) → length ss ≤ i → befores dom plan place z (code_of (drop i ss)) v ≡ []
   befores_end ss i v h = ap (λ xs. befores dom plan place z (code_of xs) v) (drop_all i ss h)
 
-  pub while_front : (s : SlotNode) (n : ℕ) (c : Guard) (b : Code) (v u h w : Value S) → s ≡ node.While n c b → u ≡ v → h ≡ (head_of dom plan.engine (marks_at plan place) z n c (passed dom plan place z b) u).value → w ≡ lift (dom.assume c true) h → befores dom plan place z b w ≡ in_front dom plan place z s v
-  while_front s n c b v u h w e i j k =
-      ap (befores dom plan place z b) (k ∙ ap (lift (dom.assume c true)) (j ∙ ap (λ x. (head_of dom plan.engine (marks_at plan place) z n c (passed dom plan place z b) x).value) i))
-      ∙ ap (λ s. in_front dom plan place z s v) (sym e)
+  pub while_front : (n : ℕ) (c : Guard) (b : Code) (v h w : Value S) → h ≡ (head_of dom plan.engine (marks_at plan place) z n c (passed dom plan place z b) v).value → w ≡ lift (dom.assume c true) h → befores dom plan place z b w ≡ in_front dom plan place z (node.While n c b) v
+  while_front n c b v h w j k = ap (befores dom plan place z b) (k ∙ ap (lift (dom.assume c true)) j)

@@ -57,9 +57,8 @@ module _ {S : Type 0} (dom : Operations S) (plan : Plan) (place : ℕ) (z : List
   pub values_end : (ss : List SlotNode) (i : ℕ) (v : Value S) → length ss ≤ i → loop_values dom plan place z (code_of (drop i ss)) v ≡ []
   values_end ss i v h = ap (λ xs. F (code_of xs) v) (drop_all i ss h)
 
-  pub loop_found : (old middle : List (Head S)) (x : Head S) (new : List (Head S)) (n : ℕ) (c : Guard) (b : Code) (v u w : Value S) → u ≡ v → x.stmt ≡ n → value_of x.value ≡ value_at_head dom plan place z n c b u → w ≡ lift (dom.assume c true) (value_of x.value) → middle ≡ old ++ x ∷ [] → map loop_value new ≡ map loop_value middle ++ loop_values dom plan place z b w → map loop_value new ≡ map loop_value old ++ values_inside dom plan place z (node.While n c b) v
-  loop_found old middle x new n c b v u w e k h a m f =
-      let head : value_of x.value ≡ value_at_head dom plan place z n c b v = h ∙ ap (value_at_head dom plan place z n c b) e in
+  pub loop_found : (old middle : List (Head S)) (x : Head S) (new : List (Head S)) (n : ℕ) (c : Guard) (b : Code) (v w : Value S) → x.stmt ≡ n → value_of x.value ≡ value_at_head dom plan place z n c b v → w ≡ lift (dom.assume c true) (value_of x.value) → middle ≡ old ++ x ∷ [] → map loop_value new ≡ map loop_value middle ++ loop_values dom plan place z b w → map loop_value new ≡ map loop_value old ++ values_inside dom plan place z (node.While n c b) v
+  loop_found old middle x new n c b v w k head a m f =
       let told : loop_value x ≡ (n, value_at_head dom plan place z n c b v) = λ i. (k i, head i) in
       let inner : w ≡ lift (dom.assume c true) (value_at_head dom plan place z n c b v) = a ∙ ap (lift (dom.assume c true)) head in
       f ∙ ap (λ xs. map loop_value xs ++ F b w) m ∙ ap (λ xs. xs ++ F b w) (heads_one old x)

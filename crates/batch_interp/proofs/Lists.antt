@@ -10,6 +10,10 @@ pub if_true : {A : Type 0} (c : Bool) (x y z : A) → c ≡ true → x ≡ y →
 if_true true x y z e h = h
 if_true false x y z e h = absurd cc
 
+pub if_false : {A : Type 0} (c : Bool) (x y z : A) → c ≡ false → x ≡ z → x ≡ (if c then y else z)
+if_false true x y z e h = absurd cc
+if_false false x y z e h = h
+
 pub on_ok_along : {A B E : Type 0} (r : Result A E) (x y a b : List B) → OnOk r (x ≡ y ++ a) → a ≡ b → OnOk r (x ≡ y ++ b)
 on_ok_along (Err e) x y a b h k = h
 on_ok_along (Ok i) x y a b h k = h ∙ ap (λ c. y ++ c) k

@@ -118,13 +118,13 @@ module _ {S : Type 0} (dom : Operations S) (plan : Plan) (place : ℕ) (z : List
   pub seek_end : (n : ℕ) (ss : List SlotNode) (i : ℕ) (v : Value S) → length ss ≤ i → find n (places dom plan place z (code_of (drop i ss)) v) ≡ None
   seek_end n ss i v h = ap (λ xs. find n (P (code_of xs) v)) (drop_all i ss h)
 
-  pub then_part : (n m : ℕ) (c : Guard) (t e : Code) (v w : Value S) → has n (code_numbers t) ≡ true → w ≡ lift (dom.assume c true) v → find n (inner_of dom plan place z (node.If m c t e) v) ≡ find n (places dom plan place z t w)
-  then_part n m c t e v w h k =
-      first_part n (P t (lift (dom.assume c true) v)) (P e (lift (dom.assume c false) v)) (ap (has n) (numbers_of_places t (lift (dom.assume c true) v)) ∙ h) ∙ ap (λ x. find n (P t x)) (sym k)
+  pub then_part : (n m : ℕ) (c : Guard) (t e : Code) (v : Value S) → has n (code_numbers t) ≡ true → find n (places dom plan place z t (lift (dom.assume c true) v)) ≡ find n (inner_of dom plan place z (node.If m c t e) v)
+  then_part n m c t e v h =
+      sym (first_part n (P t (lift (dom.assume c true) v)) (P e (lift (dom.assume c false) v)) (ap (has n) (numbers_of_places t (lift (dom.assume c true) v)) ∙ h))
 
-  pub else_part : (n m : ℕ) (c : Guard) (t e : Code) (v w : Value S) → has n (code_numbers t) ≡ false → w ≡ lift (dom.assume c false) v → find n (inner_of dom plan place z (node.If m c t e) v) ≡ find n (places dom plan place z e w)
-  else_part n m c t e v w h k =
-      second_part n (P t (lift (dom.assume c true) v)) (P e (lift (dom.assume c false) v)) (ap (has n) (numbers_of_places t (lift (dom.assume c true) v)) ∙ h) ∙ ap (λ x. find n (P e x)) (sym k)
+  pub else_part : (n m : ℕ) (c : Guard) (t e : Code) (v : Value S) → has n (code_numbers t) ≡ false → find n (places dom plan place z e (lift (dom.assume c false) v)) ≡ find n (inner_of dom plan place z (node.If m c t e) v)
+  else_part n m c t e v h =
+      sym (second_part n (P t (lift (dom.assume c true) v)) (P e (lift (dom.assume c false) v)) (ap (has n) (numbers_of_places t (lift (dom.assume c true) v)) ∙ h))
 
-  pub body_part : (n m : ℕ) (c : Guard) (b : Code) (v h w : Value S) → h ≡ (head_of dom plan.engine (marks_at plan place) z m c (passed dom plan place z b) v).value → w ≡ lift (dom.assume c true) h → find n (inner_of dom plan place z (node.While m c b) v) ≡ find n (places dom plan place z b w)
-  body_part n m c b v h w e k = ap (λ x. find n (P b (lift (dom.assume c true) x))) (sym e) ∙ ap (λ x. find n (P b x)) (sym k)
+  pub body_part : (n m : ℕ) (c : Guard) (b : Code) (v h : Value S) → h ≡ (head_of dom plan.engine (marks_at plan place) z m c (passed dom plan place z b) v).value → find n (places dom plan place z b (lift (dom.assume c true) h)) ≡ find n (inner_of dom plan place z (node.While m c b) v)
+  body_part n m c b v h e = ap (λ x. find n (P b (lift (dom.assume c true) x))) e

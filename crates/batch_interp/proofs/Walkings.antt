@@ -1,9 +1,9 @@
 -- Procedures entered one after another.
-use Rattle.std.proofs.Common.{ℕ, zero, suc, ◌≡◌, ◌+◌, ◌<◌, ◌≤◌, List, [], ◌∷◌, ◌++◌, length, take, drop, reverse, get_or, slice_get, Option, Some, None, Result, Ok, Err, IfOk, refl, sym, ap, subst, ◌∙◌, arith}
+use Rattle.std.proofs.Common.{ℕ, zero, suc, ◌≡◌, ◌+◌, ◌<◌, ◌≤◌, List, [], ◌∷◌, ◌++◌, length, take, drop, reverse, get_or, slice_get, option_map, Option, Some, None, Result, Ok, Err, IfOk, refl, sym, ap, subst, ◌∙◌, arith}
 use Rattle.std.specs.Prelude.{if◌then◌else◌}
 use Rattle.std.specs.Str.{bytes_eq}
 use Rattle.std.proofs.lemmas.List.{reverse-append, take-append-drop}
-use Rattle.imp_slots.specs.Plain.{Invoke, Routine}
+use Rattle.imp_slots.specs.Plain.{Invoke, Code, Routine}
 use Rattle.imp_syntax.specs.declared.edit.Location.{Location}
 use Rattle.imp_syntax.specs.declared.edit.Location.TheVariants.{Before, After, Head, End}
 use Rattle.program_chains.specs.Marks.{marks}
@@ -16,12 +16,14 @@ use Rattle.batch_interp.specs.Frames.{Plan, earlier, marks_at, marks_of, passed}
 use Rattle.batch_interp.specs.Seeking.{places, call_at, spot_of}
 use Rattle.batch_interp.specs.Walking.{entered_of, IsGone, IsEntered, called_from}
 use Rattle.batch_interp.specs.declared.frames.Frame.{Frame}
+use Rattle.batch_interp.specs.declared.value.Answer.{Answer}
 use Rattle.batch_interp.specs.declared.spots.Seen.{Seen}
 use Rattle.batch_interp.specs.declared.walks.Entered.{Entered}
 use Rattle.std.proofs.lemmas.Option.{slice_get_within}
 use Rattle.plain_values.proofs.Lists.{get_take, take_item}
 use Rattle.std.proofs.Math.Seq.{take-length}
 use Rattle.batch_interp.proofs.Procedures.{from_earlier, from_gone}
+use Rattle.batch_interp.proofs.Lists.{if_ok_along}
 
 -- the procedures down from a place
 pub standing : (program : List Routine) (k : ℕ) (r : Routine) → slice_get program k ≡ Some r → earlier program (suc k) ≡ r ∷ earlier program k
@@ -70,7 +72,7 @@ module _ {S : Type 0} (dom : Operations S) (plan : Plan) where
   pub not_seen : (k n : ℕ) (z : List ℕ) (r : Routine) (v : Value S) → slice_get plan.program k ≡ Some r → None ≡ find n (places dom plan k z r.code v) → IsGone (entered dom plan.engine n z (earlier plan.program (suc k), v))
   not_seen k n z r v g f = subst IsGone (sym (entered_there k n z r v None g f)) tt
 
-  pub seen_there : {E : Type 0} (k n : ℕ) (z : List ℕ) (r : Routine) (v : Value S) (s : Seen S) (y : Result (Option (Entered S)) E) → slice_get plan.program k ≡ Some r → Some (spot_of dom plan k z s) ≡ find n (places dom plan k z r.code v) → IfOk y (λ o. IsEntered plan.program (n ∷ z) o (called_from dom plan.program k (value_of s.before) (call_at s.node))) → IfOk y (λ o. IsEntered plan.program (n ∷ z) o (entered dom plan.engine n z (earlier plan.program (suc k), v)))
+  pub seen_there : {E : Type 0} (k n : ℕ) (z : List ℕ) (r : Routine) (v : Value S) (s : Seen S) (y : Result (Option (Entered S)) E) → slice_get plan.program k ≡ Some r → Some (spot_of dom plan k z s) ≡ find n (places dom plan k z r.code v) → IfOk y (λ o. IsEntered plan.program (n ∷ z) o (called_from dom plan.program k (value_of s.before) (call_at s.node.now))) → IfOk y (λ o. IsEntered plan.program (n ∷ z) o (entered dom plan.engine n z (earlier plan.program (suc k), v)))
   seen_there k n z r v s (Err e) g f h = h
   seen_there k n z r v s (Ok o) g f h = subst (IsEntered plan.program (n ∷ z) o) (sym (entered_there k n z r v (Some (spot_of dom plan k z s)) g f)) h
 
@@ -135,9 +137,6 @@ module _ {S : Type 0} (dom : Operations S) (plan : Plan) where
   pub before_there : (k n : ℕ) (z : List ℕ) (r : Routine) (v : Value S) → slice_get plan.program k ≡ Some r → if_some (find n (places dom plan k z r.code v)) (λ s. Some s.before) ≡ value_in dom plan.engine (earlier plan.program (suc k)) z v (Before n)
   before_there k n z r v g = ap (λ xs. if_some (find n xs) (λ s. Some s.before)) (sym (spots_there k z r v g))
 
-  pub after_there : (k n : ℕ) (z : List ℕ) (r : Routine) (v : Value S) → slice_get plan.program k ≡ Some r → if_some (find n (places dom plan k z r.code v)) (λ s. Some s.after) ≡ value_in dom plan.engine (earlier plan.program (suc k)) z v (After n)
-  after_there k n z r v g = ap (λ xs. if_some (find n xs) (λ s. Some s.after)) (sym (spots_there k z r v g))
-
   pub head_there : (k n : ℕ) (z : List ℕ) (r : Routine) (v : Value S) → slice_get plan.program k ≡ Some r → if_some (find n (places dom plan k z r.code v)) head_value ≡ value_in dom plan.engine (earlier plan.program (suc k)) z v (Head n)
   head_there k n z r v g = ap (λ xs. if_some (find n xs) head_value) (sym (spots_there k z r v g))
 
@@ -146,6 +145,12 @@ module _ {S : Type 0} (dom : Operations S) (plan : Plan) where
       let m : marks_at plan k ≡ marks plan.engine.widening r = ap (marks_of plan.engine.widening) g in
       ap (λ ms. if bytes_eq name r.name then Some (batch dom plan.engine ms z (calls_of dom plan.engine (earlier plan.program k) z) r.code v).value else None) m
       ∙ ap (λ rs. end_of dom plan.engine rs z v name) (sym (standing plan.program k r g))
+
+  -- what a spot of the procedure tells, at the location that asks it of the spot
+  pub told_there : {E : Type 0} (k m n : ℕ) (z : List ℕ) (r : Routine) (code : Code) (v : Value S) (f : Spot S → Option (Value S)) (l : Location) (y : Result (Option (Answer S)) E) → slice_get plan.program k ≡ Some r → m ≡ n → code ≡ r.code → if_some (find n (spots_in dom plan.engine (earlier plan.program (suc k)) z v)) f ≡ value_in dom plan.engine (earlier plan.program (suc k)) z v l → IfOk y (λ o. option_map value_of o ≡ if_some (find m (places dom plan k z code v)) f) → IfOk y (λ o. option_map value_of o ≡ value_in dom plan.engine (earlier plan.program (suc k)) z v l)
+  told_there k m n z r code v f l y g a b s h =
+      if_ok_along y (option_map value_of) (if_some (find m (places dom plan k z code v)) f) (value_in dom plan.engine (earlier plan.program (suc k)) z v l) h
+      ((λ i. if_some (find (a i) (places dom plan k z (b i) v)) f) ∙ ap (λ xs. if_some (find n xs) f) (sym (spots_there k z r v g)) ∙ s)
 
   pub at_gone : (l : Location) (z : List ℕ) (o : Option (List Routine × Value S)) → IsGone o → if_some o (λ x. value_in dom plan.engine x.0 z x.1 l) ≡ None
   at_gone l z None h = refl

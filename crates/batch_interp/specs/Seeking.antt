@@ -47,7 +47,7 @@ module _ {S : Type 0} (dom : Operations S) (plan : Plan) (place : ℕ) (z : List
   spot_at s v = spot v (head_at s v) (passed dom plan place z (before_code s Stop) v).value (call_at s)
 
   abbrev pub spot_of : Seen S → Spot S
-  spot_of s = spot_at s.node (value_of s.before)
+  spot_of s = spot_at s.node.now (value_of s.before)
 
   -- the statements inside a statement
   abbrev pub inner_of : SlotNode → Value S → List (ℕ × Spot S)

@@ -3,6 +3,7 @@ ghost use Rattle.std.specs.Prelude.{◌≡◌, ◌++◌, map, OnOk};
 ghost use Rattle.imp_slots.specs.Plain.{Stop};
 ghost use Rattle.imp_slots.specs.ActionViews.{effect_of};
 ghost use Rattle.imp_slots.specs.BlockViews.{before_code};
+ghost use Rattle.imp_slots.specs.declared.blocks.SlotNode.TheVariants as node;
 ghost use Rattle.domain_laws.specs.Checks.{check_of};
 ghost use Rattle.batch_meaning.specs.Report.{checked_in, checked_one};
 ghost use Rattle.batch_interp.specs.Answered.{value_of};
@@ -12,9 +13,9 @@ ghost use Rattle.batch_interp.specs.Reporting.{befores, before_one, in_front, cl
 use crate::Answer;
 use crate::claim::Claim;
 use crate::frames::Walk;
-use crate::spots::{assumed, behind_node, copy_of, head_answer};
+use crate::spots::{assumed, behind_node, copy_of, head_from};
 use domain_laws::{Domain, Steps, check_of_action};
-use imp_slots::{SlotAction, SlotBlock, SlotNode};
+use imp_slots::{SlotAction, SlotBlock, SlotCond, SlotNode};
 use plain_values::{Items, Memory};
 use std::alloc::Global;
 use std::sync::ledger::Ledger;
@@ -111,15 +112,28 @@ fn add_in_front<D: Domain, L: Ledger>(
             let fails = assumed(walk, cond, false, before, steps)?;
             add_befores(walk, els, fails, found, steps)
         }
-        SlotNode::While(n, cond, body) => {
-            let copy = copy_of(walk.alloc, walk.dom, before)?;
-            let head = head_answer(walk, *n, cond, body, copy, steps)?;
-            let inside = assumed(walk, cond, true, &head, steps)?;
-            add_befores(walk, body, inside, found, steps)
-        }
+        SlotNode::While(n, cond, body) => add_inside(walk, *n, cond, body, before, found, steps),
         SlotNode::Call(_, _, _) => Ok(()),
         SlotNode::Break(_) => Ok(()),
     }
+}
+
+/// Adds what is known in front of each statement inside a loop that has a check.
+#[cycle(befores)]
+fn add_inside<D: Domain, L: Ledger>(
+    walk: &Walk<D>,
+    n: u32,
+    cond: &SlotCond,
+    body: &SlotBlock,
+    before: &Answer<D::State>,
+    found: &mut Items<Answer<D::State>>,
+    steps: &mut Steps<L>,
+) -> Result<(), Memory>
+    ensures added { OnOk result (map value_of found.new ≡ map value_of found.old ++ in_front (D.operations walk.now.dom.now) walk.now.plan.now walk.now.frame.now.place walk.now.frame.now.sites (node.While n cond.now body.now) (value_of before.now)) }
+{
+    let head = head_from(walk, n, cond, body, before, steps)?;
+    let inside = assumed(walk, cond, true, &head, steps)?;
+    add_befores(walk, body, inside, found, steps)
 }
 
 /// Adds what is known in front of a simple statement, if it has a check.

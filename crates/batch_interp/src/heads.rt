@@ -9,7 +9,7 @@ ghost use Rattle.batch_interp.specs.Heads.{head_told, heads_under, loop_value, l
 
 use crate::Answer;
 use crate::frames::{Plan, Walk};
-use crate::spots::{assumed, behind_node, copy_of, head_answer};
+use crate::spots::{assumed, behind_node, head_from};
 use crate::totals::enter_procedure;
 use crate::walks::Entered;
 use call_contexts::{Setting, few_routines};
@@ -93,8 +93,7 @@ fn add_loop<D: Domain, L: Ledger>(
 ) -> Result<(), Memory>
     ensures added { OnOk result (map loop_value found.new ≡ map loop_value found.old ++ values_inside (D.operations walk.now.dom.now) walk.now.plan.now walk.now.frame.now.place walk.now.frame.now.sites (node.While n cond.now body.now) (value_of before.now)) }
 {
-    let copy = copy_of(walk.alloc, walk.dom, before)?;
-    let value = head_answer(walk, n, cond, body, copy, steps)?;
+    let value = head_from(walk, n, cond, body, before, steps)?;
     let inside = assumed(walk, cond, true, &value, steps)?;
     let stmt = StmtId::new(n);
     found.push(Head { stmt, value })?;

@@ -2,7 +2,7 @@
 ghost use Rattle.std.specs.Prelude.{◌≡◌, IfOk, true, false, option_map};
 ghost use Rattle.imp_slots.specs.Plain.{Stop, While};
 ghost use Rattle.imp_slots.specs.BlockViews.{before_code};
-ghost use Rattle.batch_meaning.specs.Values.{lift};
+ghost use Rattle.batch_meaning.specs.Values.{State, lift};
 ghost use Rattle.batch_meaning.specs.Batch.{head_of};
 ghost use Rattle.batch_meaning.specs.Places.{find};
 ghost use Rattle.batch_interp.specs.Answered.{value_of};
@@ -22,8 +22,8 @@ use std::sync::ledger::Ledger;
 
 /// A statement, and what is known in front of it.
 #[derive(Drop)]
-pub(crate) struct Seen<S> {
-    pub(crate) node: SlotNode,
+pub(crate) struct Seen<'a, S> {
+    pub(crate) node: &'a SlotNode,
     pub(crate) before: Answer<S>,
 }
 
@@ -107,6 +107,23 @@ pub(crate) fn behind_node<D: Domain, L: Ledger>(
     }
 }
 
+/// The head of a loop, from the state in front of it.
+fn head_of_state<D: Domain, L: Ledger>(
+    walk: &Walk<D>,
+    n: u32,
+    cond: &SlotCond,
+    body: &SlotBlock,
+    state: &D::State,
+    steps: &mut Steps<L>,
+) -> Result<Answer<D::State>, Memory>
+    ensures is { IfOk result (λ a. value_of a ≡ (head_of (D.operations walk.now.dom.now) walk.now.plan.now.engine (marks_at walk.now.plan.now walk.now.frame.now.place) walk.now.frame.now.sites n cond.now (passed (D.operations walk.now.dom.now) walk.now.plan.now walk.now.frame.now.place walk.now.frame.now.sites body.now) (State state.now)).value) }
+{
+    match loop_head(walk, n, cond, body, state, steps)? {
+        Fixed::At { head, leaving: _ } => Ok(Answer::State(head)),
+        Fixed::Over { head, chain } => Ok(Answer::Over { head, chain }),
+    }
+}
+
 /// The head of a loop.
 pub(crate) fn head_answer<D: Domain, L: Ledger>(
     walk: &Walk<D>,
@@ -119,13 +136,28 @@ pub(crate) fn head_answer<D: Domain, L: Ledger>(
     ensures is { IfOk result (λ a. value_of a ≡ (head_of (D.operations walk.now.dom.now) walk.now.plan.now.engine (marks_at walk.now.plan.now walk.now.frame.now.place) walk.now.frame.now.sites n cond.now (passed (D.operations walk.now.dom.now) walk.now.plan.now walk.now.frame.now.place walk.now.frame.now.sites body.now) (value_of before)).value) }
 {
     match before {
-        Answer::State(state) => {
-            match loop_head(walk, n, cond, body, &state, steps)? {
-                Fixed::At { head, leaving: _ } => Ok(Answer::State(head)),
-                Fixed::Over { head, chain } => Ok(Answer::Over { head, chain }),
-            }
-        }
+        Answer::State(state) => head_of_state(walk, n, cond, body, &state, steps),
         Answer::Over { head, chain } => Ok(Answer::Over { head, chain }),
+    }
+}
+
+/// The head of a loop, from what is lent.
+pub(crate) fn head_from<D: Domain, L: Ledger>(
+    walk: &Walk<D>,
+    n: u32,
+    cond: &SlotCond,
+    body: &SlotBlock,
+    before: &Answer<D::State>,
+    steps: &mut Steps<L>,
+) -> Result<Answer<D::State>, Memory>
+    ensures is { IfOk result (λ a. value_of a ≡ (head_of (D.operations walk.now.dom.now) walk.now.plan.now.engine (marks_at walk.now.plan.now walk.now.frame.now.place) walk.now.frame.now.sites n cond.now (passed (D.operations walk.now.dom.now) walk.now.plan.now walk.now.frame.now.place walk.now.frame.now.sites body.now) (value_of before.now)).value) }
+{
+    match before {
+        Answer::State(state) => head_of_state(walk, n, cond, body, state, steps),
+        Answer::Over { head, chain } => Ok(Answer::Over {
+            head: *head,
+            chain: copy_of_chain(walk.alloc, chain)?,
+        }),
     }
 }
 
@@ -144,22 +176,19 @@ fn holds_inside(node: &SlotNode, number: u32) -> bool
 /// around it only what stands in front of it is interpreted.
 #[cycle(seeking)]
 #[tactic(auto, using(imp_slots::specs::BlockFalls::node_falls))]
-pub(crate) fn seek<D: Domain, L: Ledger>(
+pub(crate) fn seek<'a, D: Domain, L: Ledger>(
     walk: &Walk<D>,
-    block: &SlotBlock,
+    block: &'a SlotBlock,
     before: Answer<D::State>,
     number: u32,
     steps: &mut Steps<L>,
-) -> Result<Option<Seen<D::State>>, Memory>
+) -> Result<Option<Seen<'a, D::State>>, Memory>
     ensures is { IfOk result (λ s. option_map (spot_of (D.operations walk.now.dom.now) walk.now.plan.now walk.now.frame.now.place walk.now.frame.now.sites) s ≡ find number (places (D.operations walk.now.dom.now) walk.now.plan.now walk.now.frame.now.place walk.now.frame.now.sites block.now (value_of before))) }
 {
     let mut now = before;
     for node in block.statements() {
         if number == node.number() {
-            return Ok(Some(Seen {
-                node: node.clone()?,
-                before: now,
-            }));
+            return Ok(Some(Seen { node, before: now }));
         }
         if holds_inside(node, number) {
             return seek_inside(walk, node, now, number, steps);
@@ -171,32 +200,46 @@ pub(crate) fn seek<D: Domain, L: Ledger>(
 
 /// The first statement of this number inside a statement.
 #[cycle(seeking)]
-fn seek_inside<D: Domain, L: Ledger>(
+fn seek_inside<'a, D: Domain, L: Ledger>(
     walk: &Walk<D>,
-    node: &SlotNode,
+    node: &'a SlotNode,
     before: Answer<D::State>,
     number: u32,
     steps: &mut Steps<L>,
-) -> Result<Option<Seen<D::State>>, Memory>
+) -> Result<Option<Seen<'a, D::State>>, Memory>
     ensures is { IfOk result (λ s. option_map (spot_of (D.operations walk.now.dom.now) walk.now.plan.now walk.now.frame.now.place walk.now.frame.now.sites) s ≡ find number (inner_of (D.operations walk.now.dom.now) walk.now.plan.now walk.now.frame.now.place walk.now.frame.now.sites node.now (value_of before))) }
 {
     match node {
         SlotNode::If(_, cond, then, els) => {
             if holds(then, number) {
-                let inside = assumed(walk, cond, true, &before, steps)?;
-                seek(walk, then, inside, number, steps)
+                seek_under(walk, cond, true, then, before, number, steps)
             } else {
-                let inside = assumed(walk, cond, false, &before, steps)?;
-                seek(walk, els, inside, number, steps)
+                seek_under(walk, cond, false, els, before, number, steps)
             }
         }
         SlotNode::While(n, cond, body) => {
             let head = head_answer(walk, *n, cond, body, before, steps)?;
-            let inside = assumed(walk, cond, true, &head, steps)?;
-            seek(walk, body, inside, number, steps)
+            seek_under(walk, cond, true, body, head, number, steps)
         }
         SlotNode::Simple(_, _) => Ok(None),
         SlotNode::Call(_, _, _) => Ok(None),
         SlotNode::Break(_) => Ok(None),
     }
+}
+
+/// The first statement of this number in a block that stands under a condition.
+#[cycle(seeking)]
+fn seek_under<'a, D: Domain, L: Ledger>(
+    walk: &Walk<D>,
+    cond: &SlotCond,
+    sense: bool,
+    block: &'a SlotBlock,
+    before: Answer<D::State>,
+    number: u32,
+    steps: &mut Steps<L>,
+) -> Result<Option<Seen<'a, D::State>>, Memory>
+    ensures is { IfOk result (λ s. option_map (spot_of (D.operations walk.now.dom.now) walk.now.plan.now walk.now.frame.now.place walk.now.frame.now.sites) s ≡ find number (places (D.operations walk.now.dom.now) walk.now.plan.now walk.now.frame.now.place walk.now.frame.now.sites block.now (lift ((D.operations walk.now.dom.now).assume cond.now sense) (value_of before)))) }
+{
+    let inside = assumed(walk, cond, sense, &before, steps)?;
+    seek(walk, block, inside, number, steps)
 }

@@ -1,5 +1,6 @@
 //! What is known at a location under a chain.
-ghost use Rattle.std.specs.Prelude.{◌≡◌, ◌<◌, length, reverse, Some, option_map, IfOk, suc};
+ghost use Rattle.std.specs.Prelude.{◌≡◌, ◌<◌, length, reverse, slice_get, Some, option_map, IfOk, suc};
+ghost use Rattle.imp_syntax.specs.declared.edit.Location.TheVariants.{End};
 ghost use Rattle.batch_meaning.specs.Places.{if_some, find, head_value, value_in, value_at};
 ghost use Rattle.batch_interp.specs.Answered.{value_of};
 ghost use Rattle.batch_interp.specs.Frames.{earlier};
@@ -10,9 +11,9 @@ use crate::frames::{Plan, Walk};
 use crate::spots::{Seen, behind_block, behind_node, head_answer, seek};
 use crate::walks::{Entered, enter_chain};
 use domain_laws::{Domain, Steps};
-use imp_slots::{SlotBlock, SlotNode};
+use imp_slots::{Routine, SlotBlock, SlotNode};
 use imp_syntax::{Location, StmtId};
-use plain_values::Memory;
+use plain_values::{Memory, Text};
 use std::alloc::Global;
 use std::sync::ledger::Ledger;
 
@@ -45,8 +46,7 @@ fn after_number<D: Domain, L: Ledger>(
     match seek(walk, body, before, number, steps)? {
         None => Ok(None),
         Some(seen) => {
-            let Seen { node, before } = seen;
-            let after = behind_node(walk, &node, before, steps)?;
+            let after = behind_node(walk, seen.node, seen.before, steps)?;
             Ok(Some(after))
         }
     }
@@ -58,12 +58,11 @@ fn head_of_seen<D: Domain, L: Ledger>(
     seen: Seen<D::State>,
     steps: &mut Steps<L>,
 ) -> Result<Option<Answer<D::State>>, Memory>
-    ensures is { IfOk result (λ o. option_map value_of o ≡ if_some (head_at (D.operations walk.now.dom.now) walk.now.plan.now walk.now.frame.now.place walk.now.frame.now.sites seen.node (value_of seen.before)) (λ h. Some h.value)) }
+    ensures is { IfOk result (λ o. option_map value_of o ≡ if_some (head_at (D.operations walk.now.dom.now) walk.now.plan.now walk.now.frame.now.place walk.now.frame.now.sites seen.entry.node.now (value_of seen.entry.before)) (λ h. Some h.value)) }
 {
-    let Seen { node, before } = seen;
-    match node {
+    match seen.node {
         SlotNode::While(n, cond, body) => {
-            let head = head_answer(walk, n, &cond, &body, before, steps)?;
+            let head = head_answer(walk, *n, cond, body, seen.before, steps)?;
             Ok(Some(head))
         }
         _ => Ok(None),
@@ -86,6 +85,45 @@ fn head_of_number<D: Domain, L: Ledger>(
     }
 }
 
+/// Behind the body of a procedure, if this is its name.
+fn end_of<D: Domain, L: Ledger>(
+    walk: &Walk<D>,
+    routine: &Routine,
+    before: Answer<D::State>,
+    name: &Text,
+    steps: &mut Steps<L>,
+) -> Result<Option<Answer<D::State>>, Memory>
+    requires there { slice_get walk.now.plan.now.program walk.now.frame.now.place ≡ Some routine.now }
+    ensures is { IfOk result (λ o. option_map value_of o ≡ value_in (D.operations walk.now.dom.now) walk.now.plan.now.engine (earlier walk.now.plan.now.program (suc walk.now.frame.now.place)) walk.now.frame.now.sites (value_of before) (End name.now)) }
+{
+    if name == routine.name() {
+        let end = behind_block(walk, routine.body(), before, steps)?;
+        Ok(Some(end))
+    } else {
+        Ok(None)
+    }
+}
+
+/// At a location of a procedure, if it has the location.
+fn value_within<D: Domain, L: Ledger>(
+    walk: &Walk<D>,
+    routine: &Routine,
+    before: Answer<D::State>,
+    at: &Location,
+    steps: &mut Steps<L>,
+) -> Result<Option<Answer<D::State>>, Memory>
+    requires there { slice_get walk.now.plan.now.program walk.now.frame.now.place ≡ Some routine.now }
+    ensures is { IfOk result (λ o. option_map value_of o ≡ value_in (D.operations walk.now.dom.now) walk.now.plan.now.engine (earlier walk.now.plan.now.program (suc walk.now.frame.now.place)) walk.now.frame.now.sites (value_of before) at.now) }
+{
+    let body = routine.body();
+    match at {
+        Location::Before(n) => before_number(walk, body, before, n.number(), steps),
+        Location::After(n) => after_number(walk, body, before, n.number(), steps),
+        Location::Head(n) => head_of_number(walk, body, before, n.number(), steps),
+        Location::End(name) => end_of(walk, routine, before, name, steps),
+    }
+}
+
 /// At a location of a procedure that is entered, if it has the location.
 fn value_in<D: Domain, L: Ledger>(
     alloc: Global,
@@ -100,26 +138,13 @@ fn value_in<D: Domain, L: Ledger>(
 {
     let Entered { frame, before } = entered;
     let routine = &plan.routines()[frame.place];
-    let body = routine.body();
     let walk = Walk {
         alloc,
         dom,
         plan,
         frame: &frame,
     };
-    match at {
-        Location::Before(n) => before_number(&walk, body, before, n.number(), steps),
-        Location::After(n) => after_number(&walk, body, before, n.number(), steps),
-        Location::Head(n) => head_of_number(&walk, body, before, n.number(), steps),
-        Location::End(name) => {
-            if name == routine.name() {
-                let end = behind_block(&walk, body, before, steps)?;
-                Ok(Some(end))
-            } else {
-                Ok(None)
-            }
-        }
-    }
+    value_within(&walk, routine, before, at, steps)
 }
 
 /// At a location under a chain, which has the outermost call first, if the program has them.

@@ -88,18 +88,12 @@ fn enter_seen<D: Domain, L: Ledger>(
     seen: Seen<D::State>,
     steps: &mut Steps<L>,
 ) -> Result<Option<Entered<D::State>>, Memory>
-    ensures is { IfOk result (λ o. IsEntered walk.now.plan.now.program (site ∷ walk.now.frame.now.sites) o (called_from (D.operations walk.now.dom.now) walk.now.plan.now.program walk.now.frame.now.place (value_of seen.before) (call_at seen.node))) }
+    ensures is { IfOk result (λ o. IsEntered walk.now.plan.now.program (site ∷ walk.now.frame.now.sites) o (called_from (D.operations walk.now.dom.now) walk.now.plan.now.program walk.now.frame.now.place (value_of seen.entry.before) (call_at seen.entry.node.now))) }
 {
-    let Seen { node, before } = seen;
-    match node {
-        SlotNode::Call(_, call, callee) => enter_callee(
-            walk,
-            site,
-            &call,
-            callee as usize,
-            before,
-            steps,
-        ),
+    match seen.node {
+        SlotNode::Call(_, call, callee) => {
+            enter_callee(walk, site, call, *callee as usize, seen.before, steps)
+        }
         _ => Ok(None),
     }
 }

@@ -1,4 +1,4 @@
-use Rattle.std.proofs.Common.{◌≡◌, ◌+◌, ◌++◌, drop, map}
+use Rattle.std.proofs.Common.{◌≡◌, ◌+◌, ◌*◌, ◌++◌, drop, map}
 use Rattle.imp_slots.specs.Sizes.{code_size}
 use Rattle.imp_slots.specs.BlockViews.{code_of, node_size}
 use Rattle.batch_interp.specs.Answered.{value_of}
@@ -6,10 +6,13 @@ use Rattle.batch_interp.specs.Reporting.{befores}
 use Rattle.batch_interp.proofs.befores.+befores.Given as goal
 
 abbrev pub decreases-add_befores : goal.decreases-add_befores
-decreases-add_befores g l = code_size l.block.now + 1
+decreases-add_befores g l = 2 * code_size l.block.now + 1
 
 abbrev pub decreases-add_in_front : goal.decreases-add_in_front
-decreases-add_in_front g l = node_size l.node.now
+decreases-add_in_front g l = 2 * node_size l.node.now
+
+abbrev pub decreases-add_inside : goal.decreases-add_inside
+decreases-add_inside g l = 2 * code_size l.body.now + 2
 
 abbrev pub invariant-add_befores-loop-node : goal.invariant-add_befores-loop-node
 invariant-add_befores-loop-node g l =

@@ -2,7 +2,7 @@ use Rattle.std.proofs.Common.{◌≢◌, ap, sym, ◌∙◌}
 use Rattle.imp_slots.specs.BlockViews.{number_of}
 use Rattle.batch_meaning.specs.Places.{find}
 use Rattle.batch_interp.specs.Answered.{value_of}
-use Rattle.batch_interp.specs.Seeking.{inner_of}
+use Rattle.batch_interp.specs.Seeking.{places, inner_of}
 use Rattle.batch_interp.proofs.Lists.{if_ok_along}
 use Rattle.batch_interp.proofs.Seekings.{seek_inner, seek_behind, then_part, else_part, body_part}
 use Rattle.batch_interp.proofs.spots.+seeking.Goals as goal
@@ -41,31 +41,39 @@ seek_inside-returns-then-holds g t c =
     let place = c.args.walk.now.frame.now.place in
     let z = c.args.walk.now.frame.now.sites in
     record {
-      is = if_ok_along _ _ _ _ c.seek.ensures.is
-          (sym (then_part dom plan place z c.args.number c.in-If.field-0 c.in-If.cond c.in-If.then c.in-If.els (value_of c.args.before) (value_of c.in_ok-inside-in-If.inside) (sym c.if-holds.ensures.is) c.in_ok-inside-in-If.ensures.is)
+      is = if_ok_along _ _ _ _ c.seek_under.ensures.is
+          (then_part dom plan place z c.args.number c.in-If.field-0 c.in-If.cond c.in-If.then c.in-If.els (value_of c.args.before) (sym c.if-holds.ensures.is)
           ∙ ap (λ s. find c.args.number (inner_of dom plan place z s (value_of c.args.before))) (sym c.in-If.is));
     }
 
-pub seek_inside-returns-in-If : goal.seek_inside-returns-in-If
-seek_inside-returns-in-If g t c =
+pub seek_inside-returns-else-holds : goal.seek_inside-returns-else-holds
+seek_inside-returns-else-holds g t c =
     let dom = g.D.Domain.operations c.args.walk.now.dom.now in
     let plan = c.args.walk.now.plan.now in
     let place = c.args.walk.now.frame.now.place in
     let z = c.args.walk.now.frame.now.sites in
     record {
-      is = if_ok_along _ _ _ _ c.seek-else-holds.ensures.is
-          (sym (else_part dom plan place z c.args.number c.in-If.field-0 c.in-If.cond c.in-If.then c.in-If.els (value_of c.args.before) (value_of c.in_ok-inside-in-If-2.inside) (sym c.if-holds.ensures.is) c.in_ok-inside-in-If-2.ensures.is)
+      is = if_ok_along _ _ _ _ c.seek_under-else-holds.ensures.is
+          (else_part dom plan place z c.args.number c.in-If.field-0 c.in-If.cond c.in-If.then c.in-If.els (value_of c.args.before) (sym c.if-holds.ensures.is)
           ∙ ap (λ s. find c.args.number (inner_of dom plan place z s (value_of c.args.before))) (sym c.in-If.is));
     }
 
-pub seek_inside-returns-in-While : goal.seek_inside-returns-in-While
-seek_inside-returns-in-While g t c =
+pub seek_inside-returns-in_ok-head-in-While : goal.seek_inside-returns-in_ok-head-in-While
+seek_inside-returns-in_ok-head-in-While g t c =
     let dom = g.D.Domain.operations c.args.walk.now.dom.now in
     let plan = c.args.walk.now.plan.now in
     let place = c.args.walk.now.frame.now.place in
     let z = c.args.walk.now.frame.now.sites in
     record {
-      is = if_ok_along _ _ _ _ c.seek-in-While.ensures.is
-          (sym (body_part dom plan place z c.args.number c.in-While.n c.in-While.cond c.in-While.body (value_of c.args.before) (value_of c.in_ok-head-in-While.head) (value_of c.in_ok-inside-in-While.inside) c.in_ok-head-in-While.ensures.is c.in_ok-inside-in-While.ensures.is)
+      is = if_ok_along _ _ _ _ c.seek_under-in-While.ensures.is
+          (body_part dom plan place z c.args.number c.in-While.n c.in-While.cond c.in-While.body (value_of c.args.before) (value_of c.in_ok-head-in-While.head) c.in_ok-head-in-While.ensures.is
           ∙ ap (λ s. find c.args.number (inner_of dom plan place z s (value_of c.args.before))) (sym c.in-While.is));
     }
+
+pub seek_under-returns : goal.seek_under-returns
+seek_under-returns g t c =
+    let dom = g.D.Domain.operations c.args.walk.now.dom.now in
+    let plan = c.args.walk.now.plan.now in
+    let place = c.args.walk.now.frame.now.place in
+    let z = c.args.walk.now.frame.now.sites in
+    record { is = if_ok_along _ _ _ _ c.seek.ensures.is (ap (λ v. find c.args.number (places dom plan place z c.args.block.now v)) c.in_ok-inside.ensures.is) }

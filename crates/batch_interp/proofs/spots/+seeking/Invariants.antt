@@ -1,4 +1,4 @@
-use Rattle.std.proofs.Common.{◌≡◌, ◌+◌, drop}
+use Rattle.std.proofs.Common.{◌≡◌, ◌+◌, ◌*◌, drop}
 use Rattle.imp_slots.specs.Sizes.{code_size}
 use Rattle.imp_slots.specs.BlockViews.{code_of, node_size}
 use Rattle.batch_meaning.specs.Places.{find}
@@ -7,10 +7,13 @@ use Rattle.batch_interp.specs.Seeking.{places}
 use Rattle.batch_interp.proofs.spots.+seeking.Given as goal
 
 abbrev pub decreases-seek : goal.decreases-seek
-decreases-seek g l = code_size l.block.now + 1
+decreases-seek g l = 2 * code_size l.block.now + 1
 
 abbrev pub decreases-seek_inside : goal.decreases-seek_inside
-decreases-seek_inside g l = node_size l.node.now
+decreases-seek_inside g l = 2 * node_size l.node.now
+
+abbrev pub decreases-seek_under : goal.decreases-seek_under
+decreases-seek_under g l = 2 * code_size l.block.now + 2
 
 -- what is left of the block, from what is known so far, has the statement where the block has it
 abbrev pub invariant-seek-loop-node : goal.invariant-seek-loop-node
