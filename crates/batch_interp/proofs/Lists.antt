@@ -1,6 +1,7 @@
 -- Results, and lists in them, along equations.
-use Rattle.std.proofs.Common.{◌≡◌, ◌++◌, Bool, true, false, List, Result, Ok, Err, IfOk, OnOk, ap, ◌∙◌}
+use Rattle.std.proofs.Common.{◌≡◌, ◌++◌, Bool, true, false, List, [], Result, Ok, Err, IfOk, OnOk, sym, ap, ◌∙◌, append_assoc}
 use Rattle.std.specs.Prelude.{if◌then◌else◌}
+use Rattle.std.proofs.lemmas.List.{append-nil}
 
 pub if_ok_along : {A B E : Type 0} (r : Result A E) (f : A → B) (a b : B) → IfOk r (λ x. f x ≡ a) → a ≡ b → IfOk r (λ x. f x ≡ b)
 if_ok_along (Err e) f a b h k = h
@@ -21,3 +22,10 @@ on_ok_along (Ok i) x y a b h k = h ∙ ap (λ c. y ++ c) k
 pub on_ok_as : {A E : Type 0} (r : Result A E) (P Q : Type 0) → OnOk r P → (P → Q) → OnOk r Q
 on_ok_as (Err e) P Q h f = h
 on_ok_as (Ok x) P Q h f = f h
+
+-- the first part of what is left, added to what there is
+pub part_added : {A : Type 0} (old new part rest left : List A) → new ≡ old ++ part → left ≡ part ++ rest → new ++ rest ≡ old ++ left
+part_added old new part rest left h k = ap (λ xs. xs ++ rest) h ∙ append_assoc old part rest ∙ ap (λ xs. old ++ xs) (sym k)
+
+pub nothing_left : {A : Type 0} (all left : List A) → left ≡ [] → all ++ left ≡ all
+nothing_left all left k = ap (λ xs. all ++ xs) k ∙ append-nil all

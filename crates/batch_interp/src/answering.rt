@@ -1,5 +1,5 @@
 //! Answers.
-ghost use Rattle.std.specs.Prelude.{◌≡◌, IfOk, IfErr};
+ghost use Rattle.std.specs.Prelude.{◌≡◌, ◌<◌, length, IfOk, IfErr};
 ghost use Rattle.imp_check.specs.Slots.{routines_of};
 ghost use Rattle.batch_meaning.specs.Answers.{answer, answer_in, procedure_of, In, Answers};
 ghost use Rattle.call_contexts.specs.Settings.{setting_of};
@@ -70,19 +70,17 @@ pub fn answer<D: Domain, L: Ledger>(
 fn answer_at<D: Domain, L: Ledger>(
     alloc: Global,
     dom: &D,
-    prog: &Checked,
-    setting: &Setting,
+    plan: &Plan,
     at: &Location,
     place: ProcId,
     string: &[u32],
     steps: &mut Steps<L>,
 ) -> Result<Answer<D::State>, QueryError>
-    requires setting { setting.now ≡ setting_of setting.now.engine (routines_of prog.now) }
-    ensures is { IsAnswer (answer_in (D.operations dom.now) setting.now.engine (routines_of prog.now) at.now string.now (In place)) result }
+    requires some { 0 < length plan.now.program }
+    ensures is { IsAnswer (answer_in (D.operations dom.now) plan.now.engine plan.now.program at.now string.now (In place)) result }
 {
-    let chains = chains(alloc, &prog.view(), place, string)?;
-    let plan = Plan::new(prog.routines(), setting);
-    sum_of(alloc, dom, &plan, at, chains.as_slice(), steps)
+    let chains = chains(alloc, &plan.view(), place, string)?;
+    sum_of(alloc, dom, plan, at, chains.as_slice(), steps)
 }
 
 /// The answer, as one fact.
@@ -103,6 +101,10 @@ fn answer_exactly<D: Domain, L: Ledger>(
     }
     match procedure_of(prog, at) {
         Err(error) => Err(error),
-        Ok(place) => answer_at(alloc, dom, prog, setting, at, place, string, steps),
+        Ok(place) => {
+            prog.routines();
+            let plan = Plan::new(prog, setting);
+            answer_at(alloc, dom, &plan, at, place, string, steps)
+        }
     }
 }

@@ -69,7 +69,13 @@ fn next_iterate<D: Domain, L: Ledger>(
     if k < walk.plan.delay() {
         walk.dom.join(walk.alloc, state, end, steps)
     } else {
-        walk.dom.widen(walk.alloc, walk.plan.marks(walk.frame.place), state, end, steps)
+        walk.dom.widen(
+            walk.alloc,
+            walk.plan.marks(walk.frame.place),
+            state,
+            end,
+            steps,
+        )
     }
 }
 
@@ -130,16 +136,10 @@ pub(crate) fn node_answer<D: Domain, L: Ledger>(
             Ok(Answer::State(next))
         }
         SlotNode::If(_, cond, then, els) => {
-            if_answer(
-                walk, cond, then, els, state, leaving, steps,
-            )
+            if_answer(walk, cond, then, els, state, leaving, steps)
         }
-        SlotNode::While(n, cond, body) => {
-            while_answer(walk, *n, cond, body, state, steps)
-        }
-        SlotNode::Call(n, call, callee) => {
-            call_answer(walk, *n, call, *callee, state, steps)
-        }
+        SlotNode::While(n, cond, body) => { while_answer(walk, *n, cond, body, state, steps) }
+        SlotNode::Call(n, call, callee) => { call_answer(walk, *n, call, *callee, state, steps) }
         SlotNode::Break(_) => {
             let next = behind_break(walk.alloc, walk.dom, state, leaving, steps)?;
             Ok(Answer::State(next))
@@ -241,7 +241,9 @@ fn call_answer<D: Domain, L: Ledger>(
 {
     let entered = walk.dom.enter(walk.alloc, call, state, steps)?;
     match callee_answer(walk, n, callee as usize, entered, steps)? {
-        Answer::State(done) => Ok(Answer::State(walk.dom.leave(walk.alloc, call, state, &done, steps)?)),
+        Answer::State(done) => Ok(Answer::State(
+            walk.dom.leave(walk.alloc, call, state, &done, steps)?,
+        )),
         Answer::Over { head, chain } => Ok(Answer::Over { head, chain }),
     }
 }

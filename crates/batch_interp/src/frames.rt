@@ -1,10 +1,12 @@
 //! Where a block stands: its procedure, and the calls that led to it.
 ghost use Rattle.std.specs.Prelude.{◌≡◌, ◌-◌, ◌∷◌, [], ◌<◌, length, map, reverse, take, slice_get, IfOk};
 ghost use Rattle.std.specs.Option.{option_copied};
+ghost use Rattle.imp_check.specs.Slots.{routines_of};
 ghost use Rattle.call_contexts.specs.Settings.{setting_of};
 ghost use Rattle.batch_interp.specs.Frames.{marks_at};
 
 use call_contexts::Setting;
+use imp_check::{Checked, View};
 use imp_slots::Routine;
 use imp_syntax::{Chain, StmtId};
 use plain_values::{Items, Memory};
@@ -14,12 +16,13 @@ use std::marker::Model;
 /// A program, and how its loops are interpreted.
 #[derive(Drop)]
 pub(crate) struct Plan<'a> {
-    routines: &'a [Routine],
+    prog: &'a Checked,
     setting: &'a Setting,
 }
 
 impl<'a> Model for Plan<'a> {
     ghost use Rattle.std.specs.Prelude.{◌≡◌, map};
+    ghost use Rattle.imp_check.specs.Slots.{routines_of};
     ghost use Rattle.program_chains.specs.Marks as rising;
     ghost use Rattle.batch_interp.specs.Frames as plain;
 
@@ -29,9 +32,9 @@ impl<'a> Model for Plan<'a> {
 
     ghost coded = { plan_code };
 
-    ghost view = { λ a. record { program = a.routines.now; engine = a.setting.now.engine } };
+    ghost view = { λ a. record { program = routines_of a.prog.now; engine = a.setting.now.engine } };
 
-    ghost invariant = { λ a. a.setting.now.marks ≡ map (rising.marks a.setting.now.engine.widening) a.routines.now };
+    ghost invariant = { λ a. a.setting.now.marks ≡ map (rising.marks a.setting.now.engine.widening) (routines_of a.prog.now) };
 }
 
 /// The procedure of a block, and the call statements from main to it, the last one first.
@@ -54,11 +57,18 @@ pub(crate) struct Walk<'a, D> {
 
 impl<'a> Plan<'a> {
     /// The plan of a program by its setting.
-    pub(crate) fn new(routines: &'a [Routine], setting: &'a Setting) -> Plan<'a>
-        requires setting { setting.now ≡ setting_of setting.now.engine routines.now }
-        ensures is { result ≡ record { program = routines.now; engine = setting.now.engine } }
+    pub(crate) fn new(prog: &'a Checked, setting: &'a Setting) -> Plan<'a>
+        requires setting { setting.now ≡ setting_of setting.now.engine (routines_of prog.now) }
+        ensures is { result ≡ record { program = routines_of prog.now; engine = setting.now.engine } }
     {
-        Plan { routines, setting }
+        Plan { prog, setting }
+    }
+
+    /// The program, as it is read.
+    pub(crate) fn view(&self) -> View<'a>
+        ensures is { routines_of result ≡ self.now.program }
+    {
+        self.prog.view()
     }
 
     /// How often the iterates of a loop are made at most.
@@ -79,14 +89,14 @@ impl<'a> Plan<'a> {
     pub(crate) fn routines(&self) -> &'a [Routine]
         ensures is { result.now ≡ self.now.program }
     {
-        self.routines
+        self.prog.routines()
     }
 
     /// The procedure at a place.
     pub(crate) fn routine(&self, place: usize) -> Option<&'a Routine>
         ensures is { option_copied result ≡ slice_get self.now.program place }
     {
-        self.routines.get(place)
+        self.routines().get(place)
     }
 
     /// The marks of a procedure.
@@ -104,7 +114,7 @@ impl<'a> Plan<'a> {
         ensures is { option_copied result ≡ slice_get (take place self.now.program) callee }
     {
         if callee < place {
-            self.routines.get(callee)
+            self.routines().get(callee)
         } else {
             None
         }

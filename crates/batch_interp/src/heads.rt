@@ -69,11 +69,7 @@ fn add_heads_in<D: Domain, L: Ledger>(
             let fails = assumed(walk, cond, false, before, steps)?;
             add_heads(walk, els, fails, found, steps)
         }
-        SlotNode::While(n, cond, body) => {
-            add_loop(
-                walk, *n, cond, body, before, found, steps,
-            )
-        }
+        SlotNode::While(n, cond, body) => { add_loop(walk, *n, cond, body, before, found, steps) }
         SlotNode::Simple(_, _) => Ok(()),
         SlotNode::Call(_, _, _) => Ok(()),
         SlotNode::Break(_) => Ok(()),
@@ -143,8 +139,8 @@ pub fn loop_heads<D: Domain, L: Ledger>(
     ensures exact { IfOk result (λ hs. map head_told hs ≡ heads_under (D.operations dom.now) setting.now.engine (routines_of prog.now) proc (reverse chain.now)) }
 {
     chains_go_through_callers();
-    let routines = few_routines(prog);
-    let plan = Plan::new(routines, setting);
+    few_routines(prog);
+    let plan = Plan::new(prog, setting);
     let place = proc.place() as usize;
     match plan.routine(place) {
         None => Ok(Items::new(alloc)),

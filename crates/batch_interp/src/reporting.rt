@@ -27,14 +27,12 @@ use std::sync::ledger::Ledger;
 fn add_report<D: Domain, L: Ledger>(
     alloc: Global,
     dom: &D,
-    prog: &Checked,
     plan: &Plan,
     place: usize,
     body: &SlotBlock,
     found: &mut Items<Finding>,
     steps: &mut Steps<L>,
 ) -> Result<(), Memory>
-    requires program { plan.now.program ≡ routines_of prog.now }
     requires checked { IsChecked plan.now.program }
     requires few { place < 2 ^ 32 }
     requires there { HasBody plan.now.program place body.now }
@@ -44,7 +42,7 @@ fn add_report<D: Domain, L: Ledger>(
     places_are_found();
     let mut claims = Items::new(alloc);
     add_claims(body, &mut claims)?;
-    let chains = chains(alloc, &prog.view(), ProcId::new(place as u32), &[])?;
+    let chains = chains(alloc, &plan.view(), ProcId::new(place as u32), &[])?;
     let known = totals(alloc, dom, plan, place, body, chains.as_slice(), steps)?;
     add_findings(alloc, dom, claims.as_slice(), &known, found)
 }
@@ -87,19 +85,10 @@ fn all_findings<D: Domain, L: Ledger>(
     ensures is { IfOk result (λ all. all ≡ report (D.operations dom.now) setting.now.engine (routines_of prog.now)) }
 {
     let routines = few_routines(prog);
-    let plan = Plan::new(routines, setting);
+    let plan = Plan::new(prog, setting);
     let mut found = Items::new(alloc);
     for (place, routine) in routines.iter().enumerate() {
-        add_report(
-            alloc,
-            dom,
-            prog,
-            &plan,
-            place,
-            routine.body(),
-            &mut found,
-            steps,
-        )?;
+        add_report(alloc, dom, &plan, place, routine.body(), &mut found, steps)?;
     }
     Ok(found)
 }

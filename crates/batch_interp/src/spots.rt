@@ -63,7 +63,9 @@ pub(crate) fn assumed<D: Domain, L: Ledger>(
     ensures is { IfOk result (λ a. value_of a ≡ lift ((D.operations walk.now.dom.now).assume cond.now sense) (value_of before.now)) }
 {
     match before {
-        Answer::State(state) => Ok(Answer::State(walk.dom.assume(walk.alloc, cond, sense, state, steps)?)),
+        Answer::State(state) => Ok(Answer::State(
+            walk.dom.assume(walk.alloc, cond, sense, state, steps)?,
+        )),
         Answer::Over { head, chain } => Ok(Answer::Over {
             head: *head,
             chain: copy_of_chain(walk.alloc, chain)?,

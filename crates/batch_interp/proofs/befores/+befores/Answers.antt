@@ -1,8 +1,9 @@
-use Rattle.std.proofs.Common.{sym, ap}
+use Rattle.std.proofs.Common.{◌+◌, ◌++◌, drop, map, sym, ap, ◌∙◌}
+use Rattle.imp_slots.specs.BlockViews.{code_of}
 use Rattle.batch_interp.specs.Answered.{value_of}
-use Rattle.batch_interp.specs.Reporting.{in_front}
-use Rattle.batch_interp.proofs.Lists.{on_ok_along}
-use Rattle.batch_interp.proofs.Claimed.{while_front}
+use Rattle.batch_interp.specs.Reporting.{befores, in_front}
+use Rattle.batch_interp.proofs.Lists.{on_ok_along, part_added, nothing_left}
+use Rattle.batch_interp.proofs.Claimed.{befores_step, befores_end, while_front}
 use Rattle.batch_interp.proofs.befores.+befores.Goals as goal
 
 pub add_in_front-returns-in-While : goal.add_in_front-returns-in-While
@@ -17,3 +18,40 @@ add_inside-returns g t c =
       added = on_ok_along _ _ _ _ _ c.add_befores.ensures.added
           (while_front (g.D.Domain.operations c.args.walk.now.dom.now) c.args.walk.now.plan.now c.args.walk.now.frame.now.place c.args.walk.now.frame.now.sites c.args.n c.args.cond.now c.args.body.now (value_of c.args.before.now) (value_of c.in_ok-head.head) (value_of c.in_ok-inside.inside) c.in_ok-head.ensures.is c.in_ok-inside.ensures.is);
     }
+
+pub add_befores-loop-node-init : goal.add_befores-loop-node-init
+add_befores-loop-node-init g t c =
+    let walk = c.args.walk.now in
+    record {
+      is = c.statements-node-items.ensures.same;
+      told = ap (λ b. map value_of c.args.found.now ++ befores (g.D.Domain.operations c.args.walk.now.dom.now) walk.plan.now walk.frame.now.place walk.frame.now.sites b (value_of c.args.before)) c.statements-node-items.ensures.same;
+    }
+
+pub add_befores-loop-node-preserved : goal.add_befores-loop-node-preserved
+add_befores-loop-node-preserved g t c =
+    let dom = g.D.Domain.operations c.args.walk.now.dom.now in
+    let plan = c.args.walk.now.plan.now in
+    let place = c.args.walk.now.frame.now.place in
+    let z = c.args.walk.now.frame.now.sites in
+    let ss = c.statements-node-items.result.now in
+    let i = c.loop-node.node-index in
+    let v = value_of c.loop-node.now in
+    let w = value_of c.in_ok-now.now in
+    record {
+      is = c.loop-node.invariant.is;
+      told =
+          part_added (map value_of c.loop-node.found) (map value_of c.add_in_front.new.found) (in_front dom plan place z c.node-item.result v) (befores dom plan place z (code_of (drop (i + 1) ss)) w) (befores dom plan place z (code_of (drop i ss)) v) c.in_ok-add_in_front.ensures.added
+          (befores_step dom plan place z ss i c.node-item.result v w c.loop-node-test.true c.node-item.is c.in_ok-now.ensures.is)
+          ∙ c.loop-node.invariant.told;
+    }
+
+pub add_befores-returns : goal.add_befores-returns
+add_befores-returns g t c =
+    let dom = g.D.Domain.operations c.args.walk.now.dom.now in
+    let plan = c.args.walk.now.plan.now in
+    let place = c.args.walk.now.frame.now.place in
+    let z = c.args.walk.now.frame.now.sites in
+    let ss = c.statements-node-items.result.now in
+    let i = c.loop-node.node-index in
+    let v = value_of c.loop-node.now in
+    record { added = sym (nothing_left (map value_of c.loop-node.found) (befores dom plan place z (code_of (drop i ss)) v) (befores_end dom plan place z ss i v c.loop-node-test.false)) ∙ c.loop-node.invariant.told }

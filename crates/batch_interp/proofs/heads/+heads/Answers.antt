@@ -1,7 +1,9 @@
-use Rattle.std.proofs.Common.{sym, ap}
+use Rattle.std.proofs.Common.{◌+◌, ◌++◌, drop, map, sym, ap, ◌∙◌}
+use Rattle.imp_slots.specs.BlockViews.{code_of}
 use Rattle.batch_interp.specs.Answered.{value_of}
-use Rattle.batch_interp.specs.Heads.{values_inside}
-use Rattle.batch_interp.proofs.Lists.{on_ok_along}
+use Rattle.batch_interp.specs.Heads.{loop_value, loop_values, values_inside}
+use Rattle.batch_interp.proofs.Lists.{on_ok_along, part_added, nothing_left}
+use Rattle.batch_interp.proofs.HeadLemmas.{values_step, values_end}
 use Rattle.batch_interp.proofs.heads.+heads.Goals as goal
 
 pub add_heads_in-returns-in-While : goal.add_heads_in-returns-in-While
@@ -9,3 +11,40 @@ add_heads_in-returns-in-While g t c =
     record {
       added = on_ok_along _ _ _ _ _ c.add_loop.ensures.added (ap (λ s. values_inside (g.D.Domain.operations c.args.walk.now.dom.now) c.args.walk.now.plan.now c.args.walk.now.frame.now.place c.args.walk.now.frame.now.sites s (value_of c.args.before.now)) (sym c.in-While.is));
     }
+
+pub add_heads-loop-node-init : goal.add_heads-loop-node-init
+add_heads-loop-node-init g t c =
+    let walk = c.args.walk.now in
+    record {
+      is = c.statements-node-items.ensures.same;
+      told = ap (λ b. map loop_value c.args.found.now ++ loop_values (g.D.Domain.operations c.args.walk.now.dom.now) walk.plan.now walk.frame.now.place walk.frame.now.sites b (value_of c.args.before)) c.statements-node-items.ensures.same;
+    }
+
+pub add_heads-loop-node-preserved : goal.add_heads-loop-node-preserved
+add_heads-loop-node-preserved g t c =
+    let dom = g.D.Domain.operations c.args.walk.now.dom.now in
+    let plan = c.args.walk.now.plan.now in
+    let place = c.args.walk.now.frame.now.place in
+    let z = c.args.walk.now.frame.now.sites in
+    let ss = c.statements-node-items.result.now in
+    let i = c.loop-node.node-index in
+    let v = value_of c.loop-node.now in
+    let w = value_of c.in_ok-now.now in
+    record {
+      is = c.loop-node.invariant.is;
+      told =
+          part_added (map loop_value c.loop-node.found) (map loop_value c.add_heads_in.new.found) (values_inside dom plan place z c.node-item.result v) (loop_values dom plan place z (code_of (drop (i + 1) ss)) w) (loop_values dom plan place z (code_of (drop i ss)) v) c.in_ok-add_heads_in.ensures.added
+          (values_step dom plan place z ss i c.node-item.result v w c.loop-node-test.true c.node-item.is c.in_ok-now.ensures.is)
+          ∙ c.loop-node.invariant.told;
+    }
+
+pub add_heads-returns : goal.add_heads-returns
+add_heads-returns g t c =
+    let dom = g.D.Domain.operations c.args.walk.now.dom.now in
+    let plan = c.args.walk.now.plan.now in
+    let place = c.args.walk.now.frame.now.place in
+    let z = c.args.walk.now.frame.now.sites in
+    let ss = c.statements-node-items.result.now in
+    let i = c.loop-node.node-index in
+    let v = value_of c.loop-node.now in
+    record { added = sym (nothing_left (map loop_value c.loop-node.found) (loop_values dom plan place z (code_of (drop i ss)) v) (values_end dom plan place z ss i v c.loop-node-test.false)) ∙ c.loop-node.invariant.told }

@@ -1,6 +1,4 @@
 use Rattle.std.proofs.Common.{◌≡◌, sym, ap, ◌∙◌, List, [], ◌++◌, map, reverse}
-use Rattle.imp_syntax.specs.Plain.{Procedure}
-use Rattle.imp_check.specs.Slots.{routines_of}
 use Rattle.program_chains.specs.Chains.{selected}
 use Rattle.batch_meaning.specs.Report.{checked_in}
 use Rattle.batch_interp.specs.Reporting.{claim_of, claims}
@@ -14,16 +12,14 @@ pub totals-requires-clause-lead : goal.totals-requires-clause-lead
 totals-requires-clause-lead g c =
     let dom = g.D.Domain.operations c.args.dom.now in
     let plan = c.args.plan.now in
-    let program = sym c.requires.program in
-    let z : c.as_slice.result.now ≡ map reverse (selected plan.program c.args.place []) = c.as_slice.ensures.same ∙ c.in_ok-chains.ensures.is ∙ ap (λ (ps : List Procedure). map reverse (selected (routines_of ps) c.new.result [])) c.view.ensures.is ∙ (λ i. map reverse (selected (program i) (c.new.ensures.is i) [])) in
+    let z : c.as_slice.result.now ≡ map reverse (selected plan.program c.args.place []) = c.as_slice.ensures.same ∙ c.in_ok-chains.ensures.is ∙ (λ i. map reverse (selected (c.view.ensures.is i) (c.new.ensures.is i) [])) in
     found_lead dom plan c.args.place c.as_slice.result.now c.requires.checked c.chains_go_through_callers.ensures.through (slice_get_within plan.program c.args.place c.requires.there.routine c.requires.there.there) (chains_back dom plan c.args.place c.as_slice.result.now z)
 
 pub returns : goal.returns
 returns g c =
     let dom = g.D.Domain.operations c.args.dom.now in
     let plan = c.args.plan.now in
-    let program = sym c.requires.program in
-    let z : c.as_slice.result.now ≡ map reverse (selected plan.program c.args.place []) = c.as_slice.ensures.same ∙ c.in_ok-chains.ensures.is ∙ ap (λ (ps : List Procedure). map reverse (selected (routines_of ps) c.new.result [])) c.view.ensures.is ∙ (λ i. map reverse (selected (program i) (c.new.ensures.is i) [])) in
+    let z : c.as_slice.result.now ≡ map reverse (selected plan.program c.args.place []) = c.as_slice.ensures.same ∙ c.in_ok-chains.ensures.is ∙ (λ i. map reverse (selected (c.view.ensures.is i) (c.new.ensures.is i) [])) in
     let cs : map claim_of c.as_slice-2.result.now ≡ claims (checked_in c.args.body.now) = ap (map claim_of) c.as_slice-2.ensures.same ∙ c.in_ok-add_claims.ensures.added ∙ ap (λ xs. map claim_of xs ++ claims (checked_in c.args.body.now)) c.new-claims.ensures.empty in
     record {
       added = on_ok_as _ _ _ c.add_findings.ensures.added (λ n.
