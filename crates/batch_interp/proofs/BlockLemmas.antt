@@ -1,5 +1,5 @@
 -- One step of each kind of statement, over plain variables.
-use Rattle.std.proofs.Common.{Result, Ok, Err, IfOk, Some, slice_get, take, ℕ, suc, ◌≡◌, ◌+◌, ◌<◌, ◌≤◌, ℤ, true, false, List, [], ◌∷◌, ◌++◌, length, drop, get_or, refl, sym, ap, ◌∙◌, append_assoc}
+use Rattle.std.proofs.Common.{Result, Ok, Err, IfOk, Some, slice_get, take, ℕ, suc, ◌≡◌, ◌+◌, ◌<◌, ◌≤◌, ℤ, true, false, List, [], ◌∷◌, ◌++◌, length, drop, get_or, refl, sym, ap, subst, ◌∙◌, append_assoc}
 use Rattle.imp_slots.specs.Plain.{Routine, Guard, DoBreak, Code, Stop, Simple, If, While, Call, Break}
 use Rattle.imp_slots.specs.BlockViews.{before_code, code_of}
 use Rattle.imp_slots.specs.declared.blocks.SlotNode.{SlotNode}
@@ -50,6 +50,10 @@ module _ {S : Type 0} (dom : Operations S) (engine : Engine) where
 pub ends_value : {S : Type 0} (before behind : List S) (p : Passed S) (a : Answer S) → Ends before behind p a → value_of a ≡ p.value
 ends_value {S} before behind p (State t) h = sym (ap (λ (p : Passed S). p.value) h)
 ends_value before behind p (Over n chain) h = sym h
+
+pub ends_along : {S A E : Type 0} (r : Result (Answer S) E) (before behind : List S) (p : A → Passed S) (a b : A) → IfOk r (Ends before behind (p a)) → a ≡ b → IfOk r (Ends before behind (p b))
+ends_along (Err e) before behind p a b h k = h
+ends_along (Ok x) before behind p a b h k = subst (λ c. Ends before behind (p c) x) k h
 
 module _ {S : Type 0} (dom : Operations S) (plan : Plan) where
   -- the body of a procedure that is called
@@ -120,59 +124,49 @@ module _ {S : Type 0} (dom : Operations S) (engine : Engine) (marks : List ℤ) 
       λ i. record { value = plain.State (f i); leaving = ls i }
 
   -- both blocks of an if
-  pub if_left : (g : Guard) (t e : Code) (s a : S) (n : ℕ) (y : List ℕ) → a ≡ dom.assume g true s → (B t (plain.State a)).value ≡ plain.Over n y → (B (If 0 g t e Stop) (plain.State s)).value ≡ plain.Over n y
-  if_left g t e s a n y k h =
-      let x : (B t (plain.State (dom.assume g true s))).value ≡ plain.Over n y = ap (λ b. (B t (plain.State b)).value) (sym k) ∙ h in
-      ap (λ v. lift2 dom.join v (B e (plain.State (dom.assume g false s))).value) x
+  pub if_left : (g : Guard) (t e : Code) (s : S) (n : ℕ) (y : List ℕ) → (B t (plain.State (dom.assume g true s))).value ≡ plain.Over n y → (B (If 0 g t e Stop) (plain.State s)).value ≡ plain.Over n y
+  if_left g t e s n y h = ap (λ v. lift2 dom.join v (B e (plain.State (dom.assume g false s))).value) h
 
-  pub if_right : (g : Guard) (t e : Code) (s a b l : S) (before middle : List S) (n : ℕ) (y : List ℕ) → a ≡ dom.assume g true s → Ends before middle (B t (plain.State a)) (State l) → b ≡ dom.assume g false s → (B e (plain.State b)).value ≡ plain.Over n y → (B (If 0 g t e Stop) (plain.State s)).value ≡ plain.Over n y
-  if_right g t e s a b l before middle n y k h m u =
-      let x : (B t (plain.State (dom.assume g true s))).value ≡ plain.State l = ap (λ c. (B t (plain.State c)).value) (sym k) ∙ ap (λ (p : Passed S). p.value) h in
-      let w : (B e (plain.State (dom.assume g false s))).value ≡ plain.Over n y = ap (λ c. (B e (plain.State c)).value) (sym m) ∙ u in
-      λ i. lift2 dom.join (x i) (w i)
+  pub if_right : (g : Guard) (t e : Code) (s l : S) (before middle : List S) (n : ℕ) (y : List ℕ) → Ends before middle (B t (plain.State (dom.assume g true s))) (State l) → (B e (plain.State (dom.assume g false s))).value ≡ plain.Over n y → (B (If 0 g t e Stop) (plain.State s)).value ≡ plain.Over n y
+  if_right g t e s l before middle n y h u =
+      let x : (B t (plain.State (dom.assume g true s))).value ≡ plain.State l = ap (λ (p : Passed S). p.value) h in
+      λ i. lift2 dom.join (x i) (u i)
 
-  pub if_both : (g : Guard) (t e : Code) (s a b l r j : S) (before middle behind : List S) → a ≡ dom.assume g true s → Ends before middle (B t (plain.State a)) (State l) → b ≡ dom.assume g false s → Ends middle behind (B e (plain.State b)) (State r) → j ≡ dom.join l r → Ends before behind (B (If 0 g t e Stop) (plain.State s)) (State j)
-  if_both g t e s a b l r j before middle behind k h m u d =
-      let p = B t (plain.State a) in
-      let q = B e (plain.State b) in
-      let k' : dom.assume g true s ≡ a = sym k in
-      let m' : dom.assume g false s ≡ b = sym m in
-      let start : B (If 0 g t e Stop) (plain.State s) ≡ after (p.leaving ++ q.leaving) (record { value = lift2 dom.join p.value q.value; leaving = [] }) = λ i. after ((B t (plain.State (k' i))).leaving ++ (B e (plain.State (m' i))).leaving) (record { value = lift2 dom.join (B t (plain.State (k' i))).value (B e (plain.State (m' i))).value; leaving = [] }) in
+  pub if_both : (g : Guard) (t e : Code) (s l r j : S) (before middle behind : List S) → Ends before middle (B t (plain.State (dom.assume g true s))) (State l) → Ends middle behind (B e (plain.State (dom.assume g false s))) (State r) → j ≡ dom.join l r → Ends before behind (B (If 0 g t e Stop) (plain.State s)) (State j)
+  if_both g t e s l r j before middle behind h u d =
+      let p = B t (plain.State (dom.assume g true s)) in
+      let q = B e (plain.State (dom.assume g false s)) in
       let x : p.value ≡ plain.State l = ap (λ (p : Passed S). p.value) h in
       let y : q.value ≡ plain.State r = ap (λ (p : Passed S). p.value) u in
       let v : lift2 dom.join p.value q.value ≡ plain.State j = (λ i. lift2 dom.join (x i) (y i)) ∙ ap plain.State (sym d) in
       let ls : states before ++ ((p.leaving ++ q.leaving) ++ []) ≡ states behind =
       ap (λ xs. states before ++ xs) (append-nil (p.leaving ++ q.leaving)) ∙ sym (append_assoc (states before) p.leaving q.leaving) ∙ ap (λ xs. xs ++ q.leaving) (ap (λ (p : Passed S). p.leaving) h) ∙ ap (λ (p : Passed S). p.leaving) u in
-      ap (after (states before)) start ∙ (λ i. record { value = v i; leaving = ls i })
+      λ i. record { value = v i; leaving = ls i }
 
   -- a round of a loop
   abbrev F : Guard → Code → (over : Value S) → (left k : ℕ) → S → meaning.Fixed S
   F g b over = iterate dom engine marks (λ x. (B b (lift (dom.assume g true) x)).value) over
 
-  round : (g : Guard) (b : Code) (s a : S) → a ≡ dom.assume g true s → (B b (lift (dom.assume g true) (plain.State s))).value ≡ (B b (plain.State a)).value
-  round g b s a e = ap (λ c. (B b (plain.State c)).value) (sym e)
-
-  pub round_over : (g : Guard) (b : Code) (over : Value S) (s a : S) (left rest k : ℕ) (n : ℕ) (y : List ℕ) → left ≡ suc rest → a ≡ dom.assume g true s → (B b (plain.State a)).value ≡ plain.Over n y → F g b over left k s ≡ record { value = plain.Over n y; index = 0 }
-  round_over g b over s a left rest k n y e i h =
-      ap (λ m. F g b over m k s) e ∙ ap (λ v. settle dom engine k s (lift (next_of dom engine marks k s) v) (F g b over rest (suc k))) (round g b s a i ∙ h)
+  pub round_over : (g : Guard) (b : Code) (over : Value S) (s : S) (left rest k : ℕ) (n : ℕ) (y : List ℕ) → left ≡ suc rest → (B b (plain.State (dom.assume g true s))).value ≡ plain.Over n y → F g b over left k s ≡ record { value = plain.Over n y; index = 0 }
+  round_over g b over s left rest k n y e h =
+      ap (λ m. F g b over m k s) e ∙ ap (λ v. settle dom engine k s (lift (next_of dom engine marks k s) v) (F g b over rest (suc k))) h
 
   -- the next iterate of a round that ends
-  next_here : (g : Guard) (b : Code) (over : Value S) (s a end next : S) (left rest k : ℕ) (before behind : List S) → left ≡ suc rest → a ≡ dom.assume g true s → Ends before behind (B b (plain.State a)) (State end) → next ≡ next_of dom engine marks k s end → F g b over left k s ≡ settle dom engine k s (plain.State next) (F g b over rest (suc k))
-  next_here g b over s a end next left rest k before behind e i h m =
-      let v : (B b (lift (dom.assume g true) (plain.State s))).value ≡ plain.State end = round g b s a i ∙ ap (λ (p : Passed S). p.value) h in
+  next_here : (g : Guard) (b : Code) (over : Value S) (s end next : S) (left rest k : ℕ) (before behind : List S) → left ≡ suc rest → Ends before behind (B b (plain.State (dom.assume g true s))) (State end) → next ≡ next_of dom engine marks k s end → F g b over left k s ≡ settle dom engine k s (plain.State next) (F g b over rest (suc k))
+  next_here g b over s end next left rest k before behind e h m =
+      let v : (B b (plain.State (dom.assume g true s))).value ≡ plain.State end = ap (λ (p : Passed S). p.value) h in
       ap (λ m. F g b over m k s) e ∙ ap (λ v. settle dom engine k s (lift (next_of dom engine marks k s) v) (F g b over rest (suc k))) v ∙ ap (λ u. settle dom engine k s (plain.State u) (F g b over rest (suc k))) (sym m)
 
-  pub round_stops : (g : Guard) (b : Code) (over : Value S) (s a end next : S) (left rest k : ℕ) (before behind : List S) → left ≡ suc rest → a ≡ dom.assume g true s → Ends before behind (B b (plain.State a)) (State end) → next ≡ next_of dom engine marks k s end → dom.same next s ≡ true → F g b over left k s ≡ record { value = plain.State s; index = k }
-  round_stops g b over s a end next left rest k before behind e i h m t =
-      next_here g b over s a end next left rest k before behind e i h m ∙ rw t refl
+  pub round_stops : (g : Guard) (b : Code) (over : Value S) (s end next : S) (left rest k : ℕ) (before behind : List S) → left ≡ suc rest → Ends before behind (B b (plain.State (dom.assume g true s))) (State end) → next ≡ next_of dom engine marks k s end → dom.same next s ≡ true → F g b over left k s ≡ record { value = plain.State s; index = k }
+  round_stops g b over s end next left rest k before behind e h m t =
+      next_here g b over s end next left rest k before behind e h m ∙ rw t refl
 
-  pub round_goes_on : (g : Guard) (b : Code) (over : Value S) (s a end next : S) (left rest k : ℕ) (before behind : List S) → left ≡ suc rest → a ≡ dom.assume g true s → Ends before behind (B b (plain.State a)) (State end) → next ≡ next_of dom engine marks k s end → dom.same next s ≡ false → F g b over left k s ≡ F g b over rest (suc k) next
-  round_goes_on g b over s a end next left rest k before behind e i h m t =
-      next_here g b over s a end next left rest k before behind e i h m ∙ rw t refl
+  pub round_goes_on : (g : Guard) (b : Code) (over : Value S) (s end next : S) (left rest k : ℕ) (before behind : List S) → left ≡ suc rest → Ends before behind (B b (plain.State (dom.assume g true s))) (State end) → next ≡ next_of dom engine marks k s end → dom.same next s ≡ false → F g b over left k s ≡ F g b over rest (suc k) next
+  round_goes_on g b over s end next left rest k before behind e h m t =
+      next_here g b over s end next left rest k before behind e h m ∙ rw t refl
 
-  pub stopped : (g : Guard) (b : Code) (s a : S) (end : S) (before behind : List S) → before ≡ [] → a ≡ dom.assume g true s → Ends before behind (B b (plain.State a)) (State end) → (B b (lift (dom.assume g true) (plain.State s))).leaving ≡ states behind
-  stopped g b s a end before behind none e h =
-      let p = B b (plain.State a) in
-      let f : dom.assume g true s ≡ a = sym e in
+  pub stopped : (g : Guard) (b : Code) (s end : S) (before behind : List S) → before ≡ [] → Ends before behind (B b (plain.State (dom.assume g true s))) (State end) → (B b (lift (dom.assume g true) (plain.State s))).leaving ≡ states behind
+  stopped g b s end before behind none h =
+      let p = B b (plain.State (dom.assume g true s)) in
       let ls : states [] ++ p.leaving ≡ states before ++ p.leaving = ap (λ xs. states xs ++ p.leaving) (sym none) in
-      ap (λ c. (B b (plain.State c)).leaving) f ∙ ls ∙ ap (λ (p : Passed S). p.leaving) h
+      ls ∙ ap (λ (p : Passed S). p.leaving) h

@@ -147,6 +147,23 @@ pub(crate) fn node_answer<D: Domain, L: Ledger>(
     }
 }
 
+/// A block under a condition, from the state in front of the condition.
+#[cycle(blocks)]
+fn block_under<D: Domain, L: Ledger>(
+    walk: &Walk<D>,
+    cond: &SlotCond,
+    sense: bool,
+    block: &SlotBlock,
+    state: &D::State,
+    leaving: &mut Items<D::State>,
+    steps: &mut Steps<L>,
+) -> Result<Answer<D::State>, Memory>
+    ensures is { IfOk result (Ends leaving.old leaving.new (passed (D.operations walk.now.dom.now) walk.now.plan.now walk.now.frame.now.place walk.now.frame.now.sites block.now (plain.State ((D.operations walk.now.dom.now).assume cond.now sense state.now)))) }
+{
+    let inside = walk.dom.assume(walk.alloc, cond, sense, state, steps)?;
+    block_answer(walk, block, inside, leaving, steps)
+}
+
 /// Both blocks of an if, joined. The states that leave the first one stand first.
 #[cycle(blocks)]
 fn if_answer<D: Domain, L: Ledger>(
@@ -160,13 +177,11 @@ fn if_answer<D: Domain, L: Ledger>(
 ) -> Result<Answer<D::State>, Memory>
     ensures is { IfOk result (Ends leaving.old leaving.new (passed (D.operations walk.now.dom.now) walk.now.plan.now walk.now.frame.now.place walk.now.frame.now.sites (If 0 cond.now then.now els.now Stop) (plain.State state.now))) }
 {
-    let holds = walk.dom.assume(walk.alloc, cond, true, state, steps)?;
-    let left = match block_answer(walk, then, holds, leaving, steps)? {
+    let left = match block_under(walk, cond, true, then, state, leaving, steps)? {
         Answer::State(left) => left,
         Answer::Over { head, chain } => return Ok(Answer::Over { head, chain }),
     };
-    let fails = walk.dom.assume(walk.alloc, cond, false, state, steps)?;
-    let right = match block_answer(walk, els, fails, leaving, steps)? {
+    let right = match block_under(walk, cond, false, els, state, leaving, steps)? {
         Answer::State(right) => right,
         Answer::Over { head, chain } => return Ok(Answer::Over { head, chain }),
     };
@@ -210,8 +225,7 @@ pub(crate) fn loop_head<D: Domain, L: Ledger>(
     let mut now = walk.dom.copy(walk.alloc, state)?;
     for k in 0..walk.plan.budget() {
         let mut leaving = Items::new(walk.alloc);
-        let inside = walk.dom.assume(walk.alloc, cond, true, &now, steps)?;
-        let end = match block_answer(walk, body, inside, &mut leaving, steps)? {
+        let end = match block_under(walk, cond, true, body, &now, &mut leaving, steps)? {
             Answer::State(end) => end,
             Answer::Over { head, chain } => return Ok(Fixed::Over { head, chain }),
         };

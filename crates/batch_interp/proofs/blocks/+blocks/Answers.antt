@@ -5,7 +5,7 @@ use Rattle.batch_meaning.specs.Batch as meaning
 use Rattle.batch_meaning.specs.Batch.{Passed, after, iterate, head_of}
 use Rattle.batch_interp.specs.Frames.{marks_at, calls_in, passed}
 use Rattle.batch_interp.specs.Passing.{states}
-use Rattle.batch_interp.proofs.BlockLemmas.{block_step, block_over, block_end, while_at, while_over, of_callee, stopped, round_over, round_stops, round_goes_on}
+use Rattle.batch_interp.proofs.BlockLemmas.{ends_along, block_step, block_over, block_end, while_at, while_over, of_callee, stopped, round_over, round_stops, round_goes_on}
 use Rattle.batch_interp.proofs.Procedures.{call_gone}
 use Rattle.batch_interp.proofs.blocks.+blocks.Goals as goal
 
@@ -74,7 +74,7 @@ loop_head-returns-in-Over g t c =
       is =
           ap (λ (f : meaning.Fixed g.row.D-State.Denot). f.value)
           (sym c.loop-k.invariant.told
-          ∙ round_over dom plan.engine (marks_at plan place) z (calls_in dom plan place z) c.args.cond.now c.args.body.now (plain.Over c.args.n z) c.loop-k.now c.in_ok-inside.inside (plan.engine.budget - c.loop-k.k) (plan.engine.budget - (c.loop-k.k + 1)) c.loop-k.k c.in-Over.head (reverse c.in-Over.chain) e c.in_ok-inside.ensures.value h);
+          ∙ round_over dom plan.engine (marks_at plan place) z (calls_in dom plan place z) c.args.cond.now c.args.body.now (plain.Over c.args.n z) c.loop-k.now (plan.engine.budget - c.loop-k.k) (plan.engine.budget - (c.loop-k.k + 1)) c.loop-k.k c.in-Over.head (reverse c.in-Over.chain) e h);
     }
 
 pub loop_head-returns-then-eq : goal.loop_head-returns-then-eq
@@ -90,8 +90,8 @@ loop_head-returns-then-eq g t c =
       is = (
         ap (λ (f : meaning.Fixed g.row.D-State.Denot). f.value)
             (sym c.loop-k.invariant.told
-            ∙ round_stops dom plan.engine (marks_at plan place) z (calls_in dom plan place z) c.args.cond.now c.args.body.now (plain.Over c.args.n z) c.loop-k.now c.in_ok-inside.inside c.in-State.end c.in_ok-next.next (plan.engine.budget - c.loop-k.k) (plan.engine.budget - (c.loop-k.k + 1)) c.loop-k.k c.new-leaving.result c.block_answer.new.leaving e c.in_ok-inside.ensures.value h c.in_ok-next.ensures.value same),
-        stopped dom plan.engine (marks_at plan place) z (calls_in dom plan place z) c.args.cond.now c.args.body.now c.loop-k.now c.in_ok-inside.inside c.in-State.end c.new-leaving.result c.block_answer.new.leaving c.new-leaving.ensures.empty c.in_ok-inside.ensures.value h,
+            ∙ round_stops dom plan.engine (marks_at plan place) z (calls_in dom plan place z) c.args.cond.now c.args.body.now (plain.Over c.args.n z) c.loop-k.now c.in-State.end c.in_ok-next.next (plan.engine.budget - c.loop-k.k) (plan.engine.budget - (c.loop-k.k + 1)) c.loop-k.k c.new-leaving.result c.block_under.new.leaving e h c.in_ok-next.ensures.value same),
+        stopped dom plan.engine (marks_at plan place) z (calls_in dom plan place z) c.args.cond.now c.args.body.now c.loop-k.now c.in-State.end c.new-leaving.result c.block_under.new.leaving c.new-leaving.ensures.empty h,
       );
     }
 
@@ -109,7 +109,7 @@ loop_head-loop-k-preserved g t c =
     record {
       told =
           ap (λ j. F (plan.engine.budget - (c.loop-k.k + 1)) j c.in_ok-next.next) k
-          ∙ sym (round_goes_on dom plan.engine (marks_at plan place) z (calls_in dom plan place z) c.args.cond.now c.args.body.now (plain.Over c.args.n z) c.loop-k.now c.in_ok-inside.inside c.in-State.end c.in_ok-next.next (plan.engine.budget - c.loop-k.k) (plan.engine.budget - (c.loop-k.k + 1)) c.loop-k.k c.new-leaving.result c.block_answer.new.leaving e c.in_ok-inside.ensures.value h c.in_ok-next.ensures.value other)
+          ∙ sym (round_goes_on dom plan.engine (marks_at plan place) z (calls_in dom plan place z) c.args.cond.now c.args.body.now (plain.Over c.args.n z) c.loop-k.now c.in-State.end c.in_ok-next.next (plan.engine.budget - c.loop-k.k) (plan.engine.budget - (c.loop-k.k + 1)) c.loop-k.k c.new-leaving.result c.block_under.new.leaving e h c.in_ok-next.ensures.value other)
           ∙ c.loop-k.invariant.told;
     }
 
@@ -134,3 +134,8 @@ while_answer-returns-in-Over g t c =
     let v = (head_of dom plan.engine (marks_at plan place) z c.args.n c.args.cond.now body (plain.State c.args.state.now)).value in
     let h = rw c.in-Over.is at c.in_ok-head.ensures.is in
     record { is = while_over dom plan.engine c.args.cond.now body v c.in-Over.head (reverse c.in-Over.chain) h }
+
+pub block_under-returns : goal.block_under-returns
+block_under-returns g t c =
+    let walk = c.args.walk.now in
+    record { is = ends_along c.block_answer.result c.args.leaving.now c.block_answer.new.leaving (λ s. passed (g.D.Domain.operations walk.dom.now) walk.plan.now walk.frame.now.place walk.frame.now.sites c.args.block.now (plain.State s)) c.in_ok-inside.inside _ c.block_answer.ensures.is c.in_ok-inside.ensures.value }

@@ -16,6 +16,9 @@ decreases-block_answer g l = 4 * (weight l.walk.now.plan.now.program l.walk.now.
 abbrev pub decreases-node_answer : goal.decreases-node_answer
 decreases-node_answer g l = 4 * (weight l.walk.now.plan.now.program l.walk.now.frame.now.place + node_size l.node.now) + 2
 
+abbrev pub decreases-block_under : goal.decreases-block_under
+decreases-block_under g l = 4 * (weight l.walk.now.plan.now.program l.walk.now.frame.now.place + code_size l.block.now + 1)
+
 abbrev pub decreases-if_answer : goal.decreases-if_answer
 decreases-if_answer g l = 4 * (weight l.walk.now.plan.now.program l.walk.now.frame.now.place + code_size l.then.now + code_size l.els.now + 3) + 1
 

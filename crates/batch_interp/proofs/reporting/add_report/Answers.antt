@@ -1,4 +1,4 @@
-use Rattle.std.proofs.Common.{◌≡◌, sym, ap, ◌∙◌, List, [], ◌++◌, map, reverse}
+use Rattle.std.proofs.Common.{◌≡◌, ap, ◌∙◌, [], ◌++◌, map, reverse}
 use Rattle.program_chains.specs.Chains.{selected}
 use Rattle.batch_meaning.specs.Report.{checked_in}
 use Rattle.batch_interp.specs.Reporting.{claim_of, claims}
