@@ -215,22 +215,21 @@ reversed xs ys x e = ap reverse e ∙ reverse-append ys (x ∷ [])
 abbrev pub IsPopped : {A : Type 0} → Option A → List A → List A → Type 0
 IsPopped o xs ys = MatchOption o ((xs ≡ []) × (ys ≡ [])) (λ x. xs ≡ ys ++ x ∷ [])
 
-pop_first : {S : Type 0} (o : Option (Answer S)) (xs ys : List (Answer S)) → IsPopped o xs ys → (first_of (map value_of (reverse xs)) ≡ option_map value_of o) × (behind_first (map value_of (reverse xs)) ≡ map value_of (reverse ys))
-pop_first None xs ys h = (ap (λ zs. first_of (map value_of (reverse zs))) h.0, ap (λ zs. behind_first (map value_of (reverse zs))) h.0 ∙ sym (ap (λ zs. map value_of (reverse zs)) h.1))
-pop_first (Some x) xs ys h = (ap (λ zs. first_of (map value_of zs)) (reversed xs ys x h), ap (λ zs. behind_first (map value_of zs)) (reversed xs ys x h))
+pub first_popped : {S : Type 0} (o : Option (Answer S)) (xs ys : List (Answer S)) → IsPopped o xs ys → option_map value_of o ≡ first_of (map value_of (reverse xs))
+first_popped None xs ys h = sym (ap (λ zs. first_of (map value_of (reverse zs))) h.0)
+first_popped (Some x) xs ys h = sym (ap (λ zs. first_of (map value_of zs)) (reversed xs ys x h))
 
-values_one : {S : Type 0} (xs : List (Answer S)) (x : Answer S) → map value_of (xs ++ x ∷ []) ≡ map value_of xs ++ value_of x ∷ []
-values_one [] x = refl
-values_one (y ∷ ys) x = ap (λ zs. value_of y ∷ zs) (values_one ys x)
+pub rest_popped : {S : Type 0} (o : Option (Answer S)) (xs ys : List (Answer S)) → IsPopped o xs ys → behind_first (map value_of (reverse xs)) ≡ map value_of (reverse ys)
+rest_popped None xs ys h = ap (λ zs. behind_first (map value_of (reverse zs))) h.0 ∙ sym (ap (λ zs. map value_of (reverse zs)) h.1)
+rest_popped (Some x) xs ys h = ap (λ zs. behind_first (map value_of zs)) (reversed xs ys x h)
 
-pub add_one : {S : Type 0} (dom : Operations S) (all all' before before' left left' : List (Answer S)) (o : Option (Answer S)) (next x : Answer S) → left ≡ left' ++ next ∷ [] → IsPopped o before before' → value_of x ≡ added dom (option_map value_of o) (value_of next) → all' ≡ all ++ x ∷ [] → map value_of all' ++ all_added dom (map value_of (reverse before')) (map value_of (reverse left')) ≡ map value_of all ++ all_added dom (map value_of (reverse before)) (map value_of (reverse left))
-add_one dom all all' before before' left left' o next x l p v a =
-    let q = pop_first o before before' p in
+pub one_added : {S : Type 0} (dom : Operations S) (all all' before before' left left' : List (Answer S)) (next : Answer S) → left ≡ left' ++ next ∷ [] → behind_first (map value_of (reverse before)) ≡ map value_of (reverse before') → map value_of all' ≡ map value_of all ++ added dom (first_of (map value_of (reverse before))) (value_of next) ∷ [] → map value_of all' ++ all_added dom (map value_of (reverse before')) (map value_of (reverse left')) ≡ map value_of all ++ all_added dom (map value_of (reverse before)) (map value_of (reverse left))
+one_added dom all all' before before' left left' next l q a =
+    let total = added dom (first_of (map value_of (reverse before))) (value_of next) in
     let rest = all_added dom (map value_of (reverse before')) (map value_of (reverse left')) in
-    ap (λ zs. map value_of zs ++ rest) a ∙ ap (λ zs. zs ++ rest) (values_one all x) ∙ append_assoc (map value_of all) (value_of x ∷ []) rest
+    ap (λ zs. zs ++ rest) a ∙ append_assoc (map value_of all) (total ∷ []) rest
     ∙ ap (λ zs. map value_of all ++ zs)
-    (ap (λ w. w ∷ rest) (v ∙ ap (λ u. added dom u (value_of next)) (sym q.0))
-    ∙ ap (λ bs. added dom (first_of (map value_of (reverse before))) (value_of next) ∷ all_added dom bs (map value_of (reverse left'))) (sym q.1)
+    (ap (λ bs. total ∷ all_added dom bs (map value_of (reverse left'))) (sym q)
     ∙ ap (λ zs. all_added dom (map value_of (reverse before)) (map value_of zs)) (sym (reversed left left' next l)))
 
 first_drop : {S : Type 0} (xs : List (Answer S)) (i : ℕ) → first_of (map value_of (drop i xs)) ≡ option_map value_of (slice_get xs i)

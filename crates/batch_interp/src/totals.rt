@@ -1,12 +1,13 @@
 //! What is known in front of each statement of a procedure that has a check, under all its chains.
-ghost use Rattle.std.specs.Prelude.{◌≡◌, ◌<◌, length, map, reverse, suc, Some, IfOk};
+ghost use Rattle.std.specs.Prelude.{◌≡◌, ◌<◌, ◌++◌, ◌∷◌, [], length, map, reverse, suc, Some, IfOk, OnOk};
 ghost use Rattle.imp_slots.specs.Fits.{IsChecked};
 ghost use Rattle.batch_meaning.specs.Places.{entry};
 ghost use Rattle.batch_meaning.specs.Report.{checked_in};
 ghost use Rattle.batch_interp.specs.Answered.{value_of};
 ghost use Rattle.batch_interp.specs.Frames.{earlier};
 ghost use Rattle.batch_interp.specs.Reporting.{befores, claims};
-ghost use Rattle.batch_interp.specs.Totalling.{all_added, AreTotals, LeadsTo, AllLead, HasBody};
+ghost use Rattle.batch_interp.specs.Summing.{added};
+ghost use Rattle.batch_interp.specs.Totalling.{first_of, behind_first, all_added, AreTotals, LeadsTo, AllLead, HasBody};
 
 use crate::Answer;
 use crate::befores::add_befores;
@@ -73,8 +74,26 @@ fn last_first<T>(items: Items<T>) -> Items<T>
     Items::from_vec(all)
 }
 
+/// Adds one more, joined to the last one so far, which goes, where there is one.
+#[tactic(auto, using(crate::proofs::Fronts::first_popped, crate::proofs::Fronts::rest_popped, crate::proofs::Claimed::values_one))]
+fn add_total<D: Domain, L: Ledger>(
+    alloc: Global,
+    dom: &D,
+    so_far: &mut Items<Answer<D::State>>,
+    next: Answer<D::State>,
+    all: &mut Items<Answer<D::State>>,
+    steps: &mut Steps<L>,
+) -> Result<(), Memory>
+    ensures rest { OnOk result (behind_first (map value_of (reverse so_far.old)) ≡ map value_of (reverse so_far.new)) }
+    ensures added { OnOk result (map value_of all.new ≡ map value_of all.old ++ added (D.operations dom.now) (first_of (map value_of (reverse so_far.old))) (value_of next) ∷ []) }
+{
+    let total = added(alloc, dom, so_far.pop(), next, steps)?;
+    all.push(total)
+}
+
 /// Each of these, joined to the one so far at its place, where there is one. Both come with the last
 /// one first.
+#[tactic(auto, using(crate::proofs::Fronts::one_added))]
 fn all_added<D: Domain, L: Ledger>(
     alloc: Global,
     dom: &D,
@@ -88,7 +107,7 @@ fn all_added<D: Domain, L: Ledger>(
     let mut left = more;
     let mut all = Items::with_capacity(alloc, left.len())?;
     while let Some(next) = left.pop() {
-        all.push(added(alloc, dom, before.pop(), next, steps)?)?;
+        add_total(alloc, dom, &mut before, next, &mut all, steps)?;
     }
     Ok(all)
 }
