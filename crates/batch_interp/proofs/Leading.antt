@@ -1,5 +1,5 @@
 -- Chains lead to their procedures.
-use Rattle.std.proofs.Common.{ℕ, zero, suc, ◌≡◌, ◌+◌, ◌<◌, ◌⊎◌, inl, inr, true, false, List, [], ◌∷◌, ◌++◌, length, map, reverse, slice_get, Some, None, refl, sym, ap, subst, ◌∙◌, arith}
+use Rattle.std.proofs.Common.{ℕ, zero, suc, ◌≡◌, ◌+◌, ◌<◌, ◌⊎◌, inl, inr, true, false, List, [], ◌∷◌, ◌++◌, length, map, take, reverse, slice_get, Some, None, refl, sym, ap, subst, ◌∙◌, arith}
 use Rattle.std.specs.Prelude.{if◌then◌else◌}
 use Rattle.imp_slots.specs.Plain.{Guard, Does, DoBreak, Invoke, Code, Stop, Simple, If, While, Call, Break, Routine}
 use Rattle.imp_slots.specs.Fits.{Distinct, IsChecked}
@@ -8,12 +8,15 @@ use Rattle.program_chains.specs.Claims.{ChainsAreThroughCallers}
 use Rattle.domain_laws.specs.Operations.{Operations}
 use Rattle.batch_meaning.specs.Values.{Value, State, lift, lift2}
 use Rattle.batch_meaning.specs.Batch.{head_of, behind}
-use Rattle.batch_meaning.specs.Places.{Spot, spot, find, if_some, main_layout, entered}
+use Rattle.batch_meaning.specs.Places.{Spot, spot, find, if_some, main_layout, entered, entry}
 use Rattle.batch_interp.specs.Frames.{Plan, earlier, marks_at, calls_in, passed}
 use Rattle.batch_interp.specs.Seeking.{places}
-use Rattle.batch_interp.specs.Walking.{called_from}
+use Rattle.batch_interp.specs.Answered.{value_of}
+use Rattle.batch_interp.specs.Walking.{entered_of, IsGone, IsEntered, called_from}
 use Rattle.batch_interp.specs.Totalling.{LeadsTo, AllLead}
-use Rattle.plain_values.proofs.Cases.{by_test}
+use Rattle.batch_interp.specs.declared.walks.Entered.{Entered}
+use Rattle.plain_values.proofs.Cases.{by_test, some_inj}
+use Rattle.std.proofs.lemmas.List.{length-reverse, length-take-le}
 use Rattle.std.proofs.lemmas.Option.{slice_get_within}
 use Rattle.plain_values.proofs.Lists.{get_take}
 use Rattle.plain_values.proofs.Members.{Member, here, there, in_left, in_right, either}
@@ -66,6 +69,10 @@ came_through f k (r ∷ rs) p z m = go (either z (extended (f k) (calls_to p r.c
         let x = g m in
         let e : suc k + x.place ≡ k + suc x.place = omega arith in
         record { place = suc x.place; routine = x.routine; at = x.at; longer = subst (λ j. Longer (f j) (calls_to p x.routine.code) z) e x.longer }
+
+-- the procedures down from a place
+how_many : (program : List Routine) (k : ℕ) → k < length program → length (earlier program (suc k)) ≡ suc k
+how_many program k h = length-reverse (take (suc k) program) ∙ length-take-le (suc k) program (omega (arith, h))
 
 module _ {S : Type 0} (dom : Operations S) (plan : Plan) where
   -- A call statement, with what is known at it.
@@ -195,3 +202,17 @@ module _ {S : Type 0} (dom : Operations S) (plan : Plan) where
   -- the chains that are found, outermost first, lead to their procedure
   pub found_lead : (p : ℕ) (zs : List (List ℕ)) → IsChecked plan.program → ChainsAreThroughCallers → p < length plan.program → map reverse zs ≡ chains plan.program p → AllLead dom plan p (map reverse zs)
   found_lead p zs checked law h e = subst (AllLead dom plan p) (sym e) (chains_lead checked law p h)
+
+  -- a chain that leads to a procedure enters it
+  pub arrives : (p : ℕ) (z : List ℕ) (e : Entered S) → p < length plan.program → LeadsTo dom plan p z → IsEntered plan.program z (Some e) (entry dom plan.engine (reverse plan.program) z) → (entry dom plan.engine (reverse plan.program) z ≡ Some (earlier plan.program (suc p), value_of e.before)) × (e.frame.place ≡ p) × (e.frame.sites ≡ z)
+  arrives p z e h l i =
+      let lists : earlier plan.program (suc e.frame.place) ≡ earlier plan.program (suc p) = ap (λ (x : List Routine × Value S). x.0) (some_inj (entered_of plan.program e) (earlier plan.program (suc p), l.value) (sym i.0 ∙ l.is)) in
+      let size : suc e.frame.place ≡ suc p = sym (how_many plan.program e.frame.place i.1) ∙ ap length lists ∙ how_many plan.program p h in
+      let place : e.frame.place ≡ p = omega (arith, size) in
+      (i.0 ∙ ap (λ k. Some (earlier plan.program (suc k), value_of e.before)) place, place, i.2)
+
+  pub never_gone : (p : ℕ) (z : List ℕ) → p < length plan.program → LeadsTo dom plan p z → IsGone (entry dom plan.engine (reverse plan.program) z) → ⊥
+  never_gone p z h l g =
+      let none : earlier plan.program (suc p) ≡ [] = subst IsGone l.is g in
+      let bad : suc p ≡ 0 = sym (how_many plan.program p h) ∙ ap length none in
+      absurd cc
