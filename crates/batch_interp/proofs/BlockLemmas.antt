@@ -95,17 +95,25 @@ module _ {S : Type 0} (dom : Operations S) (engine : Engine) (marks : List ℤ) 
       ∙ ap (λ ls. record { value = (B r q.value).value; leaving = ls }) (append_assoc (states before) q.leaving (B r q.value).leaving)
       ∙ ap (after (states before)) (sym (batch_before s r (plain.State now)))
 
-  pub block_step : (ss : List SlotNode) (i : ℕ) (s : SlotNode) (now next : S) (before behind : List S) → i < length ss → s ≡ get_or ss i s → Ends before behind (B (before_code s Stop) (plain.State now)) (State next) → after (states behind) (B (code_of (drop (i + 1) ss)) (plain.State next)) ≡ after (states before) (B (code_of (drop i ss)) (plain.State now))
+  block_step : (ss : List SlotNode) (i : ℕ) (s : SlotNode) (now next : S) (before behind : List S) → i < length ss → s ≡ get_or ss i s → Ends before behind (B (before_code s Stop) (plain.State now)) (State next) → after (states behind) (B (code_of (drop (i + 1) ss)) (plain.State next)) ≡ after (states before) (B (code_of (drop i ss)) (plain.State now))
   block_step ss i s now next before behind h e k =
       step_on s (code_of (drop (i + 1) ss)) now next before behind k ∙ ap (λ xs. after (states before) (B (code_of xs) (plain.State now))) (sym (drop_item ss i s h e))
 
-  pub block_over : (ss : List SlotNode) (i : ℕ) (s : SlotNode) (now : S) (n : ℕ) (y : List ℕ) → i < length ss → s ≡ get_or ss i s → (B (before_code s Stop) (plain.State now)).value ≡ plain.Over n y → (B (code_of (drop i ss)) (plain.State now)).value ≡ plain.Over n y
+  -- a block of which one more statement is behind
+  pub block_on : (ss : List SlotNode) (i : ℕ) (s : SlotNode) (now next : S) (before middle behind : List S) (all : Passed S) → after (states middle) (B (code_of (drop i ss)) (plain.State now)) ≡ after (states before) all → i < length ss → s ≡ get_or ss i s → Ends middle behind (B (before_code s Stop) (plain.State now)) (State next) → after (states behind) (B (code_of (drop (i + 1) ss)) (plain.State next)) ≡ after (states before) all
+  block_on ss i s now next before middle behind all told h e k = block_step ss i s now next middle behind h e k ∙ told
+
+  block_over : (ss : List SlotNode) (i : ℕ) (s : SlotNode) (now : S) (n : ℕ) (y : List ℕ) → i < length ss → s ≡ get_or ss i s → (B (before_code s Stop) (plain.State now)).value ≡ plain.Over n y → (B (code_of (drop i ss)) (plain.State now)).value ≡ plain.Over n y
   block_over ss i s now n y h e k =
       let r = code_of (drop (i + 1) ss) in
       ap (λ xs. (B (code_of xs) (plain.State now)).value) (drop_item ss i s h e)
       ∙ ap (λ (p : Passed S). p.value) (batch_before s r (plain.State now))
       ∙ ap (λ v. (B r v).value) k
       ∙ over_batch r n y
+
+  -- a block of which what is left is Over
+  pub block_left : (ss : List SlotNode) (i : ℕ) (s : SlotNode) (now : S) (n : ℕ) (y : List ℕ) (before behind : List S) (all : Passed S) → after (states behind) (B (code_of (drop i ss)) (plain.State now)) ≡ after (states before) all → i < length ss → s ≡ get_or ss i s → (B (before_code s Stop) (plain.State now)).value ≡ plain.Over n y → all.value ≡ plain.Over n y
+  block_left ss i s now n y before behind all told h e k = sym (ap (λ (p : Passed S). p.value) told) ∙ block_over ss i s now n y h e k
 
   pub block_end : (ss : List SlotNode) (i : ℕ) (now : S) (before : List S) → length ss ≤ i → after (states before) (B (code_of (drop i ss)) (plain.State now)) ≡ record { value = plain.State now; leaving = states before }
   block_end ss i now before h =

@@ -2,10 +2,10 @@ use Rattle.std.proofs.Common.{◌≡◌, ◌+◌, ◌-◌, suc, sym, ap, ◌∙�
 use Rattle.batch_meaning.specs.Values as plain
 use Rattle.batch_meaning.specs.Values.{lift}
 use Rattle.batch_meaning.specs.Batch as meaning
-use Rattle.batch_meaning.specs.Batch.{Passed, after, iterate, head_of}
+use Rattle.batch_meaning.specs.Batch.{after, iterate, head_of}
 use Rattle.batch_interp.specs.Frames.{marks_at, calls_in, passed}
 use Rattle.batch_interp.specs.Passing.{states}
-use Rattle.batch_interp.proofs.BlockLemmas.{ends_along, block_step, block_over, block_end, while_at, while_over, of_callee, stopped, round_over, round_stops, round_goes_on}
+use Rattle.batch_interp.proofs.BlockLemmas.{ends_along, block_on, block_left, block_end, while_at, while_over, of_callee, stopped, round_over, round_stops, round_goes_on}
 use Rattle.batch_interp.proofs.Procedures.{call_gone}
 use Rattle.batch_interp.proofs.blocks.+blocks.Goals as goal
 
@@ -25,9 +25,7 @@ block_answer-returns-in-Over g t c =
     let z = c.args.walk.now.frame.now.sites in
     let h = rw c.in-Over.is at c.in_ok-next.ensures.is in
     record {
-      is =
-          sym (ap (λ (p : Passed g.row.D-State.Denot). p.value) c.loop-node.invariant.told)
-          ∙ block_over dom plan.engine (marks_at plan place) z (calls_in dom plan place z) c.statements-node-items.result.now c.loop-node.node-index c.node-item.result c.loop-node.now c.in-Over.head (reverse c.in-Over.chain) c.loop-node-test.true c.node-item.is h;
+      is = block_left dom plan.engine (marks_at plan place) z (calls_in dom plan place z) c.statements-node-items.result.now c.loop-node.node-index c.node-item.result c.loop-node.now c.in-Over.head (reverse c.in-Over.chain) c.args.leaving.now c.loop-node.leaving (passed dom plan place z c.args.block.now (plain.State c.args.state)) c.loop-node.invariant.told c.loop-node-test.true c.node-item.is h;
     }
 
 pub block_answer-loop-node-preserved : goal.block_answer-loop-node-preserved
@@ -39,7 +37,7 @@ block_answer-loop-node-preserved g t c =
     let h = rw c.in-State.is at c.in_ok-next.ensures.is in
     record {
       is = c.loop-node.invariant.is;
-      told = block_step dom plan.engine (marks_at plan place) z (calls_in dom plan place z) c.statements-node-items.result.now c.loop-node.node-index c.node-item.result c.loop-node.now c.in-State.next c.loop-node.leaving c.node_answer.new.leaving c.loop-node-test.true c.node-item.is h ∙ c.loop-node.invariant.told;
+      told = block_on dom plan.engine (marks_at plan place) z (calls_in dom plan place z) c.statements-node-items.result.now c.loop-node.node-index c.node-item.result c.loop-node.now c.in-State.next c.args.leaving.now c.loop-node.leaving c.node_answer.new.leaving (passed dom plan place z c.args.block.now (plain.State c.args.state)) c.loop-node.invariant.told c.loop-node-test.true c.node-item.is h;
     }
 
 pub block_answer-returns : goal.block_answer-returns
