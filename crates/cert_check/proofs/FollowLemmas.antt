@@ -1,8 +1,8 @@
 -- Following, one statement at a time, over plain variables.
-use Rattle.std.proofs.Common.{ℕ, suc, ◌≡◌, ◌+◌, ◌<◌, ◌≤◌, Bool, true, false, List, [], ◌∷◌, ◌++◌, length, drop, take, reverse, get_or, slice_get, Option, Some, None, Result, Ok, Err, IfOk, refl, sym, ap, ◌∙◌, append_assoc}
+use Rattle.std.proofs.Common.{ℕ, suc, ◌≡◌, ◌+◌, ◌<◌, ◌≤◌, Bool, true, false, List, [], ◌∷◌, ◌++◌, length, drop, take, reverse, get_or, slice_get, Option, Some, None, Result, Ok, Err, IfOk, OnOk, refl, sym, ap, ◌∙◌, append_assoc}
 use Rattle.std.specs.Prelude.{if◌then◌else◌}
 use Rattle.std.proofs.lemmas.List.{drop_all, append-nil}
-use Rattle.imp_slots.specs.Plain.{DoBreak, Does, Guard, Invoke, Code, Stop, If, While, Call, Break, Routine}
+use Rattle.imp_slots.specs.Plain.{DoBreak, Does, Effect, Guard, Invoke, Code, Stop, Simple, If, While, Call, Break, Routine}
 use Rattle.imp_slots.specs.ActionViews.{effect_of}
 use Rattle.imp_slots.specs.BlockViews.{before_code, code_of}
 use Rattle.imp_slots.specs.declared.blocks.SlotNode.{SlotNode}
@@ -22,7 +22,7 @@ use Rattle.batch_interp.specs.declared.frames.Frame.{Frame}
 use Rattle.batch_interp.proofs.Procedures.{from_earlier, from_gone}
 use Rattle.batch_interp.proofs.Walkings.{standing, whole}
 use Rattle.cert_check.specs.Table.{state_at}
-use Rattle.cert_check.specs.Following.{ended, EndsSo, round, calls_in, followed_in}
+use Rattle.cert_check.specs.Following.{ended, why_of, behind_by, EndsSo, turned, round, calls_in, followed_in}
 use Rattle.cert_check.specs.declared.followed.Followed as code
 use Rattle.cert_check.specs.declared.followed.Followed.TheVariants as came
 
@@ -135,6 +135,33 @@ module _ {S : Type 0} (dom : Operations S) (leq : S → S → Bool) (written : (
   alone p before (came.Behind t) e = ap (after before) e ∙ ap (Passes t) (append-nil before)
   alone p before (came.Fails n chain w) e = ap (after before) e
 
+  -- what a statement comes to is what the code does of it
+  pub simple_ends : {E : Type 0} (r : Result (code.Followed S) E) (n : ℕ) (e : Effect) (s : S) (before : List S) → IfOk r (λ x. x ≡ came.Behind (dom.post (Does e) s)) → IfOk r (λ x. after before (B (Simple n e Stop) s) ≡ ended before x)
+  simple_ends (Ok x) n e s before is = ap (Passes (dom.post (Does e) s)) (append-nil before) ∙ ap (ended before) (sym is)
+  simple_ends (Err e') n e s before is = is
+
+  pub break_ends : {E : Type 0} (r : Result (code.Followed S) E) (n : ℕ) (s : S) (before behind : List S) → IfOk r (λ x. x ≡ came.Behind (dom.post DoBreak s)) → OnOk r (behind ≡ before ++ s ∷ []) → IfOk r (λ x. after before (B (Break n Stop) s) ≡ ended behind x)
+  break_ends (Ok x) n s before behind is left = ap (Passes (dom.post DoBreak s)) (sym left) ∙ ap (ended behind) (sym is)
+  break_ends (Err e) n s before behind is left = is
+
+  pub alone_ends : {E : Type 0} (r : Result (code.Followed S) E) (p : plain.Followed S) (before : List S) → IfOk r (λ x. p ≡ ended [] x) → IfOk r (λ x. after before p ≡ ended before x)
+  alone_ends (Ok x) p before is = alone p before x is
+  alone_ends (Err e) p before is = is
+
+  -- both blocks of an if
+  join_ends : (g : Guard) (t e : Code) (s l : S) (before middle behind : List S) (right : code.Followed S) → after before (B t (dom.assume g true s)) ≡ Passes l middle →
+      after middle (B e (dom.assume g false s)) ≡ ended behind right → after before (B (If 0 g t e Stop) s) ≡ ended behind (behind_by (dom.join l) right)
+  join_ends g t e s l before middle behind (came.Behind r) first second = if_both g t e s (dom.assume g true s) (dom.assume g false s) l r (dom.join l r) before middle behind refl first refl second refl
+  join_ends g t e s l before middle behind (came.Fails n chain w) first second = if_right g t e s (dom.assume g true s) (dom.assume g false s) l before middle n (reverse chain) (why_of w) refl first refl second
+
+  pub if_ends : {E : Type 0} (r : Result (code.Followed S) E) (g : Guard) (t e : Code) (s l : S) (before middle behind : List S) (right : code.Followed S) → after before (B t (dom.assume g true s)) ≡ Passes l middle →
+      after middle (B e (dom.assume g false s)) ≡ ended behind right → IfOk r (λ x. x ≡ behind_by (dom.join l) right) → IfOk r (λ x. after before (B (If 0 g t e Stop) s) ≡ ended behind x)
+  if_ends (Ok x) g t e s l before middle behind right first second is = join_ends g t e s l before middle behind right first second ∙ ap (ended behind) (sym is)
+  if_ends (Err e') g t e s l before middle behind right first second is = is
+
+  pub if_stops : (g : Guard) (t e : Code) (s : S) (before : List S) (n : ℕ) (y : List ℕ) (w : Why) → after before (B t (dom.assume g true s)) ≡ Fails n y w → after before (B (If 0 g t e Stop) s) ≡ Fails n y w
+  if_stops g t e s before n y w h = if_left g t e s (dom.assume g true s) before n y w refl h
+
   -- a loop of which no state is written, of which the state in front is not found below, and one that is gone through
   pub loop_missing : (n : ℕ) (g : Guard) (b : Code) (s : S) → written z n ≡ None → B (While n g b Stop) s ≡ Fails n z Missing
   loop_missing n g b s e = ap (λ o. where_written o (Fails n z Missing) (λ x. unless (leq s x) (Fails n z Entry) (round dom leq z n g (B b) x))) e
@@ -147,8 +174,8 @@ module _ {S : Type 0} (dom : Operations S) (leq : S → S → Bool) (written : (
   loop_round n g b s x e f =
       ap (λ o. where_written o (Fails n z Missing) (λ x. unless (leq s x) (Fails n z Entry) (round dom leq z n g (B b) x))) e ∙ ap (λ c. unless c (Fails n z Entry) (round dom leq z n g (B b) x)) f
 
--- a round, by how its body ends
-module _ {S : Type 0} (dom : Operations S) (leq : S → S → Bool) (z : List ℕ) (n : ℕ) (g : Guard) (body : S → plain.Followed S) where
+-- joins of states, without a budget
+module _ {S : Type 0} (dom : Operations S) where
   joined_same : (e : Engine) (s : S) (xs : List S) → batch.joined dom e (State s) (states xs) ≡ State (joined dom s xs)
   joined_same e s [] = refl
   joined_same e s (x ∷ xs) = joined_same e (dom.join s x) xs
@@ -159,23 +186,26 @@ module _ {S : Type 0} (dom : Operations S) (leq : S → S → Bool) (z : List �
   any : Engine
   any = record { budget = 0; widening = record { delay = 0; thresholds = false } }
 
-  pub round_holds : (x a end out all : S) (none leaving others : List S) → none ≡ [] → a ≡ dom.assume g true x → after none (body a) ≡ Passes end leaving → leq end x ≡ true → out ≡ dom.assume g false x → others ≡ leaving → ((e : Engine) → State all ≡ batch.joined dom e (State out) (states others)) → round dom leq z n g body x ≡ Passes all []
-  round_holds x a end out all none leaving others o k h f i same j =
-      let p = sym (after_none (body a)) ∙ ap (λ xs. after xs (body a)) (sym o) ∙ h in
-      ap (λ v. passing v (λ y ys. unless (leq y x) (Fails n z Step) (Passes (joined dom (dom.assume g false x) ys) []))) (ap body (sym k) ∙ p)
-      ∙ ap (λ c. unless c (Fails n z Step) (Passes (joined dom (dom.assume g false x) leaving) [])) f
-      ∙ ap (λ t. Passes t [])
-      ((λ m. joined dom (sym i m) (sym same m)) ∙ sym (state_inj all (joined dom out others) (j any ∙ joined_same any out others)))
+  pub joined_plain : (first out all : S) (others : List S) → out ≡ first → ((e : Engine) → State all ≡ batch.joined dom e (State out) (states others)) → all ≡ joined dom first others
+  joined_plain first out all others same is = state_inj all (joined dom out others) (is any ∙ joined_same any out others) ∙ ap (λ s. joined dom s others) same
 
-  pub round_rises : (x a end : S) (none leaving : List S) → none ≡ [] → a ≡ dom.assume g true x → after none (body a) ≡ Passes end leaving → leq end x ≡ false → round dom leq z n g body x ≡ Fails n z Step
-  round_rises x a end none leaving o k h f =
-      let p = sym (after_none (body a)) ∙ ap (λ xs. after xs (body a)) (sym o) ∙ h in
-      ap (λ v. passing v (λ y ys. unless (leq y x) (Fails n z Step) (Passes (joined dom (dom.assume g false x) ys) []))) (ap body (sym k) ∙ p)
-      ∙ ap (λ c. unless c (Fails n z Step) (Passes (joined dom (dom.assume g false x) leaving) [])) f
+-- a round, by how its body ends
+module _ {S : Type 0} (dom : Operations S) (leq : S → S → Bool) (z : List ℕ) (n : ℕ) (g : Guard) (body : S → plain.Followed S) where
+  pub turned_behind : {E : Type 0} (r : Result (code.Followed S) E) (x end : S) (others : List S) → leq end x ≡ true → IfOk r (λ y. y ≡ came.Behind (joined dom (dom.assume g false x) others)) → IfOk r (λ y. turned dom leq z n g x (Passes end others) ≡ ended [] y)
+  turned_behind (Ok y) x end others below is = ap (λ c. unless c (Fails n z Step) (Passes (joined dom (dom.assume g false x) others) [])) below ∙ ap (ended []) (sym is)
+  turned_behind (Err e) x end others below is = is
 
-  pub round_fails : (x a : S) (none : List S) (m : ℕ) (y : List ℕ) (w : Why) → none ≡ [] → a ≡ dom.assume g true x → after none (body a) ≡ Fails m y w → round dom leq z n g body x ≡ Fails m y w
-  round_fails x a none m y w o k h =
-      ap (λ v. passing v (λ y ys. unless (leq y x) (Fails n z Step) (Passes (joined dom (dom.assume g false x) ys) []))) (ap body (sym k) ∙ failed_alone none (body a) m y w h)
+  pub turned_above : {E : Type 0} (r : Result (code.Followed S) E) (x end : S) (others : List S) → leq end x ≡ false → IfOk r (λ y. ended [] y ≡ Fails n z Step) → IfOk r (λ y. turned dom leq z n g x (Passes end others) ≡ ended [] y)
+  turned_above (Ok y) x end others above is = ap (λ c. unless c (Fails n z Step) (Passes (joined dom (dom.assume g false x) others) [])) above ∙ sym is
+  turned_above (Err e) x end others above is = is
+
+  pub round_ends : {E : Type 0} (r : Result (code.Followed S) E) (x : S) (none leaving others : List S) (end : code.Followed S) → none ≡ [] → after none (body (dom.assume g true x)) ≡ ended leaving end → others ≡ leaving →
+      IfOk r (λ y. turned dom leq z n g x (ended others end) ≡ ended [] y) → IfOk r (λ y. round dom leq z n g body x ≡ ended [] y)
+  round_ends (Ok y) x none leaving others end empty body_ends same is =
+      ap (turned dom leq z n g x)
+      (sym (after_none (body (dom.assume g true x))) ∙ ap (λ xs. after xs (body (dom.assume g true x))) (sym empty) ∙ body_ends ∙ ap (λ xs. ended xs end) (sym same))
+      ∙ is
+  round_ends (Err e) x none leaving others end empty body_ends same is = is
 
 -- bodies of procedures
 module _ {S : Type 0} (dom : Operations S) (leq : S → S → Bool) (written : (z : List ℕ) → (n : ℕ) → Option S) where
@@ -223,6 +253,12 @@ module _ {S : Type 0} (dom : Operations S) (leq : S → S → Bool) (table : Lis
 
   pub call_fails : (place : ℕ) (z : List ℕ) (n : ℕ) (i : Invoke) (q : ℕ) (s a : S) (m : ℕ) (y : List ℕ) (w : Why) → a ≡ dom.enter i.entering s → calls_in dom leq table program place z n q a ≡ Fails m y w → followed_in dom leq table program place z (Call n i q Stop) s ≡ Fails m y w
   call_fails place z n i q s a m y w k h = ap (λ v. passing v (λ d ds. Passes (dom.leave i.returning s d) [])) (ap (calls_in dom leq table program place z n q) (sym k) ∙ h)
+
+  pub call_comes : {E : Type 0} (r : Result (code.Followed S) E) (place : ℕ) (z : List ℕ) (n : ℕ) (i : Invoke) (q : ℕ) (s a : S) (done : code.Followed S) → a ≡ dom.enter i.entering s →
+      EndsSo (calls_in dom leq table program place z n q a) done → IfOk r (λ x. x ≡ behind_by (dom.leave i.returning s) done) → IfOk r (λ x. followed_in dom leq table program place z (Call n i q Stop) s ≡ ended [] x)
+  call_comes (Ok x) place z n i q s a (came.Behind d) enters ends is = call_ends place z n i q s a d (dom.leave i.returning s d) ends.0 enters ends.1 refl ∙ ap (ended []) (sym is)
+  call_comes (Ok x) place z n i q s a (came.Fails m chain w) enters ends is = call_fails place z n i q s a m (reverse chain) (why_of w) enters ends.1 ∙ ap (ended []) (sym is)
+  call_comes (Err e) place z n i q s a done enters ends is = is
 
   -- main's body is that of the program
   pub main_ends : {E : Type 0} (x : Result (code.Followed S) E) (none leaving : List S) (k : ℕ) (r : Routine) (c : Code) (frame : Frame) (a : S) → length program ≡ suc k → slice_get program k ≡ Some r → frame ≡ record { place = k; sites = [] } → c ≡ r.code → a ≡ dom.init r.layout → none ≡ [] → IfOk x (λ x. after none (followed_in dom leq table program frame.place frame.sites c a) ≡ ended leaving x) → IfOk x (EndsSo (followed_program dom leq (state_at table) program))

@@ -24,10 +24,18 @@ ended leaving (Fails n chain w) = plain.Fails n (reverse chain) (why_of w)
 abbrev pub EndsSo : {S : Type 0} → plain.Followed S → Followed S → Type 0
 EndsSo {S} p r = (leaving : List S) × (p ≡ ended leaving r)
 
--- a round of loop n under the call sites z, from its head x, and what is behind the loop
+-- what comes of this with what is behind a block
+abbrev pub behind_by : {S : Type 0} → (S → S) → Followed S → Followed S
+behind_by f (Behind s) = Behind (f s)
+behind_by f (Fails n chain w) = Fails n chain w
+
+-- what a round of loop n under the call sites z comes to, from its head x, by how its body ends
+abbrev pub turned : {S : Type 0} → Operations S → (S → S → Bool) → (z : List ℕ) → (n : ℕ) → Guard → (x : S) → plain.Followed S → plain.Followed S
+turned dom leq z n g x p = plain.passing p (λ y ys. plain.unless (leq y x) (plain.Fails n z plain.Step) (plain.Passes (plain.joined dom (dom.assume g false x) ys) []))
+
+-- a round, and what is behind the loop
 abbrev pub round : {S : Type 0} → Operations S → (S → S → Bool) → (z : List ℕ) → (n : ℕ) → Guard → (body : S → plain.Followed S) → (x : S) → plain.Followed S
-round dom leq z n g body x =
-    plain.passing (body (dom.assume g true x)) (λ y ys. plain.unless (leq y x) (plain.Fails n z plain.Step) (plain.Passes (plain.joined dom (dom.assume g false x) ys) []))
+round dom leq z n g body x = turned dom leq z n g x (body (dom.assume g true x))
 
 module _ {S : Type 0} (dom : Operations S) (leq : S → S → Bool) (table : List (List ℕ × S)) (program : List Routine) (place : ℕ) (z : List ℕ) where
   -- what calls come to in the procedure at a place, under the call sites z

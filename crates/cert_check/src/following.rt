@@ -1,23 +1,155 @@
 //! Blocks followed once, with written states in place of the heads of loops.
-ghost use Rattle.std.specs.Prelude.{◌≡◌, ◌<◌, [], length, take, slice_get, IfOk};
+ghost use Rattle.std.specs.Prelude.{◌≡◌, ◌<◌, ◌++◌, ◌∷◌, [], length, take, slice_get, false, IfOk, OnOk};
 ghost use Rattle.std.specs.Option.{option_copied};
-ghost use Rattle.imp_slots.specs.Plain.{Stop, If, While, Call};
+ghost use Rattle.imp_slots.specs.Plain.{Does, DoBreak, Stop, If, While, Call};
+ghost use Rattle.imp_slots.specs.ActionViews.{effect_of};
 ghost use Rattle.imp_slots.specs.BlockViews.{before_code};
 ghost use Rattle.cert_meaning.specs.Followed as plain;
-ghost use Rattle.cert_meaning.specs.Followed.{after, followed_program};
+ghost use Rattle.cert_meaning.specs.Followed.{after, followed_program, joined};
 ghost use Rattle.cert_check.specs.Table.{state_at};
-ghost use Rattle.cert_check.specs.Following.{ended, why_of, calls_in, followed_in, round, EndsSo};
+ghost use Rattle.cert_check.specs.Following.{ended, why_of, calls_in, followed_in, behind_by, turned, round, EndsSo};
+ghost use Rattle.cert_check.specs.declared.followed.Followed.TheVariants.{Behind};
 
 use crate::followed::{Followed, Why};
 use crate::written::{Written, loop_key};
 use batch_interp::{Frame, behind_action, behind_break, joined_states};
-use imp_slots::{Routine, SlotBlock, SlotCall, SlotCond, SlotNode};
+use imp_slots::{Routine, SlotAction, SlotBlock, SlotCall, SlotCond, SlotNode};
 use imp_syntax::StmtId;
 use plain_values::{Items, Memory};
 use portable_states::Portable;
 use std::alloc::Global;
 use std::sync::ledger::Ledger;
 use step_counter::Steps;
+
+/// Behind a simple statement.
+fn act<D: Portable, L: Ledger>(
+    alloc: Global,
+    dom: &D,
+    action: &SlotAction,
+    state: &D::State,
+    steps: &mut Steps<L>,
+) -> Result<Followed<D::State>, Memory>
+    ensures is { IfOk result (λ r. r ≡ Behind ((D.operations dom.now).post (Does (effect_of action.now)) state.now)) }
+{
+    let next = behind_action(alloc, dom, action, state, steps)?;
+    Ok(Followed::Behind(next))
+}
+
+/// Behind a break, in front of which the state leaves.
+fn leave_loop<D: Portable, L: Ledger>(
+    alloc: Global,
+    dom: &D,
+    state: &D::State,
+    leaving: &mut Items<D::State>,
+    steps: &mut Steps<L>,
+) -> Result<Followed<D::State>, Memory>
+    ensures is { IfOk result (λ r. r ≡ Behind ((D.operations dom.now).post DoBreak state.now)) }
+    ensures left { OnOk result (leaving.new ≡ leaving.old ++ state.now ∷ []) }
+{
+    let next = behind_break(alloc, dom, state, leaving, steps)?;
+    Ok(Followed::Behind(next))
+}
+
+/// Behind an if, from what its blocks come to.
+fn join_blocks<D: Portable, L: Ledger>(
+    alloc: Global,
+    dom: &D,
+    left: &D::State,
+    right: Followed<D::State>,
+    steps: &mut Steps<L>,
+) -> Result<Followed<D::State>, Memory>
+    ensures is { IfOk result (λ r. r ≡ behind_by ((D.operations dom.now).join left.now) right) }
+{
+    match right {
+        Followed::Behind(right) => Ok(Followed::Behind(dom.join(alloc, left, &right, steps)?)),
+        Followed::Fails { at, chain, why } => Ok(Followed::Fails { at, chain, why }),
+    }
+}
+
+/// Behind a call, from what the body of its procedure comes to.
+fn leave_call<D: Portable, L: Ledger>(
+    alloc: Global,
+    dom: &D,
+    call: &SlotCall,
+    state: &D::State,
+    done: Followed<D::State>,
+    steps: &mut Steps<L>,
+) -> Result<Followed<D::State>, Memory>
+    ensures is { IfOk result (λ r. r ≡ behind_by ((D.operations dom.now).leave call.now.returning state.now) done) }
+{
+    match done {
+        Followed::Behind(done) => Ok(Followed::Behind(dom.leave(
+            alloc, call, state, &done, steps,
+        )?)),
+        Followed::Fails { at, chain, why } => Ok(Followed::Fails { at, chain, why }),
+    }
+}
+
+/// A loop whose written state does not do.
+fn fail<S>(alloc: Global, frame: &Frame, n: u32, why: Why) -> Result<Followed<S>, Memory>
+    ensures is { IfOk result (λ r. ended [] r ≡ plain.Fails n frame.now.sites (why_of why)) }
+{
+    Ok(Followed::Fails {
+        at: StmtId::new(n),
+        chain: frame.chain(alloc)?,
+        why,
+    })
+}
+
+/// The state that is written of a loop.
+fn head_of<'a, S: Drop>(
+    alloc: Global,
+    written: &'a Written<S>,
+    frame: &Frame,
+    n: u32,
+) -> Result<Option<&'a S>, Memory>
+    ensures is { IfOk result (λ o. option_copied o ≡ state_at written.now frame.now.sites n) }
+{
+    let key = loop_key(alloc, StmtId::new(n), frame.sites.as_slice())?;
+    Ok(written.get(&key))
+}
+
+/// Behind a loop: its head where the condition is false, joined with what leaves the body.
+fn behind_loop<D: Portable, L: Ledger>(
+    alloc: Global,
+    dom: &D,
+    cond: &SlotCond,
+    head: &D::State,
+    leaving: &[D::State],
+    steps: &mut Steps<L>,
+) -> Result<Followed<D::State>, Memory>
+    ensures is { IfOk result (λ r. r ≡ Behind (joined (D.operations dom.now) ((D.operations dom.now).assume cond.now false head.now) leaving.now)) }
+{
+    let out = dom.assume(alloc, cond, false, head, steps)?;
+    let all = joined_states(alloc, dom, out, leaving, steps)?;
+    Ok(Followed::Behind(all))
+}
+
+/// What a round comes to, by how the body of its loop ends.
+fn end_round<D: Portable, L: Ledger>(
+    alloc: Global,
+    dom: &D,
+    frame: &Frame,
+    n: u32,
+    cond: &SlotCond,
+    head: &D::State,
+    end: Followed<D::State>,
+    leaving: &[D::State],
+    steps: &mut Steps<L>,
+) -> Result<Followed<D::State>, Memory>
+    ensures is { IfOk result (λ r. turned (D.operations dom.now) (D.port dom.now).leq frame.now.sites n cond.now head.now (ended leaving.now end) ≡ ended [] r) }
+{
+    match end {
+        Followed::Behind(end) => {
+            if dom.leq(alloc, &end, head)? {
+                behind_loop(alloc, dom, cond, head, leaving, steps)
+            } else {
+                fail(alloc, frame, n, Why::Step)
+            }
+        }
+        Followed::Fails { at, chain, why } => Ok(Followed::Fails { at, chain, why }),
+    }
+}
 
 /// A block: the state behind it, or the first loop whose written state does not do. The states in front of
 /// breaks that leave the loop around it are added to `leaving`.
@@ -64,10 +196,7 @@ fn follow_node<D: Portable, L: Ledger>(
     ensures is { IfOk result (λ r. after leaving.old (followed_in (D.operations dom.now) (D.port dom.now).leq written.now routines.now frame.now.place frame.now.sites (before_code node.now Stop) state.now) ≡ ended leaving.new r) }
 {
     match node {
-        SlotNode::Simple(_, action) => {
-            let next = behind_action(alloc, dom, action, state, steps)?;
-            Ok(Followed::Behind(next))
-        }
+        SlotNode::Simple(_, action) => act(alloc, dom, action, state, steps),
         SlotNode::If(_, cond, then, els) => {
             follow_if(
                 alloc, dom, routines, written, frame, cond, then, els, state, leaving, steps,
@@ -83,11 +212,31 @@ fn follow_node<D: Portable, L: Ledger>(
                 alloc, dom, routines, written, frame, *n, call, *callee, state, steps,
             )
         }
-        SlotNode::Break(_) => {
-            let next = behind_break(alloc, dom, state, leaving, steps)?;
-            Ok(Followed::Behind(next))
-        }
+        SlotNode::Break(_) => leave_loop(alloc, dom, state, leaving, steps),
     }
+}
+
+/// A block, from where the condition in front of it has this truth value.
+#[cycle(following)]
+fn follow_branch<D: Portable, L: Ledger>(
+    alloc: Global,
+    dom: &D,
+    routines: &[Routine],
+    written: &Written<D::State>,
+    frame: &Frame,
+    cond: &SlotCond,
+    sense: bool,
+    block: &SlotBlock,
+    state: &D::State,
+    leaving: &mut Items<D::State>,
+    steps: &mut Steps<L>,
+) -> Result<Followed<D::State>, Memory>
+    ensures is { IfOk result (λ r. after leaving.old (followed_in (D.operations dom.now) (D.port dom.now).leq written.now routines.now frame.now.place frame.now.sites block.now ((D.operations dom.now).assume cond.now sense state.now)) ≡ ended leaving.new r) }
+{
+    let inside = dom.assume(alloc, cond, sense, state, steps)?;
+    follow_block(
+        alloc, dom, routines, written, frame, block, inside, leaving, steps,
+    )
 }
 
 /// Both blocks of an if, joined. The states that leave the first one stand first.
@@ -107,32 +256,16 @@ fn follow_if<D: Portable, L: Ledger>(
 ) -> Result<Followed<D::State>, Memory>
     ensures is { IfOk result (λ r. after leaving.old (followed_in (D.operations dom.now) (D.port dom.now).leq written.now routines.now frame.now.place frame.now.sites (If 0 cond.now then.now els.now Stop) state.now) ≡ ended leaving.new r) }
 {
-    let holds = dom.assume(alloc, cond, true, state, steps)?;
-    let left = match follow_block(
-        alloc, dom, routines, written, frame, then, holds, leaving, steps,
+    let left = match follow_branch(
+        alloc, dom, routines, written, frame, cond, true, then, state, leaving, steps,
     )? {
         Followed::Behind(left) => left,
         Followed::Fails { at, chain, why } => return Ok(Followed::Fails { at, chain, why }),
     };
-    let fails = dom.assume(alloc, cond, false, state, steps)?;
-    let right = match follow_block(
-        alloc, dom, routines, written, frame, els, fails, leaving, steps,
-    )? {
-        Followed::Behind(right) => right,
-        Followed::Fails { at, chain, why } => return Ok(Followed::Fails { at, chain, why }),
-    };
-    Ok(Followed::Behind(dom.join(alloc, &left, &right, steps)?))
-}
-
-/// A loop whose written state does not do.
-fn fail<S>(alloc: Global, frame: &Frame, n: u32, why: Why) -> Result<Followed<S>, Memory>
-    ensures is { IfOk result (λ r. ended [] r ≡ plain.Fails n frame.now.sites (why_of why)) }
-{
-    Ok(Followed::Fails {
-        at: StmtId::new(n),
-        chain: frame.chain(alloc)?,
-        why,
-    })
+    let right = follow_branch(
+        alloc, dom, routines, written, frame, cond, false, els, state, leaving, steps,
+    )?;
+    join_blocks(alloc, dom, &left, right, steps)
 }
 
 /// A loop, from the state in front of it.
@@ -151,8 +284,7 @@ fn follow_while<D: Portable, L: Ledger>(
 ) -> Result<Followed<D::State>, Memory>
     ensures is { IfOk result (λ r. followed_in (D.operations dom.now) (D.port dom.now).leq written.now routines.now frame.now.place frame.now.sites (While n cond.now body.now Stop) state.now ≡ ended [] r) }
 {
-    let key = loop_key(alloc, StmtId::new(n), frame.sites.as_slice())?;
-    match written.get(&key) {
+    match head_of(alloc, written, frame, n)? {
         None => fail(alloc, frame, n, Why::Missing),
         Some(head) => {
             if dom.leq(alloc, state, head)? {
@@ -183,28 +315,21 @@ fn follow_round<D: Portable, L: Ledger>(
     ensures is { IfOk result (λ r. round (D.operations dom.now) (D.port dom.now).leq frame.now.sites n cond.now (followed_in (D.operations dom.now) (D.port dom.now).leq written.now routines.now frame.now.place frame.now.sites body.now) head.now ≡ ended [] r) }
 {
     let mut leaving = Items::new(alloc);
-    let inside = dom.assume(alloc, cond, true, head, steps)?;
-    let end = match follow_block(
+    let end = follow_branch(
         alloc,
         dom,
         routines,
         written,
         frame,
+        cond,
+        true,
         body,
-        inside,
+        head,
         &mut leaving,
         steps,
-    )? {
-        Followed::Behind(end) => end,
-        Followed::Fails { at, chain, why } => return Ok(Followed::Fails { at, chain, why }),
-    };
-    if dom.leq(alloc, &end, head)? {
-        let out = dom.assume(alloc, cond, false, head, steps)?;
-        let all = joined_states(alloc, dom, out, leaving.as_slice(), steps)?;
-        Ok(Followed::Behind(all))
-    } else {
-        fail(alloc, frame, n, Why::Step)
-    }
+    )?;
+    let leaving = leaving.as_slice();
+    end_round(alloc, dom, frame, n, cond, head, end, leaving, steps)
 }
 
 /// A call: its procedure is entered and left.
@@ -224,7 +349,7 @@ fn follow_call<D: Portable, L: Ledger>(
     ensures is { IfOk result (λ r. followed_in (D.operations dom.now) (D.port dom.now).leq written.now routines.now frame.now.place frame.now.sites (Call n call.now callee Stop) state.now ≡ ended [] r) }
 {
     let entered = dom.enter(alloc, call, state, steps)?;
-    match follow_callee(
+    let done = follow_callee(
         alloc,
         dom,
         routines,
@@ -234,12 +359,8 @@ fn follow_call<D: Portable, L: Ledger>(
         callee as usize,
         entered,
         steps,
-    )? {
-        Followed::Behind(done) => Ok(Followed::Behind(dom.leave(
-            alloc, call, state, &done, steps,
-        )?)),
-        Followed::Fails { at, chain, why } => Ok(Followed::Fails { at, chain, why }),
-    }
+    )?;
+    leave_call(alloc, dom, call, state, done, steps)
 }
 
 /// The procedure at a place, where it stands in front of the one at `place`.

@@ -12,6 +12,9 @@ decreases-follow_block g l = 4 * (weight l.routines.now l.frame.now.place + code
 abbrev pub decreases-follow_node : goal.decreases-follow_node
 decreases-follow_node g l = 4 * (weight l.routines.now l.frame.now.place + node_size l.node.now) + 2
 
+abbrev pub decreases-follow_branch : goal.decreases-follow_branch
+decreases-follow_branch g l = 4 * (weight l.routines.now l.frame.now.place + code_size l.block.now) + 4
+
 abbrev pub decreases-follow_if : goal.decreases-follow_if
 decreases-follow_if g l = 4 * (weight l.routines.now l.frame.now.place + code_size l.then.now + code_size l.els.now + 3) + 1
 
