@@ -2,7 +2,7 @@
 use Rattle.std.proofs.Common.{ℕ, suc, ◌≡◌, ◌+◌, ◌<◌, ◌≤◌, Bool, true, false, List, [], ◌∷◌, ◌++◌, length, drop, take, reverse, get_or, slice_get, Option, Some, None, Result, Ok, Err, IfOk, OnOk, refl, sym, ap, ◌∙◌, append_assoc}
 use Rattle.std.specs.Prelude.{if◌then◌else◌}
 use Rattle.std.proofs.lemmas.List.{drop_all, append-nil}
-use Rattle.imp_slots.specs.Plain.{DoBreak, Does, Effect, Guard, Invoke, Code, Stop, Simple, If, While, Call, Break, Routine}
+use Rattle.imp_slots.specs.Plain.{DoBreak, Does, Effect, Guard, Invoke, Code, Stop, Simple, If, Call, Break, Routine}
 use Rattle.imp_slots.specs.ActionViews.{effect_of}
 use Rattle.imp_slots.specs.BlockViews.{before_code, code_of}
 use Rattle.imp_slots.specs.declared.blocks.SlotNode.{SlotNode}
@@ -105,31 +105,6 @@ module _ {S : Type 0} (dom : Operations S) (leq : S → S → Bool) (written : (
   pub block_end : (ss : List SlotNode) (i : ℕ) (now : S) (before : List S) → length ss ≤ i → after before (B (code_of (drop i ss)) now) ≡ Passes now before
   block_end ss i now before h = ap (λ xs. after before (B (code_of xs) now)) (drop_all i ss h) ∙ ap (Passes now) (append-nil before)
 
-  -- both blocks of an if
-  pub if_both : (g : Guard) (t e : Code) (s a b l r j : S) (before middle behind : List S) → a ≡ dom.assume g true s → after before (B t a) ≡ Passes l middle → b ≡ dom.assume g false s → after middle (B e b) ≡ Passes r behind → j ≡ dom.join l r → after before (B (If 0 g t e Stop) s) ≡ Passes j behind
-  if_both g t e s a b l r j before middle behind k h m u d =
-      let p = passed_alone before (B t a) l middle h in
-      let q = passed_alone middle (B e b) r behind u in
-      let all : before ++ ((p.0 ++ q.0) ++ []) ≡ behind =
-      ap (λ xs. before ++ xs) (append-nil (p.0 ++ q.0)) ∙ sym (append_assoc before p.0 q.0) ∙ ap (λ xs. xs ++ q.0) (sym p.2) ∙ sym q.2 in
-      ap (λ v. after before (passing v (λ x xs. passing (B e (dom.assume g false s)) (λ y ys. after (xs ++ ys) (Passes (dom.join x y) []))))) (ap (B t) (sym k) ∙ p.1)
-      ∙ ap (λ v. after before (passing v (λ y ys. after (p.0 ++ ys) (Passes (dom.join l y) [])))) (ap (B e) (sym m) ∙ q.1)
-      ∙ (λ i. Passes (sym d i) (all i))
-
-  pub if_left : (g : Guard) (t e : Code) (s a : S) (before : List S) (n : ℕ) (y : List ℕ) (w : Why) → a ≡ dom.assume g true s → after before (B t a) ≡ Fails n y w → after before (B (If 0 g t e Stop) s) ≡ Fails n y w
-  if_left g t e s a before n y w k h =
-      ap (λ v. after before (passing v (λ x xs. passing (B e (dom.assume g false s)) (λ y ys. after (xs ++ ys) (Passes (dom.join x y) []))))) (ap (B t) (sym k) ∙ failed_alone before (B t a) n y w h)
-
-  pub if_right : (g : Guard) (t e : Code) (s a b l : S) (before middle : List S) (n : ℕ) (y : List ℕ) (w : Why) → a ≡ dom.assume g true s → after before (B t a) ≡ Passes l middle → b ≡ dom.assume g false s → after middle (B e b) ≡ Fails n y w → after before (B (If 0 g t e Stop) s) ≡ Fails n y w
-  if_right g t e s a b l before middle n y w k h m u =
-      let p = passed_alone before (B t a) l middle h in
-      ap (λ v. after before (passing v (λ x xs. passing (B e (dom.assume g false s)) (λ y ys. after (xs ++ ys) (Passes (dom.join x y) []))))) (ap (B t) (sym k) ∙ p.1)
-      ∙ ap (λ v. after before (passing v (λ y ys. after (p.0 ++ ys) (Passes (dom.join l y) [])))) (ap (B e) (sym m) ∙ failed_alone middle (B e b) n y w u)
-
-  -- a break
-  pub break_leaves : (n : ℕ) (s t : S) (before behind : List S) → t ≡ dom.post DoBreak s → behind ≡ before ++ s ∷ [] → after before (B (Break n Stop) s) ≡ Passes t behind
-  break_leaves n s t before behind e l = λ i. Passes (sym e i) (sym l i)
-
   -- a statement that nothing leaves
   pub alone : (p : plain.Followed S) (before : List S) (a : code.Followed S) → p ≡ ended [] a → after before p ≡ ended before a
   alone p before (came.Behind t) e = ap (after before) e ∙ ap (Passes t) (append-nil before)
@@ -148,31 +123,10 @@ module _ {S : Type 0} (dom : Operations S) (leq : S → S → Bool) (written : (
   alone_ends (Ok x) p before is = alone p before x is
   alone_ends (Err e) p before is = is
 
-  -- both blocks of an if
-  join_ends : (g : Guard) (t e : Code) (s l : S) (before middle behind : List S) (right : code.Followed S) → after before (B t (dom.assume g true s)) ≡ Passes l middle →
-      after middle (B e (dom.assume g false s)) ≡ ended behind right → after before (B (If 0 g t e Stop) s) ≡ ended behind (behind_by (dom.join l) right)
-  join_ends g t e s l before middle behind (came.Behind r) first second = if_both g t e s (dom.assume g true s) (dom.assume g false s) l r (dom.join l r) before middle behind refl first refl second refl
-  join_ends g t e s l before middle behind (came.Fails n chain w) first second = if_right g t e s (dom.assume g true s) (dom.assume g false s) l before middle n (reverse chain) (why_of w) refl first refl second
-
-  pub if_ends : {E : Type 0} (r : Result (code.Followed S) E) (g : Guard) (t e : Code) (s l : S) (before middle behind : List S) (right : code.Followed S) → after before (B t (dom.assume g true s)) ≡ Passes l middle →
-      after middle (B e (dom.assume g false s)) ≡ ended behind right → IfOk r (λ x. x ≡ behind_by (dom.join l) right) → IfOk r (λ x. after before (B (If 0 g t e Stop) s) ≡ ended behind x)
-  if_ends (Ok x) g t e s l before middle behind right first second is = join_ends g t e s l before middle behind right first second ∙ ap (ended behind) (sym is)
-  if_ends (Err e') g t e s l before middle behind right first second is = is
-
+  -- an if whose first block meets a loop that does not do
   pub if_stops : (g : Guard) (t e : Code) (s : S) (before : List S) (n : ℕ) (y : List ℕ) (w : Why) → after before (B t (dom.assume g true s)) ≡ Fails n y w → after before (B (If 0 g t e Stop) s) ≡ Fails n y w
-  if_stops g t e s before n y w h = if_left g t e s (dom.assume g true s) before n y w refl h
-
-  -- a loop of which no state is written, of which the state in front is not found below, and one that is gone through
-  pub loop_missing : (n : ℕ) (g : Guard) (b : Code) (s : S) → written z n ≡ None → B (While n g b Stop) s ≡ Fails n z Missing
-  loop_missing n g b s e = ap (λ o. where_written o (Fails n z Missing) (λ x. unless (leq s x) (Fails n z Entry) (round dom leq z n g (B b) x))) e
-
-  pub loop_above : (n : ℕ) (g : Guard) (b : Code) (s x : S) → written z n ≡ Some x → leq s x ≡ false → B (While n g b Stop) s ≡ Fails n z Entry
-  loop_above n g b s x e f =
-      ap (λ o. where_written o (Fails n z Missing) (λ x. unless (leq s x) (Fails n z Entry) (round dom leq z n g (B b) x))) e ∙ ap (λ c. unless c (Fails n z Entry) (round dom leq z n g (B b) x)) f
-
-  pub loop_round : (n : ℕ) (g : Guard) (b : Code) (s x : S) → written z n ≡ Some x → leq s x ≡ true → B (While n g b Stop) s ≡ round dom leq z n g (B b) x
-  loop_round n g b s x e f =
-      ap (λ o. where_written o (Fails n z Missing) (λ x. unless (leq s x) (Fails n z Entry) (round dom leq z n g (B b) x))) e ∙ ap (λ c. unless c (Fails n z Entry) (round dom leq z n g (B b) x)) f
+  if_stops g t e s before n y w h =
+      ap (λ v. after before (passing v (λ x xs. passing (B e (dom.assume g false s)) (λ y ys. after (xs ++ ys) (Passes (dom.join x y) []))))) (failed_alone before (B t (dom.assume g true s)) n y w h)
 
 -- joins of states, without a budget
 module _ {S : Type 0} (dom : Operations S) where
@@ -191,14 +145,6 @@ module _ {S : Type 0} (dom : Operations S) where
 
 -- a round, by how its body ends
 module _ {S : Type 0} (dom : Operations S) (leq : S → S → Bool) (z : List ℕ) (n : ℕ) (g : Guard) (body : S → plain.Followed S) where
-  pub turned_behind : {E : Type 0} (r : Result (code.Followed S) E) (x end : S) (others : List S) → leq end x ≡ true → IfOk r (λ y. y ≡ came.Behind (joined dom (dom.assume g false x) others)) → IfOk r (λ y. turned dom leq z n g x (Passes end others) ≡ ended [] y)
-  turned_behind (Ok y) x end others below is = ap (λ c. unless c (Fails n z Step) (Passes (joined dom (dom.assume g false x) others) [])) below ∙ ap (ended []) (sym is)
-  turned_behind (Err e) x end others below is = is
-
-  pub turned_above : {E : Type 0} (r : Result (code.Followed S) E) (x end : S) (others : List S) → leq end x ≡ false → IfOk r (λ y. ended [] y ≡ Fails n z Step) → IfOk r (λ y. turned dom leq z n g x (Passes end others) ≡ ended [] y)
-  turned_above (Ok y) x end others above is = ap (λ c. unless c (Fails n z Step) (Passes (joined dom (dom.assume g false x) others) [])) above ∙ sym is
-  turned_above (Err e) x end others above is = is
-
   pub round_ends : {E : Type 0} (r : Result (code.Followed S) E) (x : S) (none leaving others : List S) (end : code.Followed S) → none ≡ [] → after none (body (dom.assume g true x)) ≡ ended leaving end → others ≡ leaving →
       IfOk r (λ y. turned dom leq z n g x (ended others end) ≡ ended [] y) → IfOk r (λ y. round dom leq z n g body x ≡ ended [] y)
   round_ends (Ok y) x none leaving others end empty body_ends same is =
