@@ -1,5 +1,11 @@
 //! The listing and the report of a program, by batch interpretation.
-ghost use Rattle.std.specs.Prelude.{◌≡◌, IfOk};
+ghost use Rattle.std.specs.Prelude.{◌≡◌, ◌++◌, IfOk};
+ghost use Rattle.imp_check.specs.Slots.{routines_of};
+ghost use Rattle.batch_meaning.specs.Report.{report};
+ghost use Rattle.call_contexts.specs.Settings.{setting_of};
+ghost use Rattle.request_json.specs.declared.reply.Reply.TheVariants as r;
+ghost use Rattle.request_json.specs.Replies.{reply_text};
+ghost use Rattle.server_jobs.specs.Domains.{meaning_of};
 ghost use Rattle.server_jobs.specs.Jobs.{engine_of};
 ghost use Rattle.server_jobs.specs.Output.{batch_bytes};
 
@@ -15,6 +21,44 @@ use std::alloc::Global;
 use std::sync::ledger::Ledger;
 use step_counter::Steps;
 
+/// The line of the report, by this setting.
+fn line_by<D: Named, L: Ledger>(
+    alloc: Global,
+    domain: &D,
+    setting: &Setting,
+    program: &Checked,
+    steps: &mut Steps<L>,
+) -> Result<Vec<u8>, Memory>
+    requires setting { setting.now ≡ setting_of setting.now.engine (routines_of program.now) }
+    ensures bytes { IfOk result (λ v. v.items ≡ reply_text (r.Report (report (meaning_of D.name).operations setting.now.engine (routines_of program.now)))) }
+{
+    let findings = batch_report(alloc, domain, program, setting, steps)?;
+    reply_line(alloc, &Reply::Report(findings))
+}
+
+/// The line of the report.
+fn report_line<D: Named, L: Ledger>(
+    alloc: Global,
+    domain: &D,
+    settings: &Settings,
+    program: &Checked,
+    steps: &mut Steps<L>,
+) -> Result<Vec<u8>, Memory>
+    ensures bytes { IfOk result (λ v. v.items ≡ reply_text (r.Report (report (meaning_of D.name).operations (engine_of settings.now) (routines_of program.now)))) }
+{
+    let setting = Setting::new(alloc, &program.view(), settings.budget, settings.widening)?;
+    line_by(alloc, domain, &setting, program, steps)
+}
+
+/// One text behind another.
+fn behind(alloc: Global, first: &[u8], second: &[u8]) -> Result<Vec<u8>, Memory>
+    ensures bytes { IfOk result (λ v. v.items ≡ first.now ++ second.now) }
+{
+    let mut bytes = Vec::from_slice(alloc, first)?;
+    bytes.extend_from_slice(second)?;
+    Ok(bytes)
+}
+
 /// The listing and the line of the report. It fails for want of memory alone.
 #[tactic(auto, unfolding(crate::specs::Output::batch_bytes))]
 pub fn listed<D: Named, L: Ledger>(
@@ -26,11 +70,7 @@ pub fn listed<D: Named, L: Ledger>(
 ) -> Result<Vec<u8>, Memory>
     ensures bytes { IfOk result (λ v. v.items ≡ batch_bytes D.name (engine_of settings.now) program.now) }
 {
-    let setting = Setting::new(alloc, &program.view(), settings.budget, settings.widening)?;
+    let line = report_line(alloc, domain, settings, program, steps)?;
     let listing = listing(alloc, program.program())?;
-    let findings = batch_report(alloc, domain, program, &setting, steps)?;
-    let line = reply_line(alloc, &Reply::Report(findings))?;
-    let mut bytes = Vec::from_slice(alloc, listing.as_slice())?;
-    bytes.extend_from_slice(line.as_slice())?;
-    Ok(bytes)
+    behind(alloc, listing.as_slice(), line.as_slice())
 }
