@@ -1,5 +1,5 @@
 //! Sources that are refused.
-ghost use Rattle.std.specs.Prelude.{◌≡◌, ◌⊎◌, ℕ, List, Option, Some};
+ghost use Rattle.std.specs.Prelude.{◌≡◌, ◌⊎◌, ℕ, List, Option, Some, IfOk};
 ghost use Rattle.io_edge.specs.Outside.{Rose};
 ghost use Rattle.request_json.specs.declared.reply.Reply.TheVariants as r;
 ghost use Rattle.request_json.specs.Replies.{reply_text};
@@ -7,9 +7,17 @@ ghost use Rattle.server_jobs.specs.Ends.{Fits, Wrote};
 
 use crate::status::Status;
 use io_edge::{Failed, Sink};
+use plain_values::Memory;
 use request_json::{Refusal, Reply, reply_line};
 use script_loop::write_all;
 use std::alloc::Global;
+
+/// The line of a refusal.
+fn refusal_line(alloc: Global, why: Refusal) -> Result<Vec<u8>, Memory>
+    ensures line { IfOk result (λ v. v.items ≡ reply_text (r.Refused why)) }
+{
+    reply_line(alloc, &Reply::Refused(why))
+}
 
 /// Refuses a source: its refusal is written as a line.
 pub fn refuse_source<O: Sink>(alloc: Global, why: Refusal, out: &mut O) -> Status
@@ -19,7 +27,7 @@ pub fn refuse_source<O: Sink>(alloc: Global, why: Refusal, out: &mut O) -> Statu
         → Wrote result (record { status = 3; bytes = reply_text (r.Refused why) }) text taken rest (O.told out.new) }
     ensures sink_failed { result ≡ Status.Sink → Rose (O.faults out.old) (O.faults out.new) }
 {
-    let Ok(line) = reply_line(alloc, &Reply::Refused(why)) else {
+    let Ok(line) = refusal_line(alloc, why) else {
         return Status::Memory;
     };
     match write_all(out, line.as_slice()) {
