@@ -30,11 +30,9 @@ use Rattle.line_answers.specs.Readings.{Readings}
 use Rattle.gen_summary.specs.declared.kind.Kind.TheVariants.{Cost}
 use Rattle.gen_summary.specs.declared.tally.Tally.{Tally}
 use Rattle.gen_summary.specs.Summary.{added, cost_in, kind_of, nothing, summary_text, IsWithin}
-use Rattle.batch_meaning.specs.Batch.{Engine}
 use Rattle.command_words.specs.declared.job.DomainName.{DomainName}
 use Rattle.script_loop.specs.Lines.{whole_lines}
 use Rattle.daig_gen.specs.Script.{script_of}
-use Rattle.line_answers.specs.Fine.{opening}
 use Rattle.server_jobs.specs.Domains.{meaning_of}
 use Rattle.server_jobs.specs.Output.{gen_bytes, served_after, tallied}
 
@@ -157,13 +155,18 @@ read_cost readings dom (Ok request) m = request_cost readings dom request m
 pub line_cost : {S : Type 0} (readings : Readings) (dom : Operations S) (line : List ℕ) (m : Machine) → TellsCost (line_turn readings dom line m)
 line_cost readings dom line m = read_cost readings dom (request_of line) m
 
--- the summary of a script
-pub summed : {A E : Type 0} (r : Result A E) (bytes : A → List ℕ) (stands : Served → Type 0) (t : Tally) (domain : DomainName) (engine : Engine) (program : List Procedure) (seed size : ℕ) (script : List ℕ) →
+-- the summary of the generated script
+pub script_summed : {A E : Type 0} (r : Result A E) (bytes : A → List ℕ) (stands : Served → Type 0) (t : Tally) (domain : DomainName) (seed size : ℕ) (script : List ℕ) →
     script ≡ script_of seed size → ((s : Served) → stands s → t ≡ tallied (meaning_of domain).operations (whole_lines [] script) s nothing) →
-    ((readings : Readings) → stands (opening readings engine program)) → IfOk r (λ v. bytes v ≡ summary_text t) →
-    IfOk r (λ v. (readings : Readings) → bytes v ≡ gen_bytes domain (opening readings engine program) seed size)
+    IfOk r (λ v. bytes v ≡ summary_text t) → IfOk r (λ v. (first : Served) → stands first → bytes v ≡ gen_bytes domain first seed size)
 unfolding gen_bytes
-summed (Ok v) bytes stands t domain engine program seed size script is tally begins told = λ readings.
-    told ∙ ap summary_text (tally (opening readings engine program) (begins readings))
-    ∙ ap (λ (text : List ℕ). summary_text (tallied (meaning_of domain).operations (whole_lines [] text) (opening readings engine program) nothing)) is
-summed (Err e) bytes stands t domain engine program seed size script is tally begins told = tt
+script_summed (Ok v) bytes stands t domain seed size script is tally told = λ first standing.
+    told ∙ ap summary_text (tally first standing)
+    ∙ ap (λ (text : List ℕ). summary_text (tallied (meaning_of domain).operations (whole_lines [] text) first nothing)) is
+script_summed (Err e) bytes stands t domain seed size script is tally told = tt
+
+-- what holds of whatever a server stands for holds of what it begins with
+pub from_opening : {A E : Type 0} (r : Result A E) (Holds : A → Served → Type 0) (stands : Served → Type 0) (first : Readings → Served) →
+    ((readings : Readings) → stands (first readings)) → IfOk r (λ v. (s : Served) → stands s → Holds v s) → IfOk r (λ v. (readings : Readings) → Holds v (first readings))
+from_opening (Ok v) Holds stands first begins told = λ readings. told (first readings) (begins readings)
+from_opening (Err e) Holds stands first begins told = tt

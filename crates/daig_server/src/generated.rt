@@ -91,8 +91,22 @@ fn tally_lines<D: Named, L: Ledger>(
     Ok(tally)
 }
 
+/// The summary of the generated script, which a server answers.
+fn summed<D: Named, L: Ledger>(
+    alloc: Global,
+    server: &mut Server<D>,
+    drawn: Drawn,
+    steps: &mut Steps<L>,
+) -> Result<String, Memory>
+    requires lasts { ⟦<Server<D> as Answerer>⟧.lasts server.old (2 ^ 40) }
+    ensures line { IfOk result (λ v. (first : Served) → ⟦<Server<D> as Answerer>⟧.stands server.old first → string_bytes v ≡ gen_bytes D.name first drawn.seed drawn.size) }
+{
+    let script = daig_gen::script(alloc, drawn.seed, drawn.size)?;
+    let tally = tally_lines(alloc, server, script.as_slice(), steps)?;
+    tally.line(alloc)
+}
+
 /// The summary of the generated script over the program. It fails for want of memory alone.
-#[tactic(auto, unfolding(server_jobs::specs::Output::gen_bytes))]
 pub(crate) fn summary<D: Named, L: Ledger>(
     alloc: Global,
     domain: D,
@@ -104,8 +118,6 @@ pub(crate) fn summary<D: Named, L: Ledger>(
     requires numbered { IsNumbered table.program }
     ensures line { IfOk result (λ v. (readings : Readings) → string_bytes v ≡ gen_bytes D.name (opening readings (engine_of settings.now) table.program) drawn.seed drawn.size) }
 {
-    let script = daig_gen::script(alloc, drawn.seed, drawn.size)?;
     let mut server = Server::start(alloc, domain, settings, MEMO, table)?;
-    let tally = tally_lines(alloc, &mut server, script.as_slice(), steps)?;
-    tally.line(alloc)
+    summed(alloc, &mut server, drawn, steps)
 }
