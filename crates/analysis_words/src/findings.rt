@@ -1,4 +1,4 @@
-//! Findings.
+//! What the check of a statement asks, and what is found of it.
 use crate::Verdict;
 use imp_syntax::StmtId;
 use plain_values::Items;

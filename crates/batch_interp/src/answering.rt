@@ -1,4 +1,4 @@
-//! Answers.
+//! The answer to a question, for `answered`, `refused` and `sound` of `answer`.
 ghost use Rattle.std.specs.Prelude.{◌≡◌, ◌<◌, length, IfOk, IfErr};
 ghost use Rattle.imp_check.specs.Slots.{routines_of};
 ghost use Rattle.batch_meaning.specs.Answers.{answer, answer_in, procedure_of, In, Answers};

@@ -1,4 +1,4 @@
-//! Reports.
+//! Reports of a whole program, for `exact` and `sound` of `batch_report`.
 ghost use Rattle.std.specs.Prelude.{◌≡◌, ◌++◌, ◌<◌, ◌^◌, map, Contains, OnOk, IfOk};
 ghost use Rattle.imp_slots.specs.Fits.{IsChecked};
 ghost use Rattle.imp_check.specs.Slots.{routines_of};

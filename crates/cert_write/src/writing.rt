@@ -1,4 +1,4 @@
-//! Certificates.
+//! The lines of a certificate, for `text` of `certificate`.
 ghost use Rattle.std.specs.Prelude.{◌≡◌, Contains, IfOk, map, reverse, slice_get};
 ghost use Rattle.imp_check.specs.Slots.{routines_of};
 ghost use Rattle.program_chains.specs.Chains.{chains};

@@ -1,4 +1,4 @@
-//! Filling.
+//! Filling the missing cells of a demand, for the clauses of `advance` and `demand`.
 ghost use Rattle.std.specs.Prelude.{◌≡◌, ◌+◌, ◌*◌, ◌<◌, ◌≤◌, ◌↔◌, ◌⊎◌, [], ◌∷◌, ◌++◌, Some, true, false, suc, length, map, min, IfOk, IfErr, IfSome, IsTrue, OnErr, OnOk};
 ghost use Rattle.cell_rows.specs.Targets.{Target as PlainTarget};
 ghost use Rattle.imp_flow.specs.Reached.{target_of};

@@ -1,4 +1,4 @@
-//! Edits.
+//! An edit in two steps, for `accepted` and `refused` of `prepare` and `committed` of `commit`.
 ghost use Rattle.std.specs.Prelude.{◌≡◌, IfOk, IfErr, None};
 ghost use Rattle.std.specs.Borrow.{sem, RestsIfErr};
 ghost use Rattle.imp_syntax.specs.declared.edit.Edit.{Edit as AnyEdit};

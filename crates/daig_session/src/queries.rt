@@ -1,4 +1,4 @@
-//! Queries.
+//! Queries, for `answers` and `sound` of `query`, and for `explains` and `stays` of `why`.
 ghost use Rattle.std.specs.Prelude.{◌≡◌, ℕ, suc, ◌+◌, ◌*◌, ◌≤◌, List, length, map, Some, IfErr, IfOk, OnOk};
 ghost use Rattle.imp_syntax.specs.declared.edit.Location.{Location};
 ghost use Rattle.imp_check.specs.Slots.{routines_of};

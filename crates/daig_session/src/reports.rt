@@ -1,4 +1,4 @@
-//! Reports.
+//! Reports out of the cells, for `reports` and `sound` of `report`.
 ghost use Rattle.std.specs.Prelude.{◌≡◌, ◌+◌, ◌*◌, ◌≤◌, [], ◌++◌, Contains, IfOk, IsFalse, IsSome, IsTrue, OnOk, Some, length, suc};
 ghost use Rattle.imp_syntax.specs.declared.edit.Location.TheVariants.{Before};
 ghost use Rattle.imp_slots.specs.ActionViews.{act_of};

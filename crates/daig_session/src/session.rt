@@ -1,4 +1,4 @@
-//! Sessions.
+//! A session: what it is begun with, for `begins` of `start`, and what is read of it.
 ghost use Rattle.std.specs.Prelude.{◌≡◌, ◌<◌, ◌≤◌, length, IfOk, option_copied, option_map};
 ghost use Rattle.call_contexts.specs.Settings.{engine_of};
 ghost use Rattle.session_machine.specs.Machine.{beginning, ticket_of, Machine, Ticket};

@@ -1,4 +1,4 @@
-//! Closing.
+//! Closing a matrix, for the clauses of `close`.
 ghost use Rattle.std.specs.Prelude.{◌≡◌, ◌^◌, IfOk};
 ghost use Rattle.dbm_close.specs.Close.{IsCloseOf};
 ghost use Rattle.dbm_close.specs.CloseOf.{close_of};

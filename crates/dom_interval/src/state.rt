@@ -1,4 +1,4 @@
-//! States.
+//! States of the intervals' domain, and when two are equal.
 ghost use Rattle.std.specs.Prelude.{◌≡◌};
 ghost use Rattle.interval_meaning.specs.State.{Intervals, intervals_same, intervals_fed};
 ghost use Rattle.interval_meaning.proofs.StateLaws.{intervals_equiv, intervals_per, intervals_fed-same};

@@ -1,4 +1,4 @@
-//! Widening.
+//! Widening of states, end by end, for `exact` of `widened`.
 ghost use Rattle.std.specs.Prelude.{◌≡◌, ◌<◌, ◌≤ℤ◌, pos, int_le, if◌then◌else◌, slice_index_or, length, IfOk, map};
 ghost use Rattle.std.specs.List.{zip};
 ghost use Rattle.std.specs.Int.{int_max, int_min};

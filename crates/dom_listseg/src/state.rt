@@ -1,4 +1,4 @@
-//! States.
+//! States of the list segments' domain: all, or what one of a set of graphs covers.
 ghost use Rattle.std.specs.Prelude.{◌≡◌, IfOk, [], List};
 ghost use Rattle.listseg_meaning.specs.State.{Segments, Top, Graphs, segments_same, segments_fed};
 ghost use Rattle.listseg_meaning.proofs.StateLaws.{segments_equiv, segments_per, segments_fed-same};

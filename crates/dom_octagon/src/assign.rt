@@ -1,4 +1,4 @@
-//! Assignments.
+//! Assigning to a slot, for `value` of `assigned` and `exact` of `close_assigned`.
 ghost use Rattle.std.specs.Prelude.{◌≡◌, ◌≢◌, ◌/◌, ◌<◌, ◌^◌, ◌-ℤ◌, Some, IfOk};
 ghost use Rattle.dbm_core.specs.Half.{entry, nodes};
 ghost use Rattle.dbm_core.specs.Limits.{IsLimited, IsWithin};

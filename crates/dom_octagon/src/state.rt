@@ -1,4 +1,4 @@
-//! States.
+//! States of the octagons' domain, and when two are equal.
 ghost use Rattle.std.specs.Prelude.{◌≡◌, ◌^◌, IfSome};
 ghost use Rattle.dbm_core.specs.Limits.{IsLimited};
 ghost use Rattle.std.specs.Option.{option_copied};

@@ -1,4 +1,4 @@
-//! Pairs.
+//! The product of two domains, each operation by its parts.
 ghost use Rattle.std.specs.Prelude.{◌≡◌, ◌+◌, ◌≤◌};
 ghost use Rattle.product_meaning.specs.Product.{product, covered_by_both, stronger};
 ghost use Rattle.product_meaning.proofs.Laws.{product_laws, product_keeps_dead, product_equality};

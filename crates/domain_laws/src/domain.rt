@@ -1,4 +1,4 @@
-//! Domains.
+//! What a domain answers: the trait that all interpreters are written over.
 ghost use Rattle.std.specs.Prelude.{◌≡◌, ℕ, ◌+◌, ◌≤◌, IfOk, Bool, List};
 ghost use Rattle.imp_slots.specs.ActionViews.{act_of};
 ghost use Rattle.concrete_sem.specs.Values.{Heap, Variables};

@@ -1,4 +1,4 @@
-//! Planning.
+//! What an edit takes away, for `removes` of `plan`.
 ghost use Rattle.std.specs.Prelude.{IfOk};
 ghost use Rattle.cell_removal.specs.Removal.{IsRising, Removes};
 ghost use Rattle.edit_invalidate.specs.Touched.{AreNamed, IsTouched};

@@ -1,4 +1,4 @@
-//! Rows.
+//! The row of a cell's name: the operation, and the names of its inputs.
 ghost use Rattle.std.specs.Prelude.{◌≡◌, List, option_map};
 ghost use Rattle.imp_flow.specs.Near.{PathFrame};
 ghost use Rattle.imp_flow.specs.Near.{input_name, row_in};

@@ -1,4 +1,4 @@
-//! Operations.
+//! The operations on states that a memo remembers the results of.
 ghost use Rattle.std.specs.Prelude.{◌≡◌, IfOk};
 
 use imp_slots::{Entering, Layout, Returning, SlotCall, SlotCond, SlotStmt};
