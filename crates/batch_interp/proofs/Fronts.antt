@@ -28,9 +28,8 @@ use Rattle.batch_interp.specs.declared.walks.Entered.{Entered}
 use Rattle.plain_values.proofs.Lists.{drop_item}
 use Rattle.plain_values.proofs.Members.{Member, here, there, in_left, in_right}
 use Rattle.batch_meaning.proofs.Places.{found}
-use Rattle.batch_sound.proofs.Chains.{has_member}
+use Rattle.batch_sound.proofs.Chains.{has_member, once_in}
 use Rattle.batch_interp.proofs.Members.{All2, all2_both, all2_as, AllOf, all_both, all_as}
-use Rattle.batch_interp.proofs.Once.{once_at}
 use Rattle.batch_interp.proofs.Seekings.{numbers_of_places}
 use Rattle.batch_interp.proofs.Walkings.{before_there}
 use Rattle.batch_interp.proofs.Gathering.{gathered, gathered_none, sum_step, sum_end}
@@ -112,7 +111,7 @@ module _ {S : Type 0} (dom : Operations S) (plan : Plan) where
   -- what stands in front of a statement is the value at its location
   pub fronts : (place : ℕ) (z : List ℕ) (r : Routine) (v : Value S) → IsChecked plan.program → slice_get plan.program place ≡ Some r → entry dom plan.engine (reverse plan.program) z ≡ Some (earlier plan.program (suc place), v) → All2 (λ (c : ℕ × Effect) b. Some b ≡ value_at dom plan.engine plan.program (Before c.0) z) (claims (checked_in r.code)) (befores dom plan place z r.code v)
   fronts place z r v checked g e =
-      let once = subst Distinct (sym (numbers_of_places dom plan place z r.code v)) (once_at plan.program place r checked.numbers_once g) in
+      let once = subst Distinct (sym (numbers_of_places dom plan place z r.code v)) (once_in plan.program place r checked.numbers_once g) in
       all2_as (Stands place z r.code v) (λ c b. Some b ≡ value_at dom plan.engine plan.program (Before c.0) z) (claims (checked_in r.code)) (befores dom plan place z r.code v)
       (λ c b s.
       ap Some (sym s.is)

@@ -27,10 +27,10 @@ use Rattle.batch_interp.specs.Heads.{loop_value, head_told, loops_in, heads_unde
 use Rattle.batch_interp.specs.declared.heads.Head.{Head}
 use Rattle.batch_interp.specs.declared.walks.Entered.{Entered}
 use Rattle.batch_interp.proofs.Members.{AllOf, all_both, all_as}
-use Rattle.batch_interp.proofs.Once.{once_at}
 use Rattle.batch_interp.proofs.Seekings.{numbers_of_places}
 use Rattle.batch_interp.proofs.Walkings.{head_there}
 use Rattle.batch_interp.proofs.Leading.{leads}
+use Rattle.batch_sound.proofs.Chains.{once_in}
 
 pub heads_one : {S : Type 0} (xs : List (Head S)) (x : Head S) → map loop_value (xs ++ x ∷ []) ≡ map loop_value xs ++ loop_value x ∷ []
 heads_one xs x = map-append loop_value xs (x ∷ [])
@@ -130,7 +130,7 @@ module _ {S : Type 0} (dom : Operations S) (plan : Plan) where
   -- what is known at the heads of a procedure's loops are the values at those locations
   are_heads : (place : ℕ) (z : List ℕ) (r : Routine) (v : Value S) → IsChecked plan.program → slice_get plan.program place ≡ Some r → entry dom plan.engine (reverse plan.program) z ≡ Some (earlier plan.program (suc place), v) → map found_at (loop_values dom plan place z r.code v) ≡ heads_under dom plan.engine plan.program place z
   are_heads place z r v checked g e =
-      let once = subst Distinct (sym (numbers_of_places dom plan place z r.code v)) (once_at plan.program place r checked.numbers_once g) in
+      let once = subst Distinct (sym (numbers_of_places dom plan place z r.code v)) (once_in plan.program place r checked.numbers_once g) in
       let f : ℕ → Option (Value S) = λ n. value_at dom plan.engine plan.program (AtHead n) z in
       by_keys f (loop_values dom plan place z r.code v)
       (all_as (Stands dom plan place z r.code v) (λ x. f x.0 ≡ Some x.1) (loop_values dom plan place z r.code v)

@@ -22,10 +22,11 @@ use Rattle.plain_values.proofs.Lists.{get_take}
 use Rattle.plain_values.proofs.Members.{Member, here, there, in_left, in_right, either}
 use Rattle.batch_meaning.proofs.Places.{found}
 use Rattle.batch_interp.proofs.Members.{only}
-use Rattle.batch_interp.proofs.Once.{once_at, called_before}
+use Rattle.batch_interp.proofs.Once.{called_before}
 use Rattle.batch_interp.proofs.Procedures.{from_earlier}
 use Rattle.batch_interp.proofs.Seekings.{numbers_of_places}
 use Rattle.batch_interp.proofs.Walkings.{standing, whole, entered_there}
+use Rattle.batch_sound.proofs.Chains.{once_in}
 
 -- A longer chain: its last call, and the chain to the call's procedure.
 pub record Longer (zs : List (List ℕ)) (ns z : List ℕ) : Type 0 where
@@ -143,7 +144,7 @@ module _ {S : Type 0} (dom : Operations S) (plan : Plan) where
     step : (k p n : ℕ) (z : List ℕ) (r : Routine) → slice_get plan.program k ≡ Some r → Member n (calls_to p r.code) → LeadsTo dom plan k z → LeadsTo dom plan p (n ∷ z)
     step k p n z r e m l =
         let c = call_stands k z r.code l.value p n m in
-        let once = subst Distinct (sym (numbers_of_places dom plan k z r.code l.value)) (once_at plan.program k r checked.numbers_once e) in
+        let once = subst Distinct (sym (numbers_of_places dom plan k z r.code l.value)) (once_in plan.program k r checked.numbers_once e) in
         let seen : find n (places dom plan k z r.code l.value) ≡ Some c.spot = found (n, c.spot) (places dom plan k z r.code l.value) once c.stands in
         let q = called_before plan.program k p r n checked e m in
         let list : called_from dom plan.program k c.spot.before (Some (c.invoke, p)) ≡ Some (earlier plan.program (suc p), lift (dom.enter c.invoke.entering) c.spot.before) =

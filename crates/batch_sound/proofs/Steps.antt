@@ -51,7 +51,7 @@ some_of : {A : Type 0} (o : Option A) (f : A → Step) (d : Config) → step_if_
 some_of None f d e = absurd cc
 some_of (Some a) f d e = record { value = a; was = refl; gives = e }
 
-next_inj : (c d : Config) → Next c ≡ Next d → c ≡ d
+pub next_inj : (c d : Config) → Next c ≡ Next d → c ≡ d
 next_inj c d e = cc
 
 pub stepped : (s : Step) (f : Config → Option Config) (d : Config) → after_step s f ≡ Some d → (b : Config) × (s ≡ Next b) × (f b ≡ Some d)

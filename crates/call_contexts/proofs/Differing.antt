@@ -8,9 +8,10 @@ use Rattle.program_chains.specs.Chains.{has}
 use Rattle.call_contexts.specs.Literals.{form_literals}
 use Rattle.call_contexts.specs.Differences.{lists_in, numbers_in, lost, gained, AreDifferent, AreMore}
 use Rattle.call_contexts.specs.Tallies.{one_if, times}
-use Rattle.call_contexts.proofs.Lists.{by_test, some_inj, take_item}
 use Rattle.call_contexts.proofs.Looped.{take_none, take_past}
 use Rattle.call_contexts.proofs.TallyLemmas.{times_both}
+use Rattle.plain_values.proofs.Lists.{take_item}
+use Rattle.plain_values.proofs.Cases.{by_test, some_inj}
 
 module _ (k n : ℕ) where
   in_times : (o : Option Entry) → times n (lists_in k o) ≡ one_if (has n (numbers_in k o))

@@ -1,5 +1,5 @@
 -- A checked program has few procedures.
-use Rattle.std.proofs.Common.{ℕ, ◌<◌, ◌^◌, ◌≡◌, Bool, true, false, List, [], ◌∷◌, ◌++◌, length, Option, Some, None, refl, arith, nat_lt, sym, ◌∙◌}
+use Rattle.std.proofs.Common.{ℕ, ◌<◌, ◌^◌, ◌≡◌, List, [], ◌∷◌, ◌++◌, length, Option, Some, None, refl, arith, nat_lt, sym, ◌∙◌}
 use Rattle.std.proofs.lemmas.Bool.{ltb-true}
 use Rattle.imp_syntax.specs.Plain.{Procedure}
 use Rattle.imp_check.specs.declared.fault.Fault.{Fault}
@@ -10,6 +10,7 @@ use Rattle.imp_check.specs.Slots.{routines_from, routines_of}
 use Rattle.imp_check.specs.Entries.{heads_of}
 use Rattle.imp_check.proofs.TableLemmas.{heads_length}
 use Rattle.imp_slots.specs.Fits.{IsChecked}
+use Rattle.imp_check.proofs.FewLemmas.{unless_none}
 
 first_none : {A : Type 0} (a b : Option A) → first a b ≡ None → a ≡ None
 first_none None b h = refl
@@ -18,10 +19,6 @@ first_none (Some x) b h = cc
 at_none : (p : List ℕ) (n : ℕ) (f : Option Fault) → in_procedure p (at n f) ≡ None → f ≡ None
 at_none p n None h = refl
 at_none p n (Some f) h = cc
-
-unless_none : (b : Bool) (f : Fault) → unless b f ≡ None → b ≡ true
-unless_none true f h = refl
-unless_none false f h = cc
 
 few : (ps : List Procedure) → check_fault ps ≡ None → length ps < 65
 few ps h =

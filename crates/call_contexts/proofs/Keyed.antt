@@ -21,11 +21,11 @@ use Rattle.program_chains.specs.Claims.{MarksRise}
 use Rattle.program_chains.specs.Marks.{literals, marks_of, IsRising}
 use Rattle.call_contexts.specs.Settings.{all_marks}
 use Rattle.call_contexts.specs.Tallies.{rising, all_tallies}
-use Rattle.call_contexts.proofs.Lists.{by_test, some_inj}
 use Rattle.call_contexts.proofs.LiteralLemmas.{routine_there, mark_there}
 use Rattle.call_contexts.proofs.MarkSets.{marks_by_set, mark_of}
 use Rattle.call_contexts.proofs.Parted.{had, by_thresholds}
 use Rattle.call_contexts.proofs.TallyLemmas.{rising_has, tally_keys}
+use Rattle.plain_values.proofs.Cases.{by_test, some_inj}
 
 -- Marks that rise are integers of 64 bits.
 first_word : (x : ℤ) (xs : List ℤ) → IsRising (x ∷ xs) → FitsSigned w64 x

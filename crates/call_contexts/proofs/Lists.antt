@@ -1,9 +1,5 @@
 -- Lists item by item.
-use Rattle.std.proofs.Common.{ℕ, zero, suc, ◌≡◌, ◌≢◌, ◌==◌, ◌+◌, ◌<◌, ◌≤◌, Bool, true, false, List, [], ◌∷◌, ◌++◌, length, take, drop, get_or, slice_get, Some, arith, refl, sym, ap, add-one, drop-cons}
-use Rattle.std.proofs.lemmas.Bool.Decides.{nat_tests}
-
-pub drop_item : {A : Type 0} (xs : List A) (i : ℕ) (x : A) → i < length xs → x ≡ get_or xs i x → drop i xs ≡ x ∷ drop (i + 1) xs
-drop_item xs i x h e = rw (drop-cons xs i x, add-one, ← e) refl
+use Rattle.std.proofs.Common.{ℕ, zero, suc, ◌≡◌, ◌+◌, ◌<◌, ◌≤◌, List, [], ◌∷◌, ◌++◌, length, take, drop, slice_get, Some, arith, refl, ap}
 
 pub drop_none : {A : Type 0} (xs : List A) (i : ℕ) → length xs ≤ i → drop i xs ≡ []
 drop_none [] zero h = refl
@@ -14,26 +10,6 @@ drop_none (x ∷ xs) (suc i) h = drop_none xs i (omega arith)
 pub append_none : {A : Type 0} (xs : List A) → xs ++ [] ≡ xs
 append_none [] = refl
 append_none (x ∷ xs) = ap (λ ys. x ∷ ys) (append_none xs)
-
-pub by_test : (a b : ℕ) (P : Bool → Type 0) → (a ≡ b → P true) → (a ≢ b → P false) → P (a == b)
-by_test a b P t f = go (a == b) refl
-  where
-    go : (c : Bool) → (a == b) ≡ c → P c
-    go true e = t (grind (arith, nat_tests))
-    go false e = f (grind (arith, nat_tests))
-
-pub some_inj : {A : Type 0} (a b : A) → Some a ≡ Some b → a ≡ b
-some_inj a b e = cc
-
-pub get_last : {A : Type 0} (xs : List A) (x : A) → slice_get (xs ++ (x ∷ [])) (length xs) ≡ Some x
-get_last [] x = refl
-get_last (y ∷ ys) x = get_last ys x
-
-pub get_other : {A : Type 0} (xs : List A) (x : A) (q : ℕ) → q ≢ length xs → slice_get (xs ++ (x ∷ [])) q ≡ slice_get xs q
-get_other [] x zero n = absurd (n refl)
-get_other [] x (suc q) n = refl
-get_other (y ∷ ys) x zero n = refl
-get_other (y ∷ ys) x (suc q) n = get_other ys x q (λ e. n (ap suc e))
 
 pub get_below : {A : Type 0} (xs : List A) (q : ℕ) (x : A) → slice_get xs q ≡ Some x → q < length xs
 get_below [] q x e = absurd cc
@@ -48,24 +24,3 @@ take_front (x ∷ xs) ys (suc q) h = ap (λ zs. x ∷ zs) (take_front xs ys q (o
 pub take_whole : {A : Type 0} (xs : List A) → take (length xs) xs ≡ xs
 take_whole [] = refl
 take_whole (x ∷ xs) = ap (λ zs. x ∷ zs) (take_whole xs)
-
--- an item in front of a place is an item, and those in front of it are in front of the place
-pub get_take : {A : Type 0} (xs : List A) (k q : ℕ) (x : A) → slice_get (take k xs) q ≡ Some x → slice_get xs q ≡ Some x
-get_take xs zero q x e = absurd cc
-get_take [] (suc k) q x e = absurd cc
-get_take (y ∷ ys) (suc k) zero x e = e
-get_take (y ∷ ys) (suc k) (suc q) x e = get_take ys k q x e
-
-pub take_take : {A : Type 0} (xs : List A) (k q : ℕ) (x : A) → slice_get (take k xs) q ≡ Some x → take q (take k xs) ≡ take q xs
-take_take xs zero q x e = absurd cc
-take_take [] (suc k) q x e = absurd cc
-take_take (y ∷ ys) (suc k) zero x e = refl
-take_take (y ∷ ys) (suc k) (suc q) x e = ap (λ zs. y ∷ zs) (take_take ys k q x e)
-
-pub take_item : {A : Type 0} (xs : List A) (i : ℕ) (x : A) → i < length xs → x ≡ get_or xs i x → take (i + 1) xs ≡ take i xs ++ x ∷ []
-take_item xs i x h e = rw add-one (go xs i x h e)
-  where
-    go : {A : Type 0} (xs : List A) (i : ℕ) (x : A) → i < length xs → x ≡ get_or xs i x → take (suc i) xs ≡ take i xs ++ x ∷ []
-    go [] i x h e = absurd (omega arith)
-    go (y ∷ ys) zero x h e = ap (λ z. z ∷ []) (sym e)
-    go (y ∷ ys) (suc i) x h e = ap (λ zs. y ∷ zs) (go ys i x (omega arith) e)

@@ -30,12 +30,14 @@ use Rattle.call_contexts.specs.Places.{is_loop}
 use Rattle.call_contexts.specs.Settings.{or_no_loops}
 use Rattle.call_contexts.specs.Touches.{stands_in, touches, Brings}
 use Rattle.call_contexts.proofs.Few.{as_many}
-use Rattle.call_contexts.proofs.Lists.{by_test, some_inj, get_below, take_item}
+use Rattle.call_contexts.proofs.Lists.{get_below}
 use Rattle.call_contexts.proofs.LiteralLemmas.{routine_there, there}
 use Rattle.call_contexts.proofs.Numbered.{has_both}
 use Rattle.call_contexts.proofs.Placed.{any_loop, any_block}
 use Rattle.call_contexts.proofs.Rising.{has_there, there_has}
 use Rattle.call_contexts.proofs.TallyLemmas.{any_is, rising_sorted, rising_has}
+use Rattle.plain_values.proofs.Lists.{take_item}
+use Rattle.plain_values.proofs.Cases.{by_test, some_inj}
 
 -- Among the loops of a block is each while of it.
 or_else : (a b c : Bool) → (a || (b || c)) ≡ (if a then true else if b then true else c)

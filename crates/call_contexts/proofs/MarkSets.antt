@@ -12,8 +12,8 @@ use Rattle.std.specs.BTreeMap.{is_at}
 use Rattle.std.specs.BTreeSet.{BTreeSet, insert_key}
 use Rattle.program_chains.specs.Chains.{has}
 use Rattle.program_chains.specs.Marks.{with_mark, marks_of}
-use Rattle.call_contexts.proofs.Lists.{by_test}
 use Rattle.call_contexts.proofs.Sorted.{inserted_sorted, inserted_has}
+use Rattle.plain_values.proofs.Cases.{by_test}
 
 -- a mark goes where a key of a set goes
 pub mark_is_key : (z : ℤ) (xs : List ℤ) → with_mark z xs ≡ insert_key int_cmp xs z

@@ -33,9 +33,11 @@ use Rattle.call_contexts.specs.Differences.{lists_in, lost, gained, lists_by, Ar
 use Rattle.call_contexts.specs.Touches.{stands_in, touches, Brings}
 use Rattle.call_contexts.proofs.Balance.{counted, counted_block, own_counted, balance, times_below}
 use Rattle.call_contexts.proofs.Few.{as_many}
-use Rattle.call_contexts.proofs.Lists.{some_inj, get_below, take_item}
+use Rattle.call_contexts.proofs.Lists.{get_below}
 use Rattle.call_contexts.proofs.LiteralLemmas.{routine_there, mark_there, there}
 use Rattle.call_contexts.proofs.TallyLemmas.{tally_tells, told_once, same_marks}
+use Rattle.plain_values.proofs.Lists.{take_item}
+use Rattle.plain_values.proofs.Cases.{some_inj}
 
 -- the statements of the procedure at a place, by the numbers of each
 abbrev lists_at : List Procedure → ℕ → Procedure → List (List ℕ)

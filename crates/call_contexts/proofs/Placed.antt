@@ -22,8 +22,8 @@ use Rattle.program_chains.specs.Chains.{has, has_while, holder_from, holder, nam
 use Rattle.analysis_words.specs.declared.refusal.Refusal.TheVariants.{NoStatement}
 use Rattle.batch_meaning.specs.Answers.{found_or, found_loop}
 use Rattle.call_contexts.specs.Places.{is_loop}
-use Rattle.call_contexts.proofs.Lists.{by_test}
 use Rattle.call_contexts.proofs.Numbered.{has_both}
+use Rattle.plain_values.proofs.Cases.{by_test}
 
 pub swapped : (m n : ℕ) → (m == n) ≡ (n == m)
 swapped m n = grind (arith, nat_tests)
@@ -200,7 +200,7 @@ loop_found ps n o b h e l =
     sym (λ i. found_loop (w i) (found_or NoStatement (p i)))
 
 -- The procedures over slots have the names of the program's.
-same_names : (x y : List ℕ) → bytes_eq x y ≡ bytes_eq y x
+pub same_names : (x y : List ℕ) → bytes_eq x y ≡ bytes_eq y x
 same_names x y = go (bytes_eq x y) (bytes_eq y x) refl refl
   where
     go : (a b : Bool) → bytes_eq x y ≡ a → bytes_eq y x ≡ b → a ≡ b

@@ -15,9 +15,10 @@ use Rattle.std.specs.Ordering.{match_ordering, nat_cmp}
 use Rattle.std.specs.declared.cmp.Ordering.TheVariants.{Less, Greater}
 use Rattle.program_chains.specs.Chains.{has}
 use Rattle.call_contexts.specs.Loops.{IsGap}
-use Rattle.call_contexts.proofs.Lists.{by_test, some_inj, get_below}
+use Rattle.call_contexts.proofs.Lists.{get_below}
 use Rattle.call_contexts.proofs.Sorted.{inserted_sorted, inserted_has}
 use Rattle.call_contexts.proofs.TallyLemmas.{any_is, same_test}
+use Rattle.plain_values.proofs.Cases.{by_test, some_inj}
 
 -- A number is among others where it has a place.
 pub has_there : (ns : List ℕ) (i n : ℕ) → slice_get ns i ≡ Some n → has n ns ≡ true

@@ -11,7 +11,7 @@ use Rattle.std.proofs.lemmas.Map.{lookup-none}
 use Rattle.std.proofs.lemmas.Map.Keys.{sorted_tail, IsDistinct-from_sorted}
 use Rattle.std.proofs.lemmas.Map.Entries.{lookup_head, lookup_tail, none_past_head, none_below_head}
 use Rattle.std.proofs.lemmas.Map.Lookups.{exact_unsigned}
-use Rattle.call_contexts.proofs.Lists.{some_inj}
+use Rattle.plain_values.proofs.Cases.{some_inj}
 
 abbrev find : List (ℕ × ℕ) → ℕ → Option ℕ
 find es n = lookup (is_at (nat_cmp n)) es

@@ -17,15 +17,17 @@ use Rattle.imp_check.specs.declared.entry.Which.TheVariants as which
 use Rattle.imp_check.proofs.RebuildLemmas.{Known, all_numbers, found}
 use Rattle.imp_slots.specs.Fits.{Distinct}
 use Rattle.call_contexts.specs.Tables.{chains_up, or_no_chains, chains_in, chains_by, through_sites}
-use Rattle.call_contexts.proofs.Lists.{by_test, drop_item, get_below, get_last, get_other}
+use Rattle.call_contexts.proofs.Lists.{get_below}
 use Rattle.call_contexts.proofs.Placed.{one_more, swapped}
+use Rattle.plain_values.proofs.Lists.{drop_item, get_last, get_other}
+use Rattle.plain_values.proofs.Cases.{by_test}
 
-callee_before : (before : List Routine) (l : Layout) (i : Invoke) (q : ℕ) (o : Option Routine) → o ≡ slice_get before q → FitsCall l i o → q < length before
+pub callee_before : (before : List Routine) (l : Layout) (i : Invoke) (q : ℕ) (o : Option Routine) → o ≡ slice_get before q → FitsCall l i o → q < length before
 callee_before before l i q None e f = absurd f
 callee_before before l i q (Some r) e f = get_below before q r (sym e)
 
 -- a procedure calls none of those from its own place on
-no_calls : (before : List Routine) (l : Layout) (p : ℕ) (c : Code) → length before ≤ p → FitsCode before l c → calls_to p c ≡ []
+pub no_calls : (before : List Routine) (l : Layout) (p : ℕ) (c : Code) → length before ≤ p → FitsCode before l c → calls_to p c ≡ []
 no_calls before l p Stop h f = refl
 no_calls before l p (Simple n e r) h f = no_calls before l p r h f.1
 no_calls before l p (If n g t e r) h f = λ i. no_calls before l p t h f.1 i ++ (no_calls before l p e h f.2 i ++ no_calls before l p r h f.3 i)

@@ -12,11 +12,11 @@ use Rattle.imp_slots.specs.Plain.{Code, Stop, Simple, If, While, Call, Break}
 use Rattle.program_chains.specs.Chains.{has}
 use Rattle.program_chains.specs.Marks.{effect_literals, guard_literals, argument_literals, literals, marks_of}
 use Rattle.call_contexts.specs.Tallies.{literal_lists, one_if, times, rising, tally, or_none, Tells}
-use Rattle.call_contexts.proofs.Lists.{by_test}
 use Rattle.call_contexts.proofs.Numbered.{has_both}
 use Rattle.call_contexts.proofs.Sorted.{inserted_sorted, inserted_has}
 use Rattle.call_contexts.proofs.MarkSets.{marks_by_set}
 use Rattle.call_contexts.proofs.SameEntries.{same_entries}
+use Rattle.plain_values.proofs.Cases.{by_test}
 
 -- numbers are compared as they are tested
 pub same_test : (n m : ℕ) → is_eq (nat_cmp n m) ≡ (n == m)

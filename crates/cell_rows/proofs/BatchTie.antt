@@ -127,11 +127,6 @@ got f [] i p e = absurd cc
 got f (x ∷ xs) zero p e = (x, refl, cc, here)
 got f (x ∷ xs) (suc i) p e = let r = got f xs i p e in (r.0, r.1, r.2, there r.3)
 
-pub has_one : {A : Type 0} (xs : List A) (i : ℕ) → i < length xs → (u : A) × (slice_get xs i ≡ Some u)
-has_one [] i h = absurd (omega arith)
-has_one (x ∷ xs) zero h = (x, refl)
-has_one (x ∷ xs) (suc i) h = has_one xs i (omega arith)
-
 module _ {S : Type 0} (dom : Operations S) (engine : Engine) where
   one_side : (f : S → S → S) (s : S) (v : Value S) → lift2 f (State s) v ≡ lift (f s) v
   one_side f s (State t) = refl

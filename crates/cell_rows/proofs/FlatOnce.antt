@@ -37,7 +37,7 @@ distinct_both : (xs ys : List ℕ) → Distinct xs → Distinct ys → ((k : ℕ
 distinct_both [] ys d e h = e
 distinct_both (x ∷ xs) ys d e h = (absent_both x xs ys d.0 (h x here), distinct_both xs ys d.1 e (λ k m. h k (there m)))
 
-numbers_both : (xs ys : List Routine) → routine_numbers (xs ++ ys) ≡ routine_numbers xs ++ routine_numbers ys
+pub numbers_both : (xs ys : List Routine) → routine_numbers (xs ++ ys) ≡ routine_numbers xs ++ routine_numbers ys
 numbers_both [] ys = refl
 numbers_both (x ∷ xs) ys = ap (λ k. code_numbers x.code ++ k) (numbers_both xs ys) ∙ sym (append_assoc (code_numbers x.code) (routine_numbers xs) (routine_numbers ys))
 
@@ -52,7 +52,7 @@ in_reversed n (c ∷ ps) m =
       | inr b ↦ in_left (routine_numbers ps) b
     ]
 
-apart : (k : ℕ) (xs ys : List ℕ) → Distinct (xs ++ ys) → Member k xs → Member k ys → ⊥
+pub apart : (k : ℕ) (xs ys : List ℕ) → Distinct (xs ++ ys) → Member k xs → Member k ys → ⊥
 apart k [] ys d m i = elim m [ ]
 apart k (x ∷ xs) ys d here i = not_in x (xs ++ ys) d.0 (in_right xs i)
 apart k (x ∷ xs) ys d (there m) i = apart k xs ys d.1 m i

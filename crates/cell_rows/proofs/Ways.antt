@@ -194,12 +194,12 @@ looped_in n (r ∷ rs) e = go (has_while n r.code) refl e (looped_in n rs)
     go true i e f = (0, r, refl, i)
     go false i e f = let x = f e in (suc x.0, x.1, x.2, x.3)
 
-in_flat : (c : Routine) (e : List Routine) (q : ℕ × Text) (xs : List (ℕ × Text)) → Member q xs → Member (flat_of c e q) (map (flat_of c e) xs)
+pub in_flat : (c : Routine) (e : List Routine) (q : ℕ × Text) (xs : List (ℕ × Text)) → Member q xs → Member (flat_of c e q) (map (flat_of c e) xs)
 in_flat c e q [] m = elim m [ ]
 in_flat c e q (y ∷ xs) here = here
 in_flat c e q (y ∷ xs) (there m) = there (in_flat c e q xs m)
 
-flat_behind : (ps : List Routine) (q : ℕ) (x : ℕ × Flat) → Member x (flat (from ps q)) → Member x (flat ps)
+pub flat_behind : (ps : List Routine) (q : ℕ) (x : ℕ × Flat) → Member x (flat (from ps q)) → Member x (flat ps)
 flat_behind [] q x m = m
 flat_behind (b ∷ ps) q x m =
     (by_test q (length ps) (λ c. Member x (flat (if c then b ∷ ps else from ps q)) → Member x (flat (b ∷ ps)))

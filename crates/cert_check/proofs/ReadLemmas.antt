@@ -15,7 +15,7 @@ use Rattle.cert_check.specs.Reading.{entry_told, lines_from, IsRead, IsAdded, Is
 use Rattle.cert_check.specs.declared.entry.Entry.{Entry}
 use Rattle.cert_check.specs.declared.reading.Lines.{Lines}
 use Rattle.cert_check.specs.declared.reading.Next.TheVariants as next
-use Rattle.cert_check.proofs.TableLemmas.{texts_swapped}
+use Rattle.call_contexts.proofs.Placed.{same_names}
 
 pub absent : {A : Type 0} (o : Option A) → is_some o ≡ false → o ≡ None
 absent None e = refl
@@ -25,7 +25,7 @@ absent (Some x) e = absurd cc
 pub entry_put : {S : Type 0} (before behind : List (List ℕ × S)) (es : List (plain.Entry S)) (e : plain.Entry S) (key : List ℕ) → key ≡ e.at ∷ e.sites → ((q : List ℕ) → lookup (bytes_eq q) behind ≡ (if bytes_eq key q then Some e.state else lookup (bytes_eq q) before)) → HasEntries before es → HasEntries behind (e ∷ es)
 entry_put before behind es e key k put has z n =
     put (n ∷ z)
-    ∙ ap (λ b. if b then Some e.state else lookup (bytes_eq (n ∷ z)) before) (ap (λ x. bytes_eq x (n ∷ z)) k ∙ texts_swapped (e.at ∷ e.sites) (n ∷ z))
+    ∙ ap (λ b. if b then Some e.state else lookup (bytes_eq (n ∷ z)) before) (ap (λ x. bytes_eq x (n ∷ z)) k ∙ same_names (e.at ∷ e.sites) (n ∷ z))
     ∙ ap (λ o. if (n == e.at && bytes_eq z e.sites) then Some e.state else o) (has z n)
 
 -- no entry, or one whose place is taken

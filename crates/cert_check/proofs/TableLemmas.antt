@@ -1,6 +1,6 @@
 -- Tables of states and of chains, one entry at a time.
 use Rattle.std.proofs.Common.{ℕ, zero, suc, ◌≡◌, ◌+◌, ◌<◌, ◌≤◌, Bool, true, false, List, [], ◌∷◌, ◌++◌, length, slice_get, None, refl, sym, ap, ◌∙◌, arith}
-use Rattle.std.specs.Prelude.{◌==◌, ◌&&◌, ◌||◌, nat_lt, if◌then◌else◌}
+use Rattle.std.specs.Prelude.{◌==◌, ◌||◌, nat_lt, if◌then◌else◌}
 use Rattle.std.specs.Str.{bytes_eq}
 use Rattle.std.specs.List.{list_any}
 use Rattle.std.proofs.lemmas.Bool.Decides.{nat_tests}
@@ -12,6 +12,7 @@ use Rattle.plain_values.proofs.Lists.{get_last, get_other}
 use Rattle.call_contexts.proofs.Tabled.{none_past}
 use Rattle.cert_lines.specs.Lines.{is_chain}
 use Rattle.cert_check.specs.Table.{in_set, chain_in, AreChains}
+use Rattle.call_contexts.proofs.Placed.{same_names}
 
 -- chains of a set are looked for from the first on
 pub any_chain : (z : List ℕ) (zs : List (List ℕ)) → list_any (bytes_eq z) zs ≡ is_chain z zs
@@ -22,19 +23,10 @@ any_chain z (y ∷ ys) = either (bytes_eq z y) (list_any (bytes_eq z) ys) ∙ ap
     either true b = refl
     either false b = refl
 
-bytes_swapped : (m n : ℕ) → (m == n) ≡ (n == m)
-bytes_swapped m n = grind (arith, nat_tests)
-
-pub texts_swapped : (xs ys : List ℕ) → bytes_eq xs ys ≡ bytes_eq ys xs
-texts_swapped [] [] = refl
-texts_swapped [] (y ∷ ys) = refl
-texts_swapped (x ∷ xs) [] = refl
-texts_swapped (x ∷ xs) (y ∷ ys) = λ i. bytes_swapped x y i && texts_swapped xs ys i
-
 -- a chain is put into a set
 pub set_put : (before behind : List (List ℕ)) (key : List ℕ) → ((q : List ℕ) → list_any (bytes_eq q) behind ≡ (if bytes_eq key q then true else list_any (bytes_eq q) before)) → (z : List ℕ) → is_chain z behind ≡ (if bytes_eq z key then true else is_chain z before)
 set_put before behind key put z =
-    sym (any_chain z behind) ∙ put z ∙ (λ i. if texts_swapped key z i then true else any_chain z before i)
+    sym (any_chain z behind) ∙ put z ∙ (λ i. if same_names key z i then true else any_chain z before i)
 
 -- The chains to the procedures so far.
 pub record Chained (program : List Routine) (sets : List (List (List ℕ))) (place : ℕ) : Type 0 where

@@ -19,7 +19,7 @@ use Rattle.plain_values.proofs.Cases.{by_test, some_inj}
 use Rattle.plain_values.proofs.Members.{here, there, in_left, in_right}
 use Rattle.batch_meaning.proofs.Procedures.{look, look_get, FitBack}
 use Rattle.batch_sound.proofs.Fitting.{callee}
-use Rattle.batch_sound.proofs.Steps.{Kept, stepped}
+use Rattle.batch_sound.proofs.Steps.{Kept, stepped, next_inj}
 use Rattle.cert_meaning.specs.Portable.{IsSoundOrder}
 use Rattle.cert_meaning.specs.Followed.{Missing, Entry, Step as Again, Followed, Passes, Fails, after, joined, followed, followed_procedure}
 use Rattle.cert_meaning.specs.Chained.{layouts_around}
@@ -36,9 +36,6 @@ pub record Place : Type 0 where
 
 abbrev pub layouts : Place → List Layout
 layouts f = f.layout ∷ f.lower
-
-next_inj : (c d : Config) → Next c ≡ Next d → c ≡ d
-next_inj c d e = cc
 
 -- no location of a procedure's end is a loop's head
 no_head_end : (o : Option Routine) (n : ℕ) → option_map (λ (r : Routine). End r.name) o ≡ Some (Head n) → ⊥

@@ -1,11 +1,9 @@
 -- What a name asks for next, by what its first inputs' cells store.
-use Rattle.std.proofs.Common.{◌≡◌, ◌≢◌, ℕ, zero, suc, ◌≤◌, ◌||◌, List, [], ◌∷◌, ◌++◌, map, take, length, Option, Some, None, Bool, true, false, if◌then◌else◌, nat_lt, slice_get, refl, sym, ap, subst, ◌∙◌, arith}
+use Rattle.std.proofs.Common.{◌≡◌, ◌≢◌, ℕ, zero, suc, ◌≤◌, List, [], ◌∷◌, ◌++◌, map, take, length, Option, Some, None, Bool, true, false, if◌then◌else◌, nat_lt, slice_get, refl, sym, ap, subst, ◌∙◌, arith}
 use Rattle.std.proofs.lemmas.List.{length-map, length-take-le}
-use Rattle.plain_values.proofs.Cases.{some_inj}
 use Rattle.domain_laws.specs.Operations.{Operations}
 use Rattle.batch_meaning.specs.Values as batch
 use Rattle.batch_meaning.specs.Batch.{Engine}
-use Rattle.demand_order.specs.Order.{member}
 use Rattle.demand_order.specs.Asking.{gather, gather_next, inputs_of, value_of}
 use Rattle.cell_names.specs.declared.frame.Frame.{Frame}
 use Rattle.cell_names.specs.declared.frame.Point.{Point}
@@ -37,15 +35,6 @@ use Rattle.daig_query.specs.Opened.{name_of, IsAt, next_of}
 use Rattle.named_cells.proofs.Same.{same_is}
 use Rattle.named_cells.proofs.Numbers.{numbers_length}
 use Rattle.daig_query.proofs.Found.{stored, is_there}
-
-pub member_at : (xs : List CellName) (i : ℕ) (x : CellName) → slice_get xs i ≡ Some x → member same_name xs x ≡ true
-member_at [] i x e = absurd cc
-member_at (y ∷ ys) zero x e = ap (λ b. b || member same_name ys x) (subst (λ z. same_name x z ≡ true) (sym (some_inj y x e)) (same_is.same_refl x))
-member_at (y ∷ ys) (suc i) x e = or_true (same_name x y) (member same_name ys x) (member_at ys i x e)
-  where
-    or_true : (a b : Bool) → b ≡ true → (a || b) ≡ true
-    or_true true b h = refl
-    or_true false b h = h
 
 pub if_true : {A : Type 0} (b : Bool) (a x : A) → (if b then Some a else None) ≡ Some x → b ≡ true
 if_true true a x e = refl

@@ -1,5 +1,5 @@
 -- One cell more.
-use Rattle.std.proofs.Common.{◌≡◌, ◌≢◌, ℕ, suc, ◌+◌, ◌<◌, ◌≤◌, ◌⊎◌, ◌||◌, List, [], ◌∷◌, take, length, Option, Some, None, Bool, true, false, cond, slice_get, refl, sym, ap, subst, ◌∙◌, inl, inr, arith}
+use Rattle.std.proofs.Common.{◌≡◌, ◌≢◌, ℕ, suc, ◌+◌, ◌<◌, ◌≤◌, ◌||◌, List, [], take, length, Option, Some, None, Bool, true, false, cond, slice_get, refl, sym, ap, subst, ◌∙◌, inl, inr, arith}
 use Rattle.std.specs.Prelude.{is_some, IsSome, Result, Ok, Err, IfOk, OnOk, OnErr}
 use Rattle.std.proofs.Math.Seq.{take-length}
 use Rattle.std.specs.Option.{option_and_then}
@@ -31,15 +31,7 @@ use Rattle.daig_query.specs.Opened.{name_of, IsReady, Puts, Computes}
 use Rattle.named_cells.proofs.Same.{same_is}
 use Rattle.daig_query.proofs.Lists.{get_some}
 use Rattle.daig_query.proofs.Growing.{keeps_same, grows_trans}
-use Rattle.named_cells.proofs.Numbers.{number_there, filled_number, numbers_of}
-
-pub member_place : (xs : List CellName) (z : CellName) → member same_name xs z ≡ true → (i : ℕ) × (slice_get xs i ≡ Some z)
-member_place [] z e = absurd cc
-member_place (y ∷ ys) z e = go (member_place ys z) (or_either (same_name z y) (member same_name ys z) e)
-  where
-    go : (member same_name ys z ≡ true → (i : ℕ) × (slice_get ys i ≡ Some z)) → (same_name z y ≡ true) ⊎ (member same_name ys z ≡ true) → (i : ℕ) × (slice_get (y ∷ ys) i ≡ Some z)
-    go rest (inl h) = (0, ap Some (sym (same_is.same_true z y h)))
-    go rest (inr h) = let p = rest h in (suc p.0, p.1)
+use Rattle.named_cells.proofs.Numbers.{number_there, filled_number, numbers_of, member_at}
 
 or_left : (a b : Bool) → a ≡ true → (a || b) ≡ true
 or_left a b h = ap (λ c. c || b) h
@@ -169,7 +161,7 @@ module _ {S : Type 0} (dom : Operations S) (plan : Plan) where
 
     input_kept : (z : CellName) → member same_name (inputs dom plan x) z ≡ true → kept new z ≡ true
     input_kept z m =
-        let p = member_place (inputs dom plan x) z m in
+        let p = member_at (inputs dom plan x) z m in
         let q = numbers_of mid.names.names f.inputs (inputs dom plan x) is.inputs p.0 z p.1 in
         let s : IsSome (get mid.graph.cells q.0) = there p.0 q.0 q.1 in
         stays z (ap is_some (filled_number mid.graph.cells mid.names.names right.once z q.0 q.2) ∙ s)

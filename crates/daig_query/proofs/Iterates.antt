@@ -38,7 +38,8 @@ use Rattle.named_cells.proofs.Same.{same_is}
 use Rattle.daig_query.proofs.Lists.{map_next}
 use Rattle.daig_query.proofs.Found.{Input as Found, input_found, input_value}
 use Rattle.daig_query.proofs.Stopping.{Before, nothing, some, last_snoc, goes_state, stops_state}
-use Rattle.daig_query.proofs.Asked.{member_at, if_true, gather_length, same_iterate, X, I, F, r, front, asks, front_length}
+use Rattle.daig_query.proofs.Asked.{if_true, gather_length, same_iterate, X, I, F, r, front, asks, front_length}
+use Rattle.named_cells.proofs.Numbers.{at_member}
 
 module _ {S : Type 0} (dom : Operations S) (plan : Plan) (store : Store S) (row : Row) (o : Open) (at : IsAt dom plan store row o) (same : (s t : S) → (dom.same s t ≡ true) ↔ (s ≡ t))
     (n : ℕ) (p : Point) (fixed : row ≡ Fixed n p) where
@@ -104,7 +105,7 @@ module _ {S : Type 0} (dom : Operations S) (plan : Plan) (store : Store S) (row 
   unfolding inputs found
   index_none j y e =
       let named : N ≡ name N.path (Fix n) = ap (λ q. name N.path q) point_is in
-      let m = member_at (inputs dom plan (name N.path (Fix n))) j y (subst (λ x. slice_get (inputs dom plan x) j ≡ Some y) named e) in
+      let m = at_member (inputs dom plan (name N.path (Fix n))) j y (subst (λ x. slice_get (inputs dom plan x) j ≡ Some y) named e) in
       iterates_none dom plan.engine plan.program same_name same_is at.right.checked N.path n y m
 
   abbrev pub B : ℕ → Option S → Type 0

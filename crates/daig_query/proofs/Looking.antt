@@ -33,8 +33,7 @@ use Rattle.daig_query.specs.Opened.{name_of, IsRowOf, IsOpen, next_of, IsAt, IsN
 use Rattle.named_cells.proofs.Same.{same_is}
 use Rattle.daig_query.proofs.Lists.{take_next}
 use Rattle.daig_query.proofs.Growing.{keeps_same, keeps_trans, names_grow, name_stays, right_named, open_grows, next_grows}
-use Rattle.named_cells.proofs.Numbers.{adds_here, adds_keeps, adds_once, filled_number, numbers_push}
-use Rattle.daig_query.proofs.Asked.{member_at}
+use Rattle.named_cells.proofs.Numbers.{adds_here, adds_keeps, adds_once, filled_number, numbers_push, at_member}
 use Rattle.daig_query.proofs.Walks.{pushed_there}
 
 -- a store in which one more name has a number
@@ -174,7 +173,7 @@ module _ {S : Type 0} (dom : Operations S) (plan : Plan) where
       next_later = next_grows dom plan old new (names_grow old new named.names) o at.entry ∙ next
 
       has : HasName plan.engine plan.program y
-      has = input_named old right (name_of old o) y at.entry.named (member_at (inputs dom plan (name_of old o)) (length o.inputs) y next)
+      has = input_named old right (name_of old o) y at.entry.named (at_member (inputs dom plan (name_of old o)) (length o.inputs) y next)
 
       -- the next input has no cell
       pub looks : (start : Open) → o.cell ≡ start.cell → o.name ≡ start.name → (u : Open) → u ≡ record { cell = cell; name = x; inputs = [] } → get new.graph.cells cell ≡ None → Looks dom plan new row start o (Some u)

@@ -42,7 +42,7 @@ use Rattle.daig_query.specs.Walked.{IsDone, place_of}
 use Rattle.daig_query.specs.Answered.{plain_value, value_in, HoldValues, joined_all, Covers, Says}
 use Rattle.daig_query.proofs.Found.{stored, is_there}
 use Rattle.daig_query.proofs.Lists.{take_next}
-use Rattle.daig_query.proofs.Stacked.{take_all}
+use Rattle.call_contexts.proofs.Lists.{take_whole}
 
 module _ {S : Type 0} (dom : Operations S) (engine : Engine) where
   folded : (s : S) (ss : List S) → joined_all dom (Some s) ss ≡ Some (fold dom.join s (map dom.shed ss))
@@ -168,7 +168,7 @@ module _ {S : Type 0} (dom : Operations S) (store : Store S) (cells : List ℕ) 
     joined_says engine i o a b (ss, front, all) =
         let n : length vs ≡ length cells = sym (length-map vs Some) ∙ (sym (ap length holds) ∙ length-map cells (value_in store)) in
         let m : i ≡ length vs = omega arith in
-        let whole : vs ≡ map plain.State ss = sym (take_all vs) ∙ (ap (λ k. take k vs) (sym m) ∙ front) in
+        let whole : vs ≡ map plain.State ss = sym (take_whole vs) ∙ (ap (λ k. take k vs) (sym m) ∙ front) in
         subst (λ us. Says (summed dom engine us) (option_map State o)) (sym whole) (says_joined dom engine ss o all)
 
     -- one holds an Over

@@ -29,6 +29,7 @@ use Rattle.daig_query.specs.Turned.{stacked_names, AreKept}
 use Rattle.daig_query.specs.Walked.{AreStacked, Stands}
 use Rattle.daig_query.proofs.Growing.{name_stays}
 use Rattle.daig_query.proofs.Lists.{take_next, get_take, get_some, last_view}
+use Rattle.imp_flow.proofs.EnteredLemmas.{get_front}
 
 -- the cells of a store as a function of names
 abbrev pub held_of : {S : Type 0} → (CellName → Cell S) → (CellName → Bool) → CellName → Option (Cell S)
@@ -75,20 +76,10 @@ names_stay old new grows (o ∷ os) within =
     ap (λ x. x ∷ stacked_names new os) (name_stays old new grows.paths o (within 0 o refl))
     ∙ ap (λ xs. name_of old o ∷ xs) (names_stay old new grows os (λ i u e. within (suc i) u e))
 
--- the front of a front
-pub take_all : {A : Type 0} (xs : List A) → take (length xs) xs ≡ xs
-take_all [] = refl
-take_all (x ∷ xs) = ap (λ ys. x ∷ ys) (take_all xs)
-
 pub take_front : {A : Type 0} (xs ys : List A) → take (length xs) (xs ++ ys) ≡ xs
 take_front [] [] = refl
 take_front [] (y ∷ ys) = refl
 take_front (x ∷ xs) ys = ap (λ zs. x ∷ zs) (take_front xs ys)
-
-pub get_front : {A : Type 0} (xs ys : List A) (i : ℕ) → i < length xs → slice_get (xs ++ ys) i ≡ slice_get xs i
-get_front [] ys i h = absurd (omega arith)
-get_front (x ∷ xs) ys zero h = refl
-get_front (x ∷ xs) ys (suc i) h = get_front xs ys i (omega arith)
 
 pub get_behind : {A : Type 0} (xs ys : List A) → slice_get (xs ++ ys) (length xs) ≡ slice_get ys 0
 get_behind [] ys = refl

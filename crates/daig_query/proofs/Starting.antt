@@ -23,9 +23,10 @@ use Rattle.daig_query.proofs.Growing.{grows_refl}
 use Rattle.daig_query.proofs.Lists.{take_next, get_some}
 use Rattle.daig_query.proofs.Stepping.{behind_none, place_same, placed_same}
 use Rattle.daig_query.proofs.Walks.{stands_first}
-use Rattle.daig_query.proofs.Stacked.{stack_waits, all_absent, take_all, name_at}
+use Rattle.daig_query.proofs.Stacked.{stack_waits, all_absent, name_at}
 use Rattle.daig_query.proofs.Running.{Runs, runs_start, runs_push}
 use Rattle.daig_query.proofs.Turns.{IsRunning}
+use Rattle.call_contexts.proofs.Lists.{take_whole}
 
 module _ {S : Type 0} (dom : Operations S) (plan : Plan) where
   -- the first names of a stack are a stack
@@ -80,7 +81,7 @@ module _ {S : Type 0} (dom : Operations S) (plan : Plan) where
         lifted : Runs dom plan ts (kept store) (kept store) (stacked_names store os) 0
         lifted =
             let n : length (stacked_names store os) ≡ length os = length-map os (name_of store) in
-            subst (λ xs. Runs dom plan ts (kept store) (kept store) xs 0) (ap (λ m. take m (stacked_names store os)) (sym n) ∙ take_all (stacked_names store os)) (lifts (length os) (omega arith))
+            subst (λ xs. Runs dom plan ts (kept store) (kept store) xs 0) (ap (λ m. take m (stacked_names store os)) (sym n) ∙ take_whole (stacked_names store os)) (lifts (length os) (omega arith))
 
         pub begins : IsRunning dom plan ts store store w
         begins =

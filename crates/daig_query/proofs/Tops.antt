@@ -27,8 +27,9 @@ use Rattle.daig_query.proofs.Growing.{names_grow, grows_trans, kept_same, name_s
 use Rattle.daig_query.proofs.Walks.{placed_grows, place_stays}
 use Rattle.daig_query.proofs.Looking.{open_longer}
 use Rattle.daig_query.proofs.Stepping.{place_same, placed_same}
-use Rattle.daig_query.proofs.Stacked.{names_stay, get_front, open_ready, take_front}
+use Rattle.daig_query.proofs.Stacked.{names_stay, open_ready, take_front}
 use Rattle.daig_query.proofs.Starting.{stacked_front}
+use Rattle.imp_flow.proofs.EnteredLemmas.{get_front}
 
 or_true : (b : Bool) → (b || true) ≡ true
 or_true true = refl

@@ -115,7 +115,7 @@ module _ {S : Type 0} (y : CellName) (c : Cell S) where
       go (Go n ∷ ss) w e one = go ss (InCall n ∷ w) e one
       go (Take n ∷ ss) w e one = by n ss w c.value (sym (some_inj _ _ e)) one
 
-with_both : (xs ys : List CellName) → with_fixes (xs ++ ys) ≡ with_fixes xs ++ with_fixes ys
+pub with_both : (xs ys : List CellName) → with_fixes (xs ++ ys) ≡ with_fixes xs ++ with_fixes ys
 with_both [] ys = refl
 with_both (x ∷ xs) ys = ap (λ zs. x ∷ (fixes x.path ++ zs)) (with_both xs ys) ∙ ap (λ zs. x ∷ zs) (sym (append_assoc (fixes x.path) (with_fixes xs) (with_fixes ys)))
 

@@ -1,11 +1,11 @@
 -- A program without faults is small.
-use Rattle.std.proofs.Common.{◌≡◌, ℕ, ◌<◌, nat_lt, Bool, true, false, List, [], ◌∷◌, length, Option, Some, None, length-append, refl, arith}
+use Rattle.std.proofs.Common.{◌≡◌, ℕ, ◌<◌, nat_lt, true, List, [], ◌∷◌, length, Option, Some, None, length-append, refl, arith}
 use Rattle.std.proofs.lemmas.Bool.Decides.{nat_tests}
 use Rattle.imp_syntax.specs.Plain.{Statement, Simple, Break, Call, If, While, Statements, Ends, Starts, Procedure, numbers_in, numbers, program_numbers}
-use Rattle.imp_check.specs.declared.fault.Fault.{Fault}
 use Rattle.imp_check.specs.declared.fault.Fault.TheVariants.{Procedures, Statements as TooMany, Nesting}
 use Rattle.imp_check.specs.Faults.{unless, first, at, in_procedure}
 use Rattle.imp_check.specs.Programs.{statement_count, block_count, program_count, deepest, size_fault, procedures_fault, ending_fault, check_fault, name_of, last_of}
+use Rattle.imp_check.proofs.FewLemmas.{unless_none, at_none}
 
 none_first : {A : Type 0} (x y : Option A) → first x y ≡ None → x ≡ None
 none_first None y is = refl
@@ -19,23 +19,15 @@ none_in : (p : List ℕ) (s : Option _) → in_procedure p s ≡ None → s ≡ 
 none_in p None is = refl
 none_in p (Some s) is = cc
 
-none_at : (n : ℕ) (f : Option Fault) → at n f ≡ None → f ≡ None
-none_at n None is = refl
-none_at n (Some f) is = cc
-
-below : (b : Bool) (f : Fault) → unless b f ≡ None → b ≡ true
-below true f is = refl
-below false f is = cc
-
 size_holds : (ps : List Procedure) → check_fault ps ≡ None → size_fault ps ≡ None
 size_holds ps is =
-    none_at 0 (size_fault ps) (none_in (name_of (last_of ps)) (at 0 (size_fault ps))
+    at_none 0 (size_fault ps) (none_in (name_of (last_of ps)) (at 0 (size_fault ps))
     (none_first (in_procedure (name_of (last_of ps)) (at 0 (size_fault ps))) (first (procedures_fault [] ps) (in_procedure (name_of (last_of ps)) (at 0 (ending_fault ps)))) is))
 
 few_statements : (ps : List Procedure) → check_fault ps ≡ None → program_count ps < 10001
 few_statements ps is =
     let rest : first (unless (nat_lt (program_count ps) 10001) TooMany) (unless (nat_lt (deepest ps) 33) Nesting) ≡ None = none_behind (unless (nat_lt (length ps) 65) Procedures) (first (unless (nat_lt (program_count ps) 10001) TooMany) (unless (nat_lt (deepest ps) 33) Nesting)) (size_holds ps is) in
-    let test : nat_lt (program_count ps) 10001 ≡ true = below (nat_lt (program_count ps) 10001) TooMany (none_first (unless (nat_lt (program_count ps) 10001) TooMany) (unless (nat_lt (deepest ps) 33) Nesting) rest) in
+    let test : nat_lt (program_count ps) 10001 ≡ true = unless_none (nat_lt (program_count ps) 10001) TooMany (none_first (unless (nat_lt (program_count ps) 10001) TooMany) (unless (nat_lt (deepest ps) 33) Nesting) rest) in
     grind (arith, nat_tests)
 
 mutual

@@ -1,5 +1,5 @@
 -- What a question answers is the machine's.
-use Rattle.std.proofs.Common.{◌≡◌, ℕ, suc, ◌+◌, ◌*◌, ◌≤◌, List, [], ◌∷◌, ◌++◌, length, Some, refl, sym, ap, subst, ◌∙◌, arith}
+use Rattle.std.proofs.Common.{◌≡◌, ℕ, suc, ◌+◌, ◌*◌, ◌≤◌, List, [], length, Some, refl, sym, ap, subst, ◌∙◌, arith}
 use Rattle.imp_syntax.specs.declared.edit.Location.{Location}
 use Rattle.imp_slots.specs.Fits.{IsChecked}
 use Rattle.domain_laws.specs.Operations.{Operations}
@@ -22,10 +22,7 @@ use Rattle.daig_session.specs.Holds.{Holds}
 use Rattle.daig_session.specs.Reports.{IsUnticked}
 use Rattle.daig_session.specs.Turns.{Fails}
 use Rattle.daig_session.proofs.Filled.{added_holds, as_many}
-
-append_none : {A : Type 0} (xs : List A) → xs ++ [] ≡ xs
-append_none [] = refl
-append_none (x ∷ xs) = ap (λ ys. x ∷ ys) (append_none xs)
+use Rattle.call_contexts.proofs.Lists.{append_none}
 
 -- nothing was filled
 pub between_none : (xs : List CellName) (m : Machine) (stands : Machine → Type 0) → stands m → IsBetween xs m stands

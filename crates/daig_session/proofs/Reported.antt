@@ -34,7 +34,7 @@ use Rattle.daig_session.specs.Reports.{chain_count, missing_of, work_on, HoldsAl
 use Rattle.daig_session.specs.Turns.{Questions}
 use Rattle.daig_session.proofs.Answering.{work_both}
 use Rattle.daig_session.proofs.Asked.{asked_answered}
-use Rattle.daig_session.proofs.Filled.{take_all}
+use Rattle.call_contexts.proofs.Lists.{take_whole}
 
 -- Fronts of lists.
 take_over : {A : Type 0} (xs ys : List A) (n : ℕ) → take (length xs + n) (xs ++ ys) ≡ xs ++ take n ys
@@ -111,7 +111,7 @@ module _ {S : Type 0} (dom : Operations S) (m : Machine) where
     pub all_part : (cs : List Checked) → HoldsAll dom m store book cs → HoldsPart dom m store book cs
     all_part cs h =
         let xs = missing_of dom m cs in
-        record { count = length xs; some = subst (λ ys. Holds dom store book (keeping (m.kept ++ ys) book.cost m)) (sym (take_all xs)) h }
+        record { count = length xs; some = subst (λ ys. Holds dom store book (keeping (m.kept ++ ys) book.cost m)) (sym (take_whole xs)) h }
 
     pub all_then : (cost : ℕ) (cs ds : List Checked) → HoldsAll dom (behind cs cost) store book ds → HoldsAll dom m store book (cs ++ ds)
     all_then cost cs ds h =

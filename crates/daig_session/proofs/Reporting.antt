@@ -72,11 +72,6 @@ pub found_one : {S : Type 0} (dom : Operations S) (m : Machine) (n : ℕ) (e : E
     f ≡ record { id = n; check = kind_of k; verdict = verdict_on dom m.engine e (answer_at dom (Before n) [] m) } → after ≡ before ++ findings dom m cs
 found_one dom m n e k cs before after f is a b = a ∙ (ap (λ (g : Finding). before ++ g ∷ []) b ∙ ap (λ ds. before ++ findings dom m ds) (sym is))
 
--- what holds where a call is well
-pub ok_then : {A E P Q : Type 0} (r : Result A E) → OnOk r P → (P → Q) → OnOk r Q
-ok_then (Ok x) p f = f p
-ok_then (Err e) p f = tt
-
 pub ok_all : {A E Q : Type 0} (r : Result A E) → Q → OnOk r Q
 ok_all (Ok x) q = q
 ok_all (Err e) q = tt

@@ -1,8 +1,7 @@
 -- A session that is ready stands for a machine.
-use Rattle.std.proofs.Common.{◌≡◌, ℕ, suc, true, List, [], ◌∷◌, filter, Option, Some, None, is_some, slice_get, refl, sym, ap, subst, inl, inr, arith}
+use Rattle.std.proofs.Common.{◌≡◌, suc, true, List, [], ◌∷◌, filter, Option, Some, None, is_some, refl, subst, arith}
 use Rattle.std.proofs.lemmas.Bool.{false_from_ne_true}
 use std.Path.{fun_ext}
-use Rattle.plain_values.proofs.Cases.{or_either}
 use Rattle.domain_laws.specs.Operations.{Operations}
 use Rattle.imp_check.specs.Slots.{routines_of}
 use Rattle.cell_names.specs.Known.{IsOnce}
@@ -14,7 +13,7 @@ use Rattle.daig_graph.specs.Cells.{Filled}
 use Rattle.named_cells.specs.Same.{same_name}
 use Rattle.named_cells.specs.Named.{filled_at}
 use Rattle.named_cells.proofs.Same.{same_is}
-use Rattle.named_cells.proofs.Numbers.{at_member, filled_named}
+use Rattle.named_cells.proofs.Numbers.{at_member, filled_named, member_at}
 use Rattle.daig_query.specs.declared.held.Held.{Held}
 use Rattle.daig_query.specs.declared.store.Store.{Store}
 use Rattle.daig_query.specs.Kept.{kept}
@@ -23,15 +22,6 @@ use Rattle.daig_session.specs.declared.book.Book.{Book}
 use Rattle.daig_session.specs.Books.{machine_of}
 use Rattle.daig_session.specs.Holds.{Holds, IsReady}
 use Rattle.daig_session.proofs.Moved.{both_ways}
-
--- a name among others has a place there
-member_at : (xs : List CellName) (x : CellName) → member same_name xs x ≡ true → (k : ℕ) × (slice_get xs k ≡ Some x)
-member_at [] x m = absurd cc
-member_at (y ∷ ys) x m =
-    elim (or_either (same_name x y) (member same_name ys x) m) [
-      | inl e ↦ (0, ap Some (sym (same_is.same_true x y e)))
-      | inr k ↦ let p = member_at ys x k in (suc p.0, p.1)
-    ]
 
 once_distinct : (xs : List CellName) → IsOnce xs → IsDistinct same_name xs
 once_distinct [] once = tt

@@ -1,12 +1,12 @@
 -- Steps that leave a graph as it is.
 use Rattle.std.proofs.Common.{◌≡◌, ℕ, zero, suc, true, false, List, [], ◌∷◌, length, map, get_or, Option, None, Some, refl, sym, ◌∙◌, ap, arith}
 use Rattle.std.specs.Prelude.{slice_set}
-use Rattle.std.proofs.lemmas.Bool.Decides.{nat_tests}
 use Rattle.concrete_sem.specs.Evaluation.{same_link}
 use Rattle.shape_graph.specs.declared.graph.Atom.{Atom}
 use Rattle.shape_graph.specs.Shape.{Shape, shape_of, atom_at, target_at}
 use Rattle.shape_steps.specs.Steps.{set_last, last_of, slot_of, forget_of, set_next_of, exposed, last_frame_of}
 use Rattle.listseg_meaning.specs.Operations.{read_at, write_at}
+use Rattle.listseg_meaning.proofs.Links.{same-is}
 
 -- what stands there is set again
 set-same : {X : Type 0} (xs : List X) (i : ℕ) (d : X) → slice_set xs i (get_or xs i d) ≡ xs
@@ -18,12 +18,6 @@ last-same : (frames : List (List (Option ℕ))) (slot : ℕ) → set_last frames
 last-same [] slot = refl
 last-same (frame ∷ []) slot = ap (λ v. v ∷ []) (set-same frame slot None)
 last-same (frame ∷ next ∷ frames) slot = ap (λ v. frame ∷ v) (last-same (next ∷ frames) slot)
-
-same-is : (a b : Option ℕ) → same_link a b ≡ true → a ≡ b
-same-is None None e = refl
-same-is None (Some k) e = cc
-same-is (Some j) None e = cc
-same-is (Some j) (Some k) e = let d : j ≡ k = grind (arith, nat_tests) in ap Some d
 
 slot-stays : (g : Shape) (slot : ℕ) (t : Option ℕ) → slot_of g.frames slot ≡ t → forget_of g slot t ≡ g
 slot-stays g slot t e = ap (λ frames. shape_of frames g.atoms) (ap (set_last g.frames slot) (sym e) ∙ last-same g.frames slot)

@@ -16,10 +16,7 @@ use Rattle.edit_entries.specs.Holes.{Hole, plug, in_loop, between, with_body}
 use Rattle.edit_entries.proofs.Faults.{first_parts, first_none, edit_fault}
 use Rattle.edit_entries.proofs.Heads.{bare, bares, as_many, named_bare, block_fault_bare, one_more}
 use Rattle.edit_entries.proofs.Counts.{calls_edited, all_alike, alike_at, count_edited, deep_edited, count_program, deepest_program, deepest_other}
-
-at_none : (n : ℕ) (o : Option Fault) → at n o ≡ None → o ≡ None
-at_none n None h = refl
-at_none n (Some x) h = cc
+use Rattle.imp_check.proofs.FewLemmas.{unless_none}
 
 same_names : (es ds : List Procedure) (g : List ℕ) → bares es ≡ bares ds → is_named es g ≡ is_named ds g
 same_names es ds g h = named_bare es g ∙ ap (λ (os : List Procedure). is_named os g) h ∙ sym (named_bare ds g)
@@ -87,10 +84,6 @@ takes_head o u h = takes_is o ∙ ap takes_nothing h ∙ sym (takes_is u)
 in_at_none : (x : List ℕ) (o : Option Fault) → in_procedure x (at 0 o) ≡ None → o ≡ None
 in_at_none x None h = refl
 in_at_none x (Some f) h = cc
-
-unless_true : (b : Bool) (f : Fault) → unless b f ≡ None → b ≡ true
-unless_true true f h = refl
-unless_true false f h = cc
 
 below : (a k : ℕ) → nat_lt a k ≡ true → a < k
 below a k h = grind (arith, nat_tests)
@@ -205,7 +198,7 @@ module _ (p : Procedure) (hs : List Hole) (before olds news behind : Statements)
     size z =
         let a = first_parts (unless (nat_lt (length O) 65) Procedures) _ z in
         let b = first_parts (unless (nat_lt (program_count O) 10001) TooManyStatements) (unless (nat_lt (deepest O) 33) Nesting) a.1 in
-        let deep : deepest O < 33 = below (deepest O) 33 (unless_true (nat_lt (deepest O) 33) Nesting b.1) in
+        let deep : deepest O < 33 = below (deepest O) 33 (unless_none (nat_lt (deepest O) 33) Nesting b.1) in
         ap (λ n. first (unless (nat_lt n 65) Procedures) (first (unless (nat_lt (program_count N) 10001) TooManyStatements) (unless (nat_lt (deepest N) 33) Nesting))) same_length
         ∙ ap (λ o. first o (first (unless (nat_lt (program_count N) 10001) TooManyStatements) (unless (nat_lt (deepest N) 33) Nesting))) a.0
         ∙ ap (λ n. first (unless (nat_lt n 10001) TooManyStatements) (unless (nat_lt (deepest N) 33) Nesting)) news_count

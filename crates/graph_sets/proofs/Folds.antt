@@ -4,9 +4,6 @@ use Rattle.shape_graph.specs.Folds.{Folds}
 use Rattle.shape_graph.specs.Shape.{Shape, IsGraph}
 use Rattle.shape_graph.proofs.Function.{fold_of, Folds-fold_of, fold_of-again}
 
-pub fold_is : (g next : Shape) → IsGraph g → Folds g next → next ≡ fold_of g
-fold_is g next ok f = Folds-fold_of g next ok f
-
 pub fold_again : (g next : Shape) → IsGraph g → Folds g next → fold_of next ≡ next
 fold_again g next ok f =
     let e : next ≡ fold_of g = Folds-fold_of g next ok f in

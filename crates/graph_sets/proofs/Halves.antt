@@ -6,7 +6,8 @@ use Rattle.std.specs.declared.cmp.Ordering.TheVariants.{Less, Equal, Greater}
 use Rattle.shape_graph.specs.Shape.{Shape}
 use Rattle.shape_graph.specs.Order.{shape_cmp, shape_total, shape_cmp-same}
 use Rattle.listseg_meaning.specs.Sets.{put, rises}
-use Rattle.graph_sets.proofs.Merged.{IsBelow, tail_below, rest_rises}
+use Rattle.graph_sets.proofs.Merged.{IsBelow, tail_below}
+use Rattle.listseg_meaning.proofs.Rising.{tail-rises}
 
 -- what a graph is put into, by how it compares with the first
 put-by : (g h : Shape) (hs : List Shape) (o : Ordering) → shape_cmp g h ≡ o → put g (h ∷ hs) ≡ match_ordering o (g ∷ h ∷ hs) (h ∷ hs) (h ∷ put g hs)
@@ -28,7 +29,7 @@ behind-at g (h ∷ hs) zero d lt r e = put-by g h hs Greater e
 behind-at g (h ∷ hs) (suc k) d lt r e =
     let low : shape_cmp h (get_or hs k d) ≡ Less = below-at h hs k d (tail_below h hs r) (omega arith) in
     let first : shape_cmp h g ≡ Less = shape_total.trans h (get_or hs k d) g low (turned g (get_or hs k d) Greater e) in
-    put-by g h hs Greater (turned h g Less first) ∙ ap (λ v. h ∷ v) (behind-at g hs k d (omega arith) (rest_rises h hs r) e)
+    put-by g h hs Greater (turned h g Less first) ∙ ap (λ v. h ∷ v) (behind-at g hs k d (omega arith) (tail-rises h hs r) e)
 
 -- one of the graphs is there
 there-at : (g : Shape) (gs : List Shape) (k : ℕ) (d : Shape) → k < length gs → rises gs ≡ true → shape_cmp g (get_or gs k d) ≡ Equal → put g gs ≡ gs
@@ -37,7 +38,7 @@ there-at g (h ∷ hs) zero d lt r e = put-by g h hs Equal e
 there-at g (h ∷ hs) (suc k) d lt r e =
     let low : shape_cmp h (get_or hs k d) ≡ Less = below-at h hs k d (tail_below h hs r) (omega arith) in
     let first : shape_cmp h g ≡ Less = ap (shape_cmp h) (shape_cmp-same g (get_or hs k d) e) ∙ low in
-    put-by g h hs Greater (turned h g Less first) ∙ ap (λ v. h ∷ v) (there-at g hs k d (omega arith) (rest_rises h hs r) e)
+    put-by g h hs Greater (turned h g Less first) ∙ ap (λ v. h ∷ v) (there-at g hs k d (omega arith) (tail-rises h hs r) e)
 
 -- the same by what is read of the graphs: one of them
 module _ (g : Shape) (gs : List Shape) (k : ℕ) (h : Shape) (a : k < length gs) (x : h ≡ get_or gs k h) where

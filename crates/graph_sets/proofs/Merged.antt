@@ -1,18 +1,13 @@
 -- The union with a rising list, by the first graphs of both.
 use Rattle.std.proofs.Common.{◌≡◌, ℕ, zero, suc, true, ◌+◌, ◌≤◌, ◌<◌, ◌⊎◌, inl, inr, ◌-◌, List, [], ◌∷◌, ◌++◌, length, take, drop, drop-cons, get_or, append_assoc, refl, sym, ◌∙◌, ap, subst, arith}
 use Rattle.std.specs.Ordering.{match_ordering, ordering_reverse, is_lt}
-use Rattle.std.specs.declared.cmp.Ordering.{Ordering}
 use Rattle.std.specs.declared.cmp.Ordering.TheVariants.{Less, Equal, Greater}
 use Rattle.std.proofs.lemmas.Bool.{and_parts}
 use Rattle.std.proofs.lemmas.List.{append-nil, drop_all, length-drop, take_all}
 use Rattle.shape_graph.specs.Shape.{Shape}
 use Rattle.shape_graph.specs.Order.{shape_cmp, shape_total, shape_cmp-same}
 use Rattle.listseg_meaning.specs.Sets.{put, union, rises}
-
-less-is : (o : Ordering) → is_lt o ≡ true → o ≡ Less
-less-is Less h = refl
-less-is Equal h = cc
-less-is Greater h = cc
+use Rattle.listseg_meaning.proofs.Rising.{less-is, tail-rises}
 
 -- each of the graphs comes behind the first
 abbrev pub IsBelow : Shape → List Shape → Type 0
@@ -39,10 +34,6 @@ tail_below h (i ∷ is) r =
     let p = and_parts (is_lt (shape_cmp h i)) (rises (i ∷ is)) r in
     rises-below h i is (less-is (shape_cmp h i) p.0) p.1
 
-pub rest_rises : (h : Shape) (hs : List Shape) → rises (h ∷ hs) ≡ true → rises hs ≡ true
-rest_rises h [] r = refl
-rest_rises h (i ∷ is) r = (and_parts (is_lt (shape_cmp h i)) (rises (i ∷ is)) r).1
-
 -- the left one's first graph comes first
 pub left_first : (g h : Shape) (gs hs : List Shape) → rises (h ∷ hs) ≡ true → shape_cmp g h ≡ Less → union (g ∷ gs) (h ∷ hs) ≡ g ∷ union gs (h ∷ hs)
 left_first g h gs hs r e = union-behind g gs (h ∷ hs) (rises-below g h hs e r)
@@ -65,13 +56,13 @@ right_first g h gs hs r e =
 -- the union of nothing with a rising list is that
 pub none_left : (hs : List Shape) → rises hs ≡ true → union [] hs ≡ hs
 none_left [] r = refl
-none_left (h ∷ hs) r = union-behind h [] hs (tail_below h hs r) ∙ ap (λ v. h ∷ v) (none_left hs (rest_rises h hs r))
+none_left (h ∷ hs) r = union-behind h [] hs (tail_below h hs r) ∙ ap (λ v. h ∷ v) (none_left hs (tail-rises h hs r))
 
 -- a list that rises does so from any place on
 pub drop_rises : (p : ℕ) (hs : List Shape) → rises hs ≡ true → rises (drop p hs) ≡ true
 drop_rises zero hs r = r
 drop_rises (suc p) [] r = r
-drop_rises (suc p) (h ∷ hs) r = drop_rises p hs (rest_rises h hs r)
+drop_rises (suc p) (h ∷ hs) r = drop_rises p hs (tail-rises h hs r)
 
 -- a list from a place on, by the graph there
 pub place_first : (gs : List Shape) (p : ℕ) (g : Shape) → p < length gs → g ≡ get_or gs p g → drop p gs ≡ g ∷ drop (p + 1) gs

@@ -21,6 +21,7 @@ use Rattle.imp_edit.specs.Gaps.{IsBelow}
 use Rattle.imp_edit.specs.Refusals.{IsRefusal}
 use Rattle.imp_edit.specs.declared.error.EditError.{EditError}
 use Rattle.imp_edit.specs.declared.error.EditError.TheVariants.{NoProcedure, NoStatement, WrongStatement, IsMain, StillCalled, Numbers, Fault, Memory}
+use Rattle.imp_check.proofs.TableLemmas.{head_at, heads_length}
 
 pub none_fall : AreFalling []
 none_fall i j d h l = absurd (omega arith)
@@ -49,16 +50,6 @@ last_gone (Starts x (Starts y ys)) o (suc i) h e = absurd (some_there y ys i (om
     some_there y (Starts z zs) zero h e = absurd (omega arith)
     some_there y (Starts z zs) (suc i) h e = some_there z zs i (omega arith) e
 
--- The last procedure, by its place.
-head_at : (ps : List Procedure) (i : ℕ) → slice_get (heads_of ps) i ≡ option_map head_of (slice_get ps i)
-head_at [] i = refl
-head_at (p ∷ ps) zero = refl
-head_at (p ∷ ps) (suc i) = head_at ps i
-
-as_many : (ps : List Procedure) → length (heads_of ps) ≡ length ps
-as_many [] = refl
-as_many (p ∷ ps) = ap suc (as_many ps)
-
 name_at : (o : Option Procedure) (h : Head) → Some h ≡ option_map head_of o → h.bare.name ≡ name_of o
 name_at None h e = cc
 name_at (Some p) h e = let q : h ≡ head_of p = cc in ap (λ (z : Head). z.bare.name) q
@@ -69,12 +60,12 @@ no_name (Some p) e = absurd cc
 
 pub last_name : (ps : List Procedure) (hs : List Head) (i : ℕ) (h : Head) → hs ≡ heads_of ps → i ≡ length hs - 1 → Some h ≡ slice_get hs i → h.bare.name ≡ name_of (last_of ps)
 last_name ps hs i h q k e =
-    let n : i ≡ length ps - 1 = k ∙ ap (λ (zs : List Head). length zs - 1) q ∙ ap (λ n. n - 1) (as_many ps) in
+    let n : i ≡ length ps - 1 = k ∙ ap (λ (zs : List Head). length zs - 1) q ∙ ap (λ n. n - 1) (heads_length ps) in
     name_at (last_of ps) h (e ∙ ap (λ (zs : List Head). slice_get zs i) q ∙ ap (slice_get (heads_of ps)) n ∙ head_at ps (length ps - 1))
 
 pub no_last : (ps : List Procedure) (hs : List Head) (i : ℕ) → hs ≡ heads_of ps → i ≡ length hs - 1 → None ≡ slice_get hs i → [] ≡ name_of (last_of ps)
 no_last ps hs i q k e =
-    let n : i ≡ length ps - 1 = k ∙ ap (λ (zs : List Head). length zs - 1) q ∙ ap (λ n. n - 1) (as_many ps) in
+    let n : i ≡ length ps - 1 = k ∙ ap (λ (zs : List Head). length zs - 1) q ∙ ap (λ n. n - 1) (heads_length ps) in
     no_name (last_of ps) (e ∙ ap (λ (zs : List Head). slice_get zs i) q ∙ ap (slice_get (heads_of ps)) n ∙ head_at ps (length ps - 1))
 
 -- Entries put one after the other, the last one first.

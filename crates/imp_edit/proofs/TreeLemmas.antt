@@ -7,6 +7,7 @@ use Rattle.imp_syntax.specs.Changes.{inserted, with_condition}
 use Rattle.imp_syntax.specs.Blocks.{statements_back, block_again, block_rest}
 use Rattle.edit_entries.specs.Holes.{append}
 use Rattle.imp_edit.specs.Changes.{guarded, in_block, in_statement}
+use Rattle.imp_check.proofs.StepLemmas.{block_is_of}
 
 -- the statements of one block in front of another, and back
 pub both : (xs ys : Statements) → statements_of (append xs ys) ≡ statements_of xs ++ statements_of ys
@@ -52,15 +53,12 @@ past (s ∷ ss) (suc i) h = past ss i (omega arith)
 ended : (n : ℕ) (made : Statement → Statements) (ss : List Statement) (i : ℕ) → length ss ≤ i → to_come n made ss i ≡ []
 ended n made ss i h = ap (λ zs. statements_of (in_block n made (block_of zs))) (past ss i h)
 
-whole : (xs : List Statement) (b : Statements) → xs ≡ statements_of b → block_of xs ≡ b
-whole xs b e = ap block_of e ∙ block_again b
-
 -- the block once the statement is met, and at the end
 pub met_whole : (n : ℕ) (made : Statement → Statements) (ss : List Statement) (b : Statements) (i : ℕ) (s : Statement) (front met_too all : List Statement) → i < length ss → s ≡ slice_index_or ss i s → number_of s ≡ n → front ++ to_come n made ss i ≡ statements_of (in_block n made b) → met_too ≡ front ++ statements_of (made s) → all ≡ met_too ++ drop (i + 1) ss → block_of all ≡ in_block n made b
 met_whole n made ss b i s front met_too all h e q told r t =
-    whole all (in_block n made b)
+    block_is_of all (in_block n made b)
     (t ∙ ap (λ zs. zs ++ drop (i + 1) ss) r ∙ append_assoc front (statements_of (made s)) (drop (i + 1) ss) ∙ ap (λ zs. front ++ zs) (sym (met n made ss i s h e (it_is (number_of s) n q))) ∙ told)
 
 pub left_whole : (n : ℕ) (made : Statement → Statements) (ss : List Statement) (b : Statements) (i : ℕ) (front : List Statement) → length ss ≤ i → front ++ to_come n made ss i ≡ statements_of (in_block n made b) → block_of front ≡ in_block n made b
 left_whole n made ss b i front h told =
-    whole front (in_block n made b) (sym (append-nil front) ∙ ap (λ zs. front ++ zs) (sym (ended n made ss i h)) ∙ told)
+    block_is_of front (in_block n made b) (sym (append-nil front) ∙ ap (λ zs. front ++ zs) (sym (ended n made ss i h)) ∙ told)

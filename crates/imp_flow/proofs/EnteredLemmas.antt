@@ -166,7 +166,7 @@ callee_is : (ps : List Routine) (q : ℕ) → callee_end ps q ≡ code_end (look
 callee_is [] q = refl
 callee_is (r ∷ ps) q = by_test q (length ps) (λ c. body_end (if c then r ∷ ps else from ps q) ≡ code_end (if c then Some r else look ps q)) (λ k. refl) (λ k. callee_is ps q)
 
-get_front : {A : Type 0} (xs ys : List A) (q : ℕ) → q < length xs → slice_get (xs ++ ys) q ≡ slice_get xs q
+pub get_front : {A : Type 0} (xs ys : List A) (q : ℕ) → q < length xs → slice_get (xs ++ ys) q ≡ slice_get xs q
 get_front [] ys q h = absurd (omega arith)
 get_front (x ∷ xs) ys zero h = refl
 get_front (x ∷ xs) ys (suc q) h = get_front xs ys q (omega arith)

@@ -11,6 +11,7 @@ use Rattle.imp_check.specs.Names.{place_named}
 use Rattle.imp_check.specs.Slots.{Frame, layout_in, guard_in, effect_in, invoke_of, invoke_in, callee_in, statement_in, code_in, routine_of, routines_from, routines_of}
 use Rattle.imp_flow.specs.Shifts.{shift, shift_code, shift_routine, put_in}
 use Rattle.imp_flow.proofs.ShiftCode.{by_less}
+use Rattle.call_contexts.proofs.Few.{as_many}
 
 -- the names of procedures
 abbrev names : List Procedure → List (List ℕ)
@@ -118,10 +119,6 @@ routines_split earlier (x ∷ xs) ys =
     ap (λ (z : List Routine). routine_of earlier x ∷ z)
     (routines_split (earlier ++ x ∷ []) xs ys ∙ ap (λ (z : List Procedure). routines_from (earlier ++ x ∷ []) xs ++ routines_from z ys) (append_assoc earlier (x ∷ []) xs))
 
-routines_count : (earlier xs : List Procedure) → length (routines_from earlier xs) ≡ length xs
-routines_count earlier [] = refl
-routines_count earlier (x ∷ xs) = ap suc (routines_count (earlier ++ x ∷ []) xs)
-
 fit_rest : (before xs ys : List Routine) → FitInTurn before (xs ++ ys) → FitInTurn (before ++ xs) ys
 fit_rest before [] ys f = subst (λ (z : List Routine). FitInTurn z ys) (sym (append-nil before)) f
 fit_rest before (x ∷ xs) ys f = subst (λ (z : List Routine). FitInTurn z ys) (append_assoc before (x ∷ []) xs) (fit_rest (before ++ x ∷ []) xs ys f.1)
@@ -149,7 +146,7 @@ pub places_shift : (ps qs : List Procedure) (p : Procedure) → IsChecked (routi
 places_shift ps qs p old new =
     let first = routines_from [] ps in
     let rest = routines_from ps qs in
-    let count : length first ≡ length ps = routines_count [] ps in
+    let count : length first ≡ length ps = as_many [] ps in
     let split : routines_of (ps ++ qs) ≡ first ++ rest = routines_split [] ps qs in
     let own : IsAlone ps qs p = alone ps p qs (subst Distinct (routine_names [] (ps ++ p ∷ qs)) new.names_once) in
     let nil : ps ++ [] ≡ ps = append-nil ps in

@@ -16,7 +16,7 @@ use Rattle.cell_rows.specs.Names.{Mark, mark, Place, bare}
 use Rattle.cell_rows.specs.Rows.{Row, enter_row, turn_row, branch_row, post_row, next_row, fix_row, exit_row, leap_row}
 use Rattle.cell_rows.specs.Flat.{Flat, flat, stand_in, by_text, flat_row}
 use Rattle.imp_slots.proofs.Distinct.{right_once}
-use Rattle.cell_rows.proofs.FlatOnce.{keys_flat, once_reversed}
+use Rattle.cell_rows.proofs.FlatOnce.{keys_flat, once_reversed, apart}
 use Rattle.imp_flow.specs.Shifts.{shift_routine, put_in, KeepRows}
 use Rattle.imp_flow.specs.Owners.{owner}
 use Rattle.imp_flow.proofs.ShiftCode.{numbers_shift}
@@ -90,11 +90,6 @@ not_there : (n : ℕ) (xs : List ℕ) → Absent n xs → Member n xs → ⊥
 not_there n [] a m = elim m [ ]
 not_there n (x ∷ xs) a here = a.0 refl
 not_there n (x ∷ xs) a (there m) = not_there n xs a.1 m
-
-apart : (n : ℕ) (xs ys : List ℕ) → Distinct (xs ++ ys) → Member n xs → Member n ys → ⊥
-apart n [] ys d m i = elim m [ ]
-apart n (x ∷ xs) ys d here i = not_there x (xs ++ ys) d.0 (in_right xs i)
-apart n (x ∷ xs) ys d (there m) i = apart n xs ys d.1 m i
 
 absent_or : (n : ℕ) (xs : List ℕ) → Absent n xs ⊎ Member n xs
 absent_or n [] = inl tt

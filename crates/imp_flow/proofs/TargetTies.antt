@@ -12,7 +12,7 @@ use Rattle.cell_names.specs.declared.frame.Point.{Point}
 use Rattle.cell_names.specs.declared.frame.Point.TheVariants.{Entry, Post, Fix}
 use Rattle.plain_values.proofs.Cases.{by_test, some_inj}
 use Rattle.batch_meaning.proofs.Procedures.{look_get, look_from, look_below, from_behind, from_from, from_place, from_self}
-use Rattle.plain_values.proofs.Members.{Member, here, there, in_left, in_right, keys, keys_both}
+use Rattle.plain_values.proofs.Members.{Member, in_left, in_right, keys, keys_both}
 use Rattle.batch_meaning.proofs.Places.{found, found_member}
 use Rattle.cell_rows.specs.Names.{number}
 use Rattle.cell_rows.specs.Rows.{last_point}
@@ -31,6 +31,7 @@ use Rattle.imp_flow.specs.Nodes.{shape_of, node_in, node_of, body_end}
 use Rattle.imp_flow.specs.Plans.{Plan}
 use Rattle.imp_flow.specs.Reached.{step_of, target_of, into_loops, if_in, callee_at, is_while, reached, node_in_place, way_into, way_along, ending_at, target_from, target_along}
 use Rattle.imp_flow.proofs.Ties.{flat_node, nodes_are, Stands, all_stand, find_node}
+use Rattle.cell_rows.proofs.Ways.{flat_behind, in_flat}
 
 -- The steps of a list, as they are defined.
 map_both : {A B : Type 0} (f : A → B) (xs ys : List A) → map f (xs ++ ys) ≡ map f xs ++ map f ys
@@ -69,18 +70,6 @@ find_flat r earlier n (x ∷ xs) =
 
 find_in : (r : Routine) (earlier : List Routine) (n : ℕ) → find n (flat (r ∷ earlier)) ≡ or_else (option_map (in_table r earlier) (find n (texts r.code Entry))) (find n (flat earlier))
 find_in r earlier n = find_both n (map (flat_of r earlier) (texts r.code Entry)) (flat earlier) ∙ ap (λ o. or_else o (find n (flat earlier))) (find_flat r earlier n (texts r.code Entry))
-
-in_flat : (r : Routine) (earlier : List Routine) (x : ℕ × Text) (xs : List (ℕ × Text)) → Member x xs → Member (flat_of r earlier x) (map (flat_of r earlier) xs)
-in_flat r earlier x [] m = elim m [ ]
-in_flat r earlier x (y ∷ xs) here = here
-in_flat r earlier x (y ∷ xs) (there m) = there (in_flat r earlier x xs m)
-
-flat_behind : (ps : List Routine) (q : ℕ) (x : ℕ × Flat) → Member x (flat (from ps q)) → Member x (flat ps)
-flat_behind [] q x m = m
-flat_behind (b ∷ ps) q x m =
-    (by_test q (length ps) (λ c. Member x (flat (if c then b ∷ ps else from ps q)) → Member x (flat (b ∷ ps)))
-    (λ e m. m)
-    (λ e m. in_right (map (flat_of b ps) (texts b.code Entry)) (flat_behind ps q x m))) m
 
 -- The node of a statement that stands in a procedure.
 abbrev stood : List Routine → Text → Node

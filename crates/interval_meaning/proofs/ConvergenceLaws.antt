@@ -14,18 +14,13 @@ use Rattle.interval_meaning.proofs.SlotLaws.{FitsSlot, FitsRange, fits_slots-tru
 use Rattle.interval_meaning.proofs.WidenLaws.{mark_below-bounds, mark_above-bounds}
 use Rattle.interval_meaning.specs.declared.slot_range.SlotRange.{SlotRange}
 use Rattle.interval_meaning.specs.Convergence.{low_falls, high_rises, slot_changes, slots_changes, most_changes, changes_left, WideningEnds}
+use Rattle.num_bounds.proofs.Ends.{le-false}
 
 lt-true : (a b : ℤ) → int_lt a b ≡ true → a <ℤ b
 lt-true a b h = grind (arith, ints)
 
 true-lt : (a b : ℤ) → a <ℤ b → int_lt a b ≡ true
 true-lt a b h = grind (arith, ints)
-
-le-true : (a b : ℤ) → int_le a b ≡ true → a ≤ℤ b
-le-true a b h = grind (arith, ints)
-
-le-false : (a b : ℤ) → int_le a b ≡ false → b <ℤ a
-le-false a b h = grind (arith, ints)
 
 abbrev one_if : Bool → ℕ
 one_if b = if b then 1 else 0

@@ -26,7 +26,7 @@ use Rattle.interval_meaning.proofs.CallLaws.{init-fits, init-describes, enter-fi
 use Rattle.interval_meaning.proofs.WidenLaws.{widen-fits, widen-left, widen-right}
 
 -- the test of fitting, as a fact
-fits-state : (s : Intervals) (l : Layout) (ls : List Layout) → fits s (l ∷ ls) ≡ true → FitsState l s
+pub fits-state : (s : Intervals) (l : Layout) (ls : List Layout) → fits s (l ∷ ls) ≡ true → FitsState l s
 unfolding fits
 fits-state Empty l ls h = tt
 fits-state (Within rs) l ls h = fits_slots-true l.numbers rs h

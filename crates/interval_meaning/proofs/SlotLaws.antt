@@ -13,12 +13,7 @@ use Rattle.interval_meaning.specs.State.{bool_same}
 use Rattle.interval_meaning.specs.Ranges.{extremes, slot_at, range_at, with_range, full}
 use Rattle.interval_meaning.specs.Covers.{Holds, fits_slot, fits_slots}
 use Rattle.interval_meaning.specs.declared.slot_range.SlotRange.{SlotRange}
-
-pub le-true : (a b : ℤ) → int_le a b ≡ true → a ≤ℤ b
-le-true a b h = grind (arith, ints)
-
-pub true-le : (a b : ℤ) → a ≤ℤ b → int_le a b ≡ true
-true-le a b h = grind (arith, ints)
+use Rattle.num_bounds.proofs.Ends.{le-true, true-le}
 
 same-true : (a b : Bool) → bool_same a b ≡ true → a ≡ b
 same-true true true h = refl

@@ -11,9 +11,10 @@ use Rattle.interval_meaning.specs.Ranges.{extremes}
 use Rattle.interval_meaning.specs.Widening.{mark_below, mark_above, widen_range, widen_slot, widen}
 use Rattle.numeric_slots.specs.Measures.{measure}
 use Rattle.interval_meaning.specs.Covers.{Holds}
-use Rattle.interval_meaning.proofs.SlotLaws.{FitsSlot, FitsRange, le-true}
+use Rattle.interval_meaning.proofs.SlotLaws.{FitsSlot, FitsRange}
 use Rattle.interval_meaning.proofs.CompareLaws.{FitsState, Describes, zip-fits, zip-left, zip-right}
 use Rattle.interval_meaning.specs.declared.slot_range.SlotRange.{SlotRange}
+use Rattle.num_bounds.proofs.Ends.{le-true}
 
 -- the mark below is not above, and within the extremes
 pub mark_below-bounds : (ms : List ℤ) (e : Bounds) (z : ℤ) → e.lo ≤ℤ z → z ≤ℤ e.hi → (e.lo ≤ℤ mark_below ms e z) × (mark_below ms e z ≤ℤ z)

@@ -14,10 +14,12 @@ use Rattle.numeric_slots.specs.Measures.{measure}
 use Rattle.interval_meaning.specs.Covers.{Holds, covers, fits}
 use Rattle.interval_meaning.specs.Domain.{intervals}
 use Rattle.interval_meaning.specs.declared.slot_range.SlotRange.{SlotRange}
-use Rattle.interval_meaning.proofs.SlotLaws.{FitsSlot, le-true, true-le, fits_slots-true}
+use Rattle.interval_meaning.proofs.SlotLaws.{FitsSlot, fits_slots-true}
 use Rattle.interval_meaning.proofs.CompareLaws.{FitsState, Describes, join-left, join-right}
 use Rattle.interval_meaning.proofs.WidenLaws.{widen-left, widen-right}
 use Rattle.interval_words.specs.Words.{slots_leq, leq}
+use Rattle.interval_meaning.proofs.Laws.{fits-state}
+use Rattle.num_bounds.proofs.Ends.{le-true, true-le}
 
 abbrev slot_leq : SlotRange → SlotRange → Bool
 slot_leq r q = int_le q.range.lo r.range.lo && int_le r.range.hi q.range.hi
@@ -83,11 +85,6 @@ above l (Within rs) Empty f g = absurd (g (record { numbers = lows rs; links = [
 above l (Within rs) (Within qs) f g =
     slots_by_ends rs qs (g (record { numbers = lows rs; links = [] }) (lows_hold l.numbers rs f)) (g (record { numbers = highs rs; links = [] }) (highs_hold l.numbers rs f))
 
-state_fits : (s : Intervals) (l : Layout) (ls : List Layout) → fits s (l ∷ ls) ≡ true → FitsState l s
-unfolding fits
-state_fits Empty l ls h = tt
-state_fits (Within rs) l ls h = fits_slots-true l.numbers rs h
-
 below_self : (s : Intervals) → leq s s ≡ true
 below_self Empty = refl
 below_self (Within rs) = slots rs
@@ -103,7 +100,7 @@ unfolding fits
 two f g e k [] Empty Empty h i = subst (λ s. leq s (f Empty Empty) ≡ true) (sym e) refl
 two f g e k [] Empty (Within qs) h i = cc
 two f g e k [] (Within rs) t h i = cc
-two f g e k (l ∷ ls) s t h i = k l s t (state_fits s l ls h) (state_fits t l ls i)
+two f g e k (l ∷ ls) s t h i = k l s t (fits-state s l ls h) (fits-state t l ls i)
 
 describes_more : (v : Variables) (l : Layout) (s t : Intervals) → FitsState l s → FitsState l t → leq s t ≡ true → Describes v s → Describes v t
 describes_more v l Empty t f g e c = absurd c
@@ -115,8 +112,8 @@ unfolding fits
 below_trans ls Empty t u f g h a b = refl
 below_trans [] (Within rs) t u f g h a b = absurd cc
 below_trans (l ∷ ls) (Within rs) t u f g h a b =
-    above l (Within rs) u (state_fits (Within rs) l ls f)
-    (λ v c. describes_more v l t u (state_fits t l ls g) (state_fits u l ls h) b (describes_more v l (Within rs) t (state_fits (Within rs) l ls f) (state_fits t l ls g) a c))
+    above l (Within rs) u (fits-state (Within rs) l ls f)
+    (λ v c. describes_more v l t u (fits-state t l ls g) (fits-state u l ls h) b (describes_more v l (Within rs) t (fits-state (Within rs) l ls f) (fits-state t l ls g) a c))
 
 pub interval_bounds : HasUpperBounds intervals leq
 interval_bounds = record {

@@ -9,8 +9,8 @@ use Rattle.interval_meaning.specs.State.{bool_same}
 use Rattle.interval_meaning.specs.Ranges.{extremes}
 use Rattle.std.proofs.lemmas.Bool.{and_parts}
 use Rattle.std.proofs.lemmas.Int.{ints}
-use Rattle.interval_meaning.proofs.SlotLaws.{le-true}
 use Rattle.interval_meaning.specs.declared.slot_range.SlotRange.{SlotRange}
+use Rattle.num_bounds.proofs.Ends.{le-true}
 
 -- the slots so far with one more, in front of the others
 pub more_behind : (done : List SlotRange) (s : SlotRange) (o : Option (List SlotRange)) (first : Option SlotRange) → first ≡ Some s →

@@ -24,7 +24,7 @@ use Rattle.listseg_meaning.proofs.Frames.{slot_of-push}
 use Rattle.listseg_meaning.proofs.Fitting.{FitsState, capped-fits, kept-fits}
 use Rattle.listseg_meaning.proofs.Covering.{Describes, kept-describes, join-left, join-right}
 
-same-is : (a b : Option ℕ) → same_link a b ≡ true → a ≡ b
+pub same-is : (a b : Option ℕ) → same_link a b ≡ true → a ≡ b
 same-is None None h = refl
 same-is None (Some k) h = cc
 same-is (Some j) None h = cc

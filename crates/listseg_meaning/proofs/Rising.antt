@@ -9,7 +9,7 @@ use Rattle.shape_graph.specs.Shape.{Shape}
 use Rattle.shape_graph.specs.Order.{shape_cmp, shape_total}
 use Rattle.listseg_meaning.specs.Sets.{put, union, rises}
 
-less-is : (o : Ordering) → is_lt o ≡ true → o ≡ Less
+pub less-is : (o : Ordering) → is_lt o ≡ true → o ≡ Less
 less-is Less h = refl
 less-is Equal h = cc
 less-is Greater h = cc
@@ -20,7 +20,7 @@ above g h e = ap is_lt (shape_total.antisymm h g ∙ ap ordering_reverse e)
 below : (g h : Shape) → shape_cmp g h ≡ Less → is_lt (shape_cmp g h) ≡ true
 below g h e = ap is_lt e
 
-tail-rises : (h : Shape) (hs : List Shape) → rises (h ∷ hs) ≡ true → rises hs ≡ true
+pub tail-rises : (h : Shape) (hs : List Shape) → rises (h ∷ hs) ≡ true → rises hs ≡ true
 tail-rises h [] r = refl
 tail-rises h (i ∷ is) r = (and_parts (is_lt (shape_cmp h i)) (rises (i ∷ is)) r).1
 

@@ -1,5 +1,5 @@
 -- The last iterate decides, where the iterates stop at none before it.
-use Rattle.std.proofs.Common.{◌≡◌, ℕ, zero, suc, ◌<◌, Bool, true, false, ◌==◌, cond, ◌⊎◌, inl, inr, List, [], ◌∷◌, length, Option, Some, None, slice_get, get_or, option_map, is_some, ◌↔◌, refl, sym, ap, ◌∙◌, subst, arith, eq-eqb}
+use Rattle.std.proofs.Common.{◌≡◌, ℕ, zero, suc, ◌<◌, Bool, true, false, ◌==◌, cond, ◌⊎◌, inl, inr, List, [], length, Option, Some, None, slice_get, get_or, option_map, is_some, ◌↔◌, refl, sym, ap, ◌∙◌, subst, arith, eq-eqb}
 use Rattle.std.proofs.lemmas.Bool.Decides.{nat_tests}
 use Rattle.std.specs.Option.{option_and_then}
 use Rattle.daig_graph.specs.declared.value.Value.{Value}
@@ -12,6 +12,7 @@ use Rattle.std.specs.FinMap.{FinMap, get}
 use Rattle.daig_graph.specs.Cells.{Filled, AreCells}
 use Rattle.loop_unroll.specs.Iterates.{iterate_of, value_at, state_in, IsOver, IsOverValue, IsEqual, IsSpent, Stops, GoesOnTo, OverrunsWithin}
 use Rattle.loop_unroll.specs.Stages.{IsStage, spent_or_open}
+use Rattle.daig_graph.proofs.UseLemmas.{at_index}
 
 no : {A : Type 0} → false ≡ true → A
 no e = absurd (cc)
@@ -124,11 +125,6 @@ module _ {V : Type 0} (budget : ℕ) (iterate : ℕ → Option (Value V)) where
           | inr (inl equal) ↦ apart equal
           | inr (inr spent) ↦ no (sym h ∙ eq-eqb last budget spent.0)
         ])
-
-pub at_index : {A : Type 0} (xs : List A) (n : ℕ) (d : A) → n < length xs → slice_get xs n ≡ Some (get_or xs n d)
-at_index [] n d h = absurd (omega (arith, h))
-at_index (x ∷ xs) zero d h = refl
-at_index (x ∷ xs) (suc n) d h = at_index xs n d (omega (arith, h))
 
 state_in-some : {V : Type 0} (o : Option (Value V)) (s : V) → state_in o ≡ Some s → o ≡ Some (value.State s)
 state_in-some None s e = none-some e

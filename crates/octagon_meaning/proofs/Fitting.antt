@@ -128,7 +128,7 @@ zero-true (Some x) h = ap Some ((Decides-int_eq x (pos 0)).0 h)
 true-zero : (a : Option ℤ) → a ≡ Some (pos 0) → option_eq int_eq a (Some (pos 0)) ≡ true
 true-zero a e = rw e refl
 
-eq-true : (a b : ℕ) → nat_eq a b ≡ true → a ≡ b
+pub eq-true : (a b : ℕ) → nat_eq a b ≡ true → a ≡ b
 eq-true a b h = grind (arith, nat_tests)
 
 true-eq : (a b : ℕ) → a ≡ b → nat_eq a b ≡ true

@@ -36,15 +36,15 @@ unfolding fits
 state-fits Empty l ls h = refl
 state-fits (Matrix m) l ls h = true-fits_matrix l m h
 
-covers-describes : (s : Closed) (h : Heap) (v : Variables) (vs : List Variables) → covers s h (v ∷ vs) → Describes (values v) s
+pub covers-describes : (s : Closed) (h : Heap) (v : Variables) (vs : List Variables) → covers s h (v ∷ vs) → Describes (values v) s
 covers-describes Empty h v vs c = c
 covers-describes (Matrix m) h v vs c = c
 
-describes-covers : (s : Closed) (h : Heap) (v : Variables) (vs : List Variables) → Describes (values v) s → covers s h (v ∷ vs)
+pub describes-covers : (s : Closed) (h : Heap) (v : Variables) (vs : List Variables) → Describes (values v) s → covers s h (v ∷ vs)
 describes-covers Empty h v vs d = d
 describes-covers (Matrix m) h v vs d = d
 
-no-frame : (s : Closed) (h : Heap) → covers s h [] → ⊥
+pub no-frame : (s : Closed) (h : Heap) → covers s h [] → ⊥
 no-frame Empty h c = c
 no-frame (Matrix m) h c = c
 

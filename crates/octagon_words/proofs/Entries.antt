@@ -14,6 +14,7 @@ use Rattle.cert_words.specs.Claims.{IsSmall, AreSmall}
 use Rattle.octagon_meaning.specs.Covers.{in_limits}
 use Rattle.octagon_words.specs.Words.{is_entry, are_entries, word_at}
 use Rattle.octagon_words.proofs.Below.{pairs-true, true-pairs}
+use Rattle.octagon_meaning.proofs.Fitting.{eq-true}
 
 -- the table of these words is that of a state
 pub record AreEntries (ws : List (Option ℤ)) (n : ℕ) : Type 0 where
@@ -24,9 +25,6 @@ pub record AreEntries (ws : List (Option ℤ)) (n : ℕ) : Type 0 where
 
 same-place : (i : ℕ) → nat_eq i i ≡ true
 same-place i = grind (arith, nat_tests)
-
-equal-place : (i j : ℕ) → nat_eq i j ≡ true → i ≡ j
-equal-place i j h = grind (arith, nat_tests)
 
 place-equal : (i j : ℕ) → i ≡ j → nat_eq i j ≡ true
 place-equal i j h = grind (arith, nat_tests)
@@ -44,7 +42,7 @@ pub entries-true : (ws : List (Option ℤ)) (n : ℕ) → are_entries ws n ≡ t
 entries-true ws n h =
     let p = and_parts _ _ h in
     record {
-      size = equal-place (length ws) (n * n) p.0;
+      size = eq-true (length ws) (n * n) p.0;
       limits = λ i j hi hj. (and_parts _ _ (pairs-true n (is_entry ws n) p.1 i j hi hj)).0;
       coherent = λ i j hi hj. (word_Decides (word_at ws n i j) (word_at ws n (flip j) (flip i))).0 (and_parts _ _ (and_parts _ _ (pairs-true n (is_entry ws n) p.1 i j hi hj)).1).0;
       diagonal = λ i hi. (word_Decides (word_at ws n i i) (Some (pos 0))).0 (either (nat_eq i i) (option_eq int_eq (word_at ws n i i) (Some (pos 0))) (and_parts _ _ (and_parts _ _ (pairs-true n (is_entry ws n) p.1 i i hi hi)).1).1 (same-place i));
@@ -57,7 +55,7 @@ true-entries ws n h =
     and_from (in_limits (word_at ws n i j)) _ (h.limits i j hi hj)
     (and_from (option_eq int_eq (word_at ws n i j) (word_at ws n (flip j) (flip i))) _ ((word_Decides (word_at ws n i j) (word_at ws n (flip j) (flip i))).1 (h.coherent i j hi hj))
     (neither (nat_eq i j) (option_eq int_eq (word_at ws n i j) (Some (pos 0))) (λ e.
-    (word_Decides (word_at ws n i j) (Some (pos 0))).1 (ap (word_at ws n i) (sym (equal-place i j e)) ∙ h.diagonal i hi))))))
+    (word_Decides (word_at ws n i j) (Some (pos 0))).1 (ap (word_at ws n i) (sym (eq-true i j e)) ∙ h.diagonal i hi))))))
 
 -- bounds within the limits are small words
 pub limits-small : (o : Option ℤ) → in_limits o ≡ true → IsSmall o

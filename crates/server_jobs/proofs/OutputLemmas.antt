@@ -26,6 +26,7 @@ use Rattle.server_jobs.specs.Sources.{checked, source_of, unless_faulty}
 use Rattle.server_jobs.specs.Output.{Output, source_output, file_output, output, program_bytes, certified, done, of_file, of_source, program_output, verify_bytes, most_certificate, most_source, HasProgram, IsAccepted, IsProgram, LacksCertificate, LacksEither, LacksFile}
 use Rattle.server_jobs.specs.Told.{TellsFiles}
 use Rattle.server_jobs.specs.Ends.{code_of, status_of, Fits, IsStatus, Wrote, WroteAll}
+use Rattle.script_loop.proofs.WriteLemmas.{rose_since}
 
 -- the number of a status tells it
 pub status_is : (s : Status) → status_of (code_of s) ≡ s
@@ -263,16 +264,11 @@ has_program None name file (Check cert) bytes short is lacks = absurd lacks
 has_program (Some files) name file task bytes short is lacks = λ readings.
     let found = is readings in (found.0, rw bytes (short, found.1))
 
--- a count that rose behind a first call, which it does not fall in, rose in both
-rose_behind : (first second third : ℕ) → first ≤ second → Rose second third → Rose first third
-rose_behind first second third rises (inl more) = inl (omega (arith, rises, more))
-rose_behind first second third rises (inr last) = inr last
-
 pub files_lack : (told after : Option (List ℕ → Option (List ℕ))) (name file : List ℕ) (task : CertTask) (first second third : ℕ) → after ≡ told → first ≤ second →
     IfSome told (λ files. files name ≡ Some file) → length file ≤ most_source →
     Rose second third ⊎ (((readings : Readings) → (program : List Procedure) × (source_of readings file ≡ Ok program)) × LacksCertificate after task) →
     Rose first third ⊎ LacksEither told name task
-files_lack told after name file task first second third stays rises bytes short (inl rose) = inl (rose_behind first second third rises rose)
+files_lack told after name file task first second third stays rises bytes short (inl rose) = inl (rose_since first second third rises rose)
 files_lack told after name file task first second third stays rises bytes short (inr (is, lacks)) =
     let still : LacksCertificate told task = rw stays at lacks in
     inr (inr (has_program told name file task bytes short is still, still))

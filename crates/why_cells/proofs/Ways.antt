@@ -15,6 +15,7 @@ use Rattle.named_cells.specs.Named.{AreNumbers}
 use Rattle.named_cells.proofs.Numbers.{numbers_get}
 use Rattle.daig_query.specs.Walked.{fixes, with_fixes}
 use Rattle.why_cells.specs.Reached.{fix_of, AllNamed}
+use Rattle.daig_query.proofs.Walks.{with_both}
 
 numbers_both : (names : List CellName) (ms ns : List ℕ) (xs ys : List CellName) → AreNumbers names ms xs → AreNumbers names ns ys → AreNumbers names (ms ++ ns) (xs ++ ys)
 numbers_both names ms ns xs ys a b = map-append (slice_get names) ms ns ∙ ap (λ zs. zs ++ map (slice_get names) ns) a ∙ ap (λ zs. map Some xs ++ zs) b ∙ sym (map-append Some xs ys)
@@ -54,10 +55,6 @@ fix_named names f v n k e named = named (name v (Fix n)) (subst (λ g. IsIn (fix
 -- Over all cells: those so far, each with the fixed points on its way.
 pub record Collects (names : List CellName) (found : List ℕ) (i : ℕ) (out : List ℕ) : Type 0 where
   pub are : (xs : List CellName) → AreNumbers names found xs → AllNamed names (with_fixes xs) → AreNumbers names out (with_fixes (take i xs))
-
-with_both : (xs ys : List CellName) → with_fixes (xs ++ ys) ≡ with_fixes xs ++ with_fixes ys
-with_both [] ys = refl
-with_both (x ∷ xs) ys = ap (λ zs. x ∷ (fixes x.path ++ zs)) (with_both xs ys) ∙ ap (λ zs. x ∷ zs) (sym (append_assoc (fixes x.path) (with_fixes xs) (with_fixes ys)))
 
 take_next : (xs : List CellName) (i : ℕ) (x : CellName) → slice_get xs i ≡ Some x → take (i + 1) xs ≡ take i xs ++ x ∷ []
 take_next xs i x e = take_item xs i x (slice_get_within xs i x e) (some_inj _ _ (sym e ∙ slice_get-get_or xs i x (slice_get_within xs i x e)))

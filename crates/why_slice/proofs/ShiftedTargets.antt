@@ -1,7 +1,7 @@
 -- The targets of a location where a simple statement that the location does not name is exchanged.
 use Rattle.std.specs.Str.{bytes_eq}
 use Rattle.std.proofs.lemmas.List.{reverse-append}
-use Rattle.std.proofs.Common.{◌≡◌, ◌≢◌, ℕ, zero, suc, List, [], ◌∷◌, ◌++◌, length, map, reverse, Option, Some, None, Bool, true, false, if◌then◌else◌, ◌==◌, refl, sym, ap, ◌∙◌, subst, append_assoc}
+use Rattle.std.proofs.Common.{◌≡◌, ◌≢◌, ℕ, zero, suc, List, [], ◌∷◌, ◌++◌, length, map, reverse, Option, Some, None, Bool, true, false, if◌then◌else◌, ◌==◌, refl, sym, ap, ◌∙◌, subst}
 use Rattle.imp_syntax.specs.declared.edit.Location.{Location}
 use Rattle.imp_syntax.specs.declared.edit.Location.TheVariants.{Before, After, Head, End}
 use Rattle.imp_slots.specs.Plain.{Effect, Invoke, Code, Stop, Simple, If, While, Call, Break, Routine, code_numbers}
@@ -22,6 +22,7 @@ use Rattle.why_slice.specs.Upstream.{located}
 use Rattle.why_slice.specs.Exchanged.{OnlySimple, IsSimple}
 use Rattle.why_slice.proofs.Shifted.{shift_number, shift_point, shift_other, find_shifted, swap, swap_text, last_shifted, texts_shifted}
 use Rattle.why_slice.proofs.ShiftedRows.{swap_routine, swap_all, length_swapped, from_swapped, known_texts, simple_from}
+use Rattle.cell_rows.proofs.FlatOnce.{numbers_both}
 
 -- Numbers that a list of procedures lacks.
 pub absent_left : (n : ℕ) (xs ys : List ℕ) → Absent n (xs ++ ys) → Absent n xs
@@ -39,10 +40,6 @@ absent_both n (x ∷ xs) ys a b = (a.0, absent_both n xs ys a.1 b)
 absent_has : (n : ℕ) (xs : List ℕ) → Absent n xs → has n xs ≡ false
 absent_has n [] a = refl
 absent_has n (x ∷ xs) a = by_test n x (λ c. (if c then true else has n xs) ≡ false) (λ e. absurd (a.0 e)) (λ e. absent_has n xs a.1)
-
-numbers_both : (xs ys : List Routine) → routine_numbers (xs ++ ys) ≡ routine_numbers xs ++ routine_numbers ys
-numbers_both [] ys = refl
-numbers_both (x ∷ xs) ys = ap (λ k. code_numbers x.code ++ k) (numbers_both xs ys) ∙ sym (append_assoc (code_numbers x.code) (routine_numbers xs) (routine_numbers ys))
 
 pub absent_reversed : (n : ℕ) (ps : List Routine) → Absent n (routine_numbers ps) → Absent n (routine_numbers (reverse ps))
 absent_reversed n [] a = tt

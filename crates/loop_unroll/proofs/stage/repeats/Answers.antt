@@ -1,7 +1,8 @@
 use Rattle.std.proofs.Common.{◌≡◌, suc, ◌-◌, sym, subst, arith}
 use Rattle.std.specs.Bool.{Decides}
-use Rattle.loop_unroll.proofs.Deciding.{repeats-some, repeats-none, at_index}
+use Rattle.loop_unroll.proofs.Deciding.{repeats-some, repeats-none}
 use Rattle.loop_unroll.proofs.stage.repeats.Goals as goal
+use Rattle.daig_graph.proofs.UseLemmas.{at_index}
 
 pub returns-in-Some : goal.returns-in-Some
 returns-in-Some g c =

@@ -7,8 +7,9 @@ use Rattle.imp_check.specs.Slots.{routines_of}
 use Rattle.daig_query.specs.Filled.{added}
 use Rattle.session_machine.specs.Turns.{answer_at}
 use Rattle.daig_session.specs.Reports.{chain_count, checked_at, work_on, HasCheck, HoldsAll, HoldsPart}
-use Rattle.daig_session.proofs.Reporting.{at_is, checked_is, found_none, found_one, none_all, none_part, ok_all, ok_then}
+use Rattle.daig_session.proofs.Reporting.{at_is, checked_is, found_none, found_one, none_all, none_part, ok_all}
 use Rattle.daig_session.proofs.session.Session.add_finding.Goals as goal
+use Rattle.daig_query.proofs.Filling.{on_ok}
 
 pub returns-then-not-has_check-clause-part : goal.returns-then-not-has_check-clause-part
 returns-then-not-has_check-clause-part g c = λ m h.
@@ -97,7 +98,7 @@ returns-clause-found g c =
     let new = c.known_before.new.self in
     let there = c.if-not-has_check.ensures.there refl in
     let f = c.in_ok-finding.finding in
-    ok_then c.push.result c.push.ensures.added (λ a m h. (
+    on_ok c.push.result c.push.ensures.added (λ a m h. (
     found_one dom m n there.0 there.1 (checked_at m.program n) c.args.found.now c.push.new.self f (checked_is dom s.engine.store s.book m n h there) a (
     subst (λ d. f ≡ record { id = n; check = kind_of there.1; verdict = verdict_on (ops d) m.engine there.0 (answer_at dom (Before n) [] m) }) c.known_before.ensures.domain (
     c.in_ok-finding.ensures.is m.engine (answer_at dom (Before n) [] m) there.0 there.1 (c.in_ok-known.ensures.tells m h) (ap (λ (ps : List Procedure). checked_at ps n) c.known_before.ensures.program ∙ there.2)))))
