@@ -10,6 +10,7 @@
 //! chain is followed once.
 #![tactic(auto)]
 
+mod behind;
 mod chain_sets;
 mod entry;
 mod followed;
