@@ -12,13 +12,14 @@ use Rattle.batch_meaning.specs.Values.{Value, Over, lift, lift2}
 use Rattle.batch_meaning.specs.Batch.{Engine, Passed, head_of, batch, procedure, calls_of}
 use Rattle.batch_meaning.specs.Places.{Spot, spot, spots, head_value}
 use Rattle.batch_sound.proofs.Values.{Fit, fit_post, fit_assume, fit_join, fit_enter, fit_leave, fix_is_head, fit_joined}
-use Rattle.plain_values.proofs.Cases.{by_test, some_inj}
+use Rattle.plain_values.proofs.Cases.{by_test}
 use Rattle.batch_meaning.proofs.Procedures.{look, look_get, FitBack}
 use Rattle.plain_values.proofs.Members.{Each, each_more, each_both, none_there}
 use Rattle.batch_sound.proofs.Fitting.{callee, call_fit, block_fit, procedure_fit}
 use Rattle.batch_converges.specs.Converges.{Ending}
 use Rattle.batch_converges.proofs.Known.{Known, EachKnown, known_lift, known_lift2, known_both, known_joined}
 use Rattle.batch_converges.proofs.Rounds.{IsRoomy, fix_known}
+use Rattle.std.proofs.lemmas.Option.{same_Some}
 
 module _ {S : Type 0} (dom : Operations S) (engine : Engine) (covers : S → Heap → List Variables → Type 0) (laws : Laws dom covers) (wait : ℕ → ℕ) (most : ℕ → ℕ → ℕ) (ending : Ending dom wait most) where
   abbrev Good : Value S → List Layout → Type 0
@@ -103,7 +104,7 @@ module _ {S : Type 0} (dom : Operations S) (engine : Engine) (covers : S → Hea
         let fi = fit_assume dom engine covers laws g true l ls top s.0 h.fit in
         let leaves = (block_fit dom engine covers laws marks rising z calls before l ls keep b (lift (dom.assume g true) top) s.1 fi).leaving in
         let w = known_joined dom engine (lift (dom.assume g false) top) _ (known_lift (dom.assume g false) top j) (inner top h.fit j).leaving in
-        each_more SpotKnown _ _ (record { before_known = k; head_known = λ v e. subst (λ v. Known v) (some_inj _ _ e) j; after_known = w })
+        each_more SpotKnown _ _ (record { before_known = k; head_known = λ v e. subst (λ v. Known v) (same_Some _ _ e) j; after_known = w })
         (each_both SpotKnown _ _ (spots_known b _ s.1 fi (known_lift (dom.assume g true) top j))
         (spots_known r _ s.2 (fit_joined dom engine covers laws (l ∷ ls) _ (batch dom engine marks z calls b (lift (dom.assume g true) top)).leaving (fit_assume dom engine covers laws g false l ls top s.0 h.fit) leaves) w))
     spots_known (Call n i q r) a s f k =
@@ -123,7 +124,7 @@ module _ {S : Type 0} (dom : Operations S) (engine : Engine) (covers : S → Hea
     procedure_known (r ∷ earlier) z q c ls a e b m f k =
         (by_test q (length earlier) (λ t. (if t then Some r else look earlier q) ≡ Some c → Known (if t then (batch dom engine (marks engine.widening r) z (calls_of dom engine earlier z) r.code a).value else procedure dom engine earlier z q a))
         (λ i e.
-        let same : r ≡ c = some_inj r c e in
+        let same : r ≡ c = same_Some r c e in
         (block_known (marks engine.widening r) (rises engine.widening (reverse earlier) r b.0) z (calls_of dom engine earlier z) (reverse earlier) r.layout ls m.0
         (λ n q c v g h. procedure_fit dom engine covers laws rises earlier (n ∷ z) q c (r.layout ∷ ls) v (look_get earlier q ∙ g) b.1 h)
         (λ n q c v g h j. procedure_known earlier (n ∷ z) q c (r.layout ∷ ls) v (look_get earlier q ∙ g) b.1 m.1 h j)

@@ -1,5 +1,5 @@
 -- No answer of a program is an Over.
-use Rattle.std.specs.Prelude.{◌≡◌, ℕ, ◌≤◌, max, nat_lt, List, [], ◌∷◌, ◌++◌, length, map, reverse, slice_get, Option, Some, None, Bool, true, false, if◌then◌else◌}
+use Rattle.std.specs.Prelude.{◌≡◌, ℕ, ◌≤◌, nat_lt, List, [], ◌∷◌, ◌++◌, length, map, reverse, slice_get, Option, Some, None, Bool, true, false, if◌then◌else◌}
 use Rattle.std.proofs.Common.{refl, sym, ap, ◌∙◌, arith, subst}
 use Rattle.std.specs.Str.{bytes_eq}
 use Rattle.std.proofs.lemmas.List.{reverse-append}
@@ -19,7 +19,7 @@ use Rattle.batch_meaning.specs.Places.{Spot, spots, find, from, main_layout, if_
 use Rattle.analysis_words.specs.declared.refusal.Refusal.TheVariants.{LongString}
 use Rattle.batch_meaning.specs.Answers.{Answer, Refuses, Answers, Found, In, Misses, procedure_of, all_values, summed, sum_of, answer_in, answer}
 use Rattle.batch_sound.proofs.Values.{Fit, fit_enter}
-use Rattle.plain_values.proofs.Cases.{some_inj, by_test}
+use Rattle.plain_values.proofs.Cases.{by_test}
 use Rattle.batch_meaning.proofs.Procedures.{look, look_get, look_from, FitBack, fit_back, fit_back_from}
 use Rattle.batch_meaning.proofs.Places.{found_member}
 use Rattle.batch_sound.proofs.Fitting.{callee, SpotFit, spots_fit, procedure_fit}
@@ -27,12 +27,8 @@ use Rattle.batch_sound.proofs.Answered.{then_inv}
 use Rattle.batch_converges.specs.Converges.{Ending, Grows, most_slots, most_marks, IsEnough, Converge}
 use Rattle.batch_converges.proofs.Known.{Known, EachKnown, known_lift, known_joined}
 use Rattle.batch_converges.proofs.Blocks.{SpotKnown, EachRoomy, block_known, spots_known, procedure_known}
-
-max-left : (a b : ℕ) → a ≤ max a b
-max-left a b = omega arith
-
-max-right : (a b : ℕ) → b ≤ max a b
-max-right a b = omega arith
+use Rattle.std.proofs.lemmas.Option.{same_Some}
+use Rattle.std.proofs.Math.Nat.{le-max_left, le-max_right}
 
 module _ {S : Type 0} (dom : Operations S) (engine : Engine) (covers : S → Heap → List Variables → Type 0) (laws : Laws dom covers) (wait : ℕ → ℕ) (most : ℕ → ℕ → ℕ) (ending : Ending dom wait most) (rises : MarksRise) where
   abbrev Fine : Value S → List Layout → Type 0
@@ -81,7 +77,7 @@ module _ {S : Type 0} (dom : Operations S) (engine : Engine) (covers : S → Hea
           back = fit_back_from earlier k.1 x.back.1;
           roomy = roomy_from earlier k.1 x.roomy.1;
           fine = λ b e i.
-              let same : c.routine ≡ b = some_inj _ _ (sym at ∙ look_from earlier k.1 b e i) in
+              let same : c.routine ≡ b = same_Some _ _ (sym at ∙ look_from earlier k.1 b e i) in
               subst (λ l. Fine (lift (dom.enter k.0.entering) s.before) (l ∷ r.layout ∷ x.below)) (sym c.layout ∙ ap (λ (b : Routine). b.layout) same)
               (fit_enter dom engine covers laws k.0 r.layout x.below s.before c.fits f.before_fit);
           known = known_lift (dom.enter k.0.entering) s.before j.before_known;
@@ -91,12 +87,12 @@ module _ {S : Type 0} (dom : Operations S) (engine : Engine) (covers : S → Hea
     spot_value n f u k g = let t = then_inv (find n (spots_here z r earlier v)) f u g in k t.value t.gives (spot_known n t.value t.was)
 
     end_value : (c : Bool) (u w : Value S) → Known w → (if c then Some w else None) ≡ Some u → Known u
-    end_value true u w k g = subst (λ y. Known y) (some_inj w u g) k
+    end_value true u w k g = subst (λ y. Known y) (same_Some w u g) k
     end_value false u w k g = absurd cc
 
     value_known : (l : Location) (u : Value S) → value_in dom engine (r ∷ earlier) z v l ≡ Some u → Known u
-    value_known (Before n) u g = spot_value n (λ s. Some s.before) u (λ s e f. subst (λ y. Known y) (some_inj _ _ e) f.before_known) g
-    value_known (After n) u g = spot_value n (λ s. Some s.after) u (λ s e f. subst (λ y. Known y) (some_inj _ _ e) f.after_known) g
+    value_known (Before n) u g = spot_value n (λ s. Some s.before) u (λ s e f. subst (λ y. Known y) (same_Some _ _ e) f.before_known) g
+    value_known (After n) u g = spot_value n (λ s. Some s.after) u (λ s e f. subst (λ y. Known y) (same_Some _ _ e) f.after_known) g
     value_known (Head n) u g = spot_value n head_value u (λ s e f. f.head_known u e) g
     value_known (End y) u g =
         end_value (bytes_eq y r.name) u _
@@ -107,7 +103,7 @@ module _ {S : Type 0} (dom : Operations S) (engine : Engine) (covers : S → Hea
   entered_entry n z (r ∷ earlier) v x t g =
       let s = then_inv (find n (spots_here z r earlier v)) (λ s. if_some s.call (λ k. Some (from earlier k.1, lift (dom.enter k.0.entering) s.before))) t g in
       let u = then_inv s.value.call (λ k. Some (from earlier k.1, lift (dom.enter k.0.entering) s.value.before)) t s.gives in
-      subst (λ (t : List Routine × Value S). Entry t.0 t.1) (some_inj _ _ u.gives)
+      subst (λ (t : List Routine × Value S). Entry t.0 t.1) (same_Some _ _ u.gives)
       (entered_here z r earlier v x n s.value u.value u.was (spot_fine z r earlier v x n s.value s.was) (spot_known z r earlier v x n s.value s.was))
 
   value_in_known : (z : List ℕ) (t : List Routine × Value S) → Entry t.0 t.1 → (l : Location) (u : Value S) → value_in dom engine t.0 z t.1 l ≡ Some u → Known u
@@ -118,11 +114,11 @@ module _ {S : Type 0} (dom : Operations S) (engine : Engine) (covers : S → Hea
   value_in_known z (r ∷ earlier, v) x l u g = value_known z r earlier v x l u g
 
   all_known : (f : List ℕ → Option (Value S)) (zs : List (List ℕ)) (vs : List (Value S)) → ((z : List ℕ) (u : Value S) → f z ≡ Some u → Known u) → all_values dom engine f zs ≡ Some vs → EachKnown vs
-  all_known f [] vs k g = subst (λ vs. EachKnown vs) (some_inj _ _ g) tt
+  all_known f [] vs k g = subst (λ vs. EachKnown vs) (same_Some _ _ g) tt
   all_known f (y ∷ zs) vs k g =
       let t = then_inv (f y) (λ v. if_some (all_values dom engine f zs) (λ vs. Some (v ∷ vs))) vs g in
       let r = then_inv (all_values dom engine f zs) (λ vs. Some (t.value ∷ vs)) vs t.gives in
-      subst (λ vs. EachKnown vs) (some_inj _ _ r.gives) (k y t.value t.was, all_known f zs r.value k r.was)
+      subst (λ vs. EachKnown vs) (same_Some _ _ r.gives) (k y t.value t.was, all_known f zs r.value k r.was)
 
   shed_known : (vs : List (Value S)) → EachKnown vs → EachKnown (map (lift dom.shed) vs)
   shed_known [] k = tt
@@ -140,10 +136,10 @@ module _ {S : Type 0} (dom : Operations S) (engine : Engine) (covers : S → Hea
     each_forth : (rs : List Routine) → most_slots rs ≤ most_slots program → most_marks engine.widening rs ≤ most_marks engine.widening program → Roomy rs
     each_forth [] s m = tt
     each_forth (r ∷ rs) s m =
-        let a = max-left (length r.layout.numbers) (most_slots rs) in
-        let b = max-right (length r.layout.numbers) (most_slots rs) in
-        let c = max-left (length (marks engine.widening r)) (most_marks engine.widening rs) in
-        let d = max-right (length (marks engine.widening r)) (most_marks engine.widening rs) in
+        let a = le-max_left (length r.layout.numbers) (most_slots rs) in
+        let b = le-max_right (length r.layout.numbers) (most_slots rs) in
+        let c = le-max_left (length (marks engine.widening r)) (most_marks engine.widening rs) in
+        let d = le-max_right (length (marks engine.widening r)) (most_marks engine.widening rs) in
         let v : length r.layout.numbers ≤ most_slots program = omega arith in
         let w : length (marks engine.widening r) ≤ most_marks engine.widening program = omega arith in
         let g = grows (length r.layout.numbers) (most_slots program) (length (marks engine.widening r)) (most_marks engine.widening program) v w in
@@ -168,7 +164,7 @@ module _ {S : Type 0} (dom : Operations S) (engine : Engine) (covers : S → Hea
     first_entry list b m = record { below = []; back = b; roomy = m; fine = λ r e i. subst (λ ps. Fine (State (dom.init (main_layout ps))) (r.layout ∷ [])) (sym i) (laws.fitting.init r.layout); known = tt }
 
     entry_known : (z : List ℕ) (t : List Routine × Value S) → entry dom engine (reverse program) z ≡ Some t → Entry t.0 t.1
-    entry_known [] t g = subst (λ (t : List Routine × Value S). Entry t.0 t.1) (some_inj _ _ g) (first_entry (reverse program) (fit_back program checked) (turned program [] (each_forth program (omega arith) (omega arith)) tt))
+    entry_known [] t g = subst (λ (t : List Routine × Value S). Entry t.0 t.1) (same_Some _ _ g) (first_entry (reverse program) (fit_back program checked) (turned program [] (each_forth program (omega arith) (omega arith)) tt))
     entry_known (n ∷ z) t g =
         let s = then_inv (entry dom engine (reverse program) z) (entered dom engine n z) t g in
         entered_entry n z s.value.0 s.value.1 (entry_known z s.value s.was) t s.gives

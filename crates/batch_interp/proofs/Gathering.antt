@@ -1,6 +1,6 @@
 -- What is known under several chains, one at a time.
 use Rattle.std.proofs.Common.{ℕ, ◌≡◌, ◌+◌, ◌<◌, ◌≤◌, List, [], ◌∷◌, length, drop, reverse, map, get_or, Option, Some, None, refl, sym, ap, ◌∙◌}
-use Rattle.std.proofs.lemmas.List.{reverse-reverse, drop_all}
+use Rattle.std.proofs.lemmas.List.{drop_all}
 use Rattle.domain_laws.specs.Operations.{Operations}
 use Rattle.analysis_words.specs.declared.refusal.Refusal.TheVariants.{NoStatement}
 use Rattle.batch_meaning.specs.Values.{Value, lift}
@@ -9,10 +9,6 @@ use Rattle.batch_meaning.specs.Places.{if_some}
 use Rattle.batch_meaning.specs.Answers.{Answer, Refuses, Answers, all_values, summed, sum_of}
 use Rattle.batch_interp.specs.Summing.{added}
 use Rattle.plain_values.proofs.Lists.{drop_item}
-
-pub all_back : (zs : List (List ℕ)) → map reverse (map reverse zs) ≡ zs
-all_back [] = refl
-all_back (z ∷ zs) = λ i. reverse-reverse z i ∷ all_back zs i
 
 module _ {S : Type 0} (dom : Operations S) (engine : Engine) where
   abbrev total : Option (Value S) → List (Value S) → Answer S

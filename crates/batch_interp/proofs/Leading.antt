@@ -15,9 +15,9 @@ use Rattle.batch_interp.specs.Answered.{value_of}
 use Rattle.batch_interp.specs.Walking.{entered_of, IsGone, IsEntered, called_from}
 use Rattle.batch_interp.specs.Totalling.{LeadsTo, AllLead}
 use Rattle.batch_interp.specs.declared.walks.Entered.{Entered}
-use Rattle.plain_values.proofs.Cases.{by_test, some_inj}
+use Rattle.plain_values.proofs.Cases.{by_test}
 use Rattle.std.proofs.lemmas.List.{length-reverse, length-take-le}
-use Rattle.std.proofs.lemmas.Option.{slice_get_within}
+use Rattle.std.proofs.lemmas.Option.{slice_get_within, same_Some}
 use Rattle.plain_values.proofs.Lists.{get_take}
 use Rattle.plain_values.proofs.Members.{Member, here, there, in_left, in_right, either}
 use Rattle.batch_meaning.proofs.Places.{found}
@@ -207,7 +207,7 @@ module _ {S : Type 0} (dom : Operations S) (plan : Plan) where
   -- a chain that leads to a procedure enters it
   pub arrives : (p : ℕ) (z : List ℕ) (e : Entered S) → p < length plan.program → LeadsTo dom plan p z → IsEntered plan.program z (Some e) (entry dom plan.engine (reverse plan.program) z) → (entry dom plan.engine (reverse plan.program) z ≡ Some (earlier plan.program (suc p), value_of e.before)) × (e.frame.place ≡ p) × (e.frame.sites ≡ z)
   arrives p z e h l i =
-      let lists : earlier plan.program (suc e.frame.place) ≡ earlier plan.program (suc p) = ap (λ (x : List Routine × Value S). x.0) (some_inj (entered_of plan.program e) (earlier plan.program (suc p), l.value) (sym i.0 ∙ l.is)) in
+      let lists : earlier plan.program (suc e.frame.place) ≡ earlier plan.program (suc p) = ap (λ (x : List Routine × Value S). x.0) (same_Some (entered_of plan.program e) (earlier plan.program (suc p), l.value) (sym i.0 ∙ l.is)) in
       let size : suc e.frame.place ≡ suc p = sym (how_many plan.program e.frame.place i.1) ∙ ap length lists ∙ how_many plan.program p h in
       let place : e.frame.place ≡ p = omega (arith, size) in
       (i.0 ∙ ap (λ k. Some (earlier plan.program (suc k), value_of e.before)) place, place, i.2)

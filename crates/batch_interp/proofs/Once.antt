@@ -1,11 +1,12 @@
 -- What a checked program guarantees of a procedure at a place.
-use Rattle.std.proofs.Common.{ℕ, zero, suc, ◌≡◌, ◌≤◌, List, [], ◌∷◌, ◌++◌, length, take, slice_get, Option, Some, None, refl, sym, subst, arith, append_assoc}
+use Rattle.std.proofs.Common.{ℕ, zero, suc, ◌≡◌, List, [], ◌∷◌, ◌++◌, take, slice_get, Option, Some, None, refl, sym, subst, append_assoc}
 use Rattle.imp_slots.specs.Plain.{Routine}
 use Rattle.imp_slots.specs.Fits.{FitsCode, FitInTurn, IsChecked}
 use Rattle.program_chains.specs.Chains.{calls_to}
 use Rattle.std.proofs.lemmas.List.{append-nil}
 use Rattle.plain_values.proofs.Members.{Member}
 use Rattle.call_contexts.proofs.Tabled.{no_calls}
+use Rattle.plain_values.proofs.Lists.{none_past}
 
 fit_at : (before rs : List Routine) (k : ℕ) (r : Routine) → FitInTurn before rs → slice_get rs k ≡ Some r → FitsCode (before ++ take k rs) r.layout r.code
 fit_at before [] k r f e = absurd cc
@@ -17,15 +18,10 @@ fit_at before (x ∷ rs) (suc k) r f e = subst (λ bs. FitsCode bs r.layout r.co
 nothing_in : {A : Type 0} (x : A) (xs : List A) → xs ≡ [] → Member x xs → ⊥
 nothing_in x xs e m = elim (subst (Member x) e m) [ ]
 
-past : {A : Type 0} (xs : List A) (q : ℕ) → slice_get xs q ≡ None → length xs ≤ q
-past [] q h = omega arith
-past (x ∷ xs) zero h = absurd cc
-past (x ∷ xs) (suc q) h = omega (arith, past xs q h)
-
 -- a procedure that is called stands in front of its caller
 pub called_before : (program : List Routine) (k p : ℕ) (r : Routine) (n : ℕ) → IsChecked program → slice_get program k ≡ Some r → Member n (calls_to p r.code) → (c : Routine) × (slice_get (take k program) p ≡ Some c)
 called_before program k p r n checked e m = go (slice_get (take k program) p) refl
   where
     go : (o : Option Routine) → slice_get (take k program) p ≡ o → (c : Routine) × (slice_get (take k program) p ≡ Some c)
     go (Some c) h = (c, h)
-    go None h = absurd (nothing_in n (calls_to p r.code) (no_calls (take k program) r.layout p r.code (past (take k program) p h) (fit_at [] program k r checked.fit e)) m)
+    go None h = absurd (nothing_in n (calls_to p r.code) (no_calls (take k program) r.layout p r.code (none_past (take k program) p h) (fit_at [] program k r checked.fit e)) m)

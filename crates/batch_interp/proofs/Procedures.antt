@@ -9,9 +9,9 @@ use Rattle.batch_meaning.specs.Values.{Value}
 use Rattle.batch_meaning.specs.Batch.{Engine, batch, procedure, calls_of}
 use Rattle.batch_meaning.specs.Places.{from}
 use Rattle.batch_interp.specs.Frames.{Plan, earlier, marks_at, marks_of, calls_in, passed}
-use Rattle.plain_values.proofs.Cases.{by_test, some_inj}
+use Rattle.plain_values.proofs.Cases.{by_test}
 use Rattle.plain_values.proofs.Lists.{get_last, get_other, get_take, take_take}
-use Rattle.std.proofs.lemmas.Option.{slice_get_within}
+use Rattle.std.proofs.lemmas.Option.{slice_get_within, same_Some}
 use Rattle.std.proofs.Math.Seq.{take-length}
 
 last_turned : (b : Routine) (ps : List Routine) → reverse (b ∷ ps) ≡ reverse ps ++ (b ∷ [])
@@ -32,7 +32,7 @@ from_there [] q r e = absurd cc
 from_there (b ∷ ps) q r e =
     by_test q (length ps) (λ c. (if c then b ∷ ps else from ps q) ≡ r ∷ reverse (take q (reverse (b ∷ ps))))
     (λ k.
-    let same : b ≡ r = some_inj b r (sym (get_turned b ps) ∙ sym (ap (slice_get (reverse (b ∷ ps))) k) ∙ e) in
+    let same : b ≡ r = same_Some b r (sym (get_turned b ps) ∙ sym (ap (slice_get (reverse (b ∷ ps))) k) ∙ e) in
     let all : take q (reverse (b ∷ ps)) ≡ reverse ps = take_behind b ps q (omega arith) ∙ ap (λ i. take i (reverse ps)) (k ∙ sym (length-reverse ps)) ∙ take-length (reverse ps) in
     ap (λ x. x ∷ ps) same ∙ ap (λ xs. r ∷ xs) (sym (reverse-reverse ps) ∙ sym (ap reverse all)))
     (λ k.

@@ -1,5 +1,5 @@
 -- Statements found by their numbers, one at a time.
-use Rattle.std.proofs.Common.{ℕ, ◌≡◌, ◌≢◌, ◌+◌, ◌<◌, ◌≤◌, ◌||◌, true, false, List, [], ◌∷◌, ◌++◌, length, drop, get_or, Option, Some, None, refl, sym, ap, ◌∙◌, append_assoc}
+use Rattle.std.proofs.Common.{ℕ, ◌≡◌, ◌≢◌, ◌+◌, ◌<◌, ◌≤◌, ◌||◌, true, false, List, [], ◌∷◌, ◌++◌, length, drop, get_or, Some, None, refl, sym, ap, ◌∙◌, append_assoc}
 use Rattle.std.specs.Prelude.{if◌then◌else◌}
 use Rattle.plain_values.proofs.Members.{keys, keys_both}
 use Rattle.imp_slots.specs.Plain.{Guard, Does, DoBreak, Code, Stop, Simple, If, While, Call, Break, code_numbers}
@@ -16,29 +16,16 @@ use Rattle.batch_interp.specs.Seeking.{holds_inside, places, spot_at, inner_of}
 use Rattle.plain_values.proofs.Cases.{by_test}
 use Rattle.plain_values.proofs.Lists.{drop_item}
 use Rattle.std.proofs.lemmas.List.{drop_all}
-
--- the first of a number among more
-abbrev or_else : {A : Type 0} → Option A → Option A → Option A
-or_else None o = o
-or_else (Some a) o = Some a
-
-find_both : {A : Type 0} (n : ℕ) (xs ys : List (ℕ × A)) → find n (xs ++ ys) ≡ or_else (find n xs) (find n ys)
-find_both n [] ys = refl
-find_both n (x ∷ xs) ys = by_test n x.0 (λ c. (if c then Some x.1 else find n (xs ++ ys)) ≡ or_else (if c then Some x.1 else find n xs) (find n ys)) (λ e. refl) (λ e. find_both n xs ys)
+use Rattle.batch_meaning.proofs.Places.{find_both, find_key, or_else}
 
 none_found : {A : Type 0} (n : ℕ) (xs : List (ℕ × A)) → has n (keys xs) ≡ false → find n xs ≡ None
 none_found n [] h = refl
 none_found n (x ∷ xs) h =
     (by_test n x.0 (λ c. (if c then true else has n (keys xs)) ≡ false → (if c then Some x.1 else find n xs) ≡ None) (λ e k. absurd cc) (λ e k. none_found n xs k)) h
 
-some_found : {A : Type 0} (n : ℕ) (xs : List (ℕ × A)) → has n (keys xs) ≡ true → (a : A) × (find n xs ≡ Some a)
-some_found n [] h = absurd cc
-some_found n (x ∷ xs) h =
-    (by_test n x.0 (λ c. (if c then true else has n (keys xs)) ≡ true → (a : _) × ((if c then Some x.1 else find n xs) ≡ Some a)) (λ e k. (x.1, refl)) (λ e k. some_found n xs k)) h
-
 -- found in the first part, or not there
 pub first_part : {A : Type 0} (n : ℕ) (xs ys : List (ℕ × A)) → has n (keys xs) ≡ true → find n (xs ++ ys) ≡ find n xs
-first_part n xs ys h = let s = some_found n xs h in find_both n xs ys ∙ ap (λ o. or_else o (find n ys)) s.1 ∙ sym s.1
+first_part n xs ys h = let s = find_key n xs h in find_both n xs ys ∙ ap (λ o. or_else o (find n ys)) s.1 ∙ sym s.1
 
 pub second_part : {A : Type 0} (n : ℕ) (xs ys : List (ℕ × A)) → has n (keys xs) ≡ false → find n (xs ++ ys) ≡ find n ys
 second_part n xs ys h = find_both n xs ys ∙ ap (λ o. or_else o (find n ys)) (none_found n xs h)

@@ -66,7 +66,7 @@ pub fn answer<D: Domain, L: Ledger>(
 }
 
 /// The answer at a location of the procedure at a place.
-#[tactic(auto, using(crate::proofs::Gathering::all_back))]
+#[tactic(auto, using(plain_values::proofs::Lists::all_back))]
 fn answer_at<D: Domain, L: Ledger>(
     alloc: Global,
     dom: &D,

@@ -12,7 +12,7 @@ ghost use Rattle.batch_interp.specs.Reporting.{befores, before_one, in_front, cl
 
 use crate::Answer;
 use crate::claim::Claim;
-use crate::frames::Walk;
+use crate::frames::Interpreter;
 use crate::spots::{assumed, behind_node, copy_of, head_from};
 use domain_laws::{Domain, Steps, check_of_action};
 use imp_slots::{SlotAction, SlotBlock, SlotCond, SlotNode};
@@ -77,7 +77,7 @@ fn add_claims_in(node: &SlotNode, found: &mut Items<Claim>) -> Result<(), Memory
 #[cycle(befores)]
 #[tactic(auto, using(imp_slots::specs::BlockFalls::node_falls))]
 pub(crate) fn add_befores<D: Domain, L: Ledger>(
-    walk: &Walk<D>,
+    walk: &Interpreter<D>,
     block: &SlotBlock,
     before: Answer<D::State>,
     found: &mut Items<Answer<D::State>>,
@@ -96,7 +96,7 @@ pub(crate) fn add_befores<D: Domain, L: Ledger>(
 /// Adds what is known in front of a statement, if it has a check, or of those inside it that have one.
 #[cycle(befores)]
 fn add_in_front<D: Domain, L: Ledger>(
-    walk: &Walk<D>,
+    walk: &Interpreter<D>,
     node: &SlotNode,
     before: &Answer<D::State>,
     found: &mut Items<Answer<D::State>>,
@@ -121,7 +121,7 @@ fn add_in_front<D: Domain, L: Ledger>(
 /// Adds what is known in front of each statement inside a loop that has a check.
 #[cycle(befores)]
 fn add_inside<D: Domain, L: Ledger>(
-    walk: &Walk<D>,
+    walk: &Interpreter<D>,
     n: u32,
     cond: &SlotCond,
     body: &SlotBlock,

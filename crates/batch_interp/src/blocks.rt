@@ -10,7 +10,7 @@ ghost use Rattle.batch_interp.specs.Frames.{marks_at, calls_in, passed};
 ghost use Rattle.batch_interp.specs.Passing.{states, Ends, IsFixed};
 
 use crate::Answer;
-use crate::frames::Walk;
+use crate::frames::Interpreter;
 use domain_laws::{Domain, Steps};
 use imp_slots::{SlotAction, SlotBlock, SlotCall, SlotCond, SlotNode, SlotStmt};
 use imp_syntax::{Chain, StmtId};
@@ -58,7 +58,7 @@ pub fn behind_break<D: Domain, L: Ledger>(
 
 /// The next iterate of a loop behind the k-th: joined below the delay, else widened.
 fn next_iterate<D: Domain, L: Ledger>(
-    walk: &Walk<D>,
+    walk: &Interpreter<D>,
     k: u32,
     state: &D::State,
     end: &D::State,
@@ -101,7 +101,7 @@ pub fn joined_states<D: Domain, L: Ledger>(
 #[cycle(blocks)]
 #[tactic(auto, using(imp_slots::specs::BlockFalls::node_falls))]
 pub(crate) fn block_answer<D: Domain, L: Ledger>(
-    walk: &Walk<D>,
+    walk: &Interpreter<D>,
     block: &SlotBlock,
     state: D::State,
     leaving: &mut Items<D::State>,
@@ -122,7 +122,7 @@ pub(crate) fn block_answer<D: Domain, L: Ledger>(
 /// A statement alone, as a block.
 #[cycle(blocks)]
 pub(crate) fn node_answer<D: Domain, L: Ledger>(
-    walk: &Walk<D>,
+    walk: &Interpreter<D>,
     node: &SlotNode,
     state: &D::State,
     leaving: &mut Items<D::State>,
@@ -150,7 +150,7 @@ pub(crate) fn node_answer<D: Domain, L: Ledger>(
 /// A block under a condition, from the state in front of the condition.
 #[cycle(blocks)]
 fn block_under<D: Domain, L: Ledger>(
-    walk: &Walk<D>,
+    walk: &Interpreter<D>,
     cond: &SlotCond,
     sense: bool,
     block: &SlotBlock,
@@ -167,7 +167,7 @@ fn block_under<D: Domain, L: Ledger>(
 /// Both blocks of an if, joined. The states that leave the first one stand first.
 #[cycle(blocks)]
 fn if_answer<D: Domain, L: Ledger>(
-    walk: &Walk<D>,
+    walk: &Interpreter<D>,
     cond: &SlotCond,
     then: &SlotBlock,
     els: &SlotBlock,
@@ -191,7 +191,7 @@ fn if_answer<D: Domain, L: Ledger>(
 /// A loop: its head where the condition is false, joined with what leaves the body.
 #[cycle(blocks)]
 fn while_answer<D: Domain, L: Ledger>(
-    walk: &Walk<D>,
+    walk: &Interpreter<D>,
     n: u32,
     cond: &SlotCond,
     body: &SlotBlock,
@@ -213,7 +213,7 @@ fn while_answer<D: Domain, L: Ledger>(
 /// The iterates of a loop, from the state in front of it until one is the one before it.
 #[cycle(blocks)]
 pub(crate) fn loop_head<D: Domain, L: Ledger>(
-    walk: &Walk<D>,
+    walk: &Interpreter<D>,
     n: u32,
     cond: &SlotCond,
     body: &SlotBlock,
@@ -244,7 +244,7 @@ pub(crate) fn loop_head<D: Domain, L: Ledger>(
 /// A call: its procedure is entered and left.
 #[cycle(blocks)]
 fn call_answer<D: Domain, L: Ledger>(
-    walk: &Walk<D>,
+    walk: &Interpreter<D>,
     n: u32,
     call: &SlotCall,
     callee: u32,
@@ -266,7 +266,7 @@ fn call_answer<D: Domain, L: Ledger>(
 #[cycle(blocks)]
 #[tactic(auto, using(crate::proofs::Weights::weight_falls))]
 fn callee_answer<D: Domain, L: Ledger>(
-    walk: &Walk<D>,
+    walk: &Interpreter<D>,
     n: u32,
     callee: usize,
     entered: D::State,
@@ -279,7 +279,7 @@ fn callee_answer<D: Domain, L: Ledger>(
         Some(routine) => {
             let inner = walk.frame.callee(walk.alloc, n, callee)?;
             let mut leaving = Items::new(walk.alloc);
-            let there = Walk {
+            let there = Interpreter {
                 alloc: walk.alloc,
                 dom: walk.dom,
                 plan: walk.plan,

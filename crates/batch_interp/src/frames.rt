@@ -48,7 +48,7 @@ pub struct Frame {
 
 /// What each step of a walk through a block is lent: the domain, the program, and where the block stands.
 #[derive(Drop)]
-pub(crate) struct Walk<'a, D> {
+pub(crate) struct Interpreter<'a, D> {
     pub(crate) alloc: Global,
     pub(crate) dom: &'a D,
     pub(crate) plan: &'a Plan<'a>,

@@ -8,7 +8,7 @@ ghost use Rattle.batch_interp.specs.Answered.{value_of};
 ghost use Rattle.batch_interp.specs.Heads.{head_told, heads_under, loop_value, loop_values, values_inside};
 
 use crate::Answer;
-use crate::frames::{Plan, Walk};
+use crate::frames::{Interpreter, Plan};
 use crate::spots::{assumed, behind_node, head_from};
 use crate::totals::enter_procedure;
 use crate::walks::Entered;
@@ -35,7 +35,7 @@ pub struct Head<S> {
 #[cycle(heads)]
 #[tactic(auto, using(imp_slots::specs::BlockFalls::node_falls))]
 fn add_heads<D: Domain, L: Ledger>(
-    walk: &Walk<D>,
+    walk: &Interpreter<D>,
     block: &SlotBlock,
     before: Answer<D::State>,
     found: &mut Items<Head<D::State>>,
@@ -54,7 +54,7 @@ fn add_heads<D: Domain, L: Ledger>(
 /// Adds a statement, if it is a loop, and the loops inside it.
 #[cycle(heads)]
 fn add_heads_in<D: Domain, L: Ledger>(
-    walk: &Walk<D>,
+    walk: &Interpreter<D>,
     node: &SlotNode,
     before: &Answer<D::State>,
     found: &mut Items<Head<D::State>>,
@@ -79,7 +79,7 @@ fn add_heads_in<D: Domain, L: Ledger>(
 /// Adds a loop, and those inside it.
 #[cycle(heads)]
 fn add_loop<D: Domain, L: Ledger>(
-    walk: &Walk<D>,
+    walk: &Interpreter<D>,
     n: u32,
     cond: &SlotCond,
     body: &SlotBlock,
@@ -109,7 +109,7 @@ fn heads_of<D: Domain, L: Ledger>(
 {
     let Entered { frame, before } = entered;
     let mut found = Items::new(alloc);
-    let walk = Walk {
+    let walk = Interpreter {
         alloc,
         dom,
         plan,

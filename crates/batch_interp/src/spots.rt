@@ -11,7 +11,7 @@ ghost use Rattle.batch_interp.specs.Seeking.{places, spot_of, inner_of, holds_in
 
 use crate::Answer;
 use crate::blocks::{Fixed, block_answer, loop_head, node_answer};
-use crate::frames::Walk;
+use crate::frames::Interpreter;
 use call_contexts::holds;
 use domain_laws::{Domain, Steps};
 use imp_slots::{SlotBlock, SlotCond, SlotNode};
@@ -54,7 +54,7 @@ pub(crate) fn copy_of<D: Domain>(
 
 /// Where a condition has a truth value.
 pub(crate) fn assumed<D: Domain, L: Ledger>(
-    walk: &Walk<D>,
+    walk: &Interpreter<D>,
     cond: &SlotCond,
     sense: bool,
     before: &Answer<D::State>,
@@ -75,7 +75,7 @@ pub(crate) fn assumed<D: Domain, L: Ledger>(
 
 /// Behind a block.
 pub(crate) fn behind_block<D: Domain, L: Ledger>(
-    walk: &Walk<D>,
+    walk: &Interpreter<D>,
     block: &SlotBlock,
     before: Answer<D::State>,
     steps: &mut Steps<L>,
@@ -93,7 +93,7 @@ pub(crate) fn behind_block<D: Domain, L: Ledger>(
 
 /// Behind a statement.
 pub(crate) fn behind_node<D: Domain, L: Ledger>(
-    walk: &Walk<D>,
+    walk: &Interpreter<D>,
     node: &SlotNode,
     before: Answer<D::State>,
     steps: &mut Steps<L>,
@@ -111,7 +111,7 @@ pub(crate) fn behind_node<D: Domain, L: Ledger>(
 
 /// The head of a loop, from the state in front of it.
 fn head_of_state<D: Domain, L: Ledger>(
-    walk: &Walk<D>,
+    walk: &Interpreter<D>,
     n: u32,
     cond: &SlotCond,
     body: &SlotBlock,
@@ -128,7 +128,7 @@ fn head_of_state<D: Domain, L: Ledger>(
 
 /// The head of a loop.
 pub(crate) fn head_answer<D: Domain, L: Ledger>(
-    walk: &Walk<D>,
+    walk: &Interpreter<D>,
     n: u32,
     cond: &SlotCond,
     body: &SlotBlock,
@@ -145,7 +145,7 @@ pub(crate) fn head_answer<D: Domain, L: Ledger>(
 
 /// The head of a loop, from what is lent.
 pub(crate) fn head_from<D: Domain, L: Ledger>(
-    walk: &Walk<D>,
+    walk: &Interpreter<D>,
     n: u32,
     cond: &SlotCond,
     body: &SlotBlock,
@@ -179,7 +179,7 @@ fn holds_inside(node: &SlotNode, number: u32) -> bool
 #[cycle(seeking)]
 #[tactic(auto, using(imp_slots::specs::BlockFalls::node_falls))]
 pub(crate) fn seek<'a, D: Domain, L: Ledger>(
-    walk: &Walk<D>,
+    walk: &Interpreter<D>,
     block: &'a SlotBlock,
     before: Answer<D::State>,
     number: u32,
@@ -203,7 +203,7 @@ pub(crate) fn seek<'a, D: Domain, L: Ledger>(
 /// The first statement of this number inside a statement.
 #[cycle(seeking)]
 fn seek_inside<'a, D: Domain, L: Ledger>(
-    walk: &Walk<D>,
+    walk: &Interpreter<D>,
     node: &'a SlotNode,
     before: Answer<D::State>,
     number: u32,
@@ -232,7 +232,7 @@ fn seek_inside<'a, D: Domain, L: Ledger>(
 /// The first statement of this number in a block that stands under a condition.
 #[cycle(seeking)]
 fn seek_under<'a, D: Domain, L: Ledger>(
-    walk: &Walk<D>,
+    walk: &Interpreter<D>,
     cond: &SlotCond,
     sense: bool,
     block: &'a SlotBlock,

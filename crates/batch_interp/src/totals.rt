@@ -11,7 +11,7 @@ ghost use Rattle.batch_interp.specs.Totalling.{first_of, behind_first, all_added
 
 use crate::Answer;
 use crate::befores::add_befores;
-use crate::frames::{Plan, Walk};
+use crate::frames::{Interpreter, Plan};
 use crate::sums::added;
 use crate::walks::{Entered, enter_chain};
 use domain_laws::{Domain, Steps};
@@ -55,7 +55,7 @@ fn befores_of<D: Domain, L: Ledger>(
 {
     let Entered { frame, before } = entered;
     let mut found = Items::new(alloc);
-    let walk = Walk {
+    let walk = Interpreter {
         alloc,
         dom,
         plan,

@@ -7,7 +7,7 @@ ghost use Rattle.batch_interp.specs.Frames.{earlier};
 ghost use Rattle.batch_interp.specs.Seeking.{places, head_at};
 
 use crate::Answer;
-use crate::frames::{Plan, Walk};
+use crate::frames::{Interpreter, Plan};
 use crate::spots::{Seen, behind_block, behind_node, head_answer, seek};
 use crate::walks::{Entered, enter_chain};
 use domain_laws::{Domain, Steps};
@@ -19,7 +19,7 @@ use std::sync::ledger::Ledger;
 
 /// In front of the statement of a number.
 fn before_number<D: Domain, L: Ledger>(
-    walk: &Walk<D>,
+    walk: &Interpreter<D>,
     body: &SlotBlock,
     before: Answer<D::State>,
     number: u32,
@@ -35,7 +35,7 @@ fn before_number<D: Domain, L: Ledger>(
 
 /// Behind the statement of a number.
 fn after_number<D: Domain, L: Ledger>(
-    walk: &Walk<D>,
+    walk: &Interpreter<D>,
     body: &SlotBlock,
     before: Answer<D::State>,
     number: u32,
@@ -54,7 +54,7 @@ fn after_number<D: Domain, L: Ledger>(
 
 /// At the head of a statement, if it is a loop.
 fn head_of_seen<D: Domain, L: Ledger>(
-    walk: &Walk<D>,
+    walk: &Interpreter<D>,
     seen: Seen<D::State>,
     steps: &mut Steps<L>,
 ) -> Result<Option<Answer<D::State>>, Memory>
@@ -71,7 +71,7 @@ fn head_of_seen<D: Domain, L: Ledger>(
 
 /// At the head of the loop of a number.
 fn head_of_number<D: Domain, L: Ledger>(
-    walk: &Walk<D>,
+    walk: &Interpreter<D>,
     body: &SlotBlock,
     before: Answer<D::State>,
     number: u32,
@@ -87,7 +87,7 @@ fn head_of_number<D: Domain, L: Ledger>(
 
 /// Behind the body of a procedure, if this is its name.
 fn end_of<D: Domain, L: Ledger>(
-    walk: &Walk<D>,
+    walk: &Interpreter<D>,
     routine: &Routine,
     before: Answer<D::State>,
     name: &Text,
@@ -106,7 +106,7 @@ fn end_of<D: Domain, L: Ledger>(
 
 /// At a location of a procedure, if it has the location.
 fn value_within<D: Domain, L: Ledger>(
-    walk: &Walk<D>,
+    walk: &Interpreter<D>,
     routine: &Routine,
     before: Answer<D::State>,
     at: &Location,
@@ -138,7 +138,7 @@ fn value_in<D: Domain, L: Ledger>(
 {
     let Entered { frame, before } = entered;
     let routine = &plan.routines()[frame.place];
-    let walk = Walk {
+    let walk = Interpreter {
         alloc,
         dom,
         plan,

@@ -7,7 +7,7 @@ ghost use Rattle.batch_interp.specs.Seeking.{call_at};
 ghost use Rattle.batch_interp.specs.Walking.{entered_of, IsEntered, called_from};
 
 use crate::Answer;
-use crate::frames::{Frame, Plan, Walk};
+use crate::frames::{Frame, Interpreter, Plan};
 use crate::spots::{Seen, seek};
 use domain_laws::{Domain, Steps};
 use imp_slots::{SlotCall, SlotNode};
@@ -62,7 +62,7 @@ fn entered_value<D: Domain, L: Ledger>(
 
 /// The procedure of a call, entered, where it stands in front of its caller.
 fn enter_callee<D: Domain, L: Ledger>(
-    walk: &Walk<D>,
+    walk: &Interpreter<D>,
     site: u32,
     call: &SlotCall,
     callee: usize,
@@ -83,7 +83,7 @@ fn enter_callee<D: Domain, L: Ledger>(
 
 /// The procedure that a statement calls, entered.
 fn enter_seen<D: Domain, L: Ledger>(
-    walk: &Walk<D>,
+    walk: &Interpreter<D>,
     site: u32,
     seen: Seen<D::State>,
     steps: &mut Steps<L>,
@@ -112,7 +112,7 @@ fn enter_call<D: Domain, L: Ledger>(
 {
     let Entered { frame, before } = caller;
     let body = plan.routines()[frame.place].body();
-    let walk = Walk {
+    let walk = Interpreter {
         alloc,
         dom,
         plan,

@@ -1,15 +1,16 @@
 -- The statements of a block and what is known at them.
-use Rattle.std.specs.Prelude.{◌≡◌, ◌≢◌, ℕ, ℤ, List, [], ◌∷◌, slice_get, Some, if◌then◌else◌}
+use Rattle.std.specs.Prelude.{◌≡◌, ◌≢◌, ℕ, ℤ, List, [], ◌∷◌, slice_get, Some, if◌then◌else◌, ◌++◌, Option, None, true}
 use Rattle.std.proofs.Common.{refl, sym, ap, subst}
-use Rattle.plain_values.proofs.Cases.{by_test, some_inj}
+use Rattle.plain_values.proofs.Cases.{by_test}
 use Rattle.plain_values.proofs.Members.{Member, here, there, in_left, in_right, Each, none_there, each_more, each_both, each_as, keys, keys_both}
 use Rattle.imp_slots.specs.Plain.{Layout, Invoke, Code, Stop, Simple, If, While, Call, Break, Routine, code_numbers}
 use Rattle.imp_slots.specs.Fits.{FitsCall, FitsCode, Absent, Distinct}
-use Rattle.program_chains.specs.Chains.{calls_to}
+use Rattle.program_chains.specs.Chains.{calls_to, has}
 use Rattle.domain_laws.specs.Operations.{Operations}
 use Rattle.batch_meaning.specs.Values.{Value}
 use Rattle.batch_meaning.specs.Batch.{Engine}
 use Rattle.batch_meaning.specs.Places.{Spot, spots, find}
+use Rattle.std.proofs.lemmas.Option.{same_Some}
 
 absent_not : {A : Type 0} (n : ℕ) (x : ℕ × A) (xs : List (ℕ × A)) → Absent n (keys xs) → Member x xs → n ≢ x.0
 absent_not n x [] a m = elim m [ ]
@@ -53,7 +54,7 @@ module _ {S : Type 0} (dom : Operations S) (engine : Engine) (marks : List ℤ) 
       each_more (CallFits before l) _ _ (λ q e. absurd cc) (each_both (CallFits before l) _ _ (calls_fit before l t _ h.1) (each_both (CallFits before l) _ _ (calls_fit before l e _ h.2) (calls_fit before l r _ h.3)))
   calls_fit before l (While n g b r) a h =
       each_more (CallFits before l) _ _ (λ q e. absurd cc) (each_both (CallFits before l) _ _ (calls_fit before l b _ h.1) (calls_fit before l r _ h.2))
-  calls_fit before l (Call n i q r) a h = each_more (CallFits before l) _ _ (λ p e. subst (λ (k : Invoke × ℕ). FitsCall l k.0 (slice_get before k.1)) (some_inj _ _ e) h.0) (calls_fit before l r _ h.1)
+  calls_fit before l (Call n i q r) a h = each_more (CallFits before l) _ _ (λ p e. subst (λ (k : Invoke × ℕ). FitsCall l k.0 (slice_get before k.1)) (same_Some _ _ e) h.0) (calls_fit before l r _ h.1)
   calls_fit before l (Break n r) a h = each_more (CallFits before l) _ _ (λ q e. absurd cc) (calls_fit before l r _ h)
 
   -- a statement that calls q is among the calls of q
@@ -74,6 +75,22 @@ module _ {S : Type 0} (dom : Operations S) (engine : Engine) (marks : List ℤ) 
       (each_as (IsCall r) _ _ (λ x f q i. in_right (calls_to q.1 b) (f q i)) (are_calls r _)))
   are_calls (Call n inv p r) a =
       each_more (IsCall (Call n inv p r)) _ _
-      (λ q e. by_test q.1 p (λ c. Member n (if c then n ∷ calls_to q.1 r else calls_to q.1 r)) (λ k. here) (λ k. absurd (k (sym (ap (λ (y : Invoke × ℕ). y.1) (some_inj _ _ e))))))
+      (λ q e. by_test q.1 p (λ c. Member n (if c then n ∷ calls_to q.1 r else calls_to q.1 r)) (λ k. here) (λ k. absurd (k (sym (ap (λ (y : Invoke × ℕ). y.1) (same_Some _ _ e))))))
       (each_as (IsCall r) _ _ (λ x f q i. by_test q.1 p (λ c. Member x.0 (if c then n ∷ calls_to q.1 r else calls_to q.1 r)) (λ k. there (f q i)) (λ k. f q i)) (are_calls r _))
   are_calls (Break n r) a = each_more (IsCall (Break n r)) _ _ (λ q e. absurd cc) (are_calls r _)
+
+-- what is found in two lists is found in the first, or else in the second
+abbrev pub or_else : {A : Type 0} → Option A → Option A → Option A
+or_else None o = o
+or_else (Some a) o = Some a
+
+pub find_both : {A : Type 0} (n : ℕ) (xs ys : List (ℕ × A)) → find n (xs ++ ys) ≡ or_else (find n xs) (find n ys)
+find_both n [] ys = refl
+find_both n (x ∷ xs) ys = by_test n x.0 (λ c. (if c then Some x.1 else find n (xs ++ ys)) ≡ or_else (if c then Some x.1 else find n xs) (find n ys)) (λ e. refl) (λ e. find_both n xs ys)
+
+pub find_key : {A : Type 0} (n : ℕ) (xs : List (ℕ × A)) → has n (keys xs) ≡ true → (x : A) × (find n xs ≡ Some x)
+find_key n [] e = absurd cc
+find_key {A} n (x ∷ xs) e =
+    (by_test n x.0 (λ c. (if c then true else has n (keys xs)) ≡ true → (y : A) × ((if c then Some x.1 else find n xs) ≡ Some y))
+    (λ i e. (x.1, refl))
+    (λ i e. find_key n xs e)) e

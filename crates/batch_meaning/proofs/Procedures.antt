@@ -2,7 +2,7 @@
 use Rattle.std.specs.Prelude.{◌≡◌, ℕ, ◌<◌, ◌≤◌, ◌==◌, List, [], ◌∷◌, ◌++◌, length, reverse, slice_get, Option, Some, None, if◌then◌else◌}
 use Rattle.std.proofs.Common.{refl, sym, ap, ◌∙◌, arith, subst}
 use Rattle.std.proofs.lemmas.List.{reverse-append, reverse-reverse, length-reverse}
-use Rattle.plain_values.proofs.Cases.{by_test, some_inj}
+use Rattle.plain_values.proofs.Cases.{by_test}
 use Rattle.plain_values.proofs.Lists.{get_last, get_other}
 use Rattle.imp_slots.specs.Plain.{Routine}
 use Rattle.imp_slots.specs.Fits.{FitsCode, FitInTurn, IsChecked}
@@ -11,6 +11,7 @@ use Rattle.domain_laws.specs.Operations.{Operations}
 use Rattle.batch_meaning.specs.Values.{Value}
 use Rattle.batch_meaning.specs.Batch.{Engine, batch, procedure, calls_of}
 use Rattle.batch_meaning.specs.Places.{from}
+use Rattle.std.proofs.lemmas.Option.{same_Some}
 
 -- the routine at a place
 abbrev pub look : List Routine → ℕ → Option Routine
@@ -30,7 +31,7 @@ pub from_look : (ps : List Routine) (q : ℕ) (c : Routine) → look ps q ≡ So
 from_look [] q c e = absurd cc
 from_look (r ∷ earlier) q c e =
     (by_test q (length earlier) (λ t. (if t then Some r else look earlier q) ≡ Some c → (rest : List Routine) × ((if t then r ∷ earlier else from earlier q) ≡ c ∷ rest))
-    (λ k e. (earlier, ap (λ r. r ∷ earlier) (some_inj r c e)))
+    (λ k e. (earlier, ap (λ r. r ∷ earlier) (same_Some r c e)))
     (λ k e. from_look earlier q c e)) e
 
 pub look_from : (ps : List Routine) (q : ℕ) (c : Routine) (rest : List Routine) → from ps q ≡ c ∷ rest → look ps q ≡ Some c

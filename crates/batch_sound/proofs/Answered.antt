@@ -23,7 +23,6 @@ use Rattle.batch_meaning.specs.Batch.{Engine, calls_of}
 use Rattle.batch_meaning.specs.Places.{Spot, spots, find, from, main_layout, if_some, head_value, value_in, entered, entry, value_at}
 use Rattle.batch_meaning.specs.Answers.{Refuses, Answers, Found, In as Belongs, Misses, found_or, found_loop, procedure_of, all_values, summed, sum_of, answer_in, answer}
 use Rattle.batch_sound.proofs.Values.{Says, Fit, fit_enter, fit_shed, says_shed, EachFit, Below, EachBelow, fit_joined, joined_first, joined_each}
-use Rattle.plain_values.proofs.Cases.{some_inj}
 use Rattle.batch_meaning.proofs.Procedures.{look, look_get, look_from, fit_back}
 use Rattle.plain_values.proofs.Members.{Member, here, there, Each, each_more, none_there}
 use Rattle.batch_meaning.proofs.Places.{found_member}
@@ -31,6 +30,7 @@ use Rattle.batch_sound.proofs.Chains.{in_selected}
 use Rattle.batch_sound.proofs.Fitting.{callee, SpotFit, spots_fit, block_fit, procedure_fit}
 use Rattle.batch_sound.proofs.Steps.{Kept, Place, Seen, fits_do, seen_behind, Stack, bottom, above, Good, good}
 use Rattle.batch_sound.proofs.Reached.{same_in_turn, place_get, holder_at, top_under, top_procedure, stack_entry, stack_sites, short, stack_chain}
+use Rattle.std.proofs.lemmas.Option.{same_Some}
 
 -- what is taken from an option
 pub record Then {A B : Type 0} (o : Option A) (f : A → Option B) (b : B) : Type 0 where
@@ -91,12 +91,12 @@ module _ {S : Type 0} (dom : Operations S) (engine : Engine) (covers : S → Hea
       go s k e f t g =
           let c = callee (reverse earlier) r.layout k.0 k.1 (f.call k e) in
           let at : look earlier k.1 ≡ Some c.routine = look_get earlier k.1 ∙ c.at in
-          subst (λ (t : List Routine × Value S). Entry t.0 t.1) (some_inj _ _ g)
+          subst (λ (t : List Routine × Value S). Entry t.0 t.1) (same_Some _ _ g)
           (record {
             below = r.layout ∷ x.below;
             seen = seen_behind dom engine covers laws keeps program (reverse program) (same_in_turn program) r earlier k.1 x.seen;
             fine = λ b e i.
-                let same : c.routine ≡ b = some_inj _ _ (sym at ∙ look_from earlier k.1 b e i) in
+                let same : c.routine ≡ b = same_Some _ _ (sym at ∙ look_from earlier k.1 b e i) in
                 subst (λ l. Fine (lift (dom.enter k.0.entering) s.before) (l ∷ r.layout ∷ x.below)) (sym c.layout ∙ ap (λ (b : Routine). b.layout) same)
                 (fit_enter dom engine covers laws k.0 r.layout x.below s.before c.fits f.before_fit);
           })
@@ -108,7 +108,7 @@ module _ {S : Type 0} (dom : Operations S) (engine : Engine) (covers : S → Hea
   seen_all = record { checked = fit_back program checked; same = λ q k. refl; long = omega arith }
 
   entry_fit : (z : List ℕ) (t : List Routine × Value S) → entry dom engine (reverse program) z ≡ Some t → Entry t.0 t.1
-  entry_fit [] t g = subst (λ (t : List Routine × Value S). Entry t.0 t.1) (some_inj _ _ g) (first_entry (reverse program) seen_all)
+  entry_fit [] t g = subst (λ (t : List Routine × Value S). Entry t.0 t.1) (same_Some _ _ g) (first_entry (reverse program) seen_all)
   entry_fit (n ∷ z) t g =
       let s = then_inv (entry dom engine (reverse program) z) (entered dom engine n z) t g in
       entered_entry n z s.value.0 s.value.1 (entry_fit z s.value s.was) t s.gives
@@ -139,13 +139,13 @@ module _ {S : Type 0} (dom : Operations S) (engine : Engine) (covers : S → Hea
     by_number : (n p : ℕ) (f : Spot S → Option (Value S)) (u : Value S) → ((s : Spot S) → f s ≡ Some u → SpotFine z r earlier v x (n, s) → Fine u (r.layout ∷ x.below)) → holder n program ≡ Some p → if_some (find n List_here) f ≡ Some u → Own p u
     by_number n p f u k h g =
         let t = then_inv (find n List_here) f u g in
-        at_own p u (some_inj _ _ (sym h ∙ holds_here n t.value t.was)) (k t.value t.gives (spot_fine z r earlier v x n t.value t.was))
+        at_own p u (same_Some _ _ (sym h ∙ holds_here n t.value t.was)) (k t.value t.gives (spot_fine z r earlier v x n t.value t.was))
 
     end_if : (c : Bool) (name : List ℕ) (p : ℕ) (u w : Value S) → (c ≡ true → name ≡ r.name) → named name program ≡ Some p → Fine w (r.layout ∷ x.below) → (if c then Some w else None) ≡ Some u → Own p u
     end_if false name p u w d h f g = absurd cc
     end_if true name p u w d h f g =
         let k : named name program ≡ Some (length earlier) = ap (λ y. named y program) (d refl) ∙ (places program checked (length earlier) r get_here).name in
-        at_own p u (some_inj _ _ (sym h ∙ k)) (subst (λ y. Fine y (r.layout ∷ x.below)) (some_inj w u g) f)
+        at_own p u (same_Some _ _ (sym h ∙ k)) (subst (λ y. Fine y (r.layout ∷ x.below)) (same_Some w u g) f)
 
     holder_of : (o : Option ℕ) (e : Refusal) (p : ℕ) → found_or e o ≡ Belongs p → o ≡ Some p
     holder_of None e p g = absurd cc
@@ -157,8 +157,8 @@ module _ {S : Type 0} (dom : Operations S) (engine : Engine) (covers : S → Hea
     loop_of false (Some q) e p g = absurd cc
 
     value_fit : (l : Location) (p : ℕ) → procedure_of program l ≡ Belongs p → (u : Value S) → value_in dom engine (r ∷ earlier) z v l ≡ Some u → Own p u
-    value_fit (Before n) p h u g = by_number n p (λ s. Some s.before) u (λ s e f. subst (λ y. Fine y (r.layout ∷ x.below)) (some_inj _ _ e) f.before_fit) (holder_of _ NoStatement p h) g
-    value_fit (After n) p h u g = by_number n p (λ s. Some s.after) u (λ s e f. subst (λ y. Fine y (r.layout ∷ x.below)) (some_inj _ _ e) f.after_fit) (holder_of _ NoStatement p h) g
+    value_fit (Before n) p h u g = by_number n p (λ s. Some s.before) u (λ s e f. subst (λ y. Fine y (r.layout ∷ x.below)) (same_Some _ _ e) f.before_fit) (holder_of _ NoStatement p h) g
+    value_fit (After n) p h u g = by_number n p (λ s. Some s.after) u (λ s e f. subst (λ y. Fine y (r.layout ∷ x.below)) (same_Some _ _ e) f.after_fit) (holder_of _ NoStatement p h) g
     value_fit (Head n) p h u g = by_number n p head_value u (λ s e f. f.head_fit u e) (loop_of (is_while n program) _ NoStatement p h) g
     value_fit (End y) p h u g =
         end_if (bytes_eq y r.name) y p u _ (bytes_eq-Decides y r.name).0 (holder_of _ NoProcedure p h)
@@ -195,7 +195,7 @@ module _ {S : Type 0} (dom : Operations S) (engine : Engine) (covers : S → Hea
   heads f y zs vs g =
       let t = then_inv (f y) (λ v. if_some (all_values dom engine f zs) (λ vs. Some (v ∷ vs))) vs g in
       let r = then_inv (all_values dom engine f zs) (λ vs. Some (t.value ∷ vs)) vs t.gives in
-      record { value = t.value; rest = r.value; was = t.was; were = r.was; is = some_inj _ _ r.gives }
+      record { value = t.value; rest = r.value; was = t.was; were = r.was; is = same_Some _ _ r.gives }
 
   among : (f : List ℕ → Option (Value S)) (zs : List (List ℕ)) (vs : List (Value S)) → all_values dom engine f zs ≡ Some vs → (z : List ℕ) → Member z zs → Among f z vs
   among f [] vs g z m = elim m [ ]
@@ -206,14 +206,14 @@ module _ {S : Type 0} (dom : Operations S) (engine : Engine) (covers : S → Hea
       record { value = k.value; was = k.was; member = subst (Member k.value) t.is (there k.member) }
 
   each_value : (P : Value S → Type 0) (f : List ℕ → Option (Value S)) (zs : List (List ℕ)) (vs : List (Value S)) → ((z : List ℕ) (u : Value S) → f z ≡ Some u → P u) → all_values dom engine f zs ≡ Some vs → Each P vs
-  each_value P f [] vs k g = subst (Each P) (some_inj _ _ g) (none_there P)
+  each_value P f [] vs k g = subst (Each P) (same_Some _ _ g) (none_there P)
   each_value P f (y ∷ zs) vs k g =
       let t = heads f y zs vs g in subst (Each P) t.is (each_more P t.value t.rest (k y t.value t.was) (each_value P f zs t.rest k t.were))
 
   -- Each is shed, and they are joined.
   module _ (p : ℕ) (t : Routine) (at : slice_get program p ≡ Some t) where
     fine_here : (u : Value S) → (f : FineAt p u) → Fine u (t.layout ∷ f.below)
-    fine_here u f = subst (λ (t : Routine). Fine u (t.layout ∷ f.below)) (some_inj _ _ (sym f.at ∙ at)) f.fine
+    fine_here u f = subst (λ (t : Routine). Fine u (t.layout ∷ f.below)) (same_Some _ _ (sym f.at ∙ at)) f.fine
 
     shed_fine : (u : Value S) → FineAt p u → Fine (lift dom.shed u) (t.layout ∷ [])
     shed_fine u f = fit_shed dom engine covers laws t.layout f.below u (fine_here u f)

@@ -6,12 +6,7 @@ use Rattle.imp_slots.specs.Plain.{Routine, code_numbers}
 use Rattle.imp_slots.specs.Fits.{Distinct, routine_numbers}
 use Rattle.program_chains.specs.Chains.{calls_to, extended, through, ends_in, ending_in, has}
 use Rattle.plain_values.proofs.Cases.{by_test}
-use Rattle.plain_values.proofs.Members.{Member, here, there, in_left, in_right}
-
-in_map : {A B : Type 0} (f : A → B) (x : A) (xs : List A) → Member x xs → Member (f x) (map f xs)
-in_map f x [] m = elim m [ ]
-in_map f x (y ∷ xs) here = here
-in_map f x (y ∷ xs) (there m) = there (in_map f x xs m)
+use Rattle.plain_values.proofs.Members.{Member, here, there, in_left, in_right, in_map}
 
 pub in_extended : (n : ℕ) (z : List ℕ) (zs : List (List ℕ)) (ns : List ℕ) → Member z zs → Member n ns → Member (n ∷ z) (extended zs ns)
 in_extended n z zs [] m k = elim k [ ]

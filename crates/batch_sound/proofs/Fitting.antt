@@ -12,9 +12,10 @@ use Rattle.batch_meaning.specs.Values.{Value, lift, lift2}
 use Rattle.batch_meaning.specs.Batch.{Engine, Passed, head_of, batch, procedure, calls_of}
 use Rattle.batch_meaning.specs.Places.{Spot, spot, spots, head_value}
 use Rattle.batch_sound.proofs.Values.{Fit, fit_post, fit_assume, fit_join, fit_enter, fit_leave, fix_is_head, EachFit, fit_both, fit_joined}
-use Rattle.plain_values.proofs.Cases.{by_test, some_inj}
+use Rattle.plain_values.proofs.Cases.{by_test}
 use Rattle.batch_meaning.proofs.Procedures.{look, look_get, FitBack}
 use Rattle.plain_values.proofs.Members.{Each, each_more, each_both, none_there}
+use Rattle.std.proofs.lemmas.Option.{same_Some}
 
 -- The callee of a call that fits.
 pub record Callee (before : List Routine) (l : Layout) (i : Invoke) (q : ℕ) : Type 0 where
@@ -93,11 +94,11 @@ module _ {S : Type 0} (dom : Operations S) (engine : Engine) (covers : S → Hea
         let top = (head_of dom engine marks z n g (batch dom engine marks z calls b) a).value in
         let fi = fit_assume dom engine covers laws g true l ls top s.0 h.fit in
         let k = fit_joined dom engine covers laws (l ∷ ls) _ (batch dom engine marks z calls b (lift (dom.assume g true) top)).leaving (fit_assume dom engine covers laws g false l ls top s.0 h.fit) (inner top h.fit).leaving in
-        each_more SpotFit _ _ (record { before_fit = f; head_fit = λ v e. subst (λ v. Good v (l ∷ ls)) (some_inj _ _ e) h.fit; after_fit = k; call = λ q e. absurd cc })
+        each_more SpotFit _ _ (record { before_fit = f; head_fit = λ v e. subst (λ v. Good v (l ∷ ls)) (same_Some _ _ e) h.fit; after_fit = k; call = λ q e. absurd cc })
         (each_both SpotFit _ _ (spots_fit b _ s.1 fi) (spots_fit r _ s.2 k))
     spots_fit (Call n i q r) a s f =
         let k = behind_call n i q a s.0 f in
-        each_more SpotFit _ _ (record { before_fit = f; head_fit = λ x e. absurd cc; after_fit = k; call = λ p e. subst (λ (p : Invoke × ℕ). FitsCall l p.0 (slice_get before p.1)) (some_inj _ _ e) s.0 }) (spots_fit r _ s.1 k)
+        each_more SpotFit _ _ (record { before_fit = f; head_fit = λ x e. absurd cc; after_fit = k; call = λ p e. subst (λ (p : Invoke × ℕ). FitsCall l p.0 (slice_get before p.1)) (same_Some _ _ e) s.0 }) (spots_fit r _ s.1 k)
     spots_fit (Break n r) a s f =
         let k = fit_post dom engine covers laws DoBreak l ls a refl f in each_more SpotFit _ _ (plain n a _ f k) (spots_fit r _ s k)
 
@@ -107,7 +108,7 @@ module _ {S : Type 0} (dom : Operations S) (engine : Engine) (covers : S → Hea
     procedure_fit (r ∷ earlier) z q c ls a e k f =
         (by_test q (length earlier) (λ t. (if t then Some r else look earlier q) ≡ Some c → Good (if t then (batch dom engine (marks engine.widening r) z (calls_of dom engine earlier z) r.code a).value else procedure dom engine earlier z q a) (c.layout ∷ ls))
         (λ i e.
-        let same : r ≡ c = some_inj r c e in
+        let same : r ≡ c = same_Some r c e in
         subst (λ (c : Routine). Good (batch dom engine (marks engine.widening r) z (calls_of dom engine earlier z) r.code a).value (c.layout ∷ ls)) same
         (block_fit (marks engine.widening r) (rises engine.widening (reverse earlier) r k.0) z (calls_of dom engine earlier z) (reverse earlier) r.layout ls
         (λ n q c v g h. procedure_fit earlier (n ∷ z) q c (r.layout ∷ ls) v (look_get earlier q ∙ g) k.1 h) r.code a k.0

@@ -25,12 +25,13 @@ use Rattle.analysis_words.specs.declared.refusal.Refusal.{Refusal}
 use Rattle.analysis_words.specs.declared.refusal.Refusal.TheVariants.{NoProcedure, NoStatement}
 use Rattle.batch_meaning.specs.Answers.{In as Belongs, found_or, found_loop, procedure_of}
 use Rattle.batch_sound.proofs.Values.{Says, Fit, Below, each_over}
-use Rattle.plain_values.proofs.Cases.{by_test, some_inj}
+use Rattle.plain_values.proofs.Cases.{by_test}
 use Rattle.batch_meaning.proofs.Procedures.{look, look_get, look_from, from_self, from_place, length_from, FitBack, fit_back}
 use Rattle.plain_values.proofs.Members.{Member, here, key_member}
 use Rattle.batch_meaning.proofs.Places.{found, keys_numbers, are_calls}
 use Rattle.batch_sound.proofs.Chains.{in_extended, in_through, has_member, once_in}
 use Rattle.batch_sound.proofs.Steps.{Kept, Place, Seen, Fits, fits_ret, fits_done, fits_do, fits_test, ahead_push, place_of, Stack, bottom, above, Good, good, run_good, self}
+use Rattle.std.proofs.lemmas.Option.{same_Some}
 
 same_name : (x : List ℕ) → bytes_eq x x ≡ true
 same_name x = (bytes_eq-Decides x x).1 refl
@@ -129,13 +130,13 @@ module _ {S : Type 0} (dom : Operations S) (engine : Engine) (covers : S → Hea
     -- What is found is what the configuration fits.
     found_value : (n : ℕ) (x : Spot S) (f : Spot S → Option (Value S)) (u v : Value S) → At a n x → if_some (find n (Spots a a.routine.code a.first)) f ≡ Some u → f x ≡ Some v → Under (layouts a) v u
     found_value n x f u v at g i =
-        subst (Under (layouts a) v) (some_inj _ _ (sym i ∙ subst (λ o. if_some o f ≡ Some u) (at_number n x at) g)) (self dom engine covers laws keeps program (reverse program) (same_in_turn program) (layouts a) v)
+        subst (Under (layouts a) v) (same_Some _ _ (sym i ∙ subst (λ o. if_some o f ≡ Some u) (at_number n x at) g)) (self dom engine covers laws keeps program (reverse program) (same_in_turn program) (layouts a) v)
 
     abbrev value : Location → Option (Value S)
     value = value_in dom engine (a.routine ∷ a.earlier) a.z a.first
 
     at_location : (l k : Location) (u : Value S) → Some k ≡ Some l → value l ≡ Some u → value k ≡ Some u
-    at_location l k u e g = subst (λ l. value l ≡ Some u) (sym (some_inj k l e)) g
+    at_location l k u e g = subst (λ l. value l ≡ Some u) (sym (same_Some k l e)) g
 
     name_at : (p : ℕ) → p ≡ length a.earlier → location_of program (Ret p) ≡ Some (End a.routine.name)
     name_at p i = ap (λ o. option_map (λ (r : Routine). End r.name) o) (ap (slice_get program) i ∙ place_get)
@@ -144,7 +145,7 @@ module _ {S : Type 0} (dom : Operations S) (engine : Engine) (covers : S → Hea
     top_under (Ret p) v e u (fits_ret i b) l t g =
         let x = (batch dom engine (marks engine.widening a.routine) a.z (calls_of dom engine a.earlier a.z) a.routine.code a.first).value in
         let k = subst (λ c. (if c then Some x else None) ≡ Some u) (same_name a.routine.name) (at_location l (End a.routine.name) u (sym (name_at p i) ∙ t) g) in
-        subst (Under (layouts a) v) (some_inj x u k) b
+        subst (Under (layouts a) v) (same_Some x u k) b
     top_under (Done n o w) v e u (fits_done {x = x} at i b f) l t g = found_value n x (λ s. Some s.after) u v at (at_location l (After n) u t g) (ap Some i)
     top_under (Test n c b w) v e u (fits_test k bu f) l t g = found_value n k.spot head_value u v k.at (at_location l (Head n) u t g) k.head
     top_under (Do Stop w) v e u f l t g = absurd cc
@@ -166,7 +167,7 @@ module _ {S : Type 0} (dom : Operations S) (engine : Engine) (covers : S → Hea
         same (Some q) r i g = cc
 
         at_place : (k : Location) → Some k ≡ Some l → procedure_of program k ≡ Belongs p
-        at_place k e = subst (λ l. procedure_of program l ≡ Belongs p) (sym (some_inj k l e)) g
+        at_place k e = subst (λ l. procedure_of program l ≡ Belongs p) (sym (same_Some k l e)) g
 
         of_loop : (b : Bool) (o : Option ℕ) → o ≡ Some (length a.earlier) → found_loop b (found_or NoStatement o) ≡ Belongs p → p ≡ length a.earlier
         of_loop b None i g = absurd cc

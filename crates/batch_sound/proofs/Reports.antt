@@ -26,12 +26,12 @@ use Rattle.batch_meaning.specs.Batch.{Engine}
 use Rattle.batch_meaning.specs.Answers.{Answer, Refuses, Answers, answer}
 use Rattle.batch_meaning.specs.Report.{Checked, checked_statements, verdict_on, finding}
 use Rattle.batch_sound.specs.Theorem.{failing, AreReportsSound}
-use Rattle.plain_values.proofs.Cases.{some_inj}
 use Rattle.plain_values.proofs.Members.{Member}
 use Rattle.batch_sound.proofs.Steps.{Kept, Good, stepped}
 use Rattle.batch_sound.proofs.Reached.{same_in_turn, reached_good}
 use Rattle.batch_sound.proofs.Answered.{good_described, good_chain}
 use Rattle.batch_sound.proofs.Unique.{Begins, begins, has_check, made}
+use Rattle.std.proofs.lemmas.Option.{same_Some}
 
 -- Where a step faults, a statement of that number is about to be done or its condition tested.
 data AtFault (h : Heap) (v : Variables) (n : ℕ) (k : FaultKind) : Work → Type 0 where
@@ -82,7 +82,7 @@ fault_at program p below h v (Do (Break m d) w) n k e = absurd (some_not (leave_
 
 module _ {S : Type 0} (dom : Operations S) (engine : Engine) (covers : S → Heap → List Variables → Type 0) (laws : Laws dom covers) (keeps : Kept) (places : PlacesAreFound) (form : StepsKeepForm) (starts : StartIsWellFormed) (program : List Routine) (checked : IsChecked program) where
   run_formed : (k : ℕ) (c d : Config) → IsWellFormed program c → after_steps program k c ≡ Some d → IsWellFormed program d
-  run_formed zero c d i g = subst (IsWellFormed program) (some_inj c d g) i
+  run_formed zero c d i g = subst (IsWellFormed program) (same_Some c d g) i
   run_formed (suc k) c d i g =
       let s = stepped (step program c) (after_steps program k) d g in run_formed k s.0 d (form program checked c s.0 i s.1) s.2
 

@@ -19,10 +19,10 @@ use Rattle.batch_meaning.specs.Values.{Value, State, Over, lift, lift2}
 use Rattle.batch_meaning.specs.Batch.{Engine, Passed, head_of, batch, procedure, calls_of}
 use Rattle.batch_meaning.specs.Places.{Spot, spots, from, main_layout, head_value}
 use Rattle.batch_sound.proofs.Values.{Says, Fit, fit_post, fit_assume, fit_join, fit_enter, fit_leave, says_post, says_assume, says_enter, says_leave, Below, below_self, below_left, below_right, fix_is_head, EachBelow, each_left, each_right, each_over, fit_joined, joined_first, joined_each}
-use Rattle.plain_values.proofs.Cases.{some_inj}
 use Rattle.batch_meaning.proofs.Procedures.{look, look_get, look_from, from_look, look_below, length_from, from_behind, from_from, from_place, from_self, FitBack, fit_back_from, procedure_from}
 use Rattle.plain_values.proofs.Members.{Member, here, there, in_left, in_right}
 use Rattle.batch_sound.proofs.Fitting.{callee, FitPassed, block_fit, procedure_fit}
+use Rattle.std.proofs.lemmas.Option.{same_Some}
 
 -- What steps keep, and that marks rise.
 pub record Kept : Type 0 where
@@ -160,7 +160,7 @@ module _ {S : Type 0} (dom : Operations S) (engine : Engine) (covers : S → Hea
     left_loop (Do c w) w1 v e (fits_do b f) k = left_loop w w1 _ e f k
     left_loop (Done n o w) w1 v e (fits_done at i b f) k = left_loop w w1 _ e f k
     left_loop (Test n g b w) w1 v e (fits_test {d = d} l bu f) k =
-        subst (λ x. Left x e) (some_inj _ _ k) (record { outer = d; fits = fits_done l.at l.after bu f })
+        subst (λ x. Left x e) (same_Some _ _ k) (record { outer = d; fits = fits_done l.at l.after bu f })
 
   -- The procedures that a frame sees are the program's.
   pub record Seen (ps : List Routine) : Type 0 where
@@ -331,7 +331,7 @@ module _ {S : Type 0} (dom : Operations S) (engine : Engine) (covers : S → Hea
         let lt : q < length a.earlier = look_below a.earlier q o.routine at in
         let fl = from_look a.earlier q o.routine at in
         let all : from back_list q ≡ o.routine ∷ fl.0 = known.same q (omega arith) ∙ from_behind a.routine a.earlier q lt ∙ fl.1 in
-        let same : t ≡ o.routine = some_inj _ _ (sym g ∙ same_list q ∙ look_from back_list q o.routine fl.0 all) in
+        let same : t ≡ o.routine = same_Some _ _ (sym g ∙ same_list q ∙ look_from back_list q o.routine fl.0 all) in
         let place = from_place a.earlier q o.routine fl.0 fl.1 in
         let v1 = lift (dom.enter i.entering) v in
         let fine1 = fit_enter dom engine covers laws i a.routine.layout a.below v o.fits b.fine in
@@ -395,6 +395,6 @@ module _ {S : Type 0} (dom : Operations S) (engine : Engine) (covers : S → Hea
   step_good h fs (good {below = below} {v = v} {e = e} {p = p} {m = m} {w = w} {ms = ms} a known stack r f y) c g = step_of a below ms known stack p h m r w v e f y c g
 
   pub run_good : (k : ℕ) (c d : Config) → IsGood c → after_steps program k c ≡ Some d → IsGood d
-  run_good zero c d i g = subst IsGood (some_inj c d g) i
+  run_good zero c d i g = subst IsGood (same_Some c d g) i
   run_good (suc k) c d i g =
       let s = stepped (step program c) (after_steps program k) d g in run_good k s.0 d (step_good c.heap c.frames i s.0 s.1) s.2

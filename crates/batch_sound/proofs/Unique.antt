@@ -9,10 +9,10 @@ use Rattle.program_chains.specs.Chains.{holder}
 use Rattle.program_chains.specs.Claims.{PlacesAreFound}
 use Rattle.domain_laws.specs.Checks.{Check, check_of}
 use Rattle.batch_meaning.specs.Report.{Checked, checked_one, checked_in, checked_statements}
-use Rattle.plain_values.proofs.Cases.{some_inj}
 use Rattle.plain_values.proofs.Members.{Member, here, there, in_left, in_right, keys, keys_both, key_member, either}
 use Rattle.batch_meaning.proofs.Places.{found}
 use Rattle.batch_sound.proofs.Chains.{has_member, once_in}
+use Rattle.std.proofs.lemmas.Option.{same_Some}
 
 -- the statements of a block, by their numbers, each with what is behind it
 abbrev statements : Code → List (ℕ × Code)
@@ -45,11 +45,11 @@ within body c (behind_break s) x m = within body _ s x (there m)
 
 first_of : (c : Code) (n : ℕ) → first_number c ≡ Some n → Member (n, c) (statements c)
 first_of Stop n e = absurd cc
-first_of (Simple m x r) n e = subst (λ k. Member (k, Simple m x r) (statements (Simple m x r))) (some_inj m n e) here
-first_of (If m g t x r) n e = subst (λ k. Member (k, If m g t x r) (statements (If m g t x r))) (some_inj m n e) here
-first_of (While m g b r) n e = subst (λ k. Member (k, While m g b r) (statements (While m g b r))) (some_inj m n e) here
-first_of (Call m i q r) n e = subst (λ k. Member (k, Call m i q r) (statements (Call m i q r))) (some_inj m n e) here
-first_of (Break m r) n e = subst (λ k. Member (k, Break m r) (statements (Break m r))) (some_inj m n e) here
+first_of (Simple m x r) n e = subst (λ k. Member (k, Simple m x r) (statements (Simple m x r))) (same_Some m n e) here
+first_of (If m g t x r) n e = subst (λ k. Member (k, If m g t x r) (statements (If m g t x r))) (same_Some m n e) here
+first_of (While m g b r) n e = subst (λ k. Member (k, While m g b r) (statements (While m g b r))) (same_Some m n e) here
+first_of (Call m i q r) n e = subst (λ k. Member (k, Call m i q r) (statements (Call m i q r))) (same_Some m n e) here
+first_of (Break m r) n e = subst (λ k. Member (k, Break m r) (statements (Break m r))) (same_Some m n e) here
 
 -- A checked statement is a simple statement of the program with that check.
 record IsCheckedIn (body : Code) (c : Checked) : Type 0 where
@@ -119,12 +119,12 @@ begins program checked places c m p r at d s f =
     let there_number = subst (Member c.number) (keys_statements x.routine.code) (key_member (c.number, Simple c.number c.effect x.is.rest) (statements x.routine.code) x.is.stands) in
     let h1 : holder c.number program ≡ Some p = (places program checked p r at).statement c.number (has_member c.number _ here_number) in
     let h2 : holder c.number program ≡ Some x.place = (places program checked x.place x.routine x.at).statement c.number (has_member c.number _ there_number) in
-    let q : x.place ≡ p = some_inj _ _ (sym h2 ∙ h1) in
-    let same : x.routine ≡ r = some_inj _ _ (sym x.at ∙ ap (slice_get program) q ∙ at) in
+    let q : x.place ≡ p = same_Some _ _ (sym h2 ∙ h1) in
+    let same : x.routine ≡ r = same_Some _ _ (sym x.at ∙ ap (slice_get program) q ∙ at) in
     let once = subst Distinct (sym (keys_statements r.code)) (once_in program p r checked.numbers_once at) in
     let f1 = found (c.number, d) (statements r.code) once mine in
     let f2 = found (c.number, Simple c.number c.effect x.is.rest) (statements r.code) once (subst (λ (r : Routine). Member (c.number, Simple c.number c.effect x.is.rest) (statements r.code)) same x.is.stands) in
-    record { rest = x.is.rest; is = some_inj _ _ (sym f1 ∙ f2) }
+    record { rest = x.is.rest; is = same_Some _ _ (sym f1 ∙ f2) }
 
 pub has_check : (program : List Routine) (c : Checked) → Member c (checked_statements program) → check_of c.effect ≡ Some c.check
 has_check program c m = (checked_of program c m).is.check

@@ -5,7 +5,7 @@ use Rattle.std.specs.Prelude.{if◌then◌else◌}
 use Rattle.imp_syntax.specs.Plain.{Statements, Ends, Starts, Procedure}
 use Rattle.imp_syntax.specs.Plain as tree
 use Rattle.imp_slots.specs.Fits.{Absent, Distinct}
-use Rattle.imp_check.specs.Slots.{Frame, code_in, routine_of, effect_in, guard_in}
+use Rattle.imp_check.specs.Slots.{Resolver, code_in, routine_of, effect_in, guard_in}
 use Rattle.imp_check.specs.Parts.{first_or}
 use Rattle.imp_check.specs.Programs.{block_count, program_count}
 use Rattle.imp_check.specs.Entries.{inside, inside_loop, entry_at, block_entries, procedure_entries, entries_from, entries_of, entry_of, frame_at, context_at}
@@ -142,7 +142,7 @@ module _ (k n : ℕ) where
   both true a b = refl
   both false a b = omega arith
 
-  module _ (f : Frame) (t : Bool) where
+  module _ (f : Resolver) (t : Bool) where
     pub counted_block : (c : Context) (a p : Option ℕ) (b : Statements) → (c.proc == k) ≡ t → counted (block_entries f c a p b) ≡ cond t (times n (literal_lists (code_in f b))) 0
     counted_block c a p Ends e = go t
       where
@@ -249,7 +249,7 @@ times_few n (ns ∷ lists) = omega (arith, at_most_one (has n ns), times_few n l
     at_most_one true = omega arith
     at_most_one false = omega arith
 
-lists_length : (f : Frame) (b : Statements) → length (literal_lists (code_in f b)) ≡ block_count b
+lists_length : (f : Resolver) (b : Statements) → length (literal_lists (code_in f b)) ≡ block_count b
 lists_length f Ends = refl
 lists_length f (Starts (tree.Simple m x) ss) = omega (arith, lists_length f ss)
 lists_length f (Starts (tree.Break m) ss) = omega (arith, lists_length f ss)

@@ -14,9 +14,8 @@ use Rattle.imp_check.specs.declared.entry.Entry.{Entry}
 use Rattle.call_contexts.specs.Literals.{literals_in}
 use Rattle.call_contexts.specs.Differences.{lists_by}
 use Rattle.call_contexts.specs.Tallies.{one_if, times, occurs, rising, or_none, Tells, capped}
-use Rattle.call_contexts.proofs.Lists.{drop_none}
 use Rattle.call_contexts.proofs.TallyLemmas.{same_test, times_both, rising_sorted, rising_has}
-use Rattle.plain_values.proofs.Lists.{drop_item, take_item}
+use Rattle.plain_values.proofs.Lists.{drop_item, take_item, drop_none}
 use Rattle.plain_values.proofs.Cases.{by_test}
 
 -- a number alone

@@ -1,6 +1,6 @@
 -- What a change takes and brings, with what is both left out.
 use Rattle.std.proofs.Common.{◌≡◌, ℕ, zero, suc, ◌+◌, ◌<◌, ◌≤◌, ◌==◌, ◌++◌, Bool, true, false, List, [], ◌∷◌, length, take, get_or, slice_get, Option, Some, None, refl, sym, ap, subst, ◌∙◌, arith}
-use Rattle.std.proofs.lemmas.Option.{slice_get-get_or}
+use Rattle.std.proofs.lemmas.Option.{slice_get-get_or, same_Some}
 use Rattle.std.specs.Prelude.{if◌then◌else◌}
 use Rattle.imp_check.specs.declared.change.Put.{Put}
 use Rattle.imp_check.specs.declared.entry.Entry.{Entry}
@@ -11,7 +11,7 @@ use Rattle.call_contexts.specs.Tallies.{one_if, times}
 use Rattle.call_contexts.proofs.Looped.{take_none, take_past}
 use Rattle.call_contexts.proofs.TallyLemmas.{times_both}
 use Rattle.plain_values.proofs.Lists.{take_item}
-use Rattle.plain_values.proofs.Cases.{by_test, some_inj}
+use Rattle.plain_values.proofs.Cases.{by_test}
 
 module _ (k n : ℕ) where
   in_times : (o : Option Entry) → times n (lists_in k o) ≡ one_if (has n (numbers_in k o))
@@ -68,7 +68,7 @@ same_items [] (y ∷ ys) i l m h = absurd (omega arith)
 same_items (x ∷ xs) [] i l m h = absurd (omega arith)
 same_items (x ∷ xs) (y ∷ ys) zero l m h = absurd (omega arith)
 same_items (x ∷ xs) (y ∷ ys) (suc i) l m h =
-    let e : x ≡ y = some_inj x y (h 0 (omega arith)) in
+    let e : x ≡ y = same_Some x y (h 0 (omega arith)) in
     let r = same_items xs ys i (omega arith) (omega arith) (λ k s. h (suc k) (omega arith)) in
     λ j. e j ∷ r j
 

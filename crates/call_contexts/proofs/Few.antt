@@ -10,11 +10,7 @@ use Rattle.imp_check.specs.Slots.{routines_from, routines_of}
 use Rattle.imp_check.specs.Entries.{heads_of}
 use Rattle.imp_check.proofs.TableLemmas.{heads_length}
 use Rattle.imp_slots.specs.Fits.{IsChecked}
-use Rattle.imp_check.proofs.FewLemmas.{unless_none}
-
-first_none : {A : Type 0} (a b : Option A) → first a b ≡ None → a ≡ None
-first_none None b h = refl
-first_none (Some x) b h = cc
+use Rattle.imp_check.proofs.FewLemmas.{unless_none, first_left}
 
 at_none : (p : List ℕ) (n : ℕ) (f : Option Fault) → in_procedure p (at n f) ≡ None → f ≡ None
 at_none p n None h = refl
@@ -22,8 +18,8 @@ at_none p n (Some f) h = cc
 
 few : (ps : List Procedure) → check_fault ps ≡ None → length ps < 65
 few ps h =
-    let s = at_none (name_of (last_of ps)) 0 (size_fault ps) (first_none (in_procedure (name_of (last_of ps)) (at 0 (size_fault ps))) (first (procedures_fault [] ps) (in_procedure (name_of (last_of ps)) (at 0 (ending_fault ps)))) h) in
-    ltb-true (length ps) 65 (unless_none (nat_lt (length ps) 65) Procedures (first_none (unless (nat_lt (length ps) 65) Procedures) (first (unless (nat_lt (program_count ps) 10001) TooMany) (unless (nat_lt (deepest ps) 33) Nesting)) s))
+    let s = at_none (name_of (last_of ps)) 0 (size_fault ps) (first_left (in_procedure (name_of (last_of ps)) (at 0 (size_fault ps))) (first (procedures_fault [] ps) (in_procedure (name_of (last_of ps)) (at 0 (ending_fault ps)))) h) in
+    ltb-true (length ps) 65 (unless_none (nat_lt (length ps) 65) Procedures (first_left (unless (nat_lt (length ps) 65) Procedures) (first (unless (nat_lt (program_count ps) 10001) TooMany) (unless (nat_lt (deepest ps) 33) Nesting)) s))
 
 pub as_many : (earlier ps : List Procedure) → length (routines_from earlier ps) ≡ length ps
 as_many earlier [] = refl

@@ -2,8 +2,7 @@
 use Rattle.std.proofs.Common.{ℕ, zero, suc, ◌≡◌, ◌≢◌, ◌+◌, ◌<◌, ◌≤◌, true, false, List, [], ◌∷◌, length, drop, get_or, slice_get, Some, refl, ap, ◌∙◌, add-one, drop-cons}
 use Rattle.std.specs.Prelude.{if◌then◌else◌}
 use Rattle.program_chains.specs.Chains.{ends_in, ending_in}
-use Rattle.call_contexts.proofs.Lists.{drop_none}
-use Rattle.plain_values.proofs.Lists.{drop_item}
+use Rattle.plain_values.proofs.Lists.{drop_item, drop_none}
 use Rattle.plain_values.proofs.Cases.{by_test}
 
 get_next : (xs : List ℕ) (i : ℕ) (x : ℕ) → slice_get xs i ≡ Some x → drop i xs ≡ x ∷ drop (suc i) xs

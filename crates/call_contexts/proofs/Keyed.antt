@@ -7,8 +7,6 @@ use Rattle.std.specs.Int.{w64}
 use Rattle.std.specs.List.{All, list_any}
 use Rattle.std.specs.Map.{keys_of}
 use Rattle.std.specs.Ordering.{is_eq, int_cmp}
-use Rattle.std.specs.declared.cmp.Ordering.{Ordering}
-use Rattle.std.specs.declared.cmp.Ordering.TheVariants.{Less, Equal, Greater}
 use Rattle.std.specs.BTreeMap.{is_at}
 use Rattle.plain_values.specs.Numbers.{greatest}
 use Rattle.imp_syntax.specs.Plain.{Procedure}
@@ -25,28 +23,21 @@ use Rattle.call_contexts.proofs.LiteralLemmas.{routine_there, mark_there}
 use Rattle.call_contexts.proofs.MarkSets.{marks_by_set, mark_of}
 use Rattle.call_contexts.proofs.Parted.{had, by_thresholds}
 use Rattle.call_contexts.proofs.TallyLemmas.{rising_has, tally_keys}
-use Rattle.plain_values.proofs.Cases.{by_test, some_inj}
+use Rattle.plain_values.proofs.Cases.{by_test, is_equal}
+use Rattle.std.proofs.lemmas.Option.{same_Some}
+use Rattle.program_chains.proofs.Rising.{rest_rises}
 
 -- Marks that rise are integers of 64 bits.
 first_word : (x : ℤ) (xs : List ℤ) → IsRising (x ∷ xs) → FitsSigned w64 x
 first_word x [] r = r
 first_word x (y ∷ ys) r = r.0
 
-rest_rises : (x : ℤ) (xs : List ℤ) → IsRising (x ∷ xs) → IsRising xs
-rest_rises x [] r = tt
-rest_rises x (y ∷ ys) r = r.2
-
-equal : (r : Ordering) → is_eq r ≡ true → r ≡ Equal
-equal Less e = absurd cc
-equal Equal e = refl
-equal Greater e = absurd cc
-
 words : (xs : List ℤ) → IsRising xs → (z : ℤ) → list_any (is_at (int_cmp z)) xs ≡ true → FitsSigned w64 z
 words [] r z h = absurd cc
 words (x ∷ xs) r z h = go (is_eq (int_cmp z x)) refl h (words xs (rest_rises x xs r) z)
   where
     go : (b : Bool) → is_eq (int_cmp z x) ≡ b → (b || list_any (is_at (int_cmp z)) xs) ≡ true → (list_any (is_at (int_cmp z)) xs ≡ true → FitsSigned w64 z) → FitsSigned w64 z
-    go true e h more = let q : z ≡ x = exact_signed z x (equal (int_cmp z x) e) in subst (FitsSigned w64) (sym q) (first_word x xs r)
+    go true e h more = let q : z ≡ x = exact_signed z x (is_equal (int_cmp z x) e) in subst (FitsSigned w64) (sym q) (first_word x xs r)
     go false e h more = more h
 
 number_word : (n : ℕ) → FitsSigned w64 (pos n) → n ≤ greatest
@@ -63,7 +54,7 @@ all_in P (n ∷ ns) h =
 -- a procedure of a checked program fits
 fits_at : (before rs : List Routine) (k : ℕ) (r : Routine) → FitInTurn before rs → slice_get rs k ≡ Some r → (xs : List Routine) × FitsCode xs r.layout r.code
 fits_at before [] k r f h = absurd cc
-fits_at before (s ∷ rs) zero r f h = let q : s ≡ r = some_inj s r h in (before, subst (λ (z : Routine). FitsCode before z.layout z.code) q f.0.code)
+fits_at before (s ∷ rs) zero r f h = let q : s ≡ r = same_Some s r h in (before, subst (λ (z : Routine). FitsCode before z.layout z.code) q f.0.code)
 fits_at before (s ∷ rs) (suc k) r f h = fits_at (before ++ s ∷ []) rs k r f.1 h
 
 -- Where numbers are marks, a procedure has a tally.

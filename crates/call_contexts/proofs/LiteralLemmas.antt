@@ -8,7 +8,7 @@ use Rattle.imp_syntax.specs.Plain as tree
 use Rattle.imp_slots.specs.Plain.{Effect}
 use Rattle.imp_slots.specs.Plain as plain
 use Rattle.imp_slots.specs.ActionViews.{effect_of, action_of}
-use Rattle.imp_check.specs.Slots.{Frame, code_in, routine_of, routines_from, routines_of, effect_in, guard_in}
+use Rattle.imp_check.specs.Slots.{Resolver, code_in, routine_of, routines_from, routines_of, effect_in, guard_in}
 use Rattle.imp_check.specs.Parts.{first_or}
 use Rattle.imp_check.specs.Programs.{AreNumbered}
 use Rattle.imp_check.specs.Entries.{inside, inside_loop, entry_at, block_entries, procedure_entries, entries_of, entry_of, frame_at, context_at}
@@ -49,7 +49,7 @@ module _ (at : ℕ → Option Entry) where
   one : (x : Entry) (ns ls ms : List ℕ) → at x.number ≡ Some x → form_literals x.form ≡ ls → literals_by at ns ≡ ms → literals_by at (x.number ∷ ns) ≡ ls ++ ms
   one x ns ls ms k e r = ap (λ o. literals_in o ++ literals_by at ns) k ∙ (λ i. e i ++ r i)
 
-  pub literals_are : (f : Frame) (b : Statements) (c : Context) (a p : Option ℕ) → Known at (block_entries f c a p b) → literals_by at (numbers b) ≡ literals (code_in f b)
+  pub literals_are : (f : Resolver) (b : Statements) (c : Context) (a p : Option ℕ) → Known at (block_entries f c a p b) → literals_by at (numbers b) ≡ literals (code_in f b)
   literals_are f Ends c a p k = refl
   literals_are f (Starts (tree.Simple n x) ss) c a p k =
       let X = entry_at f c a (first_or ss p) (tree.Simple n x) in

@@ -1,7 +1,7 @@
 -- The loops of each procedure of a program, and what a change makes of them.
 use Rattle.std.proofs.lemmas.Bool.Decides.{nat_tests}
 use Rattle.std.proofs.lemmas.Map.Lookups.{exact_unsigned, btree_set_from_contains}
-use Rattle.std.proofs.lemmas.Option.{slice_get-map}
+use Rattle.std.proofs.lemmas.Option.{slice_get-map, slice_get_within, same_Some}
 use Rattle.std.proofs.lemmas.List.{length-map}
 use Rattle.std.proofs.Common.{◌≡◌, ◌≢◌, ℕ, zero, suc, ◌+◌, ◌<◌, ◌≤◌, ◌==◌, ◌||◌, ◌&&◌, Bool, true, false, cond, List, [], ◌∷◌, ◌++◌, length, take, slice_get, get_or, Option, Some, None, option_map, inl, inr, refl, sym, ap, ◌∙◌, subst, arith}
 use Rattle.std.specs.Prelude.{if◌then◌else◌}
@@ -11,7 +11,6 @@ use Rattle.std.specs.List.Sorted.{IsStrictlySortedBy}
 use Rattle.std.specs.BTreeSet.{BTreeSet}
 use Rattle.imp_syntax.specs.Plain.{Procedure}
 use Rattle.imp_slots.specs.Plain.{Code, Stop, Simple, If, While, Call, Break}
-use Rattle.imp_slots.specs.Fits.{Absent}
 use Rattle.imp_check.specs.Slots.{routine_of, routines_of}
 use Rattle.imp_check.specs.Programs.{AreNumbered}
 use Rattle.imp_check.specs.Changes.{overlay}
@@ -30,14 +29,14 @@ use Rattle.call_contexts.specs.Places.{is_loop}
 use Rattle.call_contexts.specs.Settings.{or_no_loops}
 use Rattle.call_contexts.specs.Touches.{stands_in, touches, Brings}
 use Rattle.call_contexts.proofs.Few.{as_many}
-use Rattle.call_contexts.proofs.Lists.{get_below}
 use Rattle.call_contexts.proofs.LiteralLemmas.{routine_there, there}
 use Rattle.call_contexts.proofs.Numbered.{has_both}
 use Rattle.call_contexts.proofs.Placed.{any_loop, any_block}
 use Rattle.call_contexts.proofs.Rising.{has_there, there_has}
 use Rattle.call_contexts.proofs.TallyLemmas.{any_is, rising_sorted, rising_has}
 use Rattle.plain_values.proofs.Lists.{take_item}
-use Rattle.plain_values.proofs.Cases.{by_test, some_inj}
+use Rattle.plain_values.proofs.Cases.{by_test}
+use Rattle.program_chains.proofs.Found.{lacks}
 
 -- Among the loops of a block is each while of it.
 or_else : (a b c : Bool) → (a || (b || c)) ≡ (if a then true else if b then true else c)
@@ -123,7 +122,7 @@ module _ (ps : List Procedure) (k : ℕ) (p : Procedure) (numbered : AreNumbered
       let f = any_found n own_entries a in
       let x = f.entry in
       let known : entry_of (entries_of ps) n ≡ Some x = ap (entry_of (entries_of ps)) (sym f.number) ∙ all_known ps numbered x (own ps k p h x f.among) in
-      let place : x.context.proc ≡ k = procedure_is (frame_at (take k ps) p) p.body (context_at (length (take k ps))) None None x f.among ∙ taken ps k (get_below ps k p h) in
+      let place : x.context.proc ≡ k = procedure_is (frame_at (take k ps) p) p.body (context_at (length (take k ps))) None None x f.among ∙ taken ps k (slice_get_within ps k p h) in
       loop_whole k (entry_of (entries_of ps) n) x known place f.loop
 
   loop_known : (n : ℕ) → loop_in k (entry_of (entries_of ps) n) ≡ true → any_loop n own_entries ≡ true
@@ -132,7 +131,7 @@ module _ (ps : List Procedure) (k : ℕ) (p : Procedure) (numbered : AreNumbered
       let x = f.0 in
       let s = stands ps n x f.1 in
       let at : slice_get ps k ≡ Some s.procedure = ap (slice_get ps) (sym f.2) ∙ s.there in
-      let q : s.procedure ≡ p = some_inj s.procedure p (sym at ∙ h) in
+      let q : s.procedure ≡ p = same_Some s.procedure p (sym at ∙ h) in
       let i : In x (procedure_entries (take k ps) p) = subst (λ (j : ℕ). In x (procedure_entries (take j ps) p)) f.2 (subst (λ (z : Procedure). In x (procedure_entries (take x.context.proc ps) z)) q s.own) in
       any_there n x own_entries i (entry_found ps n x f.1).1 f.3
 
@@ -149,8 +148,8 @@ loops_there ps k p h = slice_get-map loops (routines_of ps) k ∙ ap (option_map
 -- The loops of a procedure are told by the entries.
 pub loops_tell : (ps : List Procedure) (k : ℕ) (ns : List ℕ) → AreNumbered ps → slice_get (all_loops (routines_of ps)) k ≡ Some ns → (n : ℕ) → has n ns ≡ loop_in k (entry_of (entries_of ps) n)
 loops_tell ps k ns numbered h n =
-    let p = there ps k (omega (arith, get_below (all_loops (routines_of ps)) k ns h, length-map (routines_of ps) loops, as_many [] ps)) in
-    let e : loops (routine_of (take k ps) p.0) ≡ ns = some_inj (loops (routine_of (take k ps) p.0)) ns (sym (loops_there ps k p.0 p.1) ∙ h) in
+    let p = there ps k (omega (arith, slice_get_within (all_loops (routines_of ps)) k ns h, length-map (routines_of ps) loops, as_many [] ps)) in
+    let e : loops (routine_of (take k ps) p.0) ≡ ns = same_Some (loops (routine_of (take k ps) p.0)) ns (sym (loops_there ps k p.0 p.1) ∙ h) in
     ap (has n) (sym e) ∙ own_loops ps k p.0 numbered p.1 n
 
 -- And numbers that rise, and are those of its loops, are these.
@@ -191,14 +190,9 @@ loops_made ps k ns none found numbered l s e f h = told_loops ps k ns numbered l
 -- They rise.
 pub loops_rise : (ps : List Procedure) (k : ℕ) (ns : List ℕ) → slice_get (all_loops (routines_of ps)) k ≡ Some ns → IsStrictlySortedBy nat_cmp ns
 loops_rise ps k ns h =
-    let p = there ps k (omega (arith, get_below (all_loops (routines_of ps)) k ns h, length-map (routines_of ps) loops, as_many [] ps)) in
+    let p = there ps k (omega (arith, slice_get_within (all_loops (routines_of ps)) k ns h, length-map (routines_of ps) loops, as_many [] ps)) in
     let R = routine_of (take k ps) p.0 in
-    subst (IsStrictlySortedBy nat_cmp) (some_inj (loops R) ns (sym (loops_there ps k p.0 p.1) ∙ h)) (rising_sorted (whiles R.code))
-
--- Behind a change they are those of its numbers that are loops there, and at other numbers those before it.
-absent : (n : ℕ) (ns : List ℕ) → has n ns ≡ false → Absent n ns
-absent n [] h = tt
-absent n (m ∷ ns) h = (by_test n m (λ b. (if b then true else has n ns) ≡ false → Absent n (m ∷ ns)) (λ e h. absurd cc) (λ e h. (e, absent n ns h))) h
+    subst (IsStrictlySortedBy nat_cmp) (same_Some (loops R) ns (sym (loops_there ps k p.0 p.1) ∙ h)) (rising_sorted (whiles R.code))
 
 module _ (old new : List Procedure) (puts : List Put) (b : Brings old new puts) (k : ℕ) where
   abbrev was : ℕ → Bool
@@ -209,7 +203,7 @@ module _ (old new : List Procedure) (puts : List Put) (b : Brings old new puts) 
 
   -- nothing is another loop but what comes or goes
   elsewhere : (n : ℕ) → has n (put_numbers puts) ≡ false → is n ≡ was n
-  elsewhere n h = ap (loop_in k) (b.entries n ∙ overlay_other puts (entry_of (entries_of old)) n (absent n (put_numbers puts) h))
+  elsewhere n h = ap (loop_in k) (b.entries n ∙ overlay_other puts (entry_of (entries_of old)) n (lacks n (put_numbers puts) h))
 
   pub loops_changed : (before after : List ℕ) → k < length new → slice_get (all_loops (routines_of old)) k ≡ Some before → IsStrictlySortedBy nat_cmp after
       → ((n : ℕ) → has n after ≡ (if has n (put_numbers puts) then is n else has n before))

@@ -2,8 +2,7 @@
 use Rattle.std.proofs.Common.{ℕ, ◌≡◌, ◌+◌, ◌<◌, List, [], length, drop, get_or, sym, ap, ◌∙◌, arith}
 use Rattle.std.specs.Prelude.{pos, neg_ℤ}
 use Rattle.program_chains.specs.Marks.{with_mark, marks_of}
-use Rattle.call_contexts.proofs.Lists.{drop_none}
-use Rattle.plain_values.proofs.Lists.{drop_item}
+use Rattle.plain_values.proofs.Lists.{drop_item, drop_none}
 
 pub marks_first : (ns : List ℕ) → marks_of (drop (length ns) ns) ≡ marks_of []
 marks_first ns = ap marks_of (drop_none ns (length ns) (omega arith))

@@ -1,5 +1,5 @@
 -- The marks and the tally of each procedure of a program, and what a change makes of them.
-use Rattle.std.proofs.lemmas.Option.{slice_get-map}
+use Rattle.std.proofs.lemmas.Option.{slice_get-map, slice_get_within, same_Some}
 use Rattle.std.proofs.lemmas.List.{length-map}
 use Rattle.std.proofs.Common.{◌≡◌, ℕ, ℤ, zero, suc, ◌+◌, ◌-◌, ◌<◌, ◌≤◌, ◌==◌, ◌||◌, ◌&&◌, ◌^◌, Bool, true, false, List, [], ◌∷◌, ◌++◌, length, take, slice_get, get_or, add-one, Option, Some, None, option_map, inl, inr, refl, sym, ap, ◌∙◌, subst, arith}
 use Rattle.std.specs.Prelude.{if◌then◌else◌, Result, Ok, Err, IfOk}
@@ -33,11 +33,10 @@ use Rattle.call_contexts.specs.Differences.{lists_in, lost, gained, lists_by, Ar
 use Rattle.call_contexts.specs.Touches.{stands_in, touches, Brings}
 use Rattle.call_contexts.proofs.Balance.{counted, counted_block, own_counted, balance, times_below}
 use Rattle.call_contexts.proofs.Few.{as_many}
-use Rattle.call_contexts.proofs.Lists.{get_below}
 use Rattle.call_contexts.proofs.LiteralLemmas.{routine_there, mark_there, there}
 use Rattle.call_contexts.proofs.TallyLemmas.{tally_tells, told_once, same_marks}
 use Rattle.plain_values.proofs.Lists.{take_item}
-use Rattle.plain_values.proofs.Cases.{some_inj}
+use Rattle.plain_values.proofs.Cases.{or_first, or_second}
 
 -- the statements of the procedure at a place, by the numbers of each
 abbrev lists_at : List Procedure → ℕ → Procedure → List (List ℕ)
@@ -49,8 +48,8 @@ tally_there w ps k p h = slice_get-map (tally_by w) (routines_of ps) k ∙ ap (o
 -- what has a tally is there
 pub had : (w : Widening) (ps : List Procedure) (k : ℕ) (t : List (ℕ × ℕ)) → slice_get (all_tallies w (routines_of ps)) k ≡ Some t → (p : Procedure) × (slice_get ps k ≡ Some p) × (tally_by w (routine_of (take k ps) p) ≡ t)
 had w ps k t h =
-    let p = there ps k (omega (arith, get_below (all_tallies w (routines_of ps)) k t h, length-map (routines_of ps) (tally_by w), as_many [] ps)) in
-    (p.0, p.1, some_inj (tally_by w (routine_of (take k ps) p.0)) t (sym (tally_there w ps k p.0 p.1) ∙ h))
+    let p = there ps k (omega (arith, slice_get_within (all_tallies w (routines_of ps)) k t h, length-map (routines_of ps) (tally_by w), as_many [] ps)) in
+    (p.0, p.1, same_Some (tally_by w (routine_of (take k ps) p.0)) t (sym (tally_there w ps k p.0 p.1) ∙ h))
 
 few : (ps : List Procedure) (k : ℕ) (p : Procedure) → check_fault ps ≡ None → slice_get ps k ≡ Some p → (n : ℕ) → times n (lists_at ps k p) < 10001
 few ps k p f h n = omega (arith, times_below ps k n p h, (few_statements ps f).0)
@@ -119,15 +118,6 @@ pub made_of : (t s u : List (ℕ × ℕ)) (ls ms gs hs : List (List ℕ)) → s 
 made_of t s u ls ms gs hs a b c m =
     subst (λ (z : List (ℕ × ℕ)). Makes z u ls gs) a (subst (λ (z : List (List ℕ)). Makes s u z gs) b (subst (λ (z : List (List ℕ)). Makes s u ms z) c m))
 
--- Where nothing comes or goes.
-left : (a c : Bool) → (a || c) ≡ false → a ≡ false
-left true c h = absurd cc
-left false c h = refl
-
-right : (a c : Bool) → (a || c) ≡ false → c ≡ false
-right true c h = absurd cc
-right false c h = h
-
 none_in : (k : ℕ) (o : Option Entry) → stands_in o k ≡ false → lists_in k o ≡ []
 none_in k None h = refl
 none_in k (Some e) h = ap (λ (c : Bool). if c then form_literals e.form ∷ [] else []) h
@@ -135,9 +125,9 @@ none_in k (Some e) h = ap (λ (c : Bool). if c then form_literals e.form ∷ [] 
 none_lost : (at : ℕ → Option Entry) (ps : List Put) (k : ℕ) → touches at ps k ≡ false → (lost k at ps ≡ []) × (gained k ps ≡ [])
 none_lost at [] k h = (refl, refl)
 none_lost at (p ∷ ps) k h =
-    let r = right (stands_in (at p.number) k) (stands_in p.entry k || touches at ps k) h in
-    let more = none_lost at ps k (right (stands_in p.entry k) (touches at ps k) r) in
-    ((λ i. none_in k (at p.number) (left (stands_in (at p.number) k) (stands_in p.entry k || touches at ps k) h) i ++ more.0 i), (λ i. none_in k p.entry (left (stands_in p.entry k) (touches at ps k) r) i ++ more.1 i))
+    let r = or_second (stands_in (at p.number) k) (stands_in p.entry k || touches at ps k) h in
+    let more = none_lost at ps k (or_second (stands_in p.entry k) (touches at ps k) r) in
+    ((λ i. none_in k (at p.number) (or_first (stands_in (at p.number) k) (stands_in p.entry k || touches at ps k) h) i ++ more.0 i), (λ i. none_in k p.entry (or_first (stands_in p.entry k) (touches at ps k) r) i ++ more.1 i))
 
 tally_kept : (w : Widening) (old new : List Procedure) (puts : List Put) (k : ℕ) (t : List (ℕ × ℕ)) → Brings old new puts → w.thresholds ≡ true → ((n : ℕ) → times n (lost k (entry_of (entries_of old)) puts) ≡ times n (gained k puts)) → k < length new
     → slice_get (all_tallies w (routines_of old)) k ≡ Some t → slice_get (all_tallies w (routines_of new)) k ≡ Some t
@@ -237,7 +227,7 @@ part_more whole all more i x e h p = p ∙ ap (λ zs. zs ++ x ∷ []) e ∙ sym 
   where
     taken : {A : Type 0} (xs : List A) (i : ℕ) (x : A) → slice_get xs i ≡ Some x → take (suc i) xs ≡ take i xs ++ x ∷ []
     taken [] i x h = absurd cc
-    taken (y ∷ xs) zero x h = let q : y ≡ x = some_inj y x h in ap (λ z. z ∷ []) q
+    taken (y ∷ xs) zero x h = let q : y ≡ x = same_Some y x h in ap (λ z. z ∷ []) q
     taken (y ∷ xs) (suc i) x h = ap (λ zs. y ∷ zs) (taken xs i x h)
 
 take_whole : {A : Type 0} (xs : List A) (n : ℕ) → length xs ≤ n → take n xs ≡ xs

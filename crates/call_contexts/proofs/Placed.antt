@@ -12,7 +12,7 @@ use Rattle.imp_check.specs.Faults.{first}
 use Rattle.imp_check.specs.Names.{is_named, place_named, named_in}
 use Rattle.imp_check.specs.Parts.{first_or}
 use Rattle.imp_check.specs.Programs.{AreNumbered}
-use Rattle.imp_check.specs.Slots.{Frame, code_in, routines_from, routines_of}
+use Rattle.imp_check.specs.Slots.{Resolver, code_in, routines_from, routines_of}
 use Rattle.imp_check.specs.Entries.{inside, inside_loop, entry_at, block_entries, procedure_entries, entries_from, entries_of, entry_of, frame_at, context_at}
 use Rattle.imp_check.specs.declared.entry.Context.{Context}
 use Rattle.imp_check.specs.declared.entry.Entry.{Entry}
@@ -68,7 +68,7 @@ module _ (n : ℕ) where
         go true b = refl
         go false b = refl
 
-    module _ (f : Frame) where
+    module _ (f : Resolver) where
       held_block : (c : Context) (a p : Option ℕ) (b : Statements) → c.proc ≡ k → Held (block_entries f c a p b) (code_numbers (code_in f b))
       held_block c a p Ends e = refl
       held_block c a p (Starts (tree.Simple m x) ss) e = held_one (entry_at f c a (first_or ss p) (tree.Simple m x)) (block_entries f c (Some m) p ss) (code_numbers (code_in f ss)) e (held_block c (Some m) p ss e)
@@ -130,7 +130,7 @@ module _ (n : ℕ) where
   no_loop true r = refl
   no_loop false r = refl
 
-  module _ (f : Frame) where
+  module _ (f : Resolver) where
     pub any_block : (c : Context) (a p : Option ℕ) (b : Statements) → any_loop (block_entries f c a p b) ≡ has_while n (code_in f b)
     any_block c a p Ends = refl
     any_block c a p (Starts (tree.Simple m x) ss) = no_loop (m == n) (any_loop (block_entries f c (Some m) p ss)) ∙ any_block c (Some m) p ss

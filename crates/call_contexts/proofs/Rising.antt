@@ -15,15 +15,15 @@ use Rattle.std.specs.Ordering.{match_ordering, nat_cmp}
 use Rattle.std.specs.declared.cmp.Ordering.TheVariants.{Less, Greater}
 use Rattle.program_chains.specs.Chains.{has}
 use Rattle.call_contexts.specs.Loops.{IsGap}
-use Rattle.call_contexts.proofs.Lists.{get_below}
 use Rattle.call_contexts.proofs.Sorted.{inserted_sorted, inserted_has}
 use Rattle.call_contexts.proofs.TallyLemmas.{any_is, same_test}
-use Rattle.plain_values.proofs.Cases.{by_test, some_inj}
+use Rattle.plain_values.proofs.Cases.{by_test}
+use Rattle.std.proofs.lemmas.Option.{slice_get_within, same_Some}
 
 -- A number is among others where it has a place.
 pub has_there : (ns : List ℕ) (i n : ℕ) → slice_get ns i ≡ Some n → has n ns ≡ true
 has_there [] i n e = absurd cc
-has_there (m ∷ ns) zero n e = by_test n m (λ b. (if b then true else has n ns) ≡ true) (λ q. refl) (λ q. absurd (q (sym (some_inj m n e))))
+has_there (m ∷ ns) zero n e = by_test n m (λ b. (if b then true else has n ns) ≡ true) (λ q. refl) (λ q. absurd (q (sym (same_Some m n e))))
 has_there (m ∷ ns) (suc i) n e = go (n == m) (has_there ns i n e)
   where
     go : (b : Bool) → has n ns ≡ true → (if b then true else has n ns) ≡ true
@@ -36,7 +36,7 @@ there_has (m ∷ ns) n h = (by_test n m (λ b. (if b then true else has n ns) �
 
 item_there : (ns : List ℕ) (i n : ℕ) → slice_get ns i ≡ Some n → get_or ns i 0 ≡ n
 item_there [] i n e = absurd cc
-item_there (m ∷ ns) zero n e = some_inj m n e
+item_there (m ∷ ns) zero n e = same_Some m n e
 item_there (m ∷ ns) (suc i) n e = item_there ns i n e
 
 -- A search by halves ends at the number, or at the gap for it.
@@ -62,7 +62,7 @@ none_at_gap ns n i g = go (has n ns) refl
   where
     apart : (k : ℕ) → slice_get ns k ≡ Some n → false ≡ true
     apart k e =
-        let l = get_below ns k n e in
+        let l = slice_get_within ns k n e in
         let q = item_there ns k n e in
         elim (cases_lt k i) [ inl a ↦ absurd (omega (arith, g.before k a)) | inr a ↦ absurd (omega (arith, g.behind k a l)) ]
 
@@ -111,7 +111,7 @@ others (m ∷ ns) n a =
 removed : (ns : List ℕ) (n i : ℕ) → IsStrictlySortedBy nat_cmp ns → slice_get ns i ≡ Some n → remove ns i ≡ filter (λ m. not (m == n)) ns
 removed [] n i s e = absurd cc
 removed (m ∷ ns) n zero s e =
-    let q = some_inj m n e in
+    let q = same_Some m n e in
     by_test m n (λ b. ns ≡ cond (not b) (m ∷ filter (λ k. not (k == n)) ns) (filter (λ k. not (k == n)) ns))
     (λ h. sym (others ns n (subst (λ k. AllByRecursion (λ j. nat_cmp k j ≡ Less) ns) q (sorted_head nat_cmp m ns s))))
     (λ h. absurd (h q))
@@ -122,7 +122,7 @@ removed (m ∷ ns) n (suc i) s e =
   where
     above : (ks : List ℕ) (j : ℕ) → AllByRecursion (λ k. nat_cmp m k ≡ Less) ks → slice_get ks j ≡ Some n → m ≡ n → ⊥
     above [] j a e h = cc
-    above (k ∷ ks) zero a e h = let f = a.0 in let q = some_inj k n e in grind (arith, nat_tests)
+    above (k ∷ ks) zero a e h = let f = a.0 in let q = same_Some k n e in grind (arith, nat_tests)
     above (k ∷ ks) (suc j) a e h = above ks j a.1 e h
 
 has_filtered : (p : ℕ → Bool) (ns : List ℕ) (q : ℕ) → has q (filter p ns) ≡ (has q ns && p q)

@@ -11,7 +11,7 @@ use Rattle.std.proofs.lemmas.Map.{lookup-none}
 use Rattle.std.proofs.lemmas.Map.Keys.{sorted_tail, IsDistinct-from_sorted}
 use Rattle.std.proofs.lemmas.Map.Entries.{lookup_head, lookup_tail, none_past_head, none_below_head}
 use Rattle.std.proofs.lemmas.Map.Lookups.{exact_unsigned}
-use Rattle.plain_values.proofs.Cases.{some_inj}
+use Rattle.std.proofs.lemmas.Option.{same_Some}
 
 abbrev find : List (ℕ × ℕ) → ℕ → Option ℕ
 find es n = lookup (is_at (nat_cmp n)) es
@@ -35,7 +35,7 @@ module _ (x y : ℕ × ℕ) (xs ys : List (ℕ × ℕ)) (s : IsStrictlySortedBy 
   heads = exact_unsigned x.0 y.0 (by_heads (nat_cmp x.0 y.0) refl)
 
   values : x.1 ≡ y.1
-  values = some_inj x.1 y.1 (sym (at_head x xs) ∙ h x.0 ∙ ap (find (y ∷ ys)) heads ∙ at_head y ys)
+  values = same_Some x.1 y.1 (sym (at_head x xs) ∙ h x.0 ∙ ap (find (y ∷ ys)) heads ∙ at_head y ys)
 
   tails : (n : ℕ) → find xs n ≡ find ys n
   tails n = go (is_eq (nat_cmp n x.0)) refl

@@ -9,7 +9,7 @@ use Rattle.imp_slots.specs.Fits.{FitsCall, FitsCode, FitInTurn, IsChecked}
 use Rattle.program_chains.specs.Chains.{calls_to, extended, through, chains_within, chains}
 use Rattle.program_chains.specs.Claims.{ChainsAreThroughCallers}
 use Rattle.imp_check.specs.Programs.{AreNumbered}
-use Rattle.imp_check.specs.Slots.{Frame, callee_in, code_in, routines_from, routines_of}
+use Rattle.imp_check.specs.Slots.{Resolver, callee_in, code_in, routines_from, routines_of}
 use Rattle.imp_check.specs.Entries.{inside, inside_loop, calls_here, sites_in, block_entries, procedure_entries, entries_from, entries_of, entry_of, frame_at, context_at}
 use Rattle.imp_check.specs.declared.entry.Context.{Context}
 use Rattle.imp_check.specs.declared.entry.Entry.{Entry}
@@ -17,14 +17,14 @@ use Rattle.imp_check.specs.declared.entry.Which.TheVariants as which
 use Rattle.imp_check.proofs.RebuildLemmas.{Known, all_numbers, found}
 use Rattle.imp_slots.specs.Fits.{Distinct}
 use Rattle.call_contexts.specs.Tables.{chains_up, or_no_chains, chains_in, chains_by, through_sites}
-use Rattle.call_contexts.proofs.Lists.{get_below}
 use Rattle.call_contexts.proofs.Placed.{one_more, swapped}
 use Rattle.plain_values.proofs.Lists.{drop_item, get_last, get_other}
 use Rattle.plain_values.proofs.Cases.{by_test}
+use Rattle.std.proofs.lemmas.Option.{slice_get_within}
 
 pub callee_before : (before : List Routine) (l : Layout) (i : Invoke) (q : ℕ) (o : Option Routine) → o ≡ slice_get before q → FitsCall l i o → q < length before
 callee_before before l i q None e f = absurd f
-callee_before before l i q (Some r) e f = get_below before q r (sym e)
+callee_before before l i q (Some r) e f = slice_get_within before q r (sym e)
 
 -- a procedure calls none of those from its own place on
 pub no_calls : (before : List Routine) (l : Layout) (p : ℕ) (c : Code) → length before ≤ p → FitsCode before l c → calls_to p c ≡ []
@@ -96,7 +96,7 @@ module _ (f : ℕ → List (List ℕ)) (p : ℕ) where
       go true zs h = ap (λ ws. zs ++ ws) h ∙ sym (append_assoc zs (through_entries f xs p) (through_entries f ys p))
       go false zs h = h
 
-  module _ (g : Frame) (k : ℕ) where
+  module _ (g : Resolver) (k : ℕ) where
     -- the chains through these statements are those through these calls
     abbrev Through : List Entry → List ℕ → Type 0
     Through xs ns = through_entries f xs p ≡ extended (f k) ns

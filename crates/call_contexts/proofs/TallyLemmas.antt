@@ -67,10 +67,6 @@ one_times : (b : Bool) → any_times (one_if b) ≡ b
 one_times true = refl
 one_times false = refl
 
-none_beside : (b : Bool) → (b || false) ≡ b
-none_beside true = refl
-none_beside false = refl
-
 module _ (n : ℕ) where
   one_more : (ns ms : List ℕ) (lists : List (List ℕ)) → any_times (times n lists) ≡ has n ms → any_times (one_if (has n ns) + times n lists) ≡ has n (ns ++ ms)
   one_more ns ms lists h = times_joined (one_if (has n ns)) (times n lists) ∙ (λ i. one_times (has n ns) i || h i) ∙ sym (has_both n ns ms)

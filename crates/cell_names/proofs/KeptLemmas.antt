@@ -2,15 +2,15 @@
 use Rattle.std.proofs.Common.{◌≡◌, ℕ, zero, suc, ◌≤◌, ◌<◌, List, [], ◌∷◌, ◌++◌, length, map, Option, Some, None, slice_get, IfSome, ◌⊎◌, ⊎_elim, inl, inr, refl, sym, ap, ap₂, ◌∙◌, subst, arith, length-append}
 use Rattle.std.specs.Option.{option_map}
 use Rattle.std.proofs.lemmas.List.{length-map, map-append}
-use Rattle.std.proofs.lemmas.Option.{slice_get-map}
-use Rattle.plain_values.proofs.Cases.{some_inj}
+use Rattle.std.proofs.lemmas.Option.{slice_get-map, same_Some}
 use Rattle.cell_names.specs.declared.frame.Frame.{Frame}
 use Rattle.cell_names.specs.declared.path.Step.{Step}
 use Rattle.cell_names.specs.declared.path.Name.{Name}
 use Rattle.cell_names.specs.Paths.{CellName, or_root, path_at, paths_of, name_in}
 use Rattle.cell_names.specs.Known.{Known, known_of, IsOnce, Adds, IsKept}
-use Rattle.cell_names.proofs.PathLemmas.{within, path_by, path-of-step, path-of-root, paths_of-length, path_at-kept, paths_from-append, append-keeps}
+use Rattle.cell_names.proofs.PathLemmas.{path_by, path-of-step, path-of-root, paths_of-length, path_at-kept, paths_from-append, append-keeps}
 use Rattle.cell_names.proofs.OnceLemmas.{step-of-path, paths-once, names-same}
+use Rattle.plain_values.proofs.Lists.{get_some}
 
 abbrev pub step_of : ℕ → Frame → Step
 step_of before frame = record { before = before; frame = frame }
@@ -21,7 +21,7 @@ if_some P Q f (Some x) h = f x h
 
 -- what stands in a list with one thing more at its end
 snoc-at : {A : Type 0} (xs : List A) (x : A) (k : ℕ) (y : A) → slice_get (xs ++ x ∷ []) k ≡ Some y → (slice_get xs k ≡ Some y) ⊎ ((k ≡ length xs) × (x ≡ y))
-snoc-at [] x zero y at = inr (refl, some_inj x y at)
+snoc-at [] x zero y at = inr (refl, same_Some x y at)
 snoc-at [] x (suc k) y at = cc
 snoc-at (z ∷ xs) x zero y at = inl at
 snoc-at (z ∷ xs) x (suc k) y at = ⊎_elim (λ a. inl a) (λ a. inr (ap suc a.0, a.1)) (snoc-at xs x k y at)
@@ -51,7 +51,7 @@ module _ (steps : List Step) (names : List Name) (kept : IsKept steps names) whe
   pub step-found : (s : Step) (n : ℕ) → s.before < length ps → slice_get ps n ≡ Some (path_by ps s) → (k : ℕ) × (n ≡ suc k) × (slice_get steps k ≡ Some s)
   step-found s n h at =
       let a : (k : ℕ) × (x : Step) × (n ≡ suc k) × (slice_get steps k ≡ Some x) × (x.frame ≡ s.frame) × (slice_get ps x.before ≡ Some (path_at ps s.before)) = step-of-path steps kept.steps_within n s.frame (path_at ps s.before) at in
-      let b : (w : List Frame) × (slice_get ps s.before ≡ Some w) = within ps s.before h in
+      let b : (w : List Frame) × (slice_get ps s.before ≡ Some w) = get_some ps s.before h in
       let v : path_at ps s.before ≡ b.0 = ap or_root b.1 in
       let before : a.1.before ≡ s.before = ps-once a.1.before s.before (path_at ps s.before) a.5 (b.1 ∙ ap Some (sym v)) in
       let make : ℕ → Frame → Step = λ n f. record { before = n; frame = f } in
@@ -63,7 +63,7 @@ module _ (steps : List Step) (names : List Name) (kept : IsKept steps names) whe
 
   name-at : (o : Option Name) (c : CellName) → option_map (name_in ps) o ≡ Some c → (y : Name) × (o ≡ Some y) × (name_in ps y ≡ c)
   name-at None c e = cc
-  name-at (Some y) c e = (y, refl, some_inj (name_in ps y) c e)
+  name-at (Some y) c e = (y, refl, same_Some (name_in ps y) c e)
 
   name-of : (n : ℕ) (c : CellName) → slice_get (map (name_in ps) names) n ≡ Some c → (y : Name) × (slice_get names n ≡ Some y) × (name_in ps y ≡ c)
   name-of n c at = name-at (slice_get names n) c (sym (slice_get-map (name_in ps) names n) ∙ at)

@@ -8,7 +8,8 @@ use Rattle.cell_names.specs.declared.path.Step.{Step}
 use Rattle.cell_names.specs.declared.path.Name.{Name}
 use Rattle.cell_names.specs.Paths.{CellName, or_root, path_at, paths_of, name_in}
 use Rattle.cell_names.specs.Known.{IsOnce, StepsWithin}
-use Rattle.cell_names.proofs.PathLemmas.{within, path_by, path-of-step, path-of-root, paths_of-length}
+use Rattle.cell_names.proofs.PathLemmas.{path_by, path-of-step, path-of-root, paths_of-length}
+use Rattle.plain_values.proofs.Lists.{get_some}
 
 -- equal values have one place where they are told apart
 pub once_told : {A : Type 0} (eq : A → A → Bool) → (xs : List A) → table.AreOnce eq xs → ((x : A) → eq x x ≡ true) → IsOnce xs
@@ -20,14 +21,14 @@ step-of-path steps good zero f w at = let r : slice_get (paths_of steps) 0 ≡ S
 step-of-path steps good (suc k) f w at =
     let small : suc k < length (paths_of steps) = slice_get_within (paths_of steps) (suc k) (f ∷ w) at in
     let less : k < length steps = omega (arith, small, paths_of-length steps) in
-    let r : (s : Step) × (slice_get steps k ≡ Some s) = within steps k less in
+    let r : (s : Step) × (slice_get steps k ≡ Some s) = get_some steps k less in
     let s : Step = r.0 in
     let is : slice_get (paths_of steps) (suc k) ≡ Some (path_by (paths_of steps) s) = path-of-step steps good k s r.1 in
     let same : path_by (paths_of steps) s ≡ f ∷ w = cc in
     let frame : s.frame ≡ f = cc in
     let rest : path_at (paths_of steps) s.before ≡ w = cc in
     let low : s.before ≤ k = good k s r.1 in
-    let there : (v : List Frame) × (slice_get (paths_of steps) s.before ≡ Some v) = within (paths_of steps) s.before (omega (arith, low, small)) in
+    let there : (v : List Frame) × (slice_get (paths_of steps) s.before ≡ Some v) = get_some (paths_of steps) s.before (omega (arith, low, small)) in
     let v : path_at (paths_of steps) s.before ≡ there.0 = ap or_root there.1 in
     (k, s, refl, r.1, frame, there.1 ∙ ap Some (sym v ∙ rest))
 
@@ -36,7 +37,7 @@ root-once : (steps : List Step) → StepsWithin steps → (n : ℕ) → slice_ge
 root-once steps good zero at = refl
 root-once steps good (suc k) at =
     let small : suc k < length (paths_of steps) = slice_get_within (paths_of steps) (suc k) [] at in
-    let r : (s : Step) × (slice_get steps k ≡ Some s) = within steps k (omega (arith, small, paths_of-length steps)) in
+    let r : (s : Step) × (slice_get steps k ≡ Some s) = get_some steps k (omega (arith, small, paths_of-length steps)) in
     let is : slice_get (paths_of steps) (suc k) ≡ Some (path_by (paths_of steps) r.0) = path-of-step steps good k r.0 r.1 in
     absurd (cc)
 
@@ -57,8 +58,8 @@ pub names-same : (paths : List (List Frame)) → IsOnce paths → (x y : Name) �
 names-same paths once x y p q e =
     let path : path_at paths x.path ≡ path_at paths y.path = ap (λ (c : CellName). c.path) e in
     let point : x.point ≡ y.point = ap (λ (c : CellName). c.point) e in
-    let a : (w : List Frame) × (slice_get paths x.path ≡ Some w) = within paths x.path p in
-    let b : (w : List Frame) × (slice_get paths y.path ≡ Some w) = within paths y.path q in
+    let a : (w : List Frame) × (slice_get paths x.path ≡ Some w) = get_some paths x.path p in
+    let b : (w : List Frame) × (slice_get paths y.path ≡ Some w) = get_some paths y.path q in
     let u : path_at paths x.path ≡ a.0 = ap or_root a.1 in
     let v : path_at paths y.path ≡ b.0 = ap or_root b.1 in
     let w : a.0 ≡ b.0 = sym u ∙ path ∙ v in

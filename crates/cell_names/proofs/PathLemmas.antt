@@ -1,10 +1,11 @@
 -- The paths that steps make.
 use Rattle.std.proofs.Common.{◌≡◌, ℕ, zero, suc, ◌+◌, ◌≤◌, ◌<◌, List, [], ◌∷◌, ◌++◌, length, Some, slice_get, refl, sym, ap, ◌∙◌, arith, length-append}
-use Rattle.plain_values.proofs.Cases.{some_inj}
 use Rattle.cell_names.specs.declared.frame.Frame.{Frame}
 use Rattle.cell_names.specs.declared.path.Step.{Step}
 use Rattle.cell_names.specs.Paths.{or_root, path_at, paths_from, paths_of}
 use Rattle.cell_names.specs.Known.{KeepsNumbers, StepsWithin}
+use Rattle.std.proofs.lemmas.Option.{same_Some}
+use Rattle.plain_values.proofs.Lists.{get_some}
 
 -- places stay where something is put at the end
 pub append-keeps : {A : Type 0} (xs ys : List A) → KeepsNumbers xs (xs ++ ys)
@@ -33,23 +34,17 @@ pub paths_from-keeps : (paths : List (List Frame)) (steps : List Step) → Keeps
 paths_from-keeps paths [] n w at = at
 paths_from-keeps paths (x ∷ xs) n w at = paths_from-keeps (paths ++ path_by paths x ∷ []) xs n w (append-keeps paths (path_by paths x ∷ []) n w at)
 
--- a place within a list has something
-pub within : {A : Type 0} (xs : List A) (n : ℕ) → n < length xs → (x : A) × (slice_get xs n ≡ Some x)
-within [] n h = absurd (omega (arith, h))
-within (x ∷ xs) zero h = (x, refl)
-within (x ∷ xs) (suc n) h = within xs n (omega (arith, h))
-
 -- the path at a place that is kept is the same
 pub path_at-kept : (old new : List (List Frame)) → KeepsNumbers old new → (n : ℕ) → n < length old → path_at old n ≡ path_at new n
 path_at-kept old new keeps n h =
-    let r : (w : List Frame) × (slice_get old n ≡ Some w) = within old n h in
+    let r : (w : List Frame) × (slice_get old n ≡ Some w) = get_some old n h in
     ap or_root r.1 ∙ sym (ap or_root (keeps n r.0 r.1))
 
 -- the path of the step at place k, where that step leads from a path in front of it
 step-path : (paths : List (List Frame)) (steps : List Step) (k : ℕ) (s : Step) → slice_get steps k ≡ Some s → s.before < length paths + k → slice_get (paths_from paths steps) (length paths + k) ≡ Some (path_by (paths_from paths steps) s)
 step-path paths [] k s at h = cc
 step-path paths (x ∷ xs) zero s at h =
-    let is : x ≡ s = some_inj x s at in
+    let is : x ≡ s = same_Some x s at in
     let more : List (List Frame) = paths ++ path_by paths x ∷ [] in
     let e : length paths ≡ length paths + 0 = omega arith in
     let last : slice_get (paths_from more xs) (length paths) ≡ Some (path_by paths x) = paths_from-keeps more xs (length paths) (path_by paths x) (append-last paths (path_by paths x)) in

@@ -3,9 +3,11 @@ use Rattle.std.proofs.Common.{◌≡◌, ℕ, zero, suc, ◌<◌, ◌⊎◌, Lis
 use Rattle.std.specs.Bool.{Decides}
 use Rattle.std.specs.List.{list_any}
 use Rattle.std.proofs.lemmas.Bool.Decides.{nat_tests}
-use Rattle.plain_values.proofs.Cases.{by_bool, or_either, some_inj}
+use Rattle.plain_values.proofs.Cases.{by_bool}
 use Rattle.daig_graph.specs.Held.{IsIn}
 use Rattle.daig_graph.proofs.Cases.{nat_eq-true}
+use Rattle.std.proofs.lemmas.Bool.{or_cases}
+use Rattle.std.proofs.lemmas.Option.{same_Some}
 
 module _ {A : Type 0} where
   pub in_none : {P : Type 0} (x : A) → IsIn [] x → P
@@ -21,7 +23,7 @@ module _ {A : Type 0} where
   in_cases x y xs m = go m.0 m.1
     where
       go : (n : ℕ) → slice_get (y ∷ xs) n ≡ Some x → (y ≡ x) ⊎ IsIn xs x
-      go zero e = inl (some_inj y x e)
+      go zero e = inl (same_Some y x e)
       go (suc n) e = inr (n, e)
 
   pub get_left : (xs ys : List A) (i : ℕ) (x : A) → slice_get xs i ≡ Some x → slice_get (xs ++ ys) i ≡ Some x
@@ -56,7 +58,7 @@ module _ {A : Type 0} where
 
   -- by places
   pub get_pushed : (xs : List A) (y : A) (i : ℕ) (x : A) → slice_get (xs ++ y ∷ []) i ≡ Some x → (slice_get xs i ≡ Some x) ⊎ ((i ≡ length xs) × (y ≡ x))
-  get_pushed [] y zero x e = inr (refl, some_inj y x e)
+  get_pushed [] y zero x e = inr (refl, same_Some y x e)
   get_pushed [] y (suc i) x e = absurd cc
   get_pushed (z ∷ xs) y zero x e = inl e
   get_pushed (z ∷ xs) y (suc i) x e = elim (get_pushed xs y i x e) [ inl p ↦ inl p | inr q ↦ inr (ap suc q.0, q.1) ]
@@ -81,7 +83,7 @@ module _ {A : Type 0} where
 pub in_any : (n : ℕ) (xs : List ℕ) → list_any (nat_eq n) xs ≡ true → IsIn xs n
 in_any n [] h = absurd cc
 in_any n (x ∷ xs) h =
-    elim (or_either (nat_eq n x) (list_any (nat_eq n) xs) h) [
+    elim (or_cases (nat_eq n x) (list_any (nat_eq n) xs) h) [
       | inl e ↦ (0, ap Some (let q : n ≡ x = grind (arith, nat_tests) in sym q))
       | inr k ↦ in_more n x xs (in_any n xs k)
     ]

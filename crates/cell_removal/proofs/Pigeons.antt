@@ -7,10 +7,10 @@ use Rattle.std.specs.Cmp.{unsigned_tied}
 use Rattle.std.proofs.lemmas.Bool.Decides.{nat_tests}
 use Rattle.std.proofs.Common.{nat_eq}
 use Rattle.std.proofs.lemmas.List.{length-map}
-use Rattle.plain_values.proofs.Cases.{or_either}
 use Rattle.daig_graph.specs.Held.{IsIn, IsOnce}
 use Rattle.cell_removal.specs.Removal.{Cells}
 use Rattle.cell_removal.proofs.Ins.{in_none, in_first, in_more, in_cases, in_either, in_left, in_right}
+use Rattle.std.proofs.lemmas.Bool.{or_cases}
 
 module _ {A : Type 0} where
   -- no item stands twice
@@ -65,7 +65,7 @@ module _ {A : Type 0} where
 number_there : (n : ℕ) (ks : List ℕ) → list_any (eq_by_cmp nat_cmp n) ks ≡ true → IsIn ks n
 number_there n [] h = absurd cc
 number_there n (k ∷ ks) h =
-    elim (or_either (eq_by_cmp nat_cmp n k) (list_any (eq_by_cmp nat_cmp n) ks) h) [
+    elim (or_cases (eq_by_cmp nat_cmp n k) (list_any (eq_by_cmp nat_cmp n) ks) h) [
       | inl e ↦ (let t : nat_eq n k ≡ true = sym (unsigned_tied n k) ∙ e in let q : n ≡ k = grind (arith, nat_tests) in (0, ap Some (sym q)))
       | inr r ↦ in_more n k ks (number_there n ks r)
     ]

@@ -8,7 +8,7 @@ use Rattle.daig_graph.specs.Held.{IsIn}
 use Rattle.cell_removal.specs.Removal.{Cells, LeadsTo, itself, through, IsOrder, Removes, Adds}
 use Rattle.cell_removal.proofs.Ins.{in_none, in_left, in_last, in_pushed}
 
-leads_as : {V : Type 0} (cells : Cells V) (these those : ℕ → Type 0) → ((n : ℕ) → these n → those n) → (n : ℕ) → LeadsTo cells these n → LeadsTo cells those n
+pub leads_as : {V : Type 0} (cells : Cells V) (these those : ℕ → Type 0) → ((n : ℕ) → these n → those n) → (n : ℕ) → LeadsTo cells these n → LeadsTo cells those n
 leads_as cells these those f n (itself _ t) = itself n (f n t)
 leads_as cells these those f n (through m _ l u) = through m n (leads_as cells these those f m l) u
 

@@ -2,12 +2,12 @@
 ghost use Rattle.std.specs.Prelude.{◌≡◌};
 ghost use Rattle.cell_removal.specs.Removal.{IsOrder, without};
 
-use crate::planning::Plan;
+use crate::planning::RemovalOrder;
 use daig_graph::Graph;
 
 /// Takes the planned cells away; the others stay as they are. It takes no memory, and as many steps as the cells have
 /// inputs.
-pub fn commit<V>(graph: &mut Graph<V>, plan: Plan)
+pub fn commit<V>(graph: &mut Graph<V>, plan: RemovalOrder)
 where
     V: Drop,
     requires order { IsOrder graph.old.cells plan }

@@ -13,4 +13,4 @@ mod planning;
 
 pub use committing::commit;
 pub use laws::rest_stays;
-pub use planning::{Plan, removal};
+pub use planning::{RemovalOrder, removal};

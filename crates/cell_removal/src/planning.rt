@@ -7,7 +7,7 @@ ghost use Rattle.daig_graph.specs.Cells.{AreCells};
 ghost use Rattle.cell_removal.specs.Removal.{Adds, IsNext, IsOrder, IsRising, Removes};
 ghost use Rattle.cell_removal.specs.Turns.{IsOpened, Turns};
 
-use daig_graph::{Graph, Use, Walk};
+use daig_graph::{Graph, Iter, Use};
 use indexmap::IndexSet;
 use plain_values::Memory;
 use std::alloc::Global;
@@ -15,11 +15,11 @@ use std::marker::Model;
 
 /// Cells that can be taken away, each behind those that use it.
 #[derive(Drop)]
-pub struct Plan {
+pub struct RemovalOrder {
     cells: IndexSet<usize>,
 }
 
-impl Model for Plan {
+impl Model for RemovalOrder {
     ghost use Rattle.std.specs.Prelude.{List, ℕ};
 
     ghost Value = { List ℕ };
@@ -27,7 +27,7 @@ impl Model for Plan {
     ghost view = { λ p. p.cells.keys };
 }
 
-impl Plan {
+impl RemovalOrder {
     /// The cells, in the order of removal.
     pub fn cells(&self) -> &[usize]
         ensures same { result.now ≡ self.now }
@@ -40,7 +40,7 @@ impl Plan {
 #[derive(Drop)]
 struct Open<'a> {
     cell: usize,
-    users: Walk<'a, Use>,
+    users: Iter<'a, Use>,
 }
 
 /// Whether a cell is planned.
@@ -53,7 +53,7 @@ fn is_planned(planned: &IndexSet<usize>, cell: usize) -> bool
 
 /// The next user that is not planned yet.
 #[tactic(auto, using(crate::proofs::Users::behind_first, crate::proofs::Users::behind_next, crate::proofs::Users::behind_found, crate::proofs::Users::behind_all))]
-fn next_user(users: &mut Walk<'_, Use>, planned: &IndexSet<usize>) -> Option<usize>
+fn next_user(users: &mut Iter<'_, Use>, planned: &IndexSet<usize>) -> Option<usize>
     ensures next { IsNext planned.now.keys users.old users.new result }
 {
     'users: while let Some(user) = users.next() {
@@ -129,7 +129,11 @@ fn add<V>(
 ///
 /// [`Memory`] alone.
 #[tactic(auto, using(crate::proofs::Whole::removes_none, crate::proofs::Whole::removes_more, crate::proofs::Whole::touched_there, crate::proofs::Whole::removes_all))]
-pub fn removal<V>(alloc: Global, graph: &Graph<V>, touched: &[usize]) -> Result<Plan, Memory>
+pub fn removal<V>(
+    alloc: Global,
+    graph: &Graph<V>,
+    touched: &[usize],
+) -> Result<RemovalOrder, Memory>
     requires rising { IsRising graph.now.cells }
     requires cells { AreCells graph.now.cells touched.now }
     ensures removes { IfOk result (Removes graph.now.cells (IsIn touched.now)) }
@@ -138,5 +142,5 @@ pub fn removal<V>(alloc: Global, graph: &Graph<V>, touched: &[usize]) -> Result<
     for cell in touched {
         add(alloc, graph, *cell, &mut cells)?;
     }
-    Ok(Plan { cells })
+    Ok(RemovalOrder { cells })
 }

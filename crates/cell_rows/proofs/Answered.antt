@@ -9,7 +9,6 @@ use Rattle.domain_laws.specs.Operations.{Operations}
 use Rattle.batch_meaning.specs.Batch.{Engine}
 use Rattle.batch_meaning.specs.Places.{if_some, value_at, main_layout}
 use Rattle.batch_meaning.specs.Answers.{In, all_values, sum_of, summed, answer_in}
-use Rattle.plain_values.proofs.Cases.{some_inj}
 use Rattle.cell_names.specs.Paths.{CellName}
 use Rattle.demand_order.specs.Asking.{gather, value_of}
 use Rattle.cell_rows.specs.Names.{Mark, mark_of, IsSame}
@@ -25,6 +24,7 @@ use Rattle.cell_rows.proofs.TotalRows.{total_values}
 use Rattle.cell_rows.proofs.Arriving.{Has}
 use Rattle.cell_rows.proofs.Chained.{all_once, is_at}
 use Rattle.cell_rows.proofs.Demands.{demands_are, reads_are, same_target}
+use Rattle.std.proofs.lemmas.Option.{same_Some}
 
 module _ {S : Type 0} (dom : Operations S) (engine : Engine) (program : List Routine) (checked : IsChecked program) where
   abbrev back : List Routine
@@ -61,13 +61,13 @@ module _ {S : Type 0} (dom : Operations S) (engine : Engine) (program : List Rou
           r.0 ∙ ap (λ v. Some v) (sym (same_target cell_of f t.steps t.last [] same).1)
 
       all_at : (l : Location) (zs : List (List ℕ)) (ts : List Target) → all_targets (target program l) zs ≡ Some ts → all_values dom engine (value_at dom engine program l) zs ≡ Some (map (value_of_target cell_of) ts)
-      all_at l [] ts e = ap (λ ts. Some (map (value_of_target cell_of) ts)) (some_inj _ _ e)
+      all_at l [] ts e = ap (λ ts. Some (map (value_of_target cell_of) ts)) (same_Some _ _ e)
       all_at l (z ∷ zs) ts e =
           let x = then_some (target program l z) (λ t. if_some (all_targets (target program l) zs) (λ ts. Some (t ∷ ts))) ts e in
           let y = then_some (all_targets (target program l) zs) (λ ts. Some (x.0 ∷ ts)) ts x.2 in
           ap (λ o. if_some o (λ v. if_some (all_values dom engine (value_at dom engine program l) zs) (λ vs. Some (v ∷ vs)))) (at_cells l z x.0 x.1)
           ∙ ap (λ o. if_some o (λ vs. Some (value_of_target cell_of x.0 ∷ vs))) (all_at l zs y.0 y.1)
-          ∙ ap (λ ts. Some (map (value_of_target cell_of) ts)) (some_inj _ _ y.2)
+          ∙ ap (λ ts. Some (map (value_of_target cell_of) ts)) (same_Some _ _ y.2)
 
       -- The answer that is read from the demanded names' values, in the order in which they are asked for.
       pub answer_is : (l : Location) (string : List ℕ) (p : ℕ) (ts : List Target) → targets program p l string ≡ Some ts →

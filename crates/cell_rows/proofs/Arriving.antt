@@ -10,7 +10,6 @@ use Rattle.cell_names.specs.declared.frame.Frame.TheVariants.{InLoop}
 use Rattle.cell_names.specs.declared.frame.Point.{Point}
 use Rattle.cell_names.specs.declared.frame.Point.TheVariants.{Then, Else, Body, Post, Fix}
 use Rattle.cell_names.specs.Paths.{CellName}
-use Rattle.plain_values.proofs.Cases.{some_inj}
 use Rattle.plain_values.proofs.Members.{Member, here, there, in_left, in_right, Each, each_more, each_both, none_there, each_as, keys, keys_both}
 use Rattle.cell_rows.specs.Names.{Scope, name, Mark, At, Algebra, Place, behind_it, inside, level, level_of, AllFine}
 use Rattle.cell_rows.specs.Cells.{Cell, block, values, one_round, fix_value, after_value, value_of_name, value_of_mark}
@@ -20,6 +19,7 @@ use Rattle.cell_rows.proofs.Linked.{batch_over, behind_over}
 use Rattle.cell_rows.proofs.Lookup.{fine}
 use Rattle.cell_rows.proofs.BatchTie.{fix_index}
 use Rattle.cell_rows.proofs.Tied.{at, to, Led, turn, round_found, iterate_is, fix_found}
+use Rattle.std.proofs.lemmas.Option.{same_Some}
 
 -- the keys of the texts
 keys_deeper : (n : ℕ) (xs : List (ℕ × Text)) → keys (map (deeper n) xs) ≡ keys xs
@@ -126,7 +126,7 @@ module _ {S : Type 0} (dom : Operations S) (engine : Engine) where
     over_spots j y (While m guard b r) a e =
         let h : (head_of dom engine ms z m guard (B b) a).value ≡ Over j y = ap (λ v. (head_of dom engine ms z m guard (B b) v).value) e in
         let k = ap (λ v. behind dom engine guard (B b) v) h ∙ behind_over dom engine guard (B b) j y in
-        each_more (OverAt j y) _ _ (record { before = e; after = k; head = λ v i. ap (λ (q : Fixed S). q.value) (sym (some_inj _ _ i)) ∙ h })
+        each_more (OverAt j y) _ _ (record { before = e; after = k; head = λ v i. ap (λ (q : Fixed S). q.value) (sym (same_Some _ _ i)) ∙ h })
         (each_both (OverAt j y) _ _ (over_spots j y b _ (ap (lift (dom.assume guard true)) h))
         (over_spots j y r _ k))
     over_spots j y (Call m call q r) a e =

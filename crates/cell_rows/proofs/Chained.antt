@@ -12,7 +12,7 @@ use Rattle.cell_names.specs.declared.frame.Frame.TheVariants.{InCall}
 use Rattle.cell_names.specs.declared.frame.Point.{Point}
 use Rattle.cell_names.specs.declared.frame.Point.TheVariants.{Entry, Then, Else, Body, Post, Fix}
 use Rattle.cell_names.specs.Paths.{CellName}
-use Rattle.plain_values.proofs.Cases.{by_test, some_inj}
+use Rattle.plain_values.proofs.Cases.{by_test}
 use Rattle.plain_values.proofs.Members.{Member, here, there, Each, each_more, each_both, none_there, keys}
 use Rattle.batch_meaning.proofs.Places.{keys_numbers, found, found_member}
 use Rattle.cell_rows.specs.Names.{Scope, scope_of, name, Mark, mark, Algebra, Place, number, behind_it, last, AllFine, start_of, in_call, post_mark}
@@ -29,6 +29,7 @@ use Rattle.cell_rows.proofs.BatchTie.{last_value}
 use Rattle.imp_slots.proofs.Distinct.{left_once, right_once}
 use Rattle.cell_rows.proofs.Tied.{at, to, Led, led_to, front_found, first_end, fix_found}
 use Rattle.cell_rows.proofs.Arriving.{keys_texts, spot_of, AllOver, Fits, shown, over_spots, Reaches, Stops, seen, Has}
+use Rattle.std.proofs.lemmas.Option.{same_Some}
 
 abbrev pub AllOnce : List Routine → Type 0
 AllOnce [] = Unit {0}
@@ -233,7 +234,7 @@ module _ {S : Type 0} (dom : Operations S) (engine : Engine) (program : List Rou
   come_here ss scope z n s t h k (If m guard x y r) i c j = absurd cc
   come_here ss scope z n s t h k (While m guard x r) i c j = absurd cc
   come_here ss scope z n s t h k (Call m call q r) i c j =
-      subst (λ (k : Invoke × ℕ). Comes (ss ++ (takes t.loops ++ Go n ∷ [])) (from scope.earlier k.1) (n ∷ z) (lift (dom.enter k.0.entering) s.before)) (some_inj _ _ c) (come_call ss scope z n s t h m call q r i j)
+      subst (λ (k : Invoke × ℕ). Comes (ss ++ (takes t.loops ++ Go n ∷ [])) (from scope.earlier k.1) (n ∷ z) (lift (dom.enter k.0.entering) s.before)) (same_Some _ _ c) (come_call ss scope z n s t h m call q r i j)
   come_here ss scope z n s t h k (Break m r) i c j = absurd cc
 
   come_in : (ss : List Step) (scope : Scope) (z : List ℕ) (n : ℕ) (s : Spot S) (t : Text) (k : Invoke × ℕ) → callee_of t.code ≡ Some k → n ≡ number t.code → Here ss t s scope z ⊎ Gone ss t s → Comes (ss ++ (takes t.loops ++ Go n ∷ [])) (from scope.earlier k.1) (n ∷ z) (lift (dom.enter k.0.entering) s.before)
@@ -272,7 +273,7 @@ module _ {S : Type 0} (dom : Operations S) (engine : Engine) (program : List Rou
       let k = y.0 in
       let q = located i.steps c0 earlier z a0 n s i.once_too.0 i.came x.1 in
       let c : callee_of q.text.code ≡ Some k = sym q.fits.callee ∙ y.1 in
-      subst (λ (x : List Routine × Value S). Came x.0 (n ∷ z) x.1) (some_inj _ _ y.2) (record {
+      subst (λ (x : List Routine × Value S). Came x.0 (n ∷ z) x.1) (same_Some _ _ y.2) (record {
         steps = i.steps ++ (takes q.text.loops ++ Go n ∷ []);
         way_is = ap (λ o. if_some o (λ x. way_in n x.steps x.procs)) i.way_is
             ∙ ap (λ o. if_some o (λ t. if_some (callee_of t.code) (λ q. Some (way_of (i.steps ++ (takes t.loops ++ Go n ∷ [])) (from earlier q.1))))) q.found_text
@@ -282,7 +283,7 @@ module _ {S : Type 0} (dom : Operations S) (engine : Engine) (program : List Rou
       })
 
   came : (z : List ℕ) (procs : List Routine) (a : Value S) → entry dom engine program z ≡ Some (procs, a) → Came procs z a
-  came [] procs a e = subst (λ (x : List Routine × Value S). Came x.0 [] x.1) (some_inj _ _ e) (record { steps = []; way_is = refl; came = come_start program refl; once_too = once })
+  came [] procs a e = subst (λ (x : List Routine × Value S). Came x.0 [] x.1) (same_Some _ _ e) (record { steps = []; way_is = refl; came = come_start program refl; once_too = once })
   came (n ∷ z) procs a e =
       let p = then_some (entry dom engine program z) (entered dom engine n z) (procs, a) e in
       enter_in n z p.0.0 p.0.1 procs a (came z p.0.0 p.0.1 p.1) p.2
@@ -345,7 +346,7 @@ module _ {S : Type 0} (dom : Operations S) (engine : Engine) (program : List Rou
   head_at ss scope z n s t h (While m guard x r) v i j k e =
       let l : Led dom engine program all h.path h.place h.front (While m guard x r) = subst (λ c. Led dom engine program all h.path h.place h.front c) i h.led in
       let is : s ≡ spot_of dom engine h.place.scope h.place.sites (While m guard x r) h.front.value.value = h.spot_is ∙ ap (λ c. spot_of dom engine h.place.scope h.place.sites c h.front.value.value) i in
-      let hv = some_inj _ _ (sym (ap (λ (s : Spot S). s.head) is) ∙ e) in
+      let hv = same_Some _ _ (sym (ap (λ (s : Spot S). s.head) is) ∙ e) in
       ap (λ (n : ℕ). (f (name h.path (Fix n))).value) j
       ∙ cell_at (name h.path (Fix m)) _ (fix_found dom engine program all h.path h.place m guard x r h.front l)
       ∙ ap (λ (q : Fixed S). q.value) hv
@@ -378,7 +379,7 @@ module _ {S : Type 0} (dom : Operations S) (engine : Engine) (program : List Rou
       ending ss (nowhere r) = absurd cc
 
       by_name : (t : Bool) → target_back (End x) z ≡ (if t then Some (to_point i.steps (last_point c.code Entry)) else None) → (if t then Some (ended_by (Sc c earlier) z c.code a) else None) ≡ Some v → AtIs (End x) z v
-      by_name true is e = record { target_at = to_point i.steps (last_point c.code Entry); is = is; value = ending i.steps i.came ∙ some_inj _ _ e; needs = end_needs i.steps i.came }
+      by_name true is e = record { target_at = to_point i.steps (last_point c.code Entry); is = is; value = ending i.steps i.came ∙ same_Some _ _ e; needs = end_needs i.steps i.came }
       by_name false is e = absurd cc
 
   at_in : (l : Location) (z : List ℕ) (ps : List Routine) (a v : Value S) → Came ps z a → value_in dom engine ps z a l ≡ Some v → AtIs l z v
@@ -389,7 +390,7 @@ module _ {S : Type 0} (dom : Operations S) (engine : Engine) (program : List Rou
   at_in (Before n) z (c ∷ earlier) a v i e =
       let x = then_some (find n (all_spots (c ∷ earlier) z a)) (λ s. Some s.before) v e in
       let q = located i.steps c earlier z a n x.0 i.once_too.0 i.came x.1 in
-      let k : x.0.before ≡ v = some_inj _ _ x.2 in
+      let k : x.0.before ≡ v = same_Some _ _ x.2 in
       record {
         target_at = to_point (i.steps ++ takes q.text.loops) q.text.front;
         is = ap (λ o. if_some o (λ x. target_in (Before n) x.steps x.procs)) i.way_is ∙ ap (λ o. if_some o (λ t. Some (to_point (i.steps ++ takes t.loops) t.front))) q.found_text;
@@ -399,7 +400,7 @@ module _ {S : Type 0} (dom : Operations S) (engine : Engine) (program : List Rou
   at_in (After n) z (c ∷ earlier) a v i e =
       let x = then_some (find n (all_spots (c ∷ earlier) z a)) (λ s. Some s.after) v e in
       let q = located i.steps c earlier z a n x.0 i.once_too.0 i.came x.1 in
-      let k : x.0.after ≡ v = some_inj _ _ x.2 in
+      let k : x.0.after ≡ v = same_Some _ _ x.2 in
       record {
         target_at = to_point (i.steps ++ takes q.text.loops) (Post n);
         is = ap (λ o. if_some o (λ x. target_in (After n) x.steps x.procs)) i.way_is ∙ ap (λ o. if_some o (λ t. Some (to_point (i.steps ++ takes t.loops) (Post n)))) q.found_text;
@@ -411,7 +412,7 @@ module _ {S : Type 0} (dom : Operations S) (engine : Engine) (program : List Rou
       let y = then_some x.0.head (λ h. Some h.value) v x.2 in
       let q = located i.steps c earlier z a n x.0 i.once_too.0 i.came x.1 in
       let k = q.fits.loop y.0 y.1 in
-      let g : y.0.value ≡ v = some_inj _ _ y.2 in
+      let g : y.0.value ≡ v = same_Some _ _ y.2 in
       record {
         target_at = to_point (i.steps ++ takes q.text.loops) (Fix n);
         is = ap (λ o. if_some o (λ x. target_in (Head n) x.steps x.procs)) i.way_is ∙ ap (λ o. if_some o (λ t. if is_loop t.code then Some (to_point (i.steps ++ takes t.loops) (Fix n)) else None)) q.found_text
@@ -449,7 +450,7 @@ module _ {S : Type 0} (dom : Operations S) (engine : Engine) (program : List Rou
       let same = keys_texts c.code Entry ∙ sym (keys_numbers dom engine (marks engine.widening c) z (calls_of dom engine earlier z) c.code a) in
       let s = find_some n (texts c.code Entry) (all_spots (c ∷ earlier) z a) t same e in
       let q = (shown dom engine (marks engine.widening c) z (calls_of dom engine earlier z) c.code Entry a).at (n, s.0) (found_member n s.0 (all_spots (c ∷ earlier) z a) s.1) in
-      let i : q.text ≡ t = some_inj _ _ (sym (find_text c.code n q.text d q.listed) ∙ e) in
+      let i : q.text ≡ t = same_Some _ _ (sym (find_text c.code n q.text d q.listed) ∙ e) in
       record { at_it = s.0; found_it = s.1; fits = subst (λ t. Fits dom engine t s.0) i q.fits }
 
   enter_some : (n : ℕ) (z : List ℕ) (ss : List Step) (ps : List Routine) (a : Value S) (w : Way) → AllOnce ps → way_in n ss ps ≡ Some w → (b : Value S) × (entered dom engine n z (ps, a) ≡ Some (w.procs, b))
@@ -460,7 +461,7 @@ module _ {S : Type 0} (dom : Operations S) (engine : Engine) (program : List Rou
       let s = spotted c earlier z a n x.0 o.0 x.1 in
       let k = y.0 in
       let c1 : s.at_it.call ≡ Some k = s.fits.callee ∙ y.1 in
-      let same : from earlier k.1 ≡ w.procs = ap (λ (w : Way). w.procs) (some_inj _ _ y.2) in (
+      let same : from earlier k.1 ≡ w.procs = ap (λ (w : Way). w.procs) (same_Some _ _ y.2) in (
         lift (dom.enter k.0.entering) s.at_it.before,
         ap (λ o. if_some o (λ s. if_some s.call (λ k. Some (from earlier k.1, lift (dom.enter k.0.entering) s.before)))) s.found_it
             ∙ ap (λ o. if_some o (λ k. Some (from earlier k.1, lift (dom.enter k.0.entering) s.at_it.before))) c1
@@ -468,7 +469,7 @@ module _ {S : Type 0} (dom : Operations S) (engine : Engine) (program : List Rou
       )
 
   entry_some : (z : List ℕ) (w : Way) → way program z ≡ Some w → (a : Value S) × (entry dom engine program z ≡ Some (w.procs, a))
-  entry_some [] w e = (State (dom.init (main_layout program)), ap (λ (w : Way). Some (w.procs, State (dom.init (main_layout program)))) (some_inj _ _ e))
+  entry_some [] w e = (State (dom.init (main_layout program)), ap (λ (w : Way). Some (w.procs, State (dom.init (main_layout program)))) (same_Some _ _ e))
   entry_some (n ∷ z) w e =
       let x = then_some (way program z) (λ x. way_in n x.steps x.procs) w e in
       let i = entry_some z x.0 x.1 in
@@ -509,5 +510,5 @@ module _ {S : Type 0} (dom : Operations S) (engine : Engine) (program : List Rou
       let r = value_some l z x.0.steps x.0.procs i.0 t (came z x.0.procs i.0 i.1).once_too x.2 in
       let v : value_back l z ≡ Some r.0 = ap (λ o. if_some o (λ x. value_in dom engine x.0 z x.1 l)) i.1 ∙ r.1 in
       let q = at_is l z r.0 v in
-      let same : q.0 ≡ t = some_inj _ _ (sym q.1 ∙ e) in
+      let same : q.0 ≡ t = same_Some _ _ (sym q.1 ∙ e) in
       (v ∙ ap (λ v. Some v) (sym q.2 ∙ ap (value_of_target f) same), subst (λ (t : Target). All (Has dom engine program all) (demanded_in f t.steps t.last [])) same q.3)

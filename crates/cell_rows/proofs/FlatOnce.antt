@@ -1,7 +1,7 @@
 -- In a checked program each statement number stands in the table once.
 use Rattle.std.proofs.lemmas.List.{reverse-append, length-reverse}
 use Rattle.std.proofs.Common.{◌<◌, zero, suc, reverse, slice_get, Option, None, arith, append_assoc, append-nil, ◌≡◌, ℕ, List, [], ◌∷◌, ◌++◌, length, map, Some, refl, sym, ap, ◌∙◌, subst, inl, inr}
-use Rattle.imp_slots.proofs.Distinct.{not_in, left_once, right_once}
+use Rattle.imp_slots.proofs.Distinct.{not_in, left_once, right_once, absent_both}
 use Rattle.imp_slots.specs.Plain.{Layout, Code, Stop, Simple, If, While, Call, Break, Routine, code_numbers}
 use Rattle.imp_slots.specs.Fits.{Absent, Distinct, FitsCall, FitsCode, IsChecked, routine_numbers}
 use Rattle.cell_names.specs.declared.frame.Point.TheVariants.{Entry}
@@ -28,10 +28,6 @@ keys_flat (c ∷ earlier) =
 absent_of : (n : ℕ) (xs : List ℕ) → (Member n xs → ⊥) → Absent n xs
 absent_of n [] h = tt
 absent_of n (x ∷ xs) h = ((λ e. h (subst (λ (k : ℕ). Member n (k ∷ xs)) e here)), absent_of n xs (λ m. h (there m)))
-
-absent_both : (n : ℕ) (xs ys : List ℕ) → Absent n xs → Absent n ys → Absent n (xs ++ ys)
-absent_both n [] ys a b = b
-absent_both n (x ∷ xs) ys a b = (a.0, absent_both n xs ys a.1 b)
 
 distinct_both : (xs ys : List ℕ) → Distinct xs → Distinct ys → ((k : ℕ) → Member k xs → Absent k ys) → Distinct (xs ++ ys)
 distinct_both [] ys d e h = e

@@ -8,7 +8,7 @@ use Rattle.cell_names.specs.declared.frame.Frame.{Frame}
 use Rattle.cell_names.specs.declared.frame.Frame.TheVariants.{InCall, InLoop}
 use Rattle.cell_names.specs.declared.frame.Point.{Point}
 use Rattle.cell_names.specs.declared.frame.Point.TheVariants.{Entry, Then, Else, Body, Post, Iterate, Fix, Exit, Leap}
-use Rattle.plain_values.proofs.Cases.{by_test, some_inj}
+use Rattle.plain_values.proofs.Cases.{by_test}
 use Rattle.plain_values.proofs.Members.{Member, here, there, in_left, in_right, keys}
 use Rattle.batch_meaning.proofs.Places.{found}
 use Rattle.cell_rows.specs.Names.{Scope, scope_of, name, Mark, mark, Place, bare, number, entry, start_of, in_call, in_loop, iterate_point, round_place, statement, follow, when}
@@ -19,6 +19,7 @@ use Rattle.cell_rows.specs.Flat.{Flat, flat_of, flat, stand_in, by_text, flat_ro
 use Rattle.cell_rows.proofs.Lookup.{Stands, unstated, then_some}
 use Rattle.cell_rows.proofs.Shown.{Shows, shows}
 use Rattle.cell_rows.proofs.Sites.{path_sites}
+use Rattle.std.proofs.lemmas.Option.{same_Some}
 
 module _ (engine : Engine) (program : List Routine) (once : Distinct (keys (flat program))) where
   abbrev N : ℕ
@@ -58,7 +59,7 @@ module _ (engine : Engine) (program : List Routine) (once : Distinct (keys (flat
 
   covers_start : (ps : List Routine) (z : List ℕ) (x : U) (b : Q) → x.point ≡ Entry → ((y : ℕ × Flat) → Member y (flat ps) → Member y (flat program)) → start_of engine bare ps z x ≡ Some b → Covers b
   covers_start [] z x b i f e = absurd cc
-  covers_start (c ∷ before) z x b i f e = subst Covers (some_inj _ _ e) (record {
+  covers_start (c ∷ before) z x b i f e = subst Covers (same_Some _ _ e) (record {
     texts_in = λ q m.
         let l : Member q (texts c.code Entry) = subst (λ (p : Point). Member q (texts c.code p)) i m in
         record { routine = c; earlier = before; scoped = refl; text = q.1; listed = f _ (in_left (flat before) (in_flat_of c before q (texts c.code Entry) l)); front = refl; code = refl };

@@ -8,11 +8,12 @@ use Rattle.cell_names.specs.declared.frame.Frame.{Frame}
 use Rattle.cell_names.specs.declared.frame.Frame.TheVariants.{InCall, InLoop}
 use Rattle.cell_names.specs.declared.frame.Point.{Point}
 use Rattle.cell_names.specs.declared.frame.Point.TheVariants.{Entry, Body}
-use Rattle.plain_values.proofs.Cases.{by_test, some_inj}
+use Rattle.plain_values.proofs.Cases.{by_test}
 use Rattle.plain_values.proofs.Members.{Member, Each, each_more, each_both, none_there}
 use Rattle.batch_meaning.proofs.Places.{found, found_member}
 use Rattle.cell_rows.specs.Names.{Scope, CallsBelow, Mark, At, Algebra, Place, number, behind_it, inside, entry, level, level_of, Nested, IsFine, AllFine, start_of, in_call, in_loop, round_place, statement, follow, branch_mark, post_mark, mark_at, is_entry}
 use Rattle.cell_rows.proofs.Levels.{Known, first, post, branch, keyed, keys_own}
+use Rattle.std.proofs.lemmas.Option.{same_Some}
 
 pub then_some : {A B : Type 0} (o : Option A) (f : A → Option B) (r : B) → if_some o f ≡ Some r → (a : A) × (o ≡ Some a) × (f a ≡ Some r)
 then_some None f r e = absurd cc
@@ -109,7 +110,7 @@ module _ (engine : Engine) {V : Type 0} (alg : Algebra V) where
 
   fine_start : (ps : List Routine) (z : List ℕ) (x : Mark V) (b : P) → AllFine ps → IsStart x.point → start_of engine alg ps z x ≡ Some b → Fine b
   fine_start [] z x b f s e = absurd cc
-  fine_start (r ∷ earlier) z x b f s e = subst Fine (some_inj _ _ e) (record { block = f.0; procs = f.1; starts = s })
+  fine_start (r ∷ earlier) z x b f s e = subst Fine (same_Some _ _ e) (record { block = f.0; procs = f.1; starts = s })
 
   fine_call : (b : P) (n : ℕ) (y : Mark V) (d : Code) (c : P) → Fine b → in_call engine alg b n y d ≡ Some c → Fine c
   fine_call b n y Stop c f e = absurd cc

@@ -8,12 +8,12 @@ use Rattle.demand_order.specs.Order.{member, IsAcyclic}
 use Rattle.demand_order.specs.OrderLaws.{Needed, input, under}
 use Rattle.demand_order.specs.Asking.{Rows, value_of, inputs_of, system_of}
 use Rattle.demand_order.proofs.AskingProofs.{value-is, system-acyclic}
-use Rattle.demand_order.proofs.OrderLemmas.{or_cases}
 use Rattle.cell_rows.specs.Names.{IsSame, AllFine}
 use Rattle.cell_rows.specs.Cells.{Cell, table, value_of_name}
 use Rattle.cell_rows.specs.Targets.{Target, demanded}
 use Rattle.cell_rows.proofs.Unique.{All}
 use Rattle.cell_rows.proofs.TableProofs.{HasName, is_table, values_agree, inputs_agree, solves}
+use Rattle.std.proofs.lemmas.Bool.{or_cases}
 
 pub all_member : {T : Type 0} (same : T → T → Bool) → ((x y : T) → same x y ≡ true → x ≡ y) → (P : T → Type 0) (xs : List T) → All P xs → (y : T) → member same xs y ≡ true → P y
 all_member same eq P [] h y m = absurd cc

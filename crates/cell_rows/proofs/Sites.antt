@@ -5,10 +5,10 @@ use Rattle.batch_meaning.specs.Batch.{Engine}
 use Rattle.batch_meaning.specs.Places.{from}
 use Rattle.cell_names.specs.declared.frame.Frame.{Frame}
 use Rattle.cell_names.specs.declared.frame.Frame.TheVariants.{InCall, InLoop}
-use Rattle.plain_values.proofs.Cases.{some_inj}
 use Rattle.cell_rows.specs.Names.{Mark, Place, bare, start_of, in_call, in_loop, round_place, follow}
 use Rattle.cell_rows.specs.Rows.{sites_of}
 use Rattle.cell_rows.proofs.Lookup.{unstated}
+use Rattle.std.proofs.lemmas.Option.{same_Some}
 
 module _ (engine : Engine) (program : List Routine) where
   abbrev Q : Type 0
@@ -23,7 +23,7 @@ module _ (engine : Engine) (program : List Routine) where
 
   start_sites : (ps : List Routine) (z : List ℕ) (x : U) (b : Q) → start_of engine bare ps z x ≡ Some b → b.sites ≡ z
   start_sites [] z x b e = absurd cc
-  start_sites (body ∷ earlier) z x b e = ap (λ (b : Q). b.sites) (sym (some_inj _ _ e))
+  start_sites (body ∷ earlier) z x b e = ap (λ (b : Q). b.sites) (sym (same_Some _ _ e))
 
   call_sites : (b : Q) (n : ℕ) (y : U) (d : Code) (c : Q) → in_call engine bare b n y d ≡ Some c → c.sites ≡ n ∷ b.sites
   call_sites b n y Stop c e = absurd cc

@@ -10,7 +10,6 @@ use Rattle.cell_names.specs.declared.frame.Frame.{Frame}
 use Rattle.cell_names.specs.declared.frame.Frame.TheVariants.{InLoop}
 use Rattle.cell_names.specs.declared.frame.Point.{Point}
 use Rattle.cell_names.specs.Paths.{CellName}
-use Rattle.plain_values.proofs.Cases.{some_inj}
 use Rattle.demand_order.specs.Asking.{Rows, AreRows, gather, value_of, inputs_of}
 use Rattle.demand_order.proofs.AskingProofs.{gather-none, gather-some}
 use Rattle.cell_rows.specs.Blocks.{iterate_at}
@@ -22,6 +21,7 @@ use Rattle.cell_rows.proofs.Bare.{row_bare, mark_bare, bare_mark}
 use Rattle.cell_rows.proofs.Unique.{All, Solves, unique}
 use Rattle.cell_rows.proofs.BatchTie.{next_iterate}
 use Rattle.cell_rows.proofs.Tied.{at, Below, Ones, Twos, Fixes, Joined, Holds, Tied, neither, both, tied}
+use Rattle.std.proofs.lemmas.Option.{same_Some}
 
 module _ {S : Type 0} (dom : Operations S) (engine : Engine) (program : List Routine) (all : AllFine program) where
   abbrev pub M : Type 0
@@ -93,16 +93,16 @@ module _ {S : Type 0} (dom : Operations S) (engine : Engine) (program : List Rou
 
   lower : (r : Row) (m : M) (vs : List (Cell S)) (y : CellName) → Holds dom engine program all r m → asks_row dom engine r vs ≡ Some y → rank y < m.rank
   lower (Init layout) m vs y h e = absurd cc
-  lower (One op a) m [] y h e = below_rank a y h.x m h.below (some_inj _ _ e)
+  lower (One op a) m [] y h e = below_rank a y h.x m h.below (same_Some _ _ e)
   lower (One op a) m (v ∷ vs) y h e = absurd cc
-  lower (Two op a b) m [] y h e = below_rank a y h.x m h.below (some_inj _ _ e)
-  lower (Two op a b) m (v ∷ []) y h e = below_rank b y h.y m h.below_too (some_inj _ _ e)
+  lower (Two op a b) m [] y h e = below_rank a y h.x m h.below (same_Some _ _ e)
+  lower (Two op a b) m (v ∷ []) y h e = below_rank b y h.y m h.below_too (same_Some _ _ e)
   lower (Two op a b) m (v ∷ u ∷ vs) y h e = absurd cc
   lower (FixedRow n z w p) m vs y h e =
       let i = by_limit (wants_first dom engine vs) (name w (iterate_point engine bare n p (length vs))) y e in
       let x = h.iterates (length vs) (wants_within vs i.0) in
       below_rank _ y x.0 m x.1 i.1
-  lower (Joins stays l n w p) m [] y h e = below_rank l y h.left m h.below (some_inj _ _ e)
+  lower (Joins stays l n w p) m [] y h e = below_rank l y h.left m h.below (same_Some _ _ e)
   lower (Joins stays l n w p) m (v ∷ []) y h e = go v.value e
     where
       go : (u : Value S) → right_of dom engine n w p u v.index ≡ Some y → rank y < m.rank

@@ -26,7 +26,7 @@ use Rattle.cell_rows.proofs.Levels.{Known, branch, known_before, known_last, kno
 use Rattle.cell_rows.proofs.Lookup.{Fine, Stands, part_of, stated, fine, at_known, from_some}
 use Rattle.cell_rows.proofs.Checked.{distinct_part, break_part}
 use Rattle.cell_rows.proofs.BatchTie.{breaks_points, breaks_numbers, place_is, span_from, subs, fix_index, joined_all, last_value, leaves_value, value_of, got, leaving_count, with_over, state_of}
-use Rattle.cell_names.proofs.PathLemmas.{within}
+use Rattle.plain_values.proofs.Lists.{get_some}
 
 pub mul_less : (k n t : ℕ) → k < n → k * t + t ≤ n * t
 mul_less k zero t h = absurd (omega arith)
@@ -306,7 +306,7 @@ module _ {S : Type 0} (dom : Operations S) (engine : Engine) (program : List Rou
     tied_joins : (stays : Bool) (i : ℕ) (m : M) → i < breaks body → suc (fixed.rank + i) < m.rank → m.value ≡ cell (joined_to dom engine (suc i) without leaving) (index_if dom engine stays f.index) → Tied (joins_row engine A w stays n body i) (Some m)
     tied_joins stays i m h lower v =
         let len : i < length (leave_points body Body) = rw (breaks_points body Body) h in
-        let p = within (leave_points body Body) i len in
+        let p = get_some (leave_points body Body) i len in
         subst (λ (o : Option Point). Tied (if_some o (λ p. Some (Joins stays (name w (joined_point n body i)) n w p))) (Some m)) (sym p.1) (both _ m (joins stays i p.0 m h p.1 lower v))
 
     tied_leap : (k : ℕ) → Tied (leap_row engine A w k b y (While n guard body r)) (leap_mark engine A k b y (While n guard body r))

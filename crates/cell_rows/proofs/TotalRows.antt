@@ -14,7 +14,6 @@ use Rattle.cell_names.specs.declared.frame.Frame.TheVariants.{InCall, InLoop}
 use Rattle.cell_names.specs.declared.frame.Point.{Point}
 use Rattle.cell_names.specs.declared.frame.Point.TheVariants.{Entry, Then, Else, Body, Post, Iterate, Fix, Exit, Leap}
 use Rattle.cell_names.specs.Paths.{CellName}
-use Rattle.plain_values.proofs.Cases.{some_inj}
 use Rattle.plain_values.proofs.Members.{here, there, Each, each_more, each_both, none_there, keys}
 use Rattle.batch_meaning.proofs.Places.{found_member}
 use Rattle.demand_order.specs.Asking.{SameRow, Rows, AreRows, value_of, inputs_of}
@@ -32,6 +31,7 @@ use Rattle.cell_rows.proofs.TableProofs.{HasName, is_table, values_agree, wants_
 use Rattle.cell_rows.proofs.Package.{inputs_have}
 use Rattle.cell_rows.proofs.TotalRank.{U, Good, fair, Whole}
 use Rattle.cell_rows.proofs.TotalFalls.{Lower, LowerIn, G, low_branch, low_post, low_next, low_fix, low_exit, low_leap, low_turn, low_enter}
+use Rattle.std.proofs.lemmas.Option.{same_Some}
 
 find_map : {A B : Type 0} (f : A → B) (n : ℕ) (xs : List (ℕ × A)) → find n (map (λ (x : ℕ × A). (x.0, f x.1)) xs) ≡ option_map f (find n xs)
 find_map f n [] = refl
@@ -282,15 +282,15 @@ module _ {S : Type 0} (dom : Operations S) (engine : Engine) (program : List Rou
 
   lower_asks : (r : Row) (m : ℕ) (vs : List (Cell S)) (y : CellName) → Lower engine program D r m → asks_row dom engine r vs ≡ Some y → rank y < m
   lower_asks (Init layout) m vs y h e = absurd cc
-  lower_asks (One op a) m [] y h e = subst (λ a. rank a < m) (some_inj _ _ e) h
+  lower_asks (One op a) m [] y h e = subst (λ a. rank a < m) (same_Some _ _ e) h
   lower_asks (One op a) m (v ∷ vs) y h e = absurd cc
-  lower_asks (Two op a b) m [] y h e = subst (λ a. rank a < m) (some_inj _ _ e) h.0
-  lower_asks (Two op a b) m (v ∷ []) y h e = subst (λ a. rank a < m) (some_inj _ _ e) h.1
+  lower_asks (Two op a b) m [] y h e = subst (λ a. rank a < m) (same_Some _ _ e) h.0
+  lower_asks (Two op a b) m (v ∷ []) y h e = subst (λ a. rank a < m) (same_Some _ _ e) h.1
   lower_asks (Two op a b) m (v ∷ u ∷ vs) y h e = absurd cc
   lower_asks (FixedRow n z w p) m vs y h e =
       let i = by_limit (wants_first dom engine vs) (name w (iterate_point engine bare n p (length vs))) y e in
       subst (λ a. rank a < m) i.1 (h (length vs) (wants_within dom engine program fine vs i.0))
-  lower_asks (Joins stays l n w p) m [] y h e = subst (λ a. rank a < m) (some_inj _ _ e) h.0
+  lower_asks (Joins stays l n w p) m [] y h e = subst (λ a. rank a < m) (same_Some _ _ e) h.0
   lower_asks (Joins stays l n w p) m (v ∷ []) y h e = go v.value e
     where
       go : (u : Value S) → right_of dom engine n w p u v.index ≡ Some y → rank y < m

@@ -1,7 +1,9 @@
 -- A function that solves the rows of the names of a class is the table's value on them.
-use Rattle.std.proofs.Common.{◌≡◌, ℕ, zero, suc, ◌<◌, List, [], ◌∷◌, ◌++◌, map, Option, Some, refl, sym, ap, ◌∙◌, arith}
+use Rattle.std.proofs.Common.{◌≡◌, ℕ, zero, suc, ◌<◌, List, [], ◌∷◌, ◌++◌, map, Option, Some, refl, sym, ap, ◌∙◌, arith, Bool, true}
 use Rattle.demand_order.specs.Asking.{Rows, AreRows, gather, value_of, inputs_of}
 use Rattle.demand_order.proofs.AskingProofs.{by_option, gather-none, gather-some, value-is}
+use Rattle.std.proofs.lemmas.Bool.{or_left, or_right}
+use Rattle.demand_order.specs.Order.{member}
 
 abbrev pub All : {A : Type 0} → (A → Type 0) → List A → Type 0
 All P [] = Unit {0}
@@ -56,3 +58,8 @@ module _ {T V : Type 0} (t : Rows T V) (f : T → V) (P : T → Type 0) where
 
     pub unique : (x : T) → P x → (inputs_of t x ≡ inputs_by x) × (value_of t x ≡ f x)
     unique x p = unique-at (suc (t.rank x)) x (omega arith) p
+
+-- what holds of each member holds of all
+pub all_of : {T : Type 0} (same : T → T → Bool) → ((x : T) → same x x ≡ true) → (P : T → Type 0) (xs : List T) → ((y : T) → member same xs y ≡ true → P y) → All P xs
+all_of same re P [] h = tt
+all_of same re P (x ∷ xs) h = (h x (or_left (same x x) (member same xs x) (re x)), all_of same re P xs (λ y m. h y (or_right (same y x) (member same xs y) m)))

@@ -13,10 +13,10 @@ use Rattle.batch_meaning.specs.Answers.{Found, In, Misses, found_or, found_loop,
 use Rattle.batch_meaning.specs.Places.{find, if_some, from}
 use Rattle.cell_names.specs.declared.frame.Point.{Point}
 use Rattle.cell_names.specs.declared.frame.Point.TheVariants.{Entry, Then, Else, Body, Post, Fix}
-use Rattle.plain_values.proofs.Cases.{by_test, some_inj}
+use Rattle.plain_values.proofs.Cases.{by_test}
 use Rattle.batch_meaning.proofs.Procedures.{look_get, from_look, from_behind, from_from, from_self}
 use Rattle.plain_values.proofs.Members.{Member, here, there, in_left, in_right, keys, either}
-use Rattle.batch_meaning.proofs.Places.{found, found_member}
+use Rattle.batch_meaning.proofs.Places.{found, found_member, find_key}
 use Rattle.cell_rows.specs.Names.{CallsBelow, AllFine}
 use Rattle.cell_rows.specs.Rows.{last_point}
 use Rattle.cell_rows.specs.Flat.{Flat, flat_of, flat}
@@ -25,6 +25,7 @@ use Rattle.cell_rows.proofs.Lookup.{fine_from}
 use Rattle.cell_rows.proofs.Arriving.{keys_texts}
 use Rattle.cell_rows.proofs.FlatOnce.{all_fine, flat_once, once_reversed}
 use Rattle.cell_rows.proofs.Chained.{AllOnce, all_once, once_from}
+use Rattle.std.proofs.lemmas.Option.{same_Some}
 
 in_deeper : (n : ℕ) (x : ℕ × Text) (xs : List (ℕ × Text)) → Member x xs → Member (deeper n x) (map (deeper n) xs)
 in_deeper n x [] m = elim m [ ]
@@ -114,13 +115,6 @@ called_below k p n (Call j call q r) h m =
     (λ e m. called_below k p n r h.1 m)) m
 called_below k p n (Break j r) h m = called_below k p n r h m
 
-find_key : {A : Type 0} (n : ℕ) (xs : List (ℕ × A)) → has n (keys xs) ≡ true → (x : A) × (find n xs ≡ Some x)
-find_key n [] e = absurd cc
-find_key {A} n (x ∷ xs) e =
-    (by_test n x.0 (λ c. (if c then true else has n (keys xs)) ≡ true → (y : A) × ((if c then Some x.1 else find n xs) ≡ Some y))
-    (λ i e. (x.1, refl))
-    (λ i e. find_key n xs e)) e
-
 whole : (ps : List Routine) (p : ℕ) → suc p ≡ length ps → from ps p ≡ ps
 whole [] p e = absurd (omega arith)
 whole (b ∷ ps) p e = let k : p ≡ length ps = omega arith in ap (from (b ∷ ps)) k ∙ from_self b ps
@@ -141,7 +135,7 @@ held_from n k p [] e = absurd cc
 held_from n k p (r ∷ rs) e = go (has n (code_numbers r.code)) refl e (held_from n (suc k) p rs)
   where
     go : (t : Bool) → has n (code_numbers r.code) ≡ t → (if t then Some k else holder_from n (suc k) rs) ≡ Some p → (holder_from n (suc k) rs ≡ Some p → At (λ r. has n (code_numbers r.code)) (suc k) p rs) → At (λ r. has n (code_numbers r.code)) k p (r ∷ rs)
-    go true i e f = let j : k ≡ p = some_inj _ _ e in record { place = 0; is = omega arith; routine = r; stands = refl; passes = i }
+    go true i e f = let j : k ≡ p = same_Some _ _ e in record { place = 0; is = omega arith; routine = r; stands = refl; passes = i }
     go false i e f = later (λ r. has n (code_numbers r.code)) k p r rs (f e)
 
 called_from : (x : List ℕ) (k p : ℕ) (rs : List Routine) → named_from x k rs ≡ Some p → At (λ r. bytes_eq x r.name) k p rs
@@ -149,7 +143,7 @@ called_from x k p [] e = absurd cc
 called_from x k p (r ∷ rs) e = go (bytes_eq x r.name) refl e (called_from x (suc k) p rs)
   where
     go : (t : Bool) → bytes_eq x r.name ≡ t → (if t then Some k else named_from x (suc k) rs) ≡ Some p → (named_from x (suc k) rs ≡ Some p → At (λ r. bytes_eq x r.name) (suc k) p rs) → At (λ r. bytes_eq x r.name) k p (r ∷ rs)
-    go true i e f = let j : k ≡ p = some_inj _ _ e in record { place = 0; is = omega arith; routine = r; stands = refl; passes = i }
+    go true i e f = let j : k ≡ p = same_Some _ _ e in record { place = 0; is = omega arith; routine = r; stands = refl; passes = i }
     go false i e f = later (λ r. bytes_eq x r.name) k p r rs (f e)
 
 -- a loop in the text
@@ -309,7 +303,7 @@ module _ (program : List Routine) (checked : IsChecked program) where
       let l = is_looped n w.1.code Entry w.3 in
       let a = in_table p s.routine s.earlier n s.text s.is (found_member n s.text (texts s.routine.code Entry) s.found_text) in
       let b = in_table w.0 w.1 k.0 n l.text k.1 l.listed in
-      let same : s.text ≡ l.text = ap (λ (f : Flat). f.text) (some_inj _ _ (sym a ∙ b)) in
+      let same : s.text ≡ l.text = ap (λ (f : Flat). f.text) (same_Some _ _ (sym a ∙ b)) in
       ap (λ (t : Text). is_loop t.code) same ∙ l.loops
 
   target_some : (l : Location) (p : ℕ) (z : List ℕ) → procedure_of program l ≡ In p → HasWay z p → (t : Target) × (target program l z ≡ Some t)

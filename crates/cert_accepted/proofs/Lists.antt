@@ -30,11 +30,6 @@ made f [] y m = elim m [ ]
 made f (x ∷ xs) y here = record { item = x; member = here; is = refl }
 made f (x ∷ xs) y (there m) = let k = made f xs y m in record { item = k.item; member = there k.member; is = k.is }
 
-pub in_map : {A B : Type 0} (f : A → B) (x : A) (xs : List A) → Member x xs → Member (f x) (map f xs)
-in_map f x [] m = elim m [ ]
-in_map f x (y ∷ xs) here = here
-in_map f x (y ∷ xs) (there m) = there (in_map f x xs m)
-
 pub map_once : {A B : Type 0} (f : A → B) → ((x y : A) → f x ≡ f y → x ≡ y) → (xs : List A) → Distinct xs → Distinct (map f xs)
 map_once f inj [] d = tt
 map_once f inj (x ∷ xs) d =

@@ -1,13 +1,14 @@
 -- Loops and calls are among the numbers of a block.
 use Rattle.std.specs.Prelude.{◌≡◌, ℕ, zero, suc, List, [], ◌∷◌, slice_get, Some, if◌then◌else◌}
 use Rattle.std.proofs.Common.{sym, subst}
-use Rattle.plain_values.proofs.Cases.{by_test, some_inj}
+use Rattle.plain_values.proofs.Cases.{by_test}
 use Rattle.plain_values.proofs.Members.{Member, in_left, in_right}
 use Rattle.imp_slots.specs.Plain.{Code, Stop, Simple, If, While, Call, Break, Routine, code_numbers}
 use Rattle.imp_slots.specs.Fits.{routine_numbers}
 use Rattle.program_chains.specs.Chains.{calls_to}
 use Rattle.cert_meaning.specs.Written.{loops}
 use Rattle.cert_accepted.proofs.Lists.{Thins, ends, keeps, drops, thins_both, thins_in}
+use Rattle.std.proofs.lemmas.Option.{same_Some}
 
 pub loops_thin : (c : Code) → Thins (loops c) (code_numbers c)
 loops_thin Stop = ends
@@ -32,5 +33,5 @@ loop_number n c m = thins_in n (loops_thin c) m
 -- a statement of a procedure is one of the program
 pub number_there : (rs : List Routine) (p : ℕ) (r : Routine) (n : ℕ) → slice_get rs p ≡ Some r → Member n (code_numbers r.code) → Member n (routine_numbers rs)
 number_there [] p r n e m = absurd cc
-number_there (x ∷ rs) zero r n e m = in_left (routine_numbers rs) (subst (λ (r : Routine). Member n (code_numbers r.code)) (sym (some_inj x r e)) m)
+number_there (x ∷ rs) zero r n e m = in_left (routine_numbers rs) (subst (λ (r : Routine). Member n (code_numbers r.code)) (sym (same_Some x r e)) m)
 number_there (x ∷ rs) (suc p) r n e m = in_right (code_numbers x.code) (number_there rs p r n e m)

@@ -1,17 +1,17 @@
 -- Each loop stands under each chain once.
 use Rattle.std.specs.Prelude.{◌≡◌, ◌+◌, ℕ, zero, suc, List, [], ◌∷◌, map, length, slice_get, Some}
 use Rattle.std.proofs.Common.{refl, sym, ap, subst, arith, inl, inr}
-use Rattle.plain_values.proofs.Cases.{some_inj}
-use Rattle.plain_values.proofs.Members.{Member, here, there, in_left, in_right, either}
+use Rattle.plain_values.proofs.Members.{Member, here, there, in_left, in_right, either, in_map}
 use Rattle.imp_slots.specs.Plain.{Routine, code_numbers}
 use Rattle.imp_slots.specs.Fits.{Distinct, routine_numbers}
 use Rattle.imp_slots.proofs.Distinct.{not_in, left_once, right_once}
 use Rattle.program_chains.specs.Chains.{chains}
 use Rattle.cert_meaning.specs.Written.{loops}
 use Rattle.cert_lines.specs.Certificate.{under, loops_from}
-use Rattle.cert_accepted.proofs.Lists.{once_both, apart_in, made, in_map, map_once, thins_once}
+use Rattle.cert_accepted.proofs.Lists.{once_both, apart_in, made, map_once, thins_once}
 use Rattle.cert_accepted.proofs.Numbers.{loops_thin, loop_number}
 use Rattle.cert_accepted.proofs.Chains.{chains_once}
+use Rattle.std.proofs.lemmas.Option.{same_Some}
 
 module _ (program : List Routine) (once : Distinct (routine_numbers program)) where
   under_in : (ns : List ℕ) (zs : List (List ℕ)) (x : List ℕ × ℕ) → Member x (under ns zs) → Member x.0 zs × Member x.1 ns
@@ -57,7 +57,7 @@ module _ (program : List Routine) (once : Distinct (routine_numbers program)) wh
   stands_there k [] j r z n at loop chain = absurd cc
   stands_there k (x ∷ rs) zero r z n at loop chain =
       let e : k + 0 ≡ k = omega arith in
-      in_left (loops_from program (suc k) rs) (in_under (loops x.code) (chains program k) z n (subst (λ k. Member z (chains program k)) e chain) (subst (λ (r : Routine). Member n (loops r.code)) (sym (some_inj x r at)) loop))
+      in_left (loops_from program (suc k) rs) (in_under (loops x.code) (chains program k) z n (subst (λ k. Member z (chains program k)) e chain) (subst (λ (r : Routine). Member n (loops r.code)) (sym (same_Some x r at)) loop))
   stands_there k (x ∷ rs) (suc j) r z n at loop chain =
       let e : k + suc j ≡ suc k + j = omega arith in
       in_right (under (loops x.code) (chains program k)) (stands_there (suc k) rs j r z n at loop (subst (λ k. Member z (chains program k)) e chain))

@@ -1,16 +1,16 @@
 -- A program without faults has short chains.
-use Rattle.std.specs.Prelude.{◌≡◌, ◌<◌, ◌≤◌, ◌+◌, ◌⊎◌, ℕ, zero, suc, nat_lt, List, [], ◌∷◌, ◌++◌, length, map, reverse, slice_get, Option, Some, None, Bool, true, false, cond, codes, if◌then◌else◌}
+use Rattle.std.specs.Prelude.{◌≡◌, ◌<◌, ◌≤◌, ◌+◌, ◌⊎◌, ℕ, zero, suc, nat_lt, List, [], ◌∷◌, ◌++◌, length, map, reverse, slice_get, Some, None, Bool, true, false, cond, codes, if◌then◌else◌}
 use Rattle.std.specs.Str.{bytes_eq}
 use Rattle.std.proofs.Common.{refl, sym, ap, ◌∙◌, subst, arith, inl, inr, append_assoc, append-nil}
 use Rattle.std.proofs.lemmas.List.{reverse-append, length-reverse, length-append}
-use Rattle.std.proofs.lemmas.Option.{slice_get_within}
+use Rattle.std.proofs.lemmas.Option.{slice_get_within, same_Some}
 use Rattle.std.proofs.lemmas.Slice.Eq.{bytes_eq-Decides}
-use Rattle.plain_values.proofs.Cases.{by_test, some_inj}
-use Rattle.plain_values.proofs.Members.{Member, here, there, in_left, in_right, either}
+use Rattle.plain_values.proofs.Cases.{by_test}
+use Rattle.plain_values.proofs.Members.{Member, here, there, in_left, in_right, either, in_map}
 use Rattle.imp_syntax.specs.Plain as tree
 use Rattle.imp_syntax.specs.Plain.{Statement, Statements, Starts, Ends, Procedure}
-use Rattle.imp_slots.specs.Plain.{Layout, Invoke, Code, Stop, Simple, If, While, Call, Break, Routine}
-use Rattle.imp_slots.specs.Fits.{FitsCall, FitsCode, FitInTurn, IsChecked}
+use Rattle.imp_slots.specs.Plain.{Layout, Code, Stop, Simple, If, While, Call, Break, Routine}
+use Rattle.imp_slots.specs.Fits.{FitsCode, FitInTurn, IsChecked}
 use Rattle.program_chains.specs.Chains.{calls_to, through, chains_within, chains}
 use Rattle.imp_check.specs.Names.{place_named}
 use Rattle.imp_check.specs.Chains.{calls_in, calls, chains_to, chains_through, all_chains}
@@ -18,12 +18,12 @@ use Rattle.imp_check.specs.Chains as told
 use Rattle.imp_check.specs.Faults.{unless, first, at, in_procedure}
 use Rattle.imp_check.specs.declared.fault.Fault.TheVariants.{NoMain, MainHasParameters, Depth, Chains}
 use Rattle.imp_check.specs.Programs.{longest, last_of, name_of, takes_nothing, size_fault, procedures_fault, chains_fault, ending_fault, check_fault}
-use Rattle.imp_check.specs.Slots.{Frame, layout_in, statement_in, code_in, routine_of, routines_from, routines_of}
+use Rattle.imp_check.specs.Slots.{Resolver, layout_in, statement_in, code_in, routine_of, routines_from, routines_of}
 use Rattle.imp_check.proofs.FewLemmas.{first_none, unless_lt, at_none, in_none}
 use Rattle.cert_accepted.specs.Accepted.{CheckedHaveLines}
-use Rattle.cert_accepted.proofs.Lists.{in_map}
 use Rattle.cert_accepted.proofs.Chains.{goes}
 use Rattle.cert_accepted.proofs.Standing.{member}
+use Rattle.program_chains.proofs.Found.{callee_before}
 
 -- ---- calls by place are calls by name
 
@@ -33,10 +33,10 @@ named_there [] g q e = cc
 named_there (p ∷ ps) g q e = by (bytes_eq p.name g) refl e (named_there ps g q)
   where
     by : (c : Bool) → bytes_eq p.name g ≡ c → slice_get (p ∷ ps) (cond c 0 (suc (place_named ps g))) ≡ Some q → (slice_get ps (place_named ps g) ≡ Some q → q.name ≡ g) → q.name ≡ g
-    by true b k go = ap (λ (p : Procedure). p.name) (sym (some_inj p q k)) ∙ (bytes_eq-Decides p.name g).0 b
+    by true b k go = ap (λ (p : Procedure). p.name) (sym (same_Some p q k)) ∙ (bytes_eq-Decides p.name g).0 b
     by false b k go = go k
 
-module _ (f : Frame) (p : ℕ) (q : Procedure) (at_p : slice_get f.earlier p ≡ Some q) where
+module _ (f : Resolver) (p : ℕ) (q : Procedure) (at_p : slice_get f.earlier p ≡ Some q) where
   abbrev Called : ℕ → List ℕ → Code → Type 0
   Called n ns r = Member n ns ⊎ Member n (calls_to p r)
 
@@ -63,10 +63,6 @@ module _ (f : Frame) (p : ℕ) (q : Procedure) (at_p : slice_get f.earlier p ≡
 
 -- ---- a procedure calls earlier ones
 
-before_some : (before : List Routine) (l : Layout) (i : Invoke) (q : ℕ) (o : Option Routine) → slice_get before q ≡ o → FitsCall l i o → q < length before
-before_some before l i q None e f = absurd f
-before_some before l i q (Some c) e f = slice_get_within before q c e
-
 calls_before : (before : List Routine) (l : Layout) (p n : ℕ) (c : Code) → FitsCode before l c → Member n (calls_to p c) → p < length before
 calls_before before l p n Stop f k = elim k [ ]
 calls_before before l p n (Simple m e r) f k = calls_before before l p n r f.1 k
@@ -77,7 +73,7 @@ calls_before before l p n (If m g t e r) f k = elim (either n (calls_to p t) (ca
 calls_before before l p n (While m g b r) f k = elim (either n (calls_to p b) (calls_to p r) k) [ inl a ↦ calls_before before l p n b f.1 a | inr d ↦ calls_before before l p n r f.2 d ]
 calls_before before l p n (Call m i q r) f k =
     (by_test p q (λ c. Member n (if c then m ∷ calls_to p r else calls_to p r) → p < length before)
-    (λ e k. subst (λ p. p < length before) (sym e) (before_some before l i q (slice_get before q) refl f.0))
+    (λ e k. subst (λ p. p < length before) (sym e) (callee_before before l i q (slice_get before q) refl f.0))
     (λ e k. calls_before before l p n r f.1 k)) k
 calls_before before l p n (Break m r) f k = calls_before before l p n r f k
 
@@ -94,7 +90,7 @@ record Comes (earlier ps : List Procedure) (j : ℕ) (r : Routine) : Type 0 wher
 
 comes : (earlier ps : List Procedure) (j : ℕ) (r : Routine) → slice_get (routines_from earlier ps) j ≡ Some r → Comes earlier ps j r
 comes earlier [] j r e = cc
-comes earlier (p ∷ ps) zero r e = record { front = []; own = p; rest = ps; are = refl; place = refl; is = sym (some_inj (routine_of earlier p) r e) ∙ ap (λ es. routine_of es p) (sym (append-nil earlier)) }
+comes earlier (p ∷ ps) zero r e = record { front = []; own = p; rest = ps; are = refl; place = refl; is = sym (same_Some (routine_of earlier p) r e) ∙ ap (λ es. routine_of es p) (sym (append-nil earlier)) }
 comes earlier (p ∷ ps) (suc j) r e =
     let c = comes (earlier ++ p ∷ []) ps j r e in
     record { front = p ∷ c.front; own = c.own; rest = c.rest; are = ap (λ ps. p ∷ ps) c.are; place = ap suc c.place; is = c.is ∙ ap (λ es. routine_of es c.own) (append_assoc earlier (p ∷ []) c.front) }
@@ -102,7 +98,7 @@ comes earlier (p ∷ ps) (suc j) r e =
 -- what fits in turn fits those in front of it
 fits_there : (before rs : List Routine) (j : ℕ) (r : Routine) → FitInTurn before rs → slice_get rs j ≡ Some r → (front : List Routine) × (length front ≡ length before + j) × FitsCode front r.layout r.code
 fits_there before [] j r f e = cc
-fits_there before (x ∷ rs) zero r f e = (before, omega arith, subst (λ (r : Routine). FitsCode before r.layout r.code) (some_inj x r e) f.0.code)
+fits_there before (x ∷ rs) zero r f e = (before, omega arith, subst (λ (r : Routine). FitsCode before r.layout r.code) (same_Some x r e) f.0.code)
 fits_there before (x ∷ rs) (suc j) r f e =
     let k = fits_there (before ++ (x ∷ [])) rs j r f.1 e in
     (k.0, omega (arith, k.1, length-append before (x ∷ [])), k.2)
@@ -146,7 +142,7 @@ module _ (ps : List Procedure) (checked : IsChecked (routines_of ps)) where
       (n : ℕ) (y : List ℕ) → Member n (calls_to (length pre) (routine_of front own).code) → Member y (chains_within most (routines_of ps) (length front)) → Member (reverse (n ∷ y)) (chains_to p.name later)
   behind_call most inner pre p later are front own rest is lower n y call chain =
       let d = parted pre p later front own rest (sym are ∙ is) lower in
-      let frame : Frame = record { layout = layout_in own; earlier = front } in
+      let frame : Resolver = record { layout = layout_in own; earlier = front } in
       let named = calls_by_name frame (length pre) p (in_first pre p later front own rest (sym are ∙ is) lower) own.body n call in
       let extended = told_extended (reverse y) n (chains_to own.name rest) (calls p.name own.body) (inner front own rest is y chain) named in
       subst (λ later. Member (reverse (n ∷ y)) (chains_to p.name later)) (sym d.1)

@@ -5,7 +5,7 @@ use Rattle.std.proofs.Common.{refl, sym, subst, arith, inl, inr}
 use Rattle.std.proofs.lemmas.Bool.{and_from}
 use Rattle.std.proofs.lemmas.List.{reverse-append}
 use Rattle.std.proofs.lemmas.Slice.Eq.{bytes_eq-Decides}
-use Rattle.plain_values.proofs.Cases.{by_test, some_inj}
+use Rattle.plain_values.proofs.Cases.{by_test}
 use Rattle.plain_values.proofs.Members.{Member, here, there, in_left, either}
 use Rattle.imp_slots.specs.Plain.{Code, Stop, Simple, If, While, Call, Break, Routine, code_numbers}
 use Rattle.imp_slots.specs.Fits.{IsChecked}
@@ -15,6 +15,7 @@ use Rattle.batch_sound.proofs.Chains.{has_member}
 use Rattle.cert_meaning.specs.Written.{loops}
 use Rattle.cert_lines.specs.Lines.{is_chain, is_chain_to, is_loop_under}
 use Rattle.cert_accepted.proofs.Numbers.{loop_number}
+use Rattle.std.proofs.lemmas.Option.{same_Some}
 
 pub member : {A : Type 0} (x : A) (xs : List A) → Contains xs x → Member x xs
 member {A} x xs c = at xs c.0 c.1 c.2
@@ -65,7 +66,7 @@ loop_found n (Break k r) m = loop_found n r m
 
 while_found : (n : ℕ) (program : List Routine) (p : ℕ) (r : Routine) → slice_get program p ≡ Some r → has_while n r.code ≡ true → is_while n program ≡ true
 while_found n [] p r e h = absurd cc
-while_found n (x ∷ rs) zero r e h = first_so (has_while n x.code) _ (subst (λ (r : Routine). has_while n r.code ≡ true) (sym (some_inj x r e)) h)
+while_found n (x ∷ rs) zero r e h = first_so (has_while n x.code) _ (subst (λ (r : Routine). has_while n r.code ≡ true) (sym (same_Some x r e)) h)
 while_found n (x ∷ rs) (suc p) r e h = second_so (has_while n x.code) _ (while_found n rs p r e h)
 
 chain_found : (z : List ℕ) (zs : List (List ℕ)) → Member z zs → is_chain z zs ≡ true

@@ -1,7 +1,7 @@
 -- The lines of a text that was written line by line.
-use Rattle.std.specs.Prelude.{◌≡◌, ◌==◌, not, ℕ, List, [], ◌∷◌, ◌++◌, map, Bool, true, false, if◌then◌else◌}
+use Rattle.std.specs.Prelude.{◌≡◌, ◌==◌, not, ℕ, List, [], ◌∷◌, ◌++◌, map, true, if◌then◌else◌}
 use Rattle.std.proofs.Common.{refl, sym, ap, ◌∙◌, append_assoc, append-nil}
-use Rattle.std.proofs.lemmas.Bool.{and_parts}
+use Rattle.std.proofs.lemmas.Bool.{and_parts, not-true}
 use Rattle.plain_values.proofs.Members.{Each, here, there}
 use Rattle.serde_json.specs.Data.{Data}
 use Rattle.serde_json.specs.Written.{compact_text}
@@ -9,22 +9,18 @@ use Rattle.script_loop.specs.Lines.{whole_lines, last_part, last_line, all_lines
 use Rattle.cert_lines.specs.Certificate.{lines_text}
 use Rattle.cert_accepted.proofs.OneLine.{has_no_end}
 
-not_so : (b : Bool) → not b ≡ true → b ≡ false
-not_so true e = cc
-not_so false e = refl
-
 whole_over : (part t rest : List ℕ) → has_no_end t ≡ true → whole_lines part (t ++ 10 ∷ rest) ≡ (part ++ t) ∷ whole_lines [] rest
 whole_over part [] rest h = ap (λ p. p ∷ whole_lines [] rest) (sym (append-nil part))
 whole_over part (b ∷ t) rest h =
     let p = and_parts (not (b == 10)) (has_no_end t) h in
-    ap (λ c. if c then part ∷ whole_lines [] (t ++ 10 ∷ rest) else whole_lines (part ++ b ∷ []) (t ++ 10 ∷ rest)) (not_so (b == 10) p.0) ∙
+    ap (λ c. if c then part ∷ whole_lines [] (t ++ 10 ∷ rest) else whole_lines (part ++ b ∷ []) (t ++ 10 ∷ rest)) (not-true (b == 10) p.0) ∙
     whole_over (part ++ b ∷ []) t rest p.1 ∙ ap (λ q. q ∷ whole_lines [] rest) (append_assoc part (b ∷ []) t)
 
 last_over : (part t rest : List ℕ) → has_no_end t ≡ true → last_part part (t ++ 10 ∷ rest) ≡ last_part [] rest
 last_over part [] rest h = refl
 last_over part (b ∷ t) rest h =
     let p = and_parts (not (b == 10)) (has_no_end t) h in
-    ap (λ c. if c then last_part [] (t ++ 10 ∷ rest) else last_part (part ++ b ∷ []) (t ++ 10 ∷ rest)) (not_so (b == 10) p.0) ∙ last_over (part ++ b ∷ []) t rest p.1
+    ap (λ c. if c then last_part [] (t ++ 10 ∷ rest) else last_part (part ++ b ∷ []) (t ++ 10 ∷ rest)) (not-true (b == 10) p.0) ∙ last_over (part ++ b ∷ []) t rest p.1
 
 abbrev Whole : Data → Type 0
 Whole d = has_no_end (compact_text d) ≡ true

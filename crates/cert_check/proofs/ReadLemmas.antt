@@ -1,6 +1,6 @@
 -- Lines read one after another.
-use Rattle.std.proofs.Common.{ℕ, zero, suc, ◌≡◌, ◌+◌, ◌<◌, ◌≤◌, true, false, List, [], ◌∷◌, ◌++◌, length, drop, get_or, Option, Some, None, Result, Ok, Err, IfOk, ◌≢◌, refl, sym, ap, subst, ◌∙◌, arith}
-use Rattle.std.specs.Prelude.{◌==◌, ◌&&◌, is_some, if◌then◌else◌}
+use Rattle.std.proofs.Common.{ℕ, zero, suc, ◌≡◌, ◌+◌, ◌<◌, ◌≤◌, true, false, List, [], ◌∷◌, ◌++◌, length, drop, get_or, Some, None, Result, Ok, Err, IfOk, ◌≢◌, refl, sym, ap, subst, ◌∙◌, arith}
+use Rattle.std.specs.Prelude.{◌==◌, ◌&&◌, if◌then◌else◌}
 use Rattle.std.specs.Str.{bytes_eq}
 use Rattle.std.specs.Map.{lookup}
 use Rattle.std.proofs.lemmas.List.{drop_all}
@@ -16,10 +16,6 @@ use Rattle.cert_check.specs.declared.entry.Entry.{Entry}
 use Rattle.cert_check.specs.declared.reading.Lines.{Lines}
 use Rattle.cert_check.specs.declared.reading.Next.TheVariants as next
 use Rattle.call_contexts.proofs.Placed.{same_names}
-
-pub absent : {A : Type 0} (o : Option A) → is_some o ≡ false → o ≡ None
-absent None e = refl
-absent (Some x) e = absurd cc
 
 -- an entry is put into the table
 pub entry_put : {S : Type 0} (before behind : List (List ℕ × S)) (es : List (plain.Entry S)) (e : plain.Entry S) (key : List ℕ) → key ≡ e.at ∷ e.sites → ((q : List ℕ) → lookup (bytes_eq q) behind ≡ (if bytes_eq key q then Some e.state else lookup (bytes_eq q) before)) → HasEntries before es → HasEntries behind (e ∷ es)

@@ -9,7 +9,7 @@ use Rattle.program_chains.specs.Marks.{marks}
 use Rattle.program_chains.specs.Claims.{MarksRise, PlacesAreFound}
 use Rattle.domain_laws.specs.Operations.{Operations}
 use Rattle.domain_laws.specs.Laws.{Laws}
-use Rattle.plain_values.proofs.Cases.{by_test, some_inj}
+use Rattle.plain_values.proofs.Cases.{by_test}
 use Rattle.plain_values.proofs.Members.{Member, key_member}
 use Rattle.batch_meaning.specs.Values.{Value, State, Over, lift}
 use Rattle.batch_meaning.specs.Batch.{Engine, calls_of}
@@ -24,6 +24,7 @@ use Rattle.cert_meaning.specs.Written.{state_in}
 use Rattle.cert_sound.proofs.Fitting.{InProgram, earlier_in, last_at, are_of}
 use Rattle.cert_sound.proofs.Whole.{all_in}
 use Rattle.cert_complete.specs.Theorem.{HeadsAreOfFrames}
+use Rattle.std.proofs.lemmas.Option.{same_Some}
 
 in_program_from : (program ps : List Routine) (q : ℕ) → InProgram program ps → InProgram program (from ps q)
 in_program_from program [] q i = i
@@ -83,7 +84,7 @@ module _ {S : Type 0} (dom : Operations S) (engine : Engine) (covers : S → Hea
           inp = in_program_from program earlier k.1 (earlier_in program r earlier x.inp);
           back = fit_back_from earlier k.1 x.back.1;
           fine = λ b rest i.
-              let same : c.routine ≡ b = some_inj c.routine b (sym (look_get earlier k.1 ∙ c.at) ∙ look_from earlier k.1 b rest i) in
+              let same : c.routine ≡ b = same_Some c.routine b (sym (look_get earlier k.1 ∙ c.at) ∙ look_from earlier k.1 b rest i) in
               subst (λ ls. Good (lift (dom.enter k.0.entering) s.before) (b.layout ∷ ls)) (sym (around n s was))
               (subst (λ l. Good (lift (dom.enter k.0.entering) s.before) (l ∷ r.layout ∷ layouts_around program z)) (sym c.layout ∙ ap (λ (b : Routine). b.layout) same)
               (fit_enter dom engine covers laws k.0 r.layout (layouts_around program z) s.before c.fits f.before_fit));
@@ -93,14 +94,14 @@ module _ {S : Type 0} (dom : Operations S) (engine : Engine) (covers : S → Hea
     entered_further n t e =
         let s = then_inv (find n Spots) (λ s. if_some s.call (λ k. Some (from earlier k.1, lift (dom.enter k.0.entering) s.before))) t e in
         let k = then_inv s.value.call (λ k. Some (from earlier k.1, lift (dom.enter k.0.entering) s.value.before)) t s.gives in
-        subst (λ (t : List Routine × Value S). IsEntered (n ∷ z) t.0 t.1) (some_inj _ t k.gives) (called n s.value k.value s.was k.was)
+        subst (λ (t : List Routine × Value S). IsEntered (n ∷ z) t.0 t.1) (same_Some _ t k.gives) (called n s.value k.value s.was k.was)
 
   entered_under : (n : ℕ) (z : List ℕ) (x t : List Routine × Value S) → IsEntered z x.0 x.1 → entered dom engine n z x ≡ Some t → IsEntered (n ∷ z) t.0 t.1
   entered_under n z ([], v) t x e = absurd cc
   entered_under n z (r ∷ earlier, v) t x e = entered_further z r earlier v x n t e
 
   entered_at : (z : List ℕ) (t : List Routine × Value S) → entry dom engine (reverse program) z ≡ Some t → IsEntered z t.0 t.1
-  entered_at [] t e = subst (λ (t : List Routine × Value S). IsEntered [] t.0 t.1) (some_inj _ t e) (first_entered (reverse program) refl)
+  entered_at [] t e = subst (λ (t : List Routine × Value S). IsEntered [] t.0 t.1) (same_Some _ t e) (first_entered (reverse program) refl)
   entered_at (n ∷ z) t e = let s = then_inv (entry dom engine (reverse program) z) (entered dom engine n z) t e in entered_under n z s.value t (entered_at z s.value s.was) s.gives
 
   value_fits : (z : List ℕ) (x : List Routine × Value S) → IsEntered z x.0 x.1 → (n : ℕ) (u : Value S) → value_in dom engine x.0 z x.1 (Head n) ≡ Some u → Good u (layouts_around program (n ∷ z))
@@ -112,7 +113,7 @@ module _ {S : Type 0} (dom : Operations S) (engine : Engine) (covers : S → Hea
   state_fits z n x (Some (Over m y)) e k = absurd cc
   state_fits z n x (Some (State s)) e k =
       let t = then_inv (entry dom engine (reverse program) z) (λ x. value_in dom engine x.0 z x.1 (Head n)) (State s) e in
-      subst (λ x. dom.fits x (layouts_around program (n ∷ z)) ≡ true) (some_inj s x k) (value_fits z t.value (entered_at z t.value t.was) n (State s) t.gives)
+      subst (λ x. dom.fits x (layouts_around program (n ∷ z)) ≡ true) (same_Some s x k) (value_fits z t.value (entered_at z t.value t.was) n (State s) t.gives)
 
 pub heads_fit : {S : Type 0} (dom : Operations S) (covers : S → Heap → List Variables → Type 0) → Laws dom covers → MarksRise → PlacesAreFound → HeadsAreOfFrames dom
 heads_fit dom covers laws rises places engine program checked z n x k = state_fits dom engine covers laws rises places program checked z n x (value_at dom engine program (Head n) z) refl k

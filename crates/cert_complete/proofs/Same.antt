@@ -1,5 +1,5 @@
 -- Following a block gives the states of batch interpretation.
-use Rattle.std.specs.Prelude.{◌≡◌, ◌<◌, ◌+◌, ℕ, zero, suc, List, [], ◌∷◌, ◌++◌, length, map, reverse, slice_get, Option, Some, None, Bool, true, false, Contains, MatchOption, if◌then◌else◌}
+use Rattle.std.specs.Prelude.{◌≡◌, ◌<◌, ◌+◌, ℕ, List, [], ◌∷◌, ◌++◌, length, map, reverse, slice_get, Option, Some, None, Bool, true, false, Contains, MatchOption, if◌then◌else◌}
 use Rattle.std.proofs.Common.{refl, sym, ap, ◌∙◌, arith, subst}
 use Rattle.imp_syntax.specs.declared.edit.Location.TheVariants.{Head}
 use Rattle.imp_slots.specs.Plain.{Layout, Guard, DoBreak, Does, Invoke, Code, Stop, Simple, If, While, Call, Break, Routine}
@@ -27,11 +27,7 @@ use Rattle.cert_sound.proofs.Fitting.{InProgram, earlier_in, last_at}
 use Rattle.cert_complete.specs.Theorem.{IsLoopUnder, HasNoOver, AreHeads}
 use Rattle.cert_complete.proofs.Heads.{head_is_up}
 use Rattle.cert_complete.proofs.Loops.{are_loops, contains}
-
-get_below : {A : Type 0} (xs : List A) (k : ℕ) (x : A) → slice_get xs k ≡ Some x → k < length xs
-get_below [] k x e = absurd cc
-get_below (y ∷ xs) zero x e = omega arith
-get_below (y ∷ xs) (suc k) x e = omega (arith, get_below xs k x e)
+use Rattle.std.proofs.lemmas.Option.{slice_get_within}
 
 maps_both : {A B : Type 0} (f : A → B) (xs ys : List A) → map f xs ++ map f ys ≡ map f (xs ++ ys)
 maps_both f [] ys = refl
@@ -196,7 +192,7 @@ module _ {S : Type 0} (dom : Operations S) (engine : Engine) (covers : S → Hea
         let fl = from_look f.earlier q t at in
         let place = from_place f.earlier q t fl.0 fl.1 in
         let lower : q < length f.earlier = look_below f.earlier q t at in
-        let among : length f.earlier < length program = get_below program (length f.earlier) f.routine place_get in
+        let among : length f.earlier < length program = slice_get_within program (length f.earlier) f.routine place_get in
         let same : 0 + length f.earlier ≡ length f.earlier = omega arith in
         inner (n ∷ f.z) layouts q t fl.0 (dom.enter i.entering v) fl.1
         (ap (λ o. if_some o (entered dom engine n f.z)) met.entry_is ∙

@@ -11,7 +11,7 @@ use Rattle.concrete_sem.specs.Values.{Variables, Heap}
 use Rattle.concrete_sem.specs.Reach.{call_sites}
 use Rattle.concrete_sem.specs.WellFormed.{variables_of}
 use Rattle.domain_laws.specs.Operations.{Operations}
-use Rattle.plain_values.proofs.Cases.{by_bool, some_inj}
+use Rattle.plain_values.proofs.Cases.{by_bool}
 use Rattle.plain_values.proofs.Members.{here, there, Each, none_there, each_more}
 use Rattle.cert_meaning.specs.Portable.{Portable, PortableLaws}
 use Rattle.cert_meaning.specs.Chained.{layouts_around}
@@ -20,6 +20,7 @@ use Rattle.cert_sound.specs.Theorem.{AreOfFrames, IsCovered, AreCertificatesSoun
 use Rattle.cert_lines.specs.Lines.{Line, line_of, Entry, written_in, Entries, Reads, Bad, unless_there, with_entry, is_loop_under, entry_in, entry_of, entries}
 use Rattle.cert_lines.specs.Verify.{Yes, of_followed, of_entries, verify}
 use Rattle.cert_lines.specs.Theorem.{IsWritten, IsYesSound}
+use Rattle.std.proofs.lemmas.Option.{same_Some}
 
 contains_later : {A : Type 0} (y : A) (x : A) (xs : List A) → Contains xs x → Contains (y ∷ xs) x
 contains_later y x xs c = (suc c.0, omega (arith, c.1), c.2)
@@ -40,7 +41,7 @@ module _ {S : Type 0} (dom : Operations S) (covers : S → Heap → List Variabl
 
       by : (o : Option S) → port.take (layouts_around program (l.at ∷ reverse l.chain)) l.state ≡ o → option_map (λ s. record { at = l.at; sites = reverse l.chain; state = s }) o ≡ Some e → Comes e
       by None t i = absurd cc
-      by (Some s) t i = subst Comes (some_inj _ e i) (record { bytes = bytes; among = among; line = l; says = says; at = refl; chain = refl; state = t })
+      by (Some s) t i = subst Comes (same_Some _ e i) (record { bytes = bytes; among = among; line = l; says = says; at = refl; chain = refl; state = t })
 
   entry_comes : (bytes : List ℕ) (e : Entry S) → Contains (all_lines cert) bytes → entry_of port program bytes ≡ Some e → Comes e
   entry_comes bytes e among k = by (line_of bytes) refl k
@@ -75,7 +76,7 @@ module _ {S : Type 0} (dom : Operations S) (covers : S → Heap → List Variabl
       let p = and_parts (n == e.at) (bytes_eq z e.sites) b in
       let at : e.at ≡ n = grind (arith, nat_tests, p.0) in
       let same : e.sites ≡ z = sym ((bytes_eq-Decides z e.sites).0 p.1) in
-      let state : e.state ≡ s = some_inj e.state s (sym (ap (λ c. if c then Some e.state else written_in es z n) b) ∙ k) in
+      let state : e.state ≡ s = same_Some e.state s (sym (ap (λ c. if c then Some e.state else written_in es z n) b) ∙ k) in
       subst (λ s. IsWritten port program cert z n s) state
       (subst (λ n. IsWritten port program cert z n e.state) at
       (subst (λ z. IsWritten port program cert z e.at e.state) same (each.at e here))))

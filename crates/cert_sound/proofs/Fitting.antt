@@ -7,7 +7,7 @@ use Rattle.concrete_sem.specs.Values.{Variables, Heap}
 use Rattle.program_chains.specs.Claims.{PlacesAreFound}
 use Rattle.domain_laws.specs.Operations.{Operations}
 use Rattle.domain_laws.specs.Laws.{Laws}
-use Rattle.plain_values.proofs.Cases.{by_test, some_inj}
+use Rattle.plain_values.proofs.Cases.{by_test}
 use Rattle.plain_values.proofs.Members.{Member, here, there, in_left, in_right}
 use Rattle.batch_meaning.proofs.Procedures.{look, look_get, look_below, FitBack}
 use Rattle.batch_sound.proofs.Fitting.{callee}
@@ -15,6 +15,7 @@ use Rattle.batch_sound.proofs.Chains.{has_member}
 use Rattle.cert_meaning.specs.Followed.{Followed, Passes, Fails, passing, after, unless, where_written, joined, followed, followed_procedure}
 use Rattle.cert_meaning.specs.Chained.{layout_of, layout_around, layouts_around}
 use Rattle.cert_sound.specs.Theorem.{AreOfFrames}
+use Rattle.std.proofs.lemmas.Option.{same_Some}
 
 -- these procedures, the last one first, stand in the program
 abbrev pub InProgram : List Routine → List Routine → Type 0
@@ -116,7 +117,7 @@ module _ {S : Type 0} (dom : Operations S) (leq : S → S → Bool) (written : L
   procedure_fit checked places (r ∷ earlier) fb inp l ls z known n q t v own at f =
       (by_test q (length earlier)
       (λ c. (if c then Some r else look earlier q) ≡ Some t → DoesFit (t.layout ∷ l ∷ ls) (if c then followed dom leq written (n ∷ z) (λ m. followed_procedure dom leq written earlier (m ∷ n ∷ z)) r.code v else followed_procedure dom leq written earlier (n ∷ z) q v))
-      (λ e at. body (some_inj r t at) (procedure_fit checked places earlier fb.1 (earlier_in program r earlier inp) r.layout (l ∷ ls) (n ∷ z) around))
+      (λ e at. body (same_Some r t at) (procedure_fit checked places earlier fb.1 (earlier_in program r earlier inp) r.layout (l ∷ ls) (n ∷ z) around))
       (λ e at. procedure_fit checked places earlier fb.1 (earlier_in program r earlier inp) l ls z known n q t v own at f)) at
     where
       around : layouts_around program (n ∷ z) ≡ l ∷ ls

@@ -15,7 +15,7 @@ use Rattle.concrete_sem.specs.Proper.{IsProper}
 use Rattle.program_chains.specs.Claims.{PlacesAreFound}
 use Rattle.domain_laws.specs.Operations.{Operations}
 use Rattle.domain_laws.specs.Laws.{Laws}
-use Rattle.plain_values.proofs.Cases.{by_test, some_inj}
+use Rattle.plain_values.proofs.Cases.{by_test}
 use Rattle.plain_values.proofs.Members.{here, there, in_left, in_right}
 use Rattle.batch_meaning.proofs.Procedures.{look, look_get, FitBack}
 use Rattle.batch_sound.proofs.Fitting.{callee}
@@ -26,6 +26,7 @@ use Rattle.cert_meaning.specs.Chained.{layouts_around}
 use Rattle.cert_sound.specs.Theorem.{AreOfFrames, IsCovered}
 use Rattle.cert_sound.proofs.Fitting.{InProgram, earlier_in, last_at, AreOf, are_of, EachFit, DoesFit, fit_joined, written_fits, block_fit, procedure_fit}
 use Rattle.cert_sound.proofs.Inverted.{passed, held, found}
+use Rattle.std.proofs.lemmas.Option.{same_Some}
 
 -- A frame: the place of its procedure, the frames below it, its layout and theirs.
 pub record Place : Type 0 where
@@ -66,7 +67,7 @@ module _ {S : Type 0} (dom : Operations S) (leq : S → S → Bool) (written : L
   safe_less (suc k) c s = (s.0, λ d e. safe_less k d (s.1 d e))
 
   pub safe_reached : (k : ℕ) (c d : Config) → IsSafe k c → after_steps program k c ≡ Some d → Met d
-  safe_reached zero c d s e = subst Met (some_inj c d e) s
+  safe_reached zero c d s e = subst Met (same_Some c d e) s
   safe_reached (suc k) c d s e = let t = stepped (step program c) (after_steps program k) d e in safe_reached k t.0 d (s.1 t.0 t.1) t.2
 
   -- a step from a configuration that is described is to a safe one
@@ -152,7 +153,7 @@ module _ {S : Type 0} (dom : Operations S) (leq : S → S → Bool) (written : L
   joined_leaves f k u s [] fs fx g = tt
   joined_leaves f k u s (x ∷ xs) fs fx g =
       let fj = laws.fitting.join (layouts f) s x fs fx.0 in (
-        λ t i. subst (λ t. Runs f k t x) (some_inj u t i)
+        λ t i. subst (λ t. Runs f k t x) (same_Some u t i)
             (runs_under f k u x (joined dom (dom.join s x) xs) (λ h vs p c. joined_first f (dom.join s x) xs fj fx.1 h vs p (laws.join_right (layouts f) s x h vs fs fx.0 p c)) g),
         joined_leaves f k u (dom.join s x) xs fj fx.1 g,
       )
@@ -302,7 +303,7 @@ module _ {S : Type 0} (dom : Operations S) (leq : S → S → Bool) (written : L
         (λ j e. step_safe n (pass i.entering v) _ j
         (λ u s. some_safe (slice_get program q) _ j
         (λ t is c. now j _ c
-        (subst (λ (t : Routine). IsSafe j (enters q f2.below h u t)) (some_inj o.routine t (sym (inp q o.routine at) ∙ is))
+        (subst (λ (t : Routine). IsSafe j (enters q f2.below h u t)) (same_Some o.routine t (sym (inp q o.routine at) ∙ is))
         (inner q o.routine at f2 refl around j a1 f1
         (subst (Ready f2 j (Ret q)) (sym one.was) (
           return_runs n i q o.routine.layout (push r w) a one.behind h v u o.layout o.fits fa fd2 p s y j
@@ -339,7 +340,7 @@ module _ {S : Type 0} (dom : Operations S) (leq : S → S → Bool) (written : L
       let inner = procedures_safe earlier fb.1 (earlier_in program r earlier inp) in
       (by_test q (length earlier)
       (λ c. (if c then Some r else look earlier q) ≡ Some t → Ready f k (Ret q) (if c then followed dom leq written (sites f.below) (λ m. followed_procedure dom leq written earlier (m ∷ sites f.below)) r.code a else followed_procedure dom leq written earlier (sites f.below) q a) → Runs f k (push t.code (Ret q)) a)
-      (λ e at g. body (some_inj r t at) inner g)
+      (λ e at g. body (same_Some r t at) inner g)
       (λ e at g. inner q t at f same known k a fa g)) at g
     where
       body : r ≡ t → AreSafe earlier → Ready f k (Ret q) (followed dom leq written (sites f.below) (λ m. followed_procedure dom leq written earlier (m ∷ sites f.below)) r.code a) → Runs f k (push t.code (Ret q)) a

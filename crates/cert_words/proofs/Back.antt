@@ -5,9 +5,10 @@ use Rattle.std.specs.Str.{bytes_eq}
 use Rattle.std.proofs.lemmas.Bool.Decides.{nat_tests}
 use Rattle.std.proofs.lemmas.Slice.Eq.{bytes_eq-Decides}
 use Rattle.std.proofs.lemmas.Fmt.{decimal_by_steps_wide}
-use Rattle.plain_values.proofs.Cases.{by_test, by_bool, some_inj}
+use Rattle.plain_values.proofs.Cases.{by_test, by_bool}
 use Rattle.cert_words.specs.Words.{word_text, more_text, words_text, limit, at_most_limit, with_digit, word_read, read, if_same, words_of}
 use Rattle.cert_words.specs.Claims.{IsSmall, AreSmall, WordsComeBack, ReadingIsExact}
+use Rattle.std.proofs.lemmas.Option.{same_Some}
 
 small_stays : (n : ℕ) → n ≤ limit → at_most_limit n ≡ n
 small_stays n h = by_bool (nat_lt limit n) (λ e. let over : limit < n = grind (arith, nat_tests) in absurd (omega arith)) (λ e. rw e refl)
@@ -78,7 +79,7 @@ words_back w ws h hs =
 same_text : (text : List ℕ) (vs ws : List (Option ℤ)) → if_same text vs ≡ Some ws → words_text ws ≡ text
 same_text text vs ws e =
     by_bool (bytes_eq (words_text vs) text)
-    (λ k. let i : vs ≡ ws = some_inj vs ws (sym (ap (λ c. if c then Some vs else None) k) ∙ e) in ap words_text (sym i) ∙ (bytes_eq-Decides (words_text vs) text).0 k)
+    (λ k. let i : vs ≡ ws = same_Some vs ws (sym (ap (λ c. if c then Some vs else None) k) ∙ e) in ap words_text (sym i) ∙ (bytes_eq-Decides (words_text vs) text).0 k)
     (λ k. let i : None ≡ Some ws = sym (ap (λ c. if c then Some vs else None) k) ∙ e in absurd cc)
 
 pub reading_exact : ReadingIsExact

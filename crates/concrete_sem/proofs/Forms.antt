@@ -319,3 +319,6 @@ start_is_well_formed program checked inputs words =
   where
     false_not : false ≡ true → ⊥
     false_not e = cc
+
+pub gives_same : {A : Type 0} {a b : A} → Gives a ≡ Gives b → a ≡ b
+gives_same h = cc

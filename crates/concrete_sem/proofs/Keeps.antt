@@ -5,8 +5,7 @@ use Rattle.std.proofs.Common.{refl, sym, ap, ◌∙◌, subst, inl, inr, arith}
 use Rattle.std.proofs.lemmas.Bool.Decides.{nat_tests}
 use Rattle.std.proofs.lemmas.List.Elements.{All-set, All-append, All-replicate, All-nil, All-cons}
 use Rattle.std.proofs.lemmas.List.{length-set, length-append, length-replicate}
-use Rattle.std.proofs.lemmas.Option.{slice_get_within, get_or_from_slice_get}
-use Rattle.plain_values.proofs.Cases.{some_inj, or_either}
+use Rattle.std.proofs.lemmas.Option.{slice_get_within, get_or_from_slice_get, same_Some}
 use Rattle.imp_slots.specs.Plain.{Numeric, Layout, Effect, Skip, Assert, SetInt, Input, ReadElement, ReadItem, MakeArray, CopyArray, WriteElement, SetNull, MakeCell, CopyLink, ReadNext, WriteNext, WriteItem, Argument, IntArgument, ArrayArgument, LinkArgument, Returning, NumericResult, LinkResult}
 use Rattle.imp_slots.specs.Fits.{is_kind, is_int, is_array, is_link, is_side, fits_term, fits_effect, fits_arguments, fits_returning, fits_invoke}
 use Rattle.analysis_words.specs.declared.fault.FaultKind.{FaultKind}
@@ -17,7 +16,7 @@ use Rattle.concrete_sem.specs.Effects.{new_array, element, with_element, cell_of
 use Rattle.concrete_sem.specs.Passing.{first_number, first_link, first_variables, passed, over, pass, back}
 use Rattle.concrete_sem.specs.Proper.{IsLink, IsCell, IsNumber, AreVariables, AreFrames, IsProper}
 use Rattle.concrete_sem.specs.Keeping.{EffectsKeep, PassingKeeps, ReturnsKeep, LastAloneKeeps, StartKeeps}
-use Rattle.std.proofs.lemmas.Bool.{and_parts}
+use Rattle.std.proofs.lemmas.Bool.{and_parts, or_cases}
 use Rattle.concrete_sem.proofs.Numbers.{given, gives_inj, is_word_zero, slot_of, array_is_words, numbers_kept, at_slot, value_word}
 
 -- Slots set to values of their kinds.
@@ -35,7 +34,7 @@ link_kept : (n : ℕ) (l : Layout) (v : Variables) (p : ℕ) (q : Option ℕ) �
 link_kept n l v p q a i = record { numbers = a.numbers; count = length-set v.links p q ∙ a.count; links = All-set (IsLink n) v.links p q i a.links }
 
 -- links that slots hold
-link_is : (n : ℕ) (ls : List (Option ℕ)) (p : ℕ) → All (IsLink n) ls → IsLink n (slice_index_or ls p None)
+pub link_is : (n : ℕ) (ls : List (Option ℕ)) (p : ℕ) → All (IsLink n) ls → IsLink n (slice_index_or ls p None)
 link_is n [] p a = tt
 link_is n (x ∷ ls) zero a = a 0 x (omega arith)
 link_is n (x ∷ ls) (suc p) a = link_is n ls p (λ k d h. a (suc k) d (omega arith))
@@ -91,7 +90,7 @@ cell_added h c vs ls p i =
 read_is : {A : Type 0} (P : A → Type 0) (xs : List A) (k : ℕ) (x : A) → All P xs → slice_get xs k ≡ Some x → P x
 read_is P xs k x a e = subst P (get_or_from_slice_get xs k x x e) (a k x (slice_get_within xs k x e))
 
-given_some : {A : Type 0} (k : FaultKind) (o : Option A) (x : A) → given_or k o ≡ Gives x → o ≡ Some x
+pub given_some : {A : Type 0} (k : FaultKind) (o : Option A) (x : A) → given_or k o ≡ Gives x → o ≡ Some x
 given_some k None x e = absurd cc
 given_some k (Some y) x e = cc
 
@@ -101,7 +100,7 @@ cell_is n cells (Some k) c a e =
     let t = given (given_or Null (slice_get cells k)) (λ c. Gives (k, c)) c e in
     subst (λ (c : ℕ × Cell). IsCell n c.1) (gives_inj _ _ t.gives) (read_is (IsCell n) cells k t.value a (given_some Null _ t.value t.was))
 
-element_is : (zs : List ℤ) (i z : ℤ) → All IsWord zs → element zs i ≡ Gives z → IsWord z
+pub element_is : (zs : List ℤ) (i z : ℤ) → All IsWord zs → element zs i ≡ Gives z → IsWord z
 element_is zs (pos k) z a e = read_is IsWord zs k z a (given_some Index _ z e)
 element_is zs (negsuc k) z a e = absurd cc
 
@@ -226,7 +225,7 @@ over_zip [] (m ∷ ms) ds f a = absurd f
 over_zip (n ∷ ns) (m ∷ ms) [] f a = absurd a
 over_zip (n ∷ ns) (m ∷ ms) (d ∷ ds) f a = (f.0, over_zip ns ms ds f.1 a.1)
 
-over_length : {A : Type 0} (xs ys : List A) → length (over xs ys) ≡ length ys
+pub over_length : {A : Type 0} (xs ys : List A) → length (over xs ys) ≡ length ys
 over_length [] ys = refl
 over_length (x ∷ xs) [] = refl
 over_length (x ∷ xs) (y ∷ ys) = ap suc (over_length xs ys)
@@ -248,7 +247,7 @@ more_numbers true c [] p m e i f = absurd cc
 more_numbers false c [] p m e i f = absurd cc
 more_numbers k c (n ∷ ns) p m e i f =
     let s = slot_of k (Some n) e in
-    record { numbers = (subst (λ n. IsNumber n m) (some_inj _ _ (sym s.1)) (i s.0 s.2), f.numbers); links = f.links }
+    record { numbers = (subst (λ n. IsNumber n m) (same_Some _ _ (sym s.1)) (i s.0 s.2), f.numbers); links = f.links }
 
 passed_fit : (c : ℕ) (l : Layout) (v : Variables) (list : List Argument) (ns : List Numeric) (ls : List (List ℕ)) (p : Variables) → AreVariables c l v → fits_arguments l list ns ls ≡ true → passed v list ≡ Gives p → FitPassed c ns p
 passed_fit c l v [] ns ls p a f e = subst (FitPassed c ns) (gives_inj _ _ e) (record { numbers = tt; links = All-nil (IsLink c) })
@@ -328,7 +327,7 @@ taken_kept c k l v d to from b e f a r =
 back_kept : (c : ℕ) (k l : Layout) (v d : Variables) (r : Option Returning) → fits_returning k l r ≡ true → AreVariables c k d → AreVariables c l v → AreVariables c l (back r v d)
 unfolding back
 back_kept c k l v d None f a b = b
-back_kept c k l v d (Some (NumericResult to from)) f a b = go (or_either (is_int k from && is_int l to) (is_array k from && is_array l to) f)
+back_kept c k l v d (Some (NumericResult to from)) f a b = go (or_cases (is_int k from && is_int l to) (is_array k from && is_array l to) f)
   where
     go : ((is_int k from && is_int l to) ≡ true) ⊎ ((is_array k from && is_array l to) ≡ true) → AreVariables c l (with_number v to (number_at d from))
     go (inl e) = let s = and_parts (is_int k from) (is_int l to) e in taken_kept c k l v d to from false s.0 s.1 a b

@@ -1,5 +1,5 @@
 -- What the parts of a graph say of its cells.
-use Rattle.std.proofs.Common.{◌≡◌, ◌≢◌, ℕ, zero, suc, ◌<◌, List, [], ◌∷◌, length, Option, Some, None, IsSome, is_some, slice_get, get_or, refl, sym, ap, ◌∙◌, subst, arith}
+use Rattle.std.proofs.Common.{◌≡◌, ◌≢◌, ℕ, List, Option, Some, None, IsSome, is_some, slice_get, get_or, refl, sym, ap, ◌∙◌, subst, arith}
 use Rattle.std.specs.FinMap.{FinMap, get}
 use Rattle.std.specs.Ordering.{nat_cmp}
 use Rattle.daig_graph.specs.declared.graph.Cell.{Cell}
@@ -9,16 +9,8 @@ use Rattle.daig_graph.specs.Cells.{Filled, IsUnused, AreCells}
 use Rattle.daig_graph.specs.Agrees.{Agrees, filled}
 use Rattle.daig_graph.proofs.Cases.{none-some, some-inj}
 use Rattle.daig_graph.proofs.Maps.{cell_map, map-none, map-some}
-
-pub place-below : {A : Type 0} (xs : List A) (i : ℕ) (x : A) → slice_get xs i ≡ Some x → i < length xs
-place-below [] i x e = cc
-place-below (y ∷ xs) zero x e = omega arith
-place-below (y ∷ xs) (suc i) x e = omega (arith, place-below xs i x e)
-
-pub place-there : {A : Type 0} (xs : List A) (i : ℕ) → i < length xs → (x : A) × (slice_get xs i ≡ Some x)
-place-there [] i h = absurd (omega (arith, h))
-place-there (y ∷ xs) zero h = (y, refl)
-place-there (y ∷ xs) (suc i) h = place-there xs i (omega (arith, h))
+use Rattle.std.proofs.lemmas.Option.{slice_get_within}
+use Rattle.plain_values.proofs.Lists.{get_some}
 
 module _ {V : Type 0} (slots : List (Option (Cell V))) (keys : ℕ → Option ℕ) (owned : Held ℕ) (uses : Held Use) (agrees : Agrees (λ k. get_or slots k None) keys owned uses) where
   -- a number has one key
@@ -58,8 +50,8 @@ module _ {V : Type 0} (slots : List (Option (Cell V))) (keys : ℕ → Option �
   -- the uses of a cell's inputs stand under its keys
   pub use-at : (k i u : ℕ) (c : Cell V) → get_or slots k None ≡ Some c → slice_get c.uses.items i ≡ Some u → (x : ℕ) × (slice_get c.inputs.items i ≡ Some x) × (held uses u ≡ Some (x, record { cell = c.number; place = i }))
   use-at k i u c e at =
-      let below = place-below c.uses.items i u at in
-      let x = place-there c.inputs.items i (omega (arith, below, agrees.as_many k c e)) in
+      let below = slice_get_within c.uses.items i u at in
+      let x = get_some c.inputs.items i (omega (arith, below, agrees.as_many k c e)) in
       let h = agrees.use_there k i x.0 c e x.1 in
       let same : h.0 ≡ u = some-inj (sym h.1 ∙ at) in
       (x.0, x.1, ap (held uses) (sym same) ∙ h.2)

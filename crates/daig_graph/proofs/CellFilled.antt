@@ -7,8 +7,9 @@ use Rattle.daig_graph.specs.Uses.{Links}
 use Rattle.std.specs.FinMap.{get, insert}
 use Rattle.daig_graph.specs.Agrees.{Agrees, filled}
 use Rattle.daig_graph.proofs.Cases.{same_number, none-some, some-inj}
-use Rattle.daig_graph.proofs.Agreeing.{place-below, get-number, get-absent, get-key}
+use Rattle.daig_graph.proofs.Agreeing.{get-number, get-absent, get-key}
 use Rattle.daig_graph.proofs.Maps.{cell_map, insert-is}
+use Rattle.std.proofs.lemmas.Option.{slice_get_within}
 
 module _ {V : Type 0} (cells new_cells : ℕ → Option (Cell V)) (keys new_keys : ℕ → Option ℕ) (owned new_owned : Held ℕ) (uses new_uses : Held Use) (key : ℕ) (n : Cell V) where
   pub record Fills : Type 0 where
@@ -85,7 +86,7 @@ module _ {V : Type 0} (cells new_cells : ℕ → Option (Cell V)) (keys new_keys
     ]
 
     new_use : (i x : ℕ) → slice_get n.inputs.items i ≡ Some x → (u : ℕ) × (slice_get n.uses.items i ≡ Some u) × (held new_uses u ≡ Some (x, record { cell = n.number; place = i }))
-    new_use i x s = f.links.there i x (place-below n.inputs.items i x s) s
+    new_use i x s = f.links.there i x (slice_get_within n.inputs.items i x s) s
 
     use_there : (k i x : ℕ) (c : Cell V) → new_cells k ≡ Some c → slice_get c.inputs.items i ≡ Some x → (u : ℕ) × (slice_get c.uses.items i ≡ Some u) × (held new_uses u ≡ Some (x, record { cell = c.number; place = i }))
     unfolding Was

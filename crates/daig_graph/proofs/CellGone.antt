@@ -7,8 +7,10 @@ use Rattle.daig_graph.specs.Uses.{Unlinks}
 use Rattle.std.specs.FinMap.{get, remove}
 use Rattle.daig_graph.specs.Agrees.{Agrees}
 use Rattle.daig_graph.proofs.Cases.{none-some, some-inj}
-use Rattle.daig_graph.proofs.Agreeing.{place-below, place-there, get-number, get-absent, get-key}
+use Rattle.daig_graph.proofs.Agreeing.{get-number, get-absent, get-key}
 use Rattle.daig_graph.proofs.Maps.{cell_map, remove-is}
+use Rattle.std.proofs.lemmas.Option.{slice_get_within}
+use Rattle.plain_values.proofs.Lists.{get_some}
 
 module _ {V : Type 0} (cells new_cells : ℕ → Option (Cell V)) (keys new_keys : ℕ → Option ℕ) (owned new_owned : Held ℕ) (uses new_uses : Held Use) (key : ℕ) (r : Cell V) where
   pub record Empties : Type 0 where
@@ -67,8 +69,8 @@ module _ {V : Type 0} (cells new_cells : ℕ → Option (Cell V)) (keys new_keys
     -- the use under a key of the cell that goes is its own
     own_use : (i u : ℕ) → slice_get r.uses.items i ≡ Some u → (x : ℕ) × (held uses u ≡ Some (x, record { cell = r.number; place = i }))
     own_use i u at =
-        let below = place-below r.uses.items i u at in
-        let x = place-there r.inputs.items i (omega (arith, below, agrees.as_many key r m.there)) in
+        let below = slice_get_within r.uses.items i u at in
+        let x = get_some r.inputs.items i (omega (arith, below, agrees.as_many key r m.there)) in
         let h = agrees.use_there key i x.0 r m.there x.1 in
         let same : h.0 ≡ u = some-inj (sym h.1 ∙ at) in
         (x.0, ap (held uses) (sym same) ∙ h.2)
@@ -88,7 +90,7 @@ module _ {V : Type 0} (cells new_cells : ℕ → Option (Cell V)) (keys new_keys
         let b = agrees.use_back u x y (sym (m.unlinks.others u other) ∙ e) in
         let ne : b.0 ≢ key = λ same.
         let at = ap (λ c. slice_get c.uses.items y.place) (some-inj (sym m.there ∙ ap cells (sym same) ∙ b.2)) ∙ b.4 in
-        other y.place (place-below r.uses.items y.place u at) at in
+        other y.place (slice_get_within r.uses.items y.place u at) at in
         (b.0, b.1, m.others b.0 ne ∙ b.2, b.3, b.4, b.5)
 
     closed : (k i x : ℕ) (c : Cell V) → new_cells k ≡ Some c → slice_get c.inputs.items i ≡ Some x → (j : ℕ) × (new_keys x ≡ Some j)

@@ -1,14 +1,9 @@
 -- One use more in its list, or one less.
-use Rattle.std.proofs.Common.{◌≡◌, ◌≢◌, ℕ, zero, suc, ◌+◌, ◌<◌, inl, inr, List, [], ◌∷◌, length, Option, Some, IsSome, slice_get, get_or, set, refl, sym, ap, ◌∙◌, subst, arith}
+use Rattle.std.proofs.Common.{◌≡◌, ◌≢◌, ℕ, zero, suc, ◌+◌, ◌<◌, inl, inr, List, [], ◌∷◌, length, Option, Some, IsSome, slice_get, set, refl, sym, ap, ◌∙◌, subst, arith}
 use Rattle.daig_graph.specs.declared.graph.Use.{Use}
 use Rattle.daig_graph.specs.Held.{Held, held, Takes, IsOnce}
 use Rattle.daig_graph.specs.Uses.{Unlinks}
 use Rattle.daig_graph.proofs.Cases.{same_number, some-inj}
-
-pub at_index : {A : Type 0} (xs : List A) (n : ℕ) (d : A) → n < length xs → slice_get xs n ≡ Some (get_or xs n d)
-at_index [] n d h = absurd (omega (arith, h))
-at_index (x ∷ xs) zero d h = refl
-at_index (x ∷ xs) (suc n) d h = at_index xs n d (omega (arith, h))
 
 pub set-at : {A : Type 0} (xs : List A) (n : ℕ) (v : A) → n < length xs → slice_get (set xs n v) n ≡ Some v
 set-at [] n v h = absurd (omega (arith, h))

@@ -31,4 +31,4 @@ mod walk;
 pub use graph::{Graph, Use};
 pub use inputs::Inputs;
 pub use value::{SharedChain, Value};
-pub use walk::Walk;
+pub use walk::Iter;

@@ -6,7 +6,7 @@ ghost use Rattle.daig_graph.specs.Keys.{key_at};
 
 use crate::index::{Index, Link};
 use crate::pool::{Lists, Member};
-use crate::walk::Walk;
+use crate::walk::Iter;
 use slab::Slab;
 use std::alloc::{AllocError, Global};
 
@@ -54,10 +54,10 @@ impl<T: Copy> Lists<T> {
     }
 
     /// The items of a list, the one that was put in last first.
-    pub(crate) fn items(&self, list: usize) -> Walk<'_, T>
+    pub(crate) fn items(&self, list: usize) -> Iter<'_, T>
         ensures items { AreItems self.now list result }
     {
-        Walk {
+        Iter {
             members: &self.members,
             next: self.firsts.get(list),
         }

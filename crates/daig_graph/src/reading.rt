@@ -7,7 +7,7 @@ ghost use Rattle.daig_graph.specs.Cells.{AreCells, IsOwned, IsUse};
 
 use crate::graph::{Cell, Graph, Use};
 use crate::value::Value;
-use crate::walk::Walk;
+use crate::walk::Iter;
 
 impl<V> Graph<V> {
     /// The value of a cell, or `None` where it is not there.
@@ -33,7 +33,7 @@ impl<V> Graph<V> {
 
     /// The cells of which a cell is an input, each with the place where it stands among its inputs; none where the cell
     /// is not there. No two are alike.
-    pub fn dependents(&self, cell: usize) -> Walk<'_, Use>
+    pub fn dependents(&self, cell: usize) -> Iter<'_, Use>
         ensures once { IsOnce result }
         ensures uses { (u : Use) → IsIn result u ↔ IsUse self.now.cells cell u }
     {
@@ -41,7 +41,7 @@ impl<V> Graph<V> {
     }
 
     /// The cells that belong to a statement, each once.
-    pub fn cells_of_statement(&self, statement: u32) -> Walk<'_, usize>
+    pub fn cells_of_statement(&self, statement: u32) -> Iter<'_, usize>
         ensures once { IsOnce result }
         ensures cells { (x : ℕ) → IsIn result x ↔ IsOwned self.now.cells statement x }
     {

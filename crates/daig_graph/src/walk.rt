@@ -8,12 +8,12 @@ use std::marker::Model;
 
 /// What is left of a list, seen as the list of its items.
 #[derive(Drop)]
-pub struct Walk<'a, T> {
+pub struct Iter<'a, T> {
     pub(crate) members: &'a Slab<Member<T>>,
     pub(crate) next: Link,
 }
 
-impl<'a, T> Model for Walk<'a, T> {
+impl<'a, T> Model for Iter<'a, T> {
     ghost use Rattle.std.specs.Prelude.{List, map};
 
     ghost Value = { List T };
@@ -26,7 +26,7 @@ impl<'a, T> Model for Walk<'a, T> {
     ghost invariant = { λ a. IsWalk (get a.members.now) a.next (left a.members.now a.next) };
 }
 
-impl<'a, T: Copy> Iterator for Walk<'a, T> {
+impl<'a, T: Copy> Iterator for Iter<'a, T> {
     type Item = T;
 
     ghost next_gives = { YieldsFirst (λ rest. rest) };

@@ -2,7 +2,6 @@
 use Rattle.std.proofs.Common.{◌≡◌, ◌≢◌, ℕ, ◌<◌, ◌≤◌, List, map, take, length, Option, Some, None, IsSome, slice_get, sym, ap, ap₂, subst, ◌∙◌, arith}
 use Rattle.std.specs.Prelude.{IfSome, is_some}
 use Rattle.std.proofs.Math.Seq.{take-length}
-use Rattle.plain_values.proofs.Cases.{some_inj}
 use Rattle.domain_laws.specs.Operations.{Operations}
 use Rattle.batch_meaning.specs.Values as batch
 use Rattle.cell_names.specs.declared.frame.Point.{Point}
@@ -22,9 +21,10 @@ use Rattle.daig_query.specs.Overs.{HasNoOver}
 use Rattle.named_cells.specs.Asked.{inputs}
 use Rattle.daig_query.specs.Right.{found}
 use Rattle.daig_query.specs.Opened.{IsReady}
-use Rattle.daig_query.proofs.Lists.{get_some}
 use Rattle.daig_query.proofs.Asked.{X, I, F, r, law, asks}
 use Rattle.daig_query.proofs.Computed.{known, Made, result, alone, row_made, Holds, holds}
+use Rattle.std.proofs.lemmas.Option.{same_Some}
+use Rattle.plain_values.proofs.Lists.{get_some}
 
 module _ {S : Type 0} (dom : Operations S) (plan : Plan) (store : Store S) (row : Row) (o : Open) (ready : IsReady dom plan store row o) (states : HasNoOver store.graph.cells o.inputs (length o.inputs)) (plain : (n : ℕ) (p : Point) → row ≢ Fixed n p) where
   abbrev all : List CellName
@@ -94,7 +94,7 @@ module _ {S : Type 0} (dom : Operations S) (plan : Plan) (store : Store S) (row 
         by : Made store.states dom plan.engine row (X dom plan store row o ready.at).path here.held (map value all) → IsValue store.states (State (record { state = h.state; index = index_in row left })) (value (X dom plan store row o ready.at))
         by (result t a b none) = let c : Some h ≡ None = sym e ∙ same_alone ∙ none in absurd cc
         by (alone g s some a b) =
-            let gh : g ≡ h = some_inj g h (sym some ∙ sym same_alone ∙ e) in (
+            let gh : g ≡ h = same_Some g h (sym some ∙ sym same_alone ∙ e) in (
               s,
               ap (λ (x : Held). slice_get store.states x.state) (sym gh) ∙ a,
               value_is ∙ b ∙ ap (cell (batch.State s)) (sym same_index),

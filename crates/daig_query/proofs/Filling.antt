@@ -1,14 +1,13 @@
 -- One cell more.
-use Rattle.std.proofs.Common.{◌≡◌, ◌≢◌, ℕ, suc, ◌+◌, ◌<◌, ◌≤◌, ◌||◌, List, [], take, length, Option, Some, None, Bool, true, false, cond, slice_get, refl, sym, ap, subst, ◌∙◌, inl, inr, arith}
+use Rattle.std.proofs.Common.{◌≡◌, ◌≢◌, ℕ, suc, ◌+◌, ◌<◌, ◌≤◌, ◌||◌, List, [], take, length, Option, Some, None, true, false, cond, slice_get, refl, sym, ap, subst, ◌∙◌, inl, inr, arith}
 use Rattle.std.specs.Prelude.{is_some, IsSome, Result, Ok, Err, IfOk, OnOk, OnErr}
 use Rattle.std.proofs.Math.Seq.{take-length}
 use Rattle.std.specs.Option.{option_and_then}
 use Rattle.std.specs.Cmp.{nat_cmp_total}
 use Rattle.std.specs.FinMap.{get, insert, len, len-insert, contains_key}
-use Rattle.plain_values.proofs.Cases.{by_bool, or_either, some_inj}
+use Rattle.plain_values.proofs.Cases.{by_bool}
 use Rattle.domain_laws.specs.Operations.{Operations}
 use Rattle.demand_order.specs.Order.{member}
-use Rattle.demand_order.proofs.OrderLemmas.{or_false_right}
 use Rattle.cell_names.specs.Known.{IsOnce}
 use Rattle.cell_names.specs.Paths.{CellName}
 use Rattle.cell_rows.specs.Claims.{HasName}
@@ -29,16 +28,12 @@ use Rattle.named_cells.specs.Asked.{inputs}
 use Rattle.daig_query.specs.Right.{found, IsCellOf, IsRight}
 use Rattle.daig_query.specs.Opened.{name_of, IsReady, Puts, Computes}
 use Rattle.named_cells.proofs.Same.{same_is}
-use Rattle.daig_query.proofs.Lists.{get_some}
 use Rattle.daig_query.proofs.Growing.{keeps_same, grows_trans}
 use Rattle.named_cells.proofs.Numbers.{number_there, filled_number, numbers_of, member_at}
-
-or_left : (a b : Bool) → a ≡ true → (a || b) ≡ true
-or_left a b h = ap (λ c. c || b) h
-
-or_right : (a b : Bool) → b ≡ true → (a || b) ≡ true
-or_right true b h = refl
-or_right false b h = h
+use Rattle.std.proofs.lemmas.Bool.{or_cases, or_right, or_left}
+use Rattle.std.proofs.lemmas.Option.{same_Some}
+use Rattle.plain_values.proofs.Lists.{get_some}
+use mathlib.Core.Bool.{or-false}
 
 pub on_ok : {A E P Q : Type 0} (r : Result A E) → OnOk r P → (P → Q) → OnOk r Q
 on_ok (Ok a) h f = f h
@@ -120,14 +115,14 @@ module _ {S : Type 0} (dom : Operations S) (plan : Plan) where
             ap is_some a ∙ sym (or_right (kept mid y) (same_name y x) h)
 
         is_not : same_name y x ≡ false → P
-        is_not h = ap is_some (by (number_of mid.names.names y) refl) ∙ sym (ap (λ b. kept mid y || b) h ∙ or_false_right (kept mid y))
+        is_not h = ap is_some (by (number_of mid.names.names y) refl) ∙ sym (ap (λ b. kept mid y || b) h ∙ or-false (kept mid y))
           where
             by : (o : Option ℕ) → number_of mid.names.names y ≡ o → option_and_then (get new.graph.cells) o ≡ option_and_then (get mid.graph.cells) o
             by None e = refl
             by (Some m) e = other m (λ q.
                 let a : slice_get mid.names.names m ≡ Some y = number_there mid.names.names y m e in
                 let b : Some y ≡ Some x = sym a ∙ (ap (slice_get mid.names.names) q ∙ number) in
-                let c : y ≡ x = some_inj y x b in
+                let c : y ≡ x = same_Some y x b in
                 let d : same_name y x ≡ true = subst (λ z. same_name y z ≡ true) c (same_is.same_refl y) in
                 let k : true ≡ false = sym d ∙ h in
                 cc)
@@ -154,7 +149,7 @@ module _ {S : Type 0} (dom : Operations S) (plan : Plan) where
     }
 
     named : (y : CellName) → kept new y ≡ true → HasName plan.engine plan.program y
-    named y h = elim (or_either (kept mid y) (same_name y x) (sym (adds y) ∙ h)) [
+    named y h = elim (or_cases (kept mid y) (same_name y x) (sym (adds y) ∙ h)) [
       | inl a ↦ right.kept.named y a
       | inr a ↦ subst (λ z. HasName plan.engine plan.program z) (sym (same_is.same_true y x a)) has
     ]
@@ -168,7 +163,7 @@ module _ {S : Type 0} (dom : Operations S) (plan : Plan) where
 
     closed : (y z : CellName) → kept new y ≡ true → member same_name (inputs dom plan y) z ≡ true → kept new z ≡ true
     unfolding inputs
-    closed y z h m = elim (or_either (kept mid y) (same_name y x) (sym (adds y) ∙ h)) [
+    closed y z h m = elim (or_cases (kept mid y) (same_name y x) (sym (adds y) ∙ h)) [
       | inl a ↦ stays z (right.kept.closed y z a m)
       | inr a ↦ input_kept z (subst (λ v. member same_name (inputs dom plan v) z ≡ true) (same_is.same_true y x a) m)
     ]
@@ -176,7 +171,7 @@ module _ {S : Type 0} (dom : Operations S) (plan : Plan) where
     at_cell : (q : ℕ) (g : Filled Held) → get new.graph.cells q ≡ Some g → (y : CellName) × (slice_get new.names.names q ≡ Some y) × IsCellOf dom plan new y g
     at_cell q g e = elim (same_number q n) [
       | inl h ↦ (
-          let k : f ≡ g = some_inj f g (sym here ∙ (ap (get new.graph.cells) (sym h) ∙ e)) in
+          let k : f ≡ g = same_Some f g (sym here ∙ (ap (get new.graph.cells) (sym h) ∙ e)) in
           (x, ap (λ k. slice_get k.names q) names ∙ (ap (slice_get mid.names.names) h ∙ number), cell_of x g (subst (IsCellOf dom plan mid x) k is)))
       | inr h ↦ (
           let p = right.cells q g (sym (other q h) ∙ e) in

@@ -4,7 +4,6 @@ use Rattle.std.specs.Prelude.{◌↔◌, reverse, pred, IsSome, IfSome}
 use Rattle.std.specs.FinMap.{get}
 use Rattle.std.proofs.Math.Seq.{take-length}
 use Rattle.std.proofs.lemmas.List.{reverse-reverse}
-use Rattle.plain_values.proofs.Cases.{some_inj}
 use Rattle.domain_laws.specs.Operations.{Operations}
 use Rattle.batch_meaning.specs.Values as batch
 use Rattle.cell_names.specs.declared.frame.Point.{Point}
@@ -29,11 +28,13 @@ use Rattle.named_cells.specs.Asked.{inputs}
 use Rattle.daig_query.specs.Right.{found}
 use Rattle.daig_query.specs.Overs.{HasNoOver}
 use Rattle.daig_query.specs.Opened.{IsReady}
-use Rattle.daig_query.proofs.Lists.{map_next, get_some}
+use Rattle.daig_query.proofs.Lists.{map_next}
 use Rattle.daig_query.proofs.Found.{Input, input_found, input_value}
 use Rattle.daig_query.proofs.Stopping.{Before, nothing, some, held_state, held_same}
 use Rattle.daig_query.proofs.Asked.{law, front_length}
 use Rattle.daig_query.proofs.Iterates.{N, J, G, first, row_is, asks_fix, wants_before, before, index_none, going}
+use Rattle.std.proofs.lemmas.Option.{same_Some}
+use Rattle.plain_values.proofs.Lists.{get_some}
 
 data Side : ℕ → ℕ → Type 0 where
   low : {a b : ℕ} → a ≤ b → Side a b
@@ -145,7 +146,7 @@ module _ {S : Type 0} (dom : Operations S) (plan : Plan) (store : Store S) (row 
       let go = going dom plan store row o ready.at same n p fixed in
       let last : suc i ≡ count = grind (arith, λ (l : suc i < count). go i l (inl (Over m chain, e, tt))) in
       let q = input_found dom plan store ready.at.right o ready.at.entry i h in
-      let value : q.2.cell.value ≡ Over m chain = some_inj q.2.cell.value (Over m chain) (sym (input_value dom plan store ready.at.right o i q.0 q.2) ∙ e) in
+      let value : q.2.cell.value ≡ Over m chain = same_Some q.2.cell.value (Over m chain) (sym (input_value dom plan store ready.at.right o i q.0 q.2) ∙ e) in
       let v : (H q.0).value ≡ batch.Over m (reverse chain) = subst (λ u. IsValue store.states u (H q.0)) value q.2.value in
       ap (λ (c : Cell S). c.value) (by_last i (sym last) q.0 q.1 ∙ ap (λ c. stops_with dom over i (last_state None (begin i)) c) v)
 
@@ -162,8 +163,8 @@ module _ {S : Type 0} (dom : Operations S) (plan : Plan) (store : Store S) (row 
   stops_equal j q (nothing none) i f s e a b = absurd (none i f e a)
   stops_equal j q (some m g t d c u z) i f s e a b =
       let mi : m ≡ i = omega arith in
-      let gf : g ≡ f = held_state g f (some_inj (State g) (State f) (sym c ∙ subst (λ x. at_place x ≡ Some (State f)) (sym mi) a)) in
-      let ts : t ≡ s = some_inj t s (sym u ∙ (ap (λ (x : Held). slice_get store.states x.state) gf ∙ b)) in
+      let gf : g ≡ f = held_state g f (same_Some (State g) (State f) (sym c ∙ subst (λ x. at_place x ≡ Some (State f)) (sym mi) a)) in
+      let ts : t ≡ s = same_Some t s (sym u ∙ (ap (λ (x : Held). slice_get store.states x.state) gf ∙ b)) in
       let yes : dom.same s t ≡ true = (same s t).1 (sym ts) in
       let down : pred j ≡ i = ap pred e in
       ap (λ b. if b then cell (batch.State t) (pred j) else plain over) yes ∙ ap (λ x. cell (batch.State x) (pred j)) ts ∙ ap (cell (batch.State s)) down
@@ -173,14 +174,14 @@ module _ {S : Type 0} (dom : Operations S) (plan : Plan) (store : Store S) (row 
       let l = some_iterate count refl in
       let last : l.0 ≡ suc i = omega arith in
       let down : count - 2 ≡ i = omega arith in
-      let fg : f ≡ g = some_inj f g (sym (ap state_in (subst (λ x. at_place x ≡ Some (State f)) (sym down) a)) ∙ h) in
+      let fg : f ≡ g = same_Some f g (sym (ap state_in (subst (λ x. at_place x ≡ Some (State f)) (sym down) a)) ∙ h) in
       let q = input_found dom plan store ready.at.right o ready.at.entry l.0 (omega arith) in
       by l.0 l.1 last down fg q
     where
       by : (j : ℕ) → count ≡ suc j → j ≡ suc i → count - 2 ≡ i → f ≡ g → (y : CellName) × (slice_get K j ≡ Some y) × Input dom plan store ready.at.right o j y → IsValue store.states (State (record { state = g.state; index = count - 2 })) (H M)
       by j last e down fg (y, at, q) =
           let here : at_place j ≡ Some (State f) = subst (λ x. at_place x ≡ Some (State f)) (let w : count - 1 ≡ j = omega arith in w) b in
-          let value : q.cell.value ≡ State f = some_inj q.cell.value (State f) (sym (input_value dom plan store ready.at.right o j y q) ∙ here) in
+          let value : q.cell.value ≡ State f = same_Some q.cell.value (State f) (sym (input_value dom plan store ready.at.right o j y q) ∙ here) in
           let v : IsValue store.states (State f) (H y) = subst (λ u. IsValue store.states u (H y)) value q.value in
           let s = v.0 in
           let done : H M ≡ cell (batch.State s) i =
@@ -228,7 +229,7 @@ module _ {S : Type 0} (dom : Operations S) (plan : Plan) (store : Store S) (row 
 
   with_some : {A : Type 0} (o : Option A) (P : A → Type 0) (a : A) → o ≡ Some a → IfSome o P → P a
   with_some None P a e h = absurd cc
-  with_some (Some b) P a e h = subst P (some_inj b a e) h
+  with_some (Some b) P a e h = subst P (same_Some b a e) h
 
   pub settled_is : IsEqual at_place (count - 1) → (h : Held) → IfSome (state_in (at_place (count - 2))) (λ s. h ≡ record { state = s.state; index = count - 2 }) → IsValue store.states (State h) (H M)
   settled_is equal h told =

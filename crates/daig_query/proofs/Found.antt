@@ -1,7 +1,6 @@
 -- What the cells of found inputs store.
 use Rattle.std.proofs.Common.{◌≡◌, ℕ, ◌<◌, take, length, Option, Some, None, IsSome, slice_get, refl, sym, subst, ◌∙◌}
 use Rattle.std.specs.FinMap.{get}
-use Rattle.plain_values.proofs.Cases.{some_inj}
 use Rattle.domain_laws.specs.Operations.{Operations}
 use Rattle.cell_names.specs.Paths.{CellName}
 use Rattle.imp_flow.specs.Plans.{Plan}
@@ -14,15 +13,17 @@ use Rattle.daig_query.specs.Kept.{IsValue}
 use Rattle.named_cells.specs.Asked.{inputs}
 use Rattle.daig_query.specs.Right.{found, IsCellOf, IsRight}
 use Rattle.daig_query.specs.Opened.{name_of, IsOpen}
-use Rattle.daig_query.proofs.Lists.{get_take, get_some}
+use Rattle.daig_query.proofs.Lists.{get_take}
 use Rattle.named_cells.proofs.Numbers.{numbers_get}
+use Rattle.std.proofs.lemmas.Option.{same_Some}
+use Rattle.plain_values.proofs.Lists.{get_some}
 
 module _ {S : Type 0} (dom : Operations S) (plan : Plan) (store : Store S) (right : IsRight dom plan store) where
   -- the cell under a name's number stores the name's value
   pub stored : (n : ℕ) (x : CellName) (f : Filled Held) → slice_get store.names.names n ≡ Some x → get store.graph.cells n ≡ Some f → IsCellOf dom plan store x f
   stored n x f e h =
       let p = right.cells n f h in
-      subst (λ y. IsCellOf dom plan store y f) (some_inj p.0 x (sym p.1 ∙ e)) p.2
+      subst (λ y. IsCellOf dom plan store y f) (same_Some p.0 x (sym p.1 ∙ e)) p.2
 
   pub is_there : (n : ℕ) → IsSome (get store.graph.cells n) → (f : Filled Held) × (get store.graph.cells n ≡ Some f)
   is_there n s = go (get store.graph.cells n) refl s

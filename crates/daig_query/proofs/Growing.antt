@@ -21,8 +21,8 @@ use Rattle.daig_query.specs.Kept.{Cells, kept, IsValue, Grows, Names}
 use Rattle.named_cells.specs.Asked.{inputs}
 use Rattle.daig_query.specs.Right.{found, IsCellOf, IsRight}
 use Rattle.daig_query.specs.Opened.{name_of, IsOpen, next_of}
-use Rattle.daig_query.proofs.Lists.{get_some}
 use Rattle.named_cells.proofs.Numbers.{filled_number, filled_named, numbers_grow}
+use Rattle.plain_values.proofs.Lists.{get_some}
 
 pub keeps_refl : {A : Type 0} (xs : List A) → KeepsNumbers xs xs
 keeps_refl xs n x e = e

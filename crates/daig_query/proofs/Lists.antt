@@ -1,5 +1,5 @@
 -- Fronts of lists.
-use Rattle.std.proofs.Common.{◌≡◌, ℕ, zero, suc, ◌<◌, ◌⊎◌, List, [], ◌∷◌, ◌++◌, map, take, length, Some, slice_get, refl, ap, ◌∙◌, inl, inr, arith}
+use Rattle.std.proofs.Common.{◌≡◌, ℕ, zero, suc, ◌<◌, ◌⊎◌, List, [], ◌∷◌, ◌++◌, map, take, Some, slice_get, refl, ap, ◌∙◌, inl, inr, arith}
 use Rattle.std.proofs.lemmas.List.{map-append}
 
 -- one item more
@@ -21,8 +21,3 @@ get_take (x ∷ xs) (suc k) (suc i) h = get_take xs k i (omega arith)
 pub last_view : {A : Type 0} (xs : List A) → (xs ≡ []) ⊎ ((us : List A) × (u : A) × (xs ≡ us ++ u ∷ []))
 last_view [] = inl refl
 last_view (x ∷ xs) = elim (last_view xs) [ inl e ↦ inr ([], x, ap (λ ys. x ∷ ys) e) | inr p ↦ inr (x ∷ p.0, p.1, ap (λ ys. x ∷ ys) p.2) ]
-
-pub get_some : {A : Type 0} (xs : List A) (i : ℕ) → i < length xs → (x : A) × (slice_get xs i ≡ Some x)
-get_some [] i h = absurd (omega arith)
-get_some (x ∷ xs) zero h = (x, refl)
-get_some (x ∷ xs) (suc i) h = get_some xs i (omega arith)

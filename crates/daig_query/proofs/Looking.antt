@@ -3,8 +3,7 @@ use Rattle.std.proofs.Common.{◌≡◌, ℕ, suc, ◌+◌, ◌-◌, ◌<◌, �
 use Rattle.std.specs.Prelude.{is_some, reverse}
 use Rattle.std.specs.FinMap.{get}
 use Rattle.std.proofs.lemmas.List.{length-append}
-use Rattle.std.proofs.lemmas.Option.{slice_get_within}
-use Rattle.plain_values.proofs.Cases.{some_inj}
+use Rattle.std.proofs.lemmas.Option.{slice_get_within, same_Some}
 use Rattle.domain_laws.specs.Operations.{Operations}
 use Rattle.demand_order.specs.Order.{member}
 use Rattle.cell_names.specs.declared.path.Name.{Name}
@@ -61,10 +60,6 @@ named_by old new mid x cell y once keeps same is path adds paths states operatio
   number = adds_here mid.names new.names.names (name_in mid.paths x) cell adds ∙ ap Some is;
 }
 
-pub none_of : {A : Type 0} (o : Option A) → is_some o ≡ false → o ≡ None
-none_of None e = refl
-none_of (Some a) e = absurd cc
-
 -- what is read of a cell
 pub record IsHeld (cells : Cells) (cell : ℕ) (h : Held) : Type 0 where
   pub filled : Filled Held
@@ -88,7 +83,7 @@ held_read cells cell h e = go (get cells cell) refl e
         by : (v : Value Held) → f.value ≡ v → IsHeld cells cell h
         by (State g) w =
             let r : Some g ≡ Some h = sym (ap (λ v. state_in (Some v)) w) ∙ q in
-            record { filled = f; there = k; value = w ∙ ap State (some_inj g h r) }
+            record { filled = f; there = k; value = w ∙ ap State (same_Some g h r) }
         by (Over m chain) w =
             let r : None ≡ Some h = sym (ap (λ v. state_in (Some v)) w) ∙ q in
             absurd cc

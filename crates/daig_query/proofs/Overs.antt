@@ -3,8 +3,7 @@ use Rattle.std.proofs.Common.{◌≡◌, ◌≢◌, ℕ, zero, suc, ◌<◌, ◌
 use Rattle.std.specs.Prelude.{◌↔◌, reverse}
 use Rattle.std.specs.Option.{option_and_then}
 use Rattle.std.proofs.Math.Seq.{take-length}
-use Rattle.std.proofs.lemmas.Option.{slice_get_within, slice_get-map}
-use Rattle.plain_values.proofs.Cases.{some_inj}
+use Rattle.std.proofs.lemmas.Option.{slice_get_within, slice_get-map, same_Some}
 use Rattle.domain_laws.specs.Operations.{Operations}
 use Rattle.batch_meaning.specs.Values as batch
 use Rattle.batch_meaning.specs.Values.{lift, lift2}
@@ -33,10 +32,10 @@ use Rattle.daig_query.specs.Overs.{IsFirstOver}
 use Rattle.named_cells.specs.Asked.{inputs}
 use Rattle.daig_query.specs.Right.{found}
 use Rattle.daig_query.specs.Opened.{IsReady}
-use Rattle.daig_query.proofs.Lists.{get_some}
 use Rattle.daig_query.proofs.Found.{Input as Found, input_found, input_value}
 use Rattle.daig_query.proofs.Fixes.{overs}
 use Rattle.daig_query.proofs.Asked.{X, I, F, r, law, asks, most_inputs}
+use Rattle.plain_values.proofs.Lists.{get_some}
 
 abbrev IsState : {S : Type 0} → Cell S → Type 0
 IsState {S} c = (s : S) × (c.value ≡ batch.State s)
@@ -69,21 +68,21 @@ module _ {S : Type 0} (dom : Operations S) (engine : Engine) (n : ℕ) (z : List
       ((j : ℕ) (u : Cell S) → j < i → slice_get vs j ≡ Some u → IsState u) → i < most_row dom engine (row_in w row) → asks_row dom engine (row_in w row) vs ≡ None → (operation_row dom engine (row_in w row) vs).value ≡ batch.Over n z
   over_row (Init layout) f w vs i v at e before few none = absurd (omega arith)
   over_row (One op a) f w [] i v at e before few none = absurd cc
-  over_row (One op a) f w (u ∷ vs) zero v at e before few none = one_over op a w u vs (subst (λ (c : Cell S). c.value ≡ batch.Over n z) (sym (some_inj u v at)) e)
+  over_row (One op a) f w (u ∷ vs) zero v at e before few none = one_over op a w u vs (subst (λ (c : Cell S). c.value ≡ batch.Over n z) (sym (same_Some u v at)) e)
   over_row (One op a) f w (u ∷ vs) (suc i) v at e before few none = absurd (omega arith)
   over_row (Two op a b) f w [] i v at e before few none = absurd cc
   over_row (Two op a b) f w (u ∷ []) i v at e before few none = absurd cc
-  over_row (Two op a b) f w (u ∷ t ∷ vs) zero v at e before few none = two_left op a b w u t vs (subst (λ (c : Cell S). c.value ≡ batch.Over n z) (sym (some_inj u v at)) e)
-  over_row (Two op a b) f w (u ∷ t ∷ vs) (suc zero) v at e before few none = two_right op a b w u t vs (before 0 u (omega arith) refl) (subst (λ (c : Cell S). c.value ≡ batch.Over n z) (sym (some_inj t v at)) e)
+  over_row (Two op a b) f w (u ∷ t ∷ vs) zero v at e before few none = two_left op a b w u t vs (subst (λ (c : Cell S). c.value ≡ batch.Over n z) (sym (same_Some u v at)) e)
+  over_row (Two op a b) f w (u ∷ t ∷ vs) (suc zero) v at e before few none = two_right op a b w u t vs (before 0 u (omega arith) refl) (subst (λ (c : Cell S). c.value ≡ batch.Over n z) (sym (same_Some t v at)) e)
   over_row (Two op a b) f w (u ∷ t ∷ vs) (suc (suc i)) v at e before few none = absurd (omega arith)
   over_row (Fixed m p) f w vs i v at e before few none = absurd (f m p refl)
   over_row (Joins s l m p) f w [] i v at e before few none = absurd cc
-  over_row (Joins s l m p) f w (u ∷ []) zero v at e before few none = subst (λ (c : Cell S). c.value ≡ batch.Over n z) (sym (some_inj u v at)) e
+  over_row (Joins s l m p) f w (u ∷ []) zero v at e before few none = subst (λ (c : Cell S). c.value ≡ batch.Over n z) (sym (same_Some u v at)) e
   over_row (Joins s l m p) f w (u ∷ []) (suc i) v at e before few none = absurd cc
-  over_row (Joins s l m p) f w (u ∷ t ∷ vs) zero v at e before few none = left_over dom.join u.value t.value (subst (λ (c : Cell S). c.value ≡ batch.Over n z) (sym (some_inj u v at)) e)
+  over_row (Joins s l m p) f w (u ∷ t ∷ vs) zero v at e before few none = left_over dom.join u.value t.value (subst (λ (c : Cell S). c.value ≡ batch.Over n z) (sym (same_Some u v at)) e)
   over_row (Joins s l m p) f w (u ∷ t ∷ vs) (suc zero) v at e before few none =
       let first = before 0 u (omega arith) refl in
-      right_over dom.join u.value t.value first.0 first.1 (subst (λ (c : Cell S). c.value ≡ batch.Over n z) (sym (some_inj t v at)) e)
+      right_over dom.join u.value t.value first.0 first.1 (subst (λ (c : Cell S). c.value ≡ batch.Over n z) (sym (same_Some t v at)) e)
   over_row (Joins s l m p) f w (u ∷ t ∷ vs) (suc (suc i)) v at e before few none = absurd (omega arith)
 
 -- an iterate that has a value is among the numbers
@@ -138,7 +137,7 @@ module _ {S : Type 0} (dom : Operations S) (plan : Plan) (store : Store S) (row 
       plain : ((m : ℕ) (p : Point) → row ≢ Fixed m p) → (value named).value ≡ batch.Over n (reverse chain)
       plain f =
           let q = input_found dom plan store ready.at.right o ready.at.entry i there in
-          let w : q.2.cell.value ≡ Over n chain = some_inj q.2.cell.value (Over n chain) (sym (input_value dom plan store ready.at.right o i q.0 q.2) ∙ h.here) in
+          let w : q.2.cell.value ≡ Over n chain = same_Some q.2.cell.value (Over n chain) (sym (input_value dom plan store ready.at.right o i q.0 q.2) ∙ h.here) in
           let v : (value q.0).value ≡ batch.Over n (reverse chain) = subst (λ u. IsValue store.states u (value q.0)) w q.2.value in
           let few : length all ≤ most_row dom plan.engine (r dom plan store row o ready.at) = most_inputs dom plan store row o ready.at in
           let same_length : length o.inputs ≡ length all = complete in
@@ -152,7 +151,7 @@ module _ {S : Type 0} (dom : Operations S) (plan : Plan) (store : Store S) (row 
               p = input_found dom plan store ready.at.right o ready.at.entry j (let t : i < length o.inputs = there in omega arith)
 
               is : value p.0 ≡ u
-              is = some_inj (value p.0) u (sym (slice_get-map value all j ∙ ap (option_map value) p.1) ∙ e)
+              is = same_Some (value p.0) u (sym (slice_get-map value all j ∙ ap (option_map value) p.1) ∙ e)
 
               of_value : (t : Value Held) → p.2.cell.value ≡ t → IsValue store.states t (value p.0) → IsState u
               of_value (Over m w) k v = absurd (h.before j m w l (input_value dom plan store ready.at.right o j p.0 p.2 ∙ ap Some k))

@@ -4,8 +4,7 @@ use Rattle.std.specs.Prelude.{reverse, Result, Ok, Err, IfOk}
 use Rattle.std.specs.FinMap.{get}
 use Rattle.std.specs.Option.{option_and_then}
 use Rattle.std.proofs.lemmas.List.{length-map, map-append}
-use Rattle.std.proofs.lemmas.Option.{slice_get-get_or}
-use Rattle.plain_values.proofs.Cases.{some_inj}
+use Rattle.std.proofs.lemmas.Option.{slice_get-get_or, same_Some}
 use Rattle.imp_syntax.specs.declared.edit.Location.{Location}
 use Rattle.imp_slots.specs.Fits.{IsChecked}
 use Rattle.imp_slots.specs.Plain.{Routine}
@@ -117,14 +116,14 @@ hold_get f [] vs e i n h = absurd cc
 hold_get f (c ∷ cells) [] e i n h = absurd cc
 hold_get f (c ∷ cells) (v ∷ vs) e zero n h =
     let a : f c ≡ Some v = cc in
-    (v, refl, ap f (sym (some_inj c n h)) ∙ a)
+    (v, refl, ap f (sym (same_Some c n h)) ∙ a)
 hold_get f (c ∷ cells) (v ∷ vs) e (suc i) n h =
     let rest : map f cells ≡ map Some vs = cc in
     hold_get f cells vs rest i n h
 
 split_at : {V : Type 0} (vs : List V) (i : ℕ) (v : V) → slice_get vs i ≡ Some v → vs ≡ take i vs ++ v ∷ drop (suc i) vs
 split_at [] i v e = absurd cc
-split_at (u ∷ vs) zero v e = ap (λ x. x ∷ vs) (some_inj u v e)
+split_at (u ∷ vs) zero v e = ap (λ x. x ∷ vs) (same_Some u v e)
 split_at (u ∷ vs) (suc i) v e = ap (λ xs. u ∷ xs) (split_at vs i v e)
 
 module _ {S : Type 0} (dom : Operations S) (store : Store S) (cells : List ℕ) where
@@ -156,7 +155,7 @@ module _ {S : Type 0} (dom : Operations S) (store : Store S) (cells : List ℕ) 
     pub joined_more : (i : ℕ) (h : Held) (t r : S) (o : Option S) → i < length cells → value_at store.graph.cells (get_or cells i 0) ≡ Some (State h) → slice_get store.states h.state ≡ Some t → r ≡ joined dom o t → IsJoined vs i o → IsJoined vs (i + 1) (Some r)
     joined_more i h t r o l e at is (ss, front, all) =
         let p = state_known i h l e in
-        let same : p.0 ≡ t = some_inj p.0 t (sym p.1 ∙ at) in
+        let same : p.0 ≡ t = same_Some p.0 t (sym p.1 ∙ at) in
         let one : i + 1 ≡ suc i = omega arith in (
           ss ++ t ∷ [],
           ap (λ n. take n vs) one ∙ (take_next vs i (plain.State p.0) p.2 ∙ (ap (λ xs. xs ++ plain.State p.0 ∷ []) front ∙ (ap (λ s. map plain.State ss ++ plain.State s ∷ []) same ∙ sym (map-append plain.State ss (t ∷ []))))),
@@ -175,7 +174,7 @@ module _ {S : Type 0} (dom : Operations S) (store : Store S) (cells : List ℕ) 
     pub over_says : (engine : Engine) (i n : ℕ) (chain : List ℕ) (o : Option S) → i < length cells → value_at store.graph.cells (get_or cells i 0) ≡ Some (Over n chain) → IsJoined vs i o → Says (summed dom engine vs) (Some (Over n chain))
     over_says engine i n chain o l e (ss, front, all) =
         let p = held_at i l in
-        let is : plain.Over n (reverse chain) ≡ p.0 = some_inj (plain.Over n (reverse chain)) p.0 (sym (ap (option_and_then (plain_value store.states)) e) ∙ p.2) in
+        let is : plain.Over n (reverse chain) ≡ p.0 = same_Some (plain.Over n (reverse chain)) p.0 (sym (ap (option_and_then (plain_value store.states)) e) ∙ p.2) in
         let whole : vs ≡ map plain.State ss ++ plain.Over n (reverse chain) ∷ drop (suc i) vs = split_at vs i p.0 p.1 ∙ (ap (λ xs. xs ++ p.0 ∷ drop (suc i) vs) front ∙ ap (λ v. map plain.State ss ++ v ∷ drop (suc i) vs) (sym is)) in
         subst (λ us. Says (summed dom engine us) (Some (Over n chain))) (sym whole) (says_over dom engine ss n chain (drop (suc i) vs))
 

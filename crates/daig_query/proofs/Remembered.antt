@@ -24,7 +24,7 @@ use Rattle.named_cells.specs.Asked.{inputs}
 use Rattle.daig_query.specs.Right.{found, IsCellOf, IsRight}
 use Rattle.daig_query.specs.Opened.{Computes}
 use Rattle.daig_query.proofs.Computed.{made, operand_is}
-use Rattle.daig_query.proofs.Lists.{get_some}
+use Rattle.plain_values.proofs.Lists.{get_some}
 
 pub value_grows : {S : Type 0} (old new : List S) → KeepsNumbers old new → (u : Value Held) (v : Cell S) → IsValue old u v → IsValue new u v
 value_grows old new keeps (State h) v (s, at, e) = (s, keeps h.state s at, e)

@@ -8,7 +8,6 @@ use Rattle.demand_order.specs.Order.{System, IsAcyclic, member, fill_all}
 use Rattle.demand_order.specs.Store.{first_absent, Puts as PutsName, missing_of, Leaves}
 use Rattle.demand_order.specs.Machine.{AreBelow, waits, Run, run_left}
 use Rattle.demand_order.proofs.AskingProofs.{system-acyclic}
-use Rattle.demand_order.proofs.OrderLemmas.{or_false_right}
 use Rattle.demand_order.proofs.RunLemmas.{run-start, run-push, run-lower, leaves-at, demand-end, name-more, name-fill, fill-smaller, name-absent}
 use Rattle.demand_order.proofs.TheoremProofs.{ceiling, below}
 use Rattle.cell_names.specs.Paths.{CellName}
@@ -27,6 +26,7 @@ use Rattle.daig_query.specs.Kept.{kept}
 use Rattle.daig_query.specs.Right.{found}
 use Rattle.daig_query.specs.Filled.{missing}
 use Rattle.daig_query.proofs.Stacked.{held_of, has_kept, holds_value, held_none, first_none}
+use mathlib.Core.Bool.{or-false}
 
 module _ {S : Type 0} (dom : Operations S) (plan : Plan) (ts : List Target) where
   abbrev pub system : System CellName
@@ -114,5 +114,5 @@ module _ {S : Type 0} (dom : Operations S) (plan : Plan) (ts : List Target) wher
               puts : PutsName same_name (cells_of keeps) (cells_of new) x (found dom plan x)
               puts = record {
                 here = λ y e. ap (λ b. cond b (Some (found dom plan y)) None) (adds y ∙ (ap (λ b. keeps y || b) e ∙ or_true (keeps y))) ∙ ap (λ z. Some (found dom plan z)) (same_is.same_true y x e);
-                others = λ y e. ap (λ b. cond b (Some (found dom plan y)) None) (adds y ∙ (ap (λ b. keeps y || b) e ∙ or_false_right (keeps y)));
+                others = λ y e. ap (λ b. cond b (Some (found dom plan y)) None) (adds y ∙ (ap (λ b. keeps y || b) e ∙ or-false (keeps y)));
               }

@@ -2,9 +2,9 @@
 use Rattle.std.proofs.Common.{◌≡◌, ℕ, zero, suc, ◌+◌, ◌-◌, ◌<◌, ◌≤◌, ◌⊎◌, Bool, true, false, cond, not, List, [], ◌∷◌, ◌++◌, take, reverse, length, Option, Some, None, IsSome, is_some, option_map, slice_get, refl, sym, ap, subst, ◌∙◌, inl, inr, arith, length-append}
 use Rattle.std.specs.FinMap.{get}
 use Rattle.std.proofs.lemmas.List.{reverse-append}
-use Rattle.std.proofs.lemmas.Option.{slice_get_within, slice_get-map}
-use Rattle.plain_values.proofs.Cases.{by_bool, some_inj}
-use Rattle.plain_values.proofs.Lists.{get_last}
+use Rattle.std.proofs.lemmas.Option.{slice_get_within, slice_get-map, same_Some}
+use Rattle.plain_values.proofs.Cases.{by_bool}
+use Rattle.plain_values.proofs.Lists.{get_last, get_some}
 use Rattle.domain_laws.specs.Operations.{Operations}
 use Rattle.demand_order.specs.Order.{System}
 use Rattle.demand_order.specs.Store.{has, Holds, first_absent}
@@ -28,7 +28,7 @@ use Rattle.daig_query.specs.Opened.{name_of, IsOpen, next_of}
 use Rattle.daig_query.specs.Turned.{stacked_names, AreKept}
 use Rattle.daig_query.specs.Walked.{AreStacked, Stands}
 use Rattle.daig_query.proofs.Growing.{name_stays}
-use Rattle.daig_query.proofs.Lists.{take_next, get_take, get_some, last_view}
+use Rattle.daig_query.proofs.Lists.{take_next, get_take, last_view}
 use Rattle.imp_flow.proofs.EnteredLemmas.{get_front}
 
 -- the cells of a store as a function of names
@@ -47,7 +47,7 @@ module _ {S : Type 0} (value : CellName → Cell S) (keeps : CellName → Bool) 
   holds_value x v e = go (keeps x) e
     where
       go : (b : Bool) → cond b (Some (value x)) None ≡ Some v → v ≡ value x
-      go true h = sym (some_inj (value x) v h)
+      go true h = sym (same_Some (value x) v h)
       go false h = absurd cc
 
   pub held_none : (x : CellName) → held_of value keeps x ≡ None → keeps x ≡ false
@@ -60,7 +60,7 @@ module _ {S : Type 0} (value : CellName → Cell S) (keeps : CellName → Bool) 
   pub first_at : (xs : List CellName) (k : ℕ) (x : CellName) → ((i : ℕ) (y : CellName) → i < k → slice_get xs i ≡ Some y → keeps y ≡ true) → slice_get xs k ≡ Some x → keeps x ≡ false → first_absent (held_of value keeps) xs ≡ Some x
   first_at [] k x before e h = absurd cc
   first_at (y ∷ xs) zero x before e h =
-      let q : y ≡ x = some_inj y x e in
+      let q : y ≡ x = same_Some y x e in
       ap (λ b. cond (not b) (Some y) (first_absent (held_of value keeps) xs)) (has_kept y ∙ (ap keeps q ∙ h)) ∙ ap Some q
   first_at (y ∷ xs) (suc k) x before e h =
       step_on y xs (before 0 y (omega arith) refl) ∙ first_at xs k x (λ i z l g. before (suc i) z (omega arith) g) e h
@@ -75,11 +75,6 @@ names_stay old new grows [] within = refl
 names_stay old new grows (o ∷ os) within =
     ap (λ x. x ∷ stacked_names new os) (name_stays old new grows.paths o (within 0 o refl))
     ∙ ap (λ xs. name_of old o ∷ xs) (names_stay old new grows os (λ i u e. within (suc i) u e))
-
-pub take_front : {A : Type 0} (xs ys : List A) → take (length xs) (xs ++ ys) ≡ xs
-take_front [] [] = refl
-take_front [] (y ∷ ys) = refl
-take_front (x ∷ xs) ys = ap (λ zs. x ∷ zs) (take_front xs ys)
 
 pub get_behind : {A : Type 0} (xs ys : List A) → slice_get (xs ++ ys) (length xs) ≡ slice_get ys 0
 get_behind [] ys = refl
@@ -175,7 +170,7 @@ module _ {S : Type 0} (dom : Operations S) (plan : Plan) (store : Store S) (righ
       kept_above : (d i : ℕ) (o u : Open) → slice_get os i ≡ Some o → slice_get os (d + i) ≡ Some u → kept store (name_of store o) ≡ true → kept store (name_of store u) ≡ true
       kept_above zero i o u e f h =
           let g : slice_get os i ≡ Some u = ap (slice_get os) (let q : i ≡ 0 + i = omega arith in q) ∙ f in
-          let q : o ≡ u = some_inj o u (sym e ∙ g) in
+          let q : o ≡ u = same_Some o u (sym e ∙ g) in
           subst (λ v. kept store (name_of store v) ≡ true) q h
       kept_above (suc d) i o u e f h =
           let s : suc d + i ≡ suc (d + i) = omega arith in

@@ -3,7 +3,7 @@ use Rattle.std.proofs.Common.{◌≡◌, ℕ, zero, suc, ◌<◌, ◌≤◌, fal
 use Rattle.std.specs.Prelude.{is_some}
 use Rattle.std.proofs.lemmas.List.{length-map}
 use Rattle.std.proofs.lemmas.Option.{slice_get_within}
-use Rattle.plain_values.proofs.Lists.{get_last}
+use Rattle.plain_values.proofs.Lists.{get_last, get_some}
 use Rattle.domain_laws.specs.Operations.{Operations}
 use Rattle.cell_names.specs.Paths.{path_at, or_root}
 use Rattle.cell_rows.specs.Targets.{Target}
@@ -20,7 +20,7 @@ use Rattle.daig_query.specs.Turned.{stacked_names}
 use Rattle.daig_query.specs.Filled.{added}
 use Rattle.daig_query.specs.Walked.{AreStacked, Drops, IsGood, IsNew, Stands, behind_steps, place_of}
 use Rattle.daig_query.proofs.Growing.{grows_refl}
-use Rattle.daig_query.proofs.Lists.{take_next, get_some}
+use Rattle.daig_query.proofs.Lists.{take_next}
 use Rattle.daig_query.proofs.Stepping.{behind_none, place_same, placed_same}
 use Rattle.daig_query.proofs.Walks.{stands_first}
 use Rattle.daig_query.proofs.Stacked.{stack_waits, all_absent, name_at}

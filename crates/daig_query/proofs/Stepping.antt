@@ -27,7 +27,7 @@ use Rattle.daig_query.proofs.Growing.{names_grow}
 use Rattle.named_cells.proofs.Numbers.{filled_number}
 use Rattle.daig_query.proofs.Found.{stored}
 use Rattle.daig_query.proofs.Walks.{stands_go, stands_on, stands_next, stands_grow}
-use Rattle.call_contexts.proofs.Lists.{drop_none}
+use Rattle.plain_values.proofs.Lists.{drop_none}
 
 pub drop_next : {A : Type 0} (xs : List A) (i : ℕ) (x : A) → slice_get xs i ≡ Some x → drop i xs ≡ x ∷ drop (suc i) xs
 drop_next [] i x e = absurd cc

@@ -1,7 +1,7 @@
 -- Where iterates stop, by the numbers of their states.
 use Rattle.std.proofs.Common.{◌≡◌, ℕ, suc, ◌<◌, ◌≤◌, List, [], ◌∷◌, ◌++◌, Option, Some, None, true, false, if◌then◌else◌, nat_lt, slice_get, refl, sym, ap, ap₂, subst, ◌∙◌, inl, inr, arith}
 use Rattle.std.proofs.lemmas.Bool.Decides.{nat_tests}
-use Rattle.plain_values.proofs.Cases.{by_bool, some_inj}
+use Rattle.plain_values.proofs.Cases.{by_bool}
 use Rattle.domain_laws.specs.Operations.{Operations}
 use Rattle.batch_meaning.specs.Values as plain
 use Rattle.cell_names.specs.Known.{IsOnce}
@@ -11,6 +11,7 @@ use Rattle.daig_graph.specs.declared.value.Value.{Value}
 use Rattle.daig_graph.specs.declared.value.Value.TheVariants.{State, Over}
 use Rattle.loop_unroll.specs.Iterates.{IsOver, IsEqual, Stops}
 use Rattle.daig_query.specs.declared.held.Held.{Held}
+use Rattle.std.proofs.lemmas.Option.{same_Some}
 
 is_less : (j n : ℕ) → nat_lt j n ≡ true → j < n
 is_less j n e = grind (arith, nat_tests)
@@ -65,10 +66,10 @@ module _ {S : Type 0} (dom : Operations S) (states : List S) (once : IsOnce stat
           by (inr (inl (m, f, v, first, second))) =
               let a : suc m ≡ suc i = sym v ∙ q in
               let mi : m ≡ i = omega arith in
-              let gf : g ≡ f = held_state g f (some_inj (State g) (State f) (sym before ∙ subst (λ n. iterate n ≡ Some (State f)) mi first)) in
-              let hf : h ≡ f = held_state h f (some_inj (State h) (State f) (sym e ∙ second)) in
+              let gf : g ≡ f = held_state g f (same_Some (State g) (State f) (sym before ∙ subst (λ n. iterate n ≡ Some (State f)) mi first)) in
+              let hf : h ≡ f = held_state h f (same_Some (State h) (State f) (sym e ∙ second)) in
               let hg : h ≡ g = hf ∙ sym gf in
-              let st : s ≡ t = some_inj s t (sym at ∙ (ap (λ (x : Held). slice_get states x.state) hg ∙ there)) in
+              let st : s ≡ t = same_Some s t (sym at ∙ (ap (λ (x : Held). slice_get states x.state) hg ∙ there)) in
               let yes : dom.same s t ≡ true = subst (λ x. dom.same s x ≡ true) st (self s) in
               let c : true ≡ false = sym yes ∙ k in
               cc
@@ -95,10 +96,10 @@ module _ {S : Type 0} (dom : Operations S) (states : List S) (once : IsOnce stat
           other (m, f, v, first, second) =
               let a : suc m ≡ suc i = sym v ∙ q in
               let mi : m ≡ i = omega arith in
-              let gf : g ≡ f = held_state g f (some_inj (State g) (State f) (sym before ∙ subst (λ n. iterate n ≡ Some (State f)) mi first)) in
-              let hf : h ≡ f = held_state h f (some_inj (State h) (State f) (sym e ∙ second)) in
+              let gf : g ≡ f = held_state g f (same_Some (State g) (State f) (sym before ∙ subst (λ n. iterate n ≡ Some (State f)) mi first)) in
+              let hf : h ≡ f = held_state h f (same_Some (State h) (State f) (sym e ∙ second)) in
               let hg : h ≡ g = hf ∙ sym gf in
-              let st : s ≡ t = some_inj s t (sym at ∙ (ap (λ (x : Held). slice_get states x.state) hg ∙ there)) in
+              let st : s ≡ t = same_Some s t (sym at ∙ (ap (λ (x : Held). slice_get states x.state) hg ∙ there)) in
               let yes : dom.same s t ≡ true = subst (λ x. dom.same s x ≡ true) st (self s) in
               let c : true ≡ false = sym yes ∙ k in
               cc

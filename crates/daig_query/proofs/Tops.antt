@@ -27,9 +27,10 @@ use Rattle.daig_query.proofs.Growing.{names_grow, grows_trans, kept_same, name_s
 use Rattle.daig_query.proofs.Walks.{placed_grows, place_stays}
 use Rattle.daig_query.proofs.Looking.{open_longer}
 use Rattle.daig_query.proofs.Stepping.{place_same, placed_same}
-use Rattle.daig_query.proofs.Stacked.{names_stay, open_ready, take_front}
+use Rattle.daig_query.proofs.Stacked.{names_stay, open_ready}
 use Rattle.daig_query.proofs.Starting.{stacked_front}
 use Rattle.imp_flow.proofs.EnteredLemmas.{get_front}
+use Rattle.demand_order.proofs.RunLemmas.{take_start}
 
 or_true : (b : Bool) → (b || true) ≡ true
 or_true true = refl
@@ -158,7 +159,7 @@ module _ {S : Type 0} (dom : Operations S) (plan : Plan) where
       top_open = open_at_end old (place_of ts old w) os top stacked
 
       stacked_rest : AreStacked dom plan mid (place_of ts mid w) os
-      stacked_rest = stacked_front dom plan mid (place_of ts mid w) (os ++ top ∷ []) os (length os) (sym (take_front os (top ∷ []))) stacked_mid
+      stacked_rest = stacked_front dom plan mid (place_of ts mid w) (os ++ top ∷ []) os (length os) (sym (take_start os (top ∷ []))) stacked_mid
 
       -- without the top
       pub good_rest : (new : Walk) → new.target ≡ w.target → new.step ≡ w.step → new.path ≡ w.path → new.found.items ≡ w.found.items → new.stack.items ≡ os → IsGood dom plan ts mid new

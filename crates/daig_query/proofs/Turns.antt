@@ -5,8 +5,7 @@ use Rattle.std.specs.FinMap.{len}
 use Rattle.std.specs.Option.{option_eq}
 use Rattle.std.proofs.lemmas.Bool.Decides.{nat_tests}
 use Rattle.std.proofs.lemmas.List.{length-map, map-append}
-use Rattle.plain_values.proofs.Cases.{some_inj}
-use Rattle.plain_values.proofs.Lists.{get_last}
+use Rattle.plain_values.proofs.Lists.{get_last, get_some}
 use Rattle.domain_laws.specs.Operations.{Operations}
 use Rattle.demand_order.specs.Order.{member}
 use Rattle.demand_order.specs.Store.{first_absent, missing_of}
@@ -27,9 +26,10 @@ use Rattle.daig_query.specs.Turned.{stacked_names, IsTopAbsent, Pushes, FillsTop
 use Rattle.daig_query.specs.Filled.{added, missing, Fills}
 use Rattle.daig_query.specs.Walked.{IsGood, place_of}
 use Rattle.daig_query.proofs.Growing.{grows_trans, filled_same}
-use Rattle.daig_query.proofs.Lists.{get_some}
-use Rattle.daig_query.proofs.Stacked.{has_kept, stack_waits, targets_kept, take_front, name_at}
+use Rattle.daig_query.proofs.Stacked.{has_kept, stack_waits, targets_kept, name_at}
 use Rattle.daig_query.proofs.Running.{cells_of, system, wanted, Runs, left, missing_is, runs_same, runs_push, push_smaller, runs_leave, runs_end, top_absent, top_more, fill_less, runs_fill}
+use Rattle.std.proofs.lemmas.Option.{same_Some}
+use Rattle.demand_order.proofs.RunLemmas.{take_start}
 
 module _ {S : Type 0} (dom : Operations S) (plan : Plan) (ts : List Target) where
   -- A run began over the store `first`, and has come to another, with a walk.
@@ -66,8 +66,8 @@ module _ {S : Type 0} (dom : Operations S) (plan : Plan) (ts : List Target) wher
       let n : length os ≡ length names + 1 = sym (length-map os (name_of store)) ∙ (ap length e ∙ length-append names (x ∷ [])) in
       let p = get_some os (length names) (omega arith) in
       let at : slice_get (stacked_names store os) (length names) ≡ Some (name_of store p.0) = name_at dom plan store right ts (place_of ts store w) w.found.items good.placed.stands os good.stacked (length names) p.0 p.1 in
-      let same : name_of store p.0 ≡ x = some_inj (name_of store p.0) x (sym at ∙ (ap (λ xs. slice_get xs (length names)) e ∙ get_last names x)) in
-      let front : take (length names) (stacked_names store os) ≡ names = ap (take (length names)) e ∙ take_front names (x ∷ []) in
+      let same : name_of store p.0 ≡ x = same_Some (name_of store p.0) x (sym at ∙ (ap (λ xs. slice_get xs (length names)) e ∙ get_last names x)) in
+      let front : take (length names) (stacked_names store os) ≡ names = ap (take (length names)) e ∙ take_start names (x ∷ []) in
       let s = stack_waits dom plan store right ts (place_of ts store w) w.found.items good.placed.stands os good.stacked (length names) p.0 p.1 (ap (kept store) same ∙ absent) in
       ap (λ xs. first_absent (cells_of dom plan ts (kept store)) (waits (system dom plan ts) (wanted dom plan ts) (reverse xs))) (sym front) ∙ (s ∙ ap Some same)
 
@@ -212,7 +212,7 @@ turned dom plan ts old new before after turn is e h = subst (Turns dom plan ts o
 pub limit_open : (limit : Option ℕ) (m a : ℕ) → m ≡ a → option_eq eqb limit (Some m) ≡ false → limit ≡ Some a → ⊥
 limit_open None m a e h k = cc
 limit_open (Some n) m a e h k =
-    let q : n ≡ m = some_inj n a k ∙ sym e in
+    let q : n ≡ m = same_Some n a k ∙ sym e in
     let b : eqb n m ≡ false = h in
     grind (arith, nat_tests)
 

@@ -2,9 +2,8 @@
 use Rattle.std.proofs.Common.{◌≡◌, ℕ, zero, suc, ◌<◌, ◌||◌, List, [], ◌∷◌, ◌++◌, map, drop, length, Option, Some, None, Bool, true, false, IsSome, slice_get, refl, sym, ap, subst, ◌∙◌, inl, inr, append_assoc, append-nil}
 use Rattle.std.specs.Prelude.{is_some}
 use Rattle.std.specs.FinMap.{get}
-use Rattle.std.proofs.lemmas.Bool.{or_left, or_right}
+use Rattle.std.proofs.lemmas.Bool.{or_left, or_right, or_cases}
 use Rattle.std.proofs.lemmas.List.{map-append}
-use Rattle.plain_values.proofs.Cases.{or_either, some_inj}
 use Rattle.domain_laws.specs.Operations.{Operations}
 use Rattle.batch_meaning.specs.Values as batch
 use Rattle.demand_order.specs.Order.{member}
@@ -35,6 +34,7 @@ use Rattle.daig_query.specs.Walked.{AreTargets, behind_steps, place_of, Stands, 
 use Rattle.named_cells.proofs.Same.{same_is}
 use Rattle.daig_query.proofs.Growing.{path_stays, keeps_within, cells_grow, open_grows, next_grows, name_stays}
 use Rattle.named_cells.proofs.Numbers.{filled_number, filled_named, numbers_grow, numbers_push}
+use Rattle.std.proofs.lemmas.Option.{same_Some}
 
 -- a name that has a cell keeps one
 pub kept_grows : {S : Type 0} (dom : Operations S) (plan : Plan) (old new : Store S) → IsRight dom plan new → Grows old new → (x : CellName) → kept old x ≡ true → kept new x ≡ true
@@ -47,7 +47,7 @@ kept_grows dom plan old new right grows x h = go (filled_at old.graph.cells old.
         ap is_some (filled_number new.graph.cells new.names.names right.once x p.0 (grows.names p.0 x p.1) ∙ grows.cells p.0 f p.2)
 
 one_member : (x y : CellName) → member same_name (y ∷ []) x ≡ true → x ≡ y
-one_member x y h = elim (or_either (same_name x y) false h) [ inl a ↦ same_is.same_true x y a | inr b ↦ absurd cc ]
+one_member x y h = elim (or_cases (same_name x y) false h) [ inl a ↦ same_is.same_true x y a | inr b ↦ absurd cc ]
 
 -- names among others
 among_left : (xs ys : List CellName) → AreAmong xs (xs ++ ys)
@@ -57,20 +57,20 @@ among_last : (xs ys : List CellName) → AreAmong ys (xs ++ ys)
 among_last xs ys x m = member-append same_name xs ys x ∙ or_right (member same_name xs x) (member same_name ys x) m
 
 among_both : (xs ys zs : List CellName) → AreAmong xs zs → AreAmong ys zs → AreAmong (xs ++ ys) zs
-among_both xs ys zs f g x m = elim (or_either (member same_name xs x) (member same_name ys x) (sym (member-append same_name xs ys x) ∙ m)) [ inl a ↦ f x a | inr b ↦ g x b ]
+among_both xs ys zs f g x m = elim (or_cases (member same_name xs x) (member same_name ys x) (sym (member-append same_name xs ys x) ∙ m)) [ inl a ↦ f x a | inr b ↦ g x b ]
 
 among_right : (xs us vs : List CellName) → AreAmong xs vs → AreAmong xs (us ++ vs)
 among_right xs us vs f x m = among_last us vs x (f x m)
 
 among_on : (xs us vs ws : List CellName) → AreAmong xs (us ++ vs) → AreAmong vs ws → AreAmong xs (us ++ ws)
 among_on xs us vs ws f g x m =
-    elim (or_either (member same_name us x) (member same_name vs x) (sym (member-append same_name us vs x) ∙ f x m)) [ inl a ↦ among_left us ws x a | inr b ↦ among_last us ws x (g x b) ]
+    elim (or_cases (member same_name us x) (member same_name vs x) (sym (member-append same_name us vs x) ∙ f x m)) [ inl a ↦ among_left us ws x a | inr b ↦ among_last us ws x (g x b) ]
 
 one_first : (x y : CellName) (ys : List CellName) → member same_name (y ∷ []) x ≡ true → member same_name (y ∷ ys) x ≡ true
 one_first x y ys m = or_left (same_name x y) (member same_name ys x) (subst (λ z. same_name x z ≡ true) (one_member x y m) (same_is.same_refl x))
 
 first_or : {P : Type 0} (x y : CellName) (ys : List CellName) → member same_name (y ∷ ys) x ≡ true → (member same_name (y ∷ []) x ≡ true → P) → (member same_name ys x ≡ true → P) → P
-first_or x y ys m f g = elim (or_either (same_name x y) (member same_name ys x) m) [ inl a ↦ f (or_left (same_name x y) false a) | inr b ↦ g b ]
+first_or x y ys m f g = elim (or_cases (same_name x y) (member same_name ys x) m) [ inl a ↦ f (or_left (same_name x y) false a) | inr b ↦ g b ]
 
 -- Into a loop's last round there is one fixed point more on the way.
 module _ {S : Type 0} (y : CellName) (c : Cell S) where
@@ -85,7 +85,7 @@ module _ {S : Type 0} (y : CellName) (c : Cell S) where
       go : (ss : List Step) (w : List Frame) → Some (law.asks_in ss t.last w) ≡ Some y → law.found_in c ss ≡ [] → fixes (law.goes_in c ss t.last w ts).path ≡ y ∷ fixes w
       go [] w e none = absurd cc
       go (Go n ∷ ss) w e none = go ss (InCall n ∷ w) e none
-      go (Take n ∷ ss) w e none = by n ss w c.value (sym (some_inj _ _ e)) none
+      go (Take n ∷ ss) w e none = by n ss w c.value (sym (same_Some _ _ e)) none
 
   goes_on : (ts : List Target) (w : List Frame) → asks (law.walk w ts) ≡ Some y → law.found c (law.walk w ts) ≡ [] → (goes c (law.walk w ts)).left ≡ [] → (goes c (law.walk w ts)).path ≡ []
   goes_on [] w e none i = absurd cc
@@ -111,9 +111,9 @@ module _ {S : Type 0} (y : CellName) (c : Cell S) where
       by n ss w (batch.State s) i one = absurd cc
 
       go : (ss : List Step) (w : List Frame) → Some (law.asks_in ss t.last w) ≡ Some y → law.found_in c ss ≡ c.value ∷ [] → ((law.goes_in c ss t.last w ts).path ≡ []) × (fixes y.path ≡ fixes w)
-      go [] w e one = (refl, ap (λ (x : CellName). fixes x.path) (sym (some_inj _ _ e)))
+      go [] w e one = (refl, ap (λ (x : CellName). fixes x.path) (sym (same_Some _ _ e)))
       go (Go n ∷ ss) w e one = go ss (InCall n ∷ w) e one
-      go (Take n ∷ ss) w e one = by n ss w c.value (sym (some_inj _ _ e)) one
+      go (Take n ∷ ss) w e one = by n ss w c.value (sym (same_Some _ _ e)) one
 
 pub with_both : (xs ys : List CellName) → with_fixes (xs ++ ys) ≡ with_fixes xs ++ with_fixes ys
 with_both [] ys = refl
@@ -152,7 +152,7 @@ module _ {S : Type 0} (dom : Operations S) (plan : Plan) (ts : List Target) wher
   }
 
   asked_more : (store : Store S) (k : law.Walk) (cells : List ℕ) (y : CellName) → (h : Stands dom plan ts store k cells) → kept store y ≡ true → (x : CellName) → member same_name (h.asked ++ y ∷ []) x ≡ true → kept store x ≡ true
-  asked_more store k cells y h keeps x m = elim (or_either (member same_name h.asked x) (member same_name (y ∷ []) x) (sym (member-append same_name h.asked (y ∷ []) x) ∙ m)) [
+  asked_more store k cells y h keeps x m = elim (or_cases (member same_name h.asked x) (member same_name (y ∷ []) x) (sym (member-append same_name h.asked (y ∷ []) x) ∙ m)) [
     | inl a ↦ h.asked_kept x a
     | inr b ↦ subst (λ z. kept store z ≡ true) (sym (one_member x y b)) keeps
   ]
@@ -186,7 +186,7 @@ module _ {S : Type 0} (dom : Operations S) (plan : Plan) (ts : List Target) wher
   }
 
   pub pushed_there : (store : Store S) (cells : List ℕ) (n : ℕ) → AreCells store.graph.cells cells → IsSome (get store.graph.cells n) → AreCells store.graph.cells (cells ++ n ∷ [])
-  pushed_there store [] n h s zero x e = subst (λ m. IsSome (get store.graph.cells m)) (some_inj n x e) s
+  pushed_there store [] n h s zero x e = subst (λ m. IsSome (get store.graph.cells m)) (same_Some n x e) s
   pushed_there store [] n h s (suc i) x e = absurd cc
   pushed_there store (c ∷ cells) n h s zero x e = h zero x e
   pushed_there store (c ∷ cells) n h s (suc i) x e = pushed_there store cells n (λ j y q. h (suc j) y q) s i x e

@@ -72,7 +72,7 @@ impl<D: Domain> Engine<D> {
 
     /// Takes planned cells away, as when an edit empties them. It takes as many steps as they have inputs, and no memory.
     /// Where the cells that are left are those of another program, all is right for that one (`cells_stay_right`).
-    pub fn empty(&mut self, plan: cell_removal::Plan)
+    pub fn empty(&mut self, plan: cell_removal::RemovalOrder)
         requires order { IsOrder self.old.store.graph.cells plan }
         ensures removes { self.new.store.graph.cells ≡ without self.old.store.graph.cells plan }
         ensures lessens { Lessens self.old.store self.new.store }

@@ -5,15 +5,7 @@ use Rattle.imp_syntax.specs.Plain.{Statement, Simple, Break, Call, If, While, St
 use Rattle.imp_check.specs.declared.fault.Fault.TheVariants.{Procedures, Statements as TooMany, Nesting}
 use Rattle.imp_check.specs.Faults.{unless, first, at, in_procedure}
 use Rattle.imp_check.specs.Programs.{statement_count, block_count, program_count, deepest, size_fault, procedures_fault, ending_fault, check_fault, name_of, last_of}
-use Rattle.imp_check.proofs.FewLemmas.{unless_none, at_none}
-
-none_first : {A : Type 0} (x y : Option A) → first x y ≡ None → x ≡ None
-none_first None y is = refl
-none_first (Some a) y is = cc
-
-none_behind : {A : Type 0} (x y : Option A) → first x y ≡ None → y ≡ None
-none_behind None y is = is
-none_behind (Some a) y is = cc
+use Rattle.imp_check.proofs.FewLemmas.{unless_none, at_none, first_left, first_right}
 
 none_in : (p : List ℕ) (s : Option _) → in_procedure p s ≡ None → s ≡ None
 none_in p None is = refl
@@ -22,12 +14,12 @@ none_in p (Some s) is = cc
 size_holds : (ps : List Procedure) → check_fault ps ≡ None → size_fault ps ≡ None
 size_holds ps is =
     at_none 0 (size_fault ps) (none_in (name_of (last_of ps)) (at 0 (size_fault ps))
-    (none_first (in_procedure (name_of (last_of ps)) (at 0 (size_fault ps))) (first (procedures_fault [] ps) (in_procedure (name_of (last_of ps)) (at 0 (ending_fault ps)))) is))
+    (first_left (in_procedure (name_of (last_of ps)) (at 0 (size_fault ps))) (first (procedures_fault [] ps) (in_procedure (name_of (last_of ps)) (at 0 (ending_fault ps)))) is))
 
 few_statements : (ps : List Procedure) → check_fault ps ≡ None → program_count ps < 10001
 few_statements ps is =
-    let rest : first (unless (nat_lt (program_count ps) 10001) TooMany) (unless (nat_lt (deepest ps) 33) Nesting) ≡ None = none_behind (unless (nat_lt (length ps) 65) Procedures) (first (unless (nat_lt (program_count ps) 10001) TooMany) (unless (nat_lt (deepest ps) 33) Nesting)) (size_holds ps is) in
-    let test : nat_lt (program_count ps) 10001 ≡ true = unless_none (nat_lt (program_count ps) 10001) TooMany (none_first (unless (nat_lt (program_count ps) 10001) TooMany) (unless (nat_lt (deepest ps) 33) Nesting) rest) in
+    let rest : first (unless (nat_lt (program_count ps) 10001) TooMany) (unless (nat_lt (deepest ps) 33) Nesting) ≡ None = first_right (unless (nat_lt (length ps) 65) Procedures) (first (unless (nat_lt (program_count ps) 10001) TooMany) (unless (nat_lt (deepest ps) 33) Nesting)) (size_holds ps is) in
+    let test : nat_lt (program_count ps) 10001 ≡ true = unless_none (nat_lt (program_count ps) 10001) TooMany (first_left (unless (nat_lt (program_count ps) 10001) TooMany) (unless (nat_lt (deepest ps) 33) Nesting) rest) in
     grind (arith, nat_tests)
 
 mutual

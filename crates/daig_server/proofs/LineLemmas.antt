@@ -1,8 +1,8 @@
 -- Whole lines.
-use Rattle.std.proofs.Common.{◌≡◌, ℕ, ◌++◌, inl, inr, List, [], ◌∷◌, Option, Some, None, append_assoc, append-nil, refl, sym, ap, ◌∙◌}
+use Rattle.std.proofs.Common.{ℕ, ◌++◌, inl, inr, List, [], ◌∷◌, Option, Some, None, append_assoc, append-nil, refl, sym, ap, ◌∙◌}
 use Rattle.domain_laws.specs.Operations.{Operations}
 use Rattle.script_loop.specs.Lines.{kept}
-use Rattle.script_loop.specs.Replies.{Machine, reply_to, next_to, replies, after, WroteLines}
+use Rattle.script_loop.specs.Replies.{reply_to, next_to, replies, after, WroteLines}
 use Rattle.request_json.specs.declared.reply.Reply.{Reply}
 use Rattle.request_json.specs.declared.reply.Reply.TheVariants.{Refused}
 use Rattle.request_json.specs.declared.reply.Refusal.TheVariants.{LongLine}
@@ -11,6 +11,7 @@ use Rattle.request_json.specs.Replies.{object_of, reply_fields, reply_text}
 use Rattle.line_replies.specs.Texts.{long_reply}
 use Rattle.line_answers.specs.Lines.{Served, line_turn, server}
 use Rattle.server_jobs.specs.Ends.{IsWholeLines, WroteWholeLines}
+use Rattle.script_loop.proofs.LineLemmas.{replies-append}
 
 reply_whole : (reply : Reply) → IsWholeLines (reply_text reply)
 unfolding reply_text
@@ -33,13 +34,6 @@ replies_whole dom s [] = inl refl
 replies_whole dom s (line ∷ lines) =
     append_whole (reply_to (server dom) s (kept line)) (replies (server dom) (next_to (server dom) s (kept line)) lines)
     (kept_whole dom s (kept line)) (replies_whole dom (next_to (server dom) s (kept line)) lines)
-
-replies-append : {M : Type 0} (machine : Machine M) (m : M) (xs ys : List (List ℕ)) →
-    replies machine m (xs ++ ys) ≡ replies machine m xs ++ replies machine (after machine m xs) ys
-replies-append machine m [] ys = refl
-replies-append machine m (x ∷ xs) ys =
-    ap (λ rest. reply_to machine m (kept x) ++ rest) (replies-append machine (next_to machine m (kept x)) xs ys)
-    ∙ sym (append_assoc (reply_to machine m (kept x)) (replies machine (next_to machine m (kept x)) xs) (replies machine (after machine (next_to machine m (kept x)) xs) ys))
 
 -- whole replies are whole lines
 pub wrote_whole : {S : Type 0} (dom : Operations S) (s : Served) (lines : List (List ℕ)) (taken : List ℕ) (written : Option (List ℕ)) →

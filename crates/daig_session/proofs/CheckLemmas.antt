@@ -10,7 +10,7 @@ use Rattle.imp_slots.specs.declared.actions.SlotStmt.{SlotStmt}
 use Rattle.imp_check.specs.Entries.{block_entries, entries_from, entries_of, entry_at, entry_of, frame_at, context_at, inside, inside_loop, procedure_entries, statement_entries}
 use Rattle.imp_check.specs.Parts.{first_or}
 use Rattle.imp_check.specs.Programs.{AreNumbered}
-use Rattle.imp_check.specs.Slots.{Frame, code_in, effect_in, routines_from, routines_of, statement_in}
+use Rattle.imp_check.specs.Slots.{Resolver, code_in, effect_in, routines_from, routines_of, statement_in}
 use Rattle.imp_check.specs.Walks.{numbers_at}
 use Rattle.imp_check.specs.declared.entry.Context.{Context}
 use Rattle.imp_check.specs.declared.entry.Entry.{Entry}
@@ -35,7 +35,7 @@ checked_both [] ys = refl
 checked_both (x ∷ xs) ys = ap (λ cs. checked_form x.number x.form ++ cs) (checked_both xs ys) ∙ sym (append_assoc (checked_form x.number x.form) (checked_entries xs) (checked_entries ys))
 
 -- a statement by its entries, and a block by those of its statements
-module _ (f : Frame) where
+module _ (f : Resolver) where
   mutual
     statement_checks : (c : Context) (a p : Option ℕ) (s : Statement) (r : Code) → checked_in (statement_in f s r) ≡ checked_entries (statement_entries f c a p s) ++ checked_in r
     statement_checks c a p (tree.Simple n x) r =

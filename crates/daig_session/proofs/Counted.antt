@@ -3,8 +3,7 @@ use Rattle.std.proofs.Common.{◌≡◌, ◌≢◌, ◌⊎◌, ℕ, ◌+◌, tru
 use Rattle.std.specs.Ordering.{nat_cmp}
 use Rattle.std.specs.Cmp.{nat_cmp_total}
 use Rattle.std.specs.FinMap.{FinMap, get, insert, remove, empty, len, get-empty, len-empty, len-insert, same_map, nat_cmp-IsAntisymmetric}
-use Rattle.std.proofs.lemmas.Bool.{or_left, or_right}
-use Rattle.plain_values.proofs.Cases.{or_either, some_inj}
+use Rattle.std.proofs.lemmas.Bool.{or_left, or_right, or_cases}
 use Rattle.domain_laws.specs.Operations.{Operations}
 use Rattle.cell_names.specs.Known.{IsOnce}
 use Rattle.cell_names.specs.Paths.{CellName}
@@ -22,6 +21,7 @@ use Rattle.daig_query.specs.declared.held.Held.{Held}
 use Rattle.daig_query.specs.declared.store.Store.{Store}
 use Rattle.daig_query.specs.Kept.{kept}
 use Rattle.daig_query.specs.Right.{IsRight}
+use Rattle.std.proofs.lemmas.Option.{same_Some}
 
 abbrev Cells : Type 0
 Cells = FinMap nat_cmp (Filled Held)
@@ -66,7 +66,7 @@ module _ (names : List CellName) (once : IsOnce names) where
             number = q.number;
             cell = q.cell;
             named = q.named;
-            there = get-remove-other cells p.number q.number (λ e. let s : y ≡ x = some_inj y x (sym q.named ∙ (ap (slice_get names) e ∙ p.named)) in let k : member same_name xs x ≡ true = subst (λ z. member same_name xs z ≡ true) s m in absurd (let h = d.0 in cc)) ∙ q.there;
+            there = get-remove-other cells p.number q.number (λ e. let s : y ≡ x = same_Some y x (sym q.named ∙ (ap (slice_get names) e ∙ p.named)) in let k : member same_name xs x ≡ true = subst (λ z. member same_name xs z ≡ true) s m in absurd (let h = d.0 in cc)) ∙ q.there;
           }
 
       only_others : (p : HasCell cells x) → (n : ℕ) (f : Filled Held) → get (remove cells p.number) n ≡ Some f → HasName xs n
@@ -74,7 +74,7 @@ module _ (names : List CellName) (once : IsOnce names) where
         where
           at : n ≢ p.number → HasName (x ∷ xs) n → HasName xs n
           at ne q =
-              elim (or_either (same_name q.name x) (member same_name xs q.name) q.one) [
+              elim (or_cases (same_name q.name x) (member same_name xs q.name) q.one) [
                 | inl h ↦ absurd (ne (once n p.number x (q.named ∙ ap Some (same_is.same_true q.name x h)) p.named))
                 | inr k ↦ record { name = q.name; named = q.named; one = k }
               ]

@@ -15,7 +15,7 @@ use Rattle.cell_names.specs.Paths.{CellName}
 use Rattle.cell_rows.specs.Targets.{Target, demanded, targets}
 use Rattle.demand_order.specs.InTurn.{missing_in_turn}
 use Rattle.demand_order.specs.Order.{System, fill_all, member, seen}
-use Rattle.demand_order.proofs.OrderLemmas.{member-append, or_assoc, or_false_right}
+use Rattle.demand_order.proofs.OrderLemmas.{member-append, or_assoc}
 use Rattle.demand_laws.specs.Claims.{names_of}
 use Rattle.demand_laws.specs.Reports as reports
 use Rattle.demand_laws.specs.Reports.{check_targets}
@@ -35,6 +35,7 @@ use Rattle.daig_session.specs.Turns.{Questions}
 use Rattle.daig_session.proofs.Answering.{work_both}
 use Rattle.daig_session.proofs.Asked.{asked_answered}
 use Rattle.call_contexts.proofs.Lists.{take_whole}
+use mathlib.Core.Bool.{or-false}
 
 -- Fronts of lists.
 take_over : {A : Type 0} (xs ys : List A) (n : ℕ) → take (length xs + n) (xs ++ ys) ≡ xs ++ take n ys
@@ -52,7 +53,7 @@ module _ {T : Type 0} (s : System T) where
   seen_both kept xs ys = fun_ext (λ x. or_assoc (kept x) (member s.same xs x) (member s.same ys x) ∙ ap (λ b. kept x || b) (sym (member-append s.same xs ys x)))
 
   seen_none : (kept : T → Bool) → kept ≡ seen s kept []
-  seen_none kept = fun_ext (λ x. sym (or_false_right (kept x)))
+  seen_none kept = fun_ext (λ x. sym (or-false (kept x)))
 
   turns_both : (kept : T → Bool) (xss yss : List (List T)) → missing_in_turn s kept (xss ++ yss) ≡ missing_in_turn s kept xss ++ missing_in_turn s (seen s kept (missing_in_turn s kept xss)) yss
   turns_both kept [] yss = ap (λ k. missing_in_turn s k yss) (seen_none kept)

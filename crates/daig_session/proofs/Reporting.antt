@@ -1,6 +1,5 @@
 -- Reports, a statement at a time.
-use Rattle.std.proofs.Common.{◌≡◌, ℕ, zero, suc, ◌+◌, ◌-◌, ◌*◌, ◌≤◌, List, [], ◌∷◌, ◌++◌, take, drop, length, Some, Result, Ok, Err, slice_get, refl, sym, ap, subst, ◌∙◌, arith, append_assoc, append-nil}
-use Rattle.std.specs.Prelude.{OnOk}
+use Rattle.std.proofs.Common.{◌≡◌, ℕ, zero, suc, ◌+◌, ◌-◌, ◌*◌, ◌≤◌, List, [], ◌∷◌, ◌++◌, take, drop, length, Some, slice_get, refl, sym, ap, subst, ◌∙◌, arith, append_assoc, append-nil}
 use Rattle.std.specs.FinMap.{len}
 use Rattle.std.proofs.Math.Nat.{mul-le-mul_left}
 use Rattle.std.proofs.lemmas.List.{length-append, map-append, take-append-drop}
@@ -71,10 +70,6 @@ found_none dom m cs xs e = sym (ap (λ ds. xs ++ findings dom m ds) e ∙ append
 pub found_one : {S : Type 0} (dom : Operations S) (m : Machine) (n : ℕ) (e : Effect) (k : Check) (cs : List Checked) (before after : List Finding) (f : Finding) → cs ≡ checked_one n e (Some k) → after ≡ before ++ f ∷ [] →
     f ≡ record { id = n; check = kind_of k; verdict = verdict_on dom m.engine e (answer_at dom (Before n) [] m) } → after ≡ before ++ findings dom m cs
 found_one dom m n e k cs before after f is a b = a ∙ (ap (λ (g : Finding). before ++ g ∷ []) b ∙ ap (λ ds. before ++ findings dom m ds) (sym is))
-
-pub ok_all : {A E Q : Type 0} (r : Result A E) → Q → OnOk r Q
-ok_all (Ok x) q = q
-ok_all (Err e) q = tt
 
 -- One more of some statements.
 module _ {S : Type 0} (dom : Operations S) (m : Machine) (ns : List ℕ) (i n : ℕ) (there : slice_get ns i ≡ Some n) where

@@ -1,11 +1,11 @@
 -- Tickets that keep their numbers.
 use Rattle.std.proofs.Common.{◌≡◌, ℕ, zero, suc, ◌<◌, List, [], ◌∷◌, map, length, Some, slice_get, slice_set, get_or, refl, sym, ap, subst, ◌∙◌, arith}
 use Rattle.std.proofs.lemmas.List.{length-map}
-use Rattle.plain_values.proofs.Cases.{some_inj}
 use Rattle.imp_slots.specs.Fits.{Distinct}
 use Rattle.open_tickets.specs.declared.tickets.Open.{Open}
 use Rattle.open_tickets.specs.declared.tickets.Tickets.{Tickets}
 use Rattle.open_tickets.specs.Tickets.{anew, number, ticket, AreBelow, AreOpen}
+use Rattle.std.proofs.lemmas.Option.{same_Some}
 
 module _ {G : Type 0} where
   numbers_below : (n : ℕ) (os us : List (Open G)) → map number us ≡ map number os → AreBelow n os → AreBelow n us
@@ -39,12 +39,12 @@ module _ {G : Type 0} where
   -- a ticket with something else done for it
   pub numbers_set : (os : List (Open G)) (k : ℕ) (o u : Open G) → slice_get os k ≡ Some o → u.number ≡ o.number → map number (slice_set os k u) ≡ map number os
   numbers_set [] k o u e h = refl
-  numbers_set (x ∷ xs) zero o u e h = ap (λ n. n ∷ map number xs) (h ∙ sym (ap number (some_inj x o e)))
+  numbers_set (x ∷ xs) zero o u e h = ap (λ n. n ∷ map number xs) (h ∙ sym (ap number (same_Some x o e)))
   numbers_set (x ∷ xs) (suc k) o u e h = ap (λ ns. x.number ∷ ns) (numbers_set xs k o u e h)
 
   pub tickets_set : (os : List (Open G)) (k : ℕ) (o u : Open G) → slice_get os k ≡ Some o → ticket u ≡ ticket o → map ticket (slice_set os k u) ≡ map ticket os
   tickets_set [] k o u e h = refl
-  tickets_set (x ∷ xs) zero o u e h = ap (λ t. t ∷ map ticket xs) (h ∙ sym (ap ticket (some_inj x o e)))
+  tickets_set (x ∷ xs) zero o u e h = ap (λ t. t ∷ map ticket xs) (h ∙ sym (ap ticket (same_Some x o e)))
   tickets_set (x ∷ xs) (suc k) o u e h = ap (λ ts. ticket x ∷ ts) (tickets_set xs k o u e h)
 
   pub set_there : (os : List (Open G)) (k : ℕ) (o u : Open G) → slice_get os k ≡ Some o → slice_get (slice_set os k u) k ≡ Some u
@@ -66,5 +66,5 @@ module _ {G : Type 0} where
   -- what is read at a place
   pub read_is : (us : List (Open G)) (k : ℕ) (x y : Open G) → x ≡ get_or us k x → slice_get us k ≡ Some y → x ≡ y
   read_is [] k x y e s = absurd cc
-  read_is (u ∷ us) zero x y e s = e ∙ some_inj u y s
+  read_is (u ∷ us) zero x y e s = e ∙ same_Some u y s
   read_is (u ∷ us) (suc k) x y e s = read_is us k x y e s

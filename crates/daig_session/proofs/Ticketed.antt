@@ -1,7 +1,7 @@
 -- What is done for tickets is the machine's.
 use Rattle.std.proofs.Common.{◌≡◌, ℕ, zero, suc, ◌+◌, ◌<◌, ◌≤◌, List, [], ◌∷◌, ◌++◌, map, take, drop, length, if◌then◌else◌, Some, None, Err, slice_get, refl, sym, ap, subst, ◌∙◌, inr, arith}
-use Rattle.std.proofs.lemmas.List.{length-map}
-use Rattle.plain_values.proofs.Cases.{by_test, some_inj}
+use Rattle.std.proofs.lemmas.List.{length-map, map_push}
+use Rattle.plain_values.proofs.Cases.{by_test}
 use Rattle.imp_syntax.specs.declared.edit.Location.{Location}
 use Rattle.imp_slots.specs.Fits.{Absent, Distinct, IsChecked}
 use Rattle.edits_keep_cells.specs.Claims.{flow_of}
@@ -31,6 +31,7 @@ use Rattle.daig_session.proofs.Filled.{asked_holds, keeping_holds}
 use Rattle.daig_session.proofs.Ordered.{order_like}
 use Rattle.daig_session.proofs.TicketLemmas.{numbers_set, set_there, still_open, tickets_set}
 use Rattle.daig_session.proofs.Waiting.{waiting_get, waiting_push, waiting_rest, waiting_set}
+use Rattle.std.proofs.lemmas.Option.{same_Some}
 
 module _ {S : Type 0} (dom : Operations S) (store : Store S) where
   -- so many tickets are open
@@ -101,13 +102,13 @@ module _ {S : Type 0} (dom : Operations S) (store : Store S) where
 -- The ticket of a number is the one that has it.
 absent_at : {G : Type 0} (n k : ℕ) (os : List (Open G)) (o : Open G) → Absent n (map number os) → slice_get os k ≡ Some o → o.number ≡ n → ⊥
 absent_at n k [] o a e h = absurd (let p = e in cc)
-absent_at n zero (x ∷ xs) o a e h = a.0 (sym h ∙ sym (ap (λ (y : Open _). y.number) (some_inj x o e)))
+absent_at n zero (x ∷ xs) o a e h = a.0 (sym h ∙ sym (ap (λ (y : Open _). y.number) (same_Some x o e)))
 absent_at n (suc k) (x ∷ xs) o a e h = absent_at n k xs o a.1 e h
 
 pub ticket_at : {G : Type 0} (n k : ℕ) (os : List (Open G)) (o : Open G) → Distinct (map number os) → slice_get os k ≡ Some o → o.number ≡ n → ticket_of n (map ticket os) ≡ Some (ticket o)
 ticket_at n k [] o d e h = absurd (let p = e in cc)
 ticket_at n zero (x ∷ xs) o d e h =
-    let same = some_inj x o e in
+    let same = same_Some x o e in
     by_test x.number n (λ b. (if b then Some (ticket x) else ticket_of n (map ticket xs)) ≡ Some (ticket o)) (λ i. ap (λ y. Some (ticket y)) same) (λ i. absurd (i (ap number same ∙ h)))
 ticket_at n (suc k) (x ∷ xs) o d e h =
     by_test x.number n (λ b. (if b then Some (ticket x) else ticket_of n (map ticket xs)) ≡ Some (ticket o)) (λ i. absurd (absent_at x.number k xs o d.0 e (h ∙ sym i))) (λ i. ticket_at n k xs o d.1 e h)
@@ -117,10 +118,6 @@ ticket_here dom store book m n k o h are e q = sym (ap (λ (z : Machine). ticket
 
 pub no_ticket : {S : Type 0} (dom : Operations S) (store : Store S) (book : Book) (m : Machine) (n : ℕ) → Holds dom store book m → ticket_of n (tickets book.tickets) ≡ None → ticket_of n m.tickets ≡ None
 no_ticket dom store book m n h e = sym (ap (λ (z : Machine). ticket_of n z.tickets) h.is) ∙ e
-
-map_push : {A B : Type 0} (f : A → B) (xs : List A) (x : A) → map f (xs ++ x ∷ []) ≡ map f xs ++ f x ∷ []
-map_push f [] x = refl
-map_push f (y ∷ ys) x = ap (λ zs. f y ∷ zs) (map_push f ys x)
 
 taken_length : {A : Type 0} (n : ℕ) (xs : List A) → n ≤ length xs → length (take n xs) ≡ n
 taken_length zero [] h = refl

@@ -1,7 +1,6 @@
 -- Tickets that wait.
 use Rattle.std.proofs.Common.{◌≡◌, ℕ, zero, suc, ◌+◌, List, [], ◌∷◌, ◌++◌, map, take, drop, Option, Some, None, slice_get, slice_set, subst, arith}
 use Rattle.std.specs.Prelude.{IfSome}
-use Rattle.plain_values.proofs.Cases.{some_inj}
 use Rattle.imp_syntax.specs.declared.edit.Location.{Location}
 use Rattle.domain_laws.specs.Operations.{Operations}
 use Rattle.imp_flow.specs.Plans.{Plan}
@@ -14,6 +13,7 @@ use Rattle.open_tickets.specs.declared.tickets.Open.{Open}
 use Rattle.open_tickets.specs.Tickets.{anew}
 use Rattle.daig_session.specs.declared.book.Going.{Going}
 use Rattle.daig_session.specs.Going.{IsGoing, IsWaiting, AreWaiting}
+use Rattle.std.proofs.lemmas.Option.{same_Some}
 
 module _ {S : Type 0} (dom : Operations S) where
   -- cells are only added
@@ -40,7 +40,7 @@ module _ {S : Type 0} (dom : Operations S) where
   module _ (plan : Plan) (store : Store S) where
     pub waiting_get : (os : List (Open Going)) (k : ℕ) (o : Open Going) → AreWaiting dom plan store os → slice_get os k ≡ Some o → IsWaiting dom plan store o
     waiting_get [] k o w e = absurd cc
-    waiting_get (x ∷ xs) zero o w e = subst (IsWaiting dom plan store) (some_inj x o e) w.0
+    waiting_get (x ∷ xs) zero o w e = subst (IsWaiting dom plan store) (same_Some x o e) w.0
     waiting_get (x ∷ xs) (suc k) o w e = waiting_get xs k o w.1 e
 
     pub waiting_set : (os : List (Open Going)) (k : ℕ) (o : Open Going) → AreWaiting dom plan store os → IsWaiting dom plan store o → AreWaiting dom plan store (slice_set os k o)

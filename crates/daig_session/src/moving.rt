@@ -11,7 +11,7 @@ ghost use Rattle.daig_query.specs.Right.{IsRight};
 ghost use Rattle.daig_session.specs.Moves.{Empties, IsMoving, Leaves};
 
 use call_contexts::Setting;
-use cell_removal::Plan;
+use cell_removal::RemovalOrder;
 use daig_query::Engine;
 use domain_laws::Domain;
 use edit_invalidate::plan;
@@ -24,7 +24,7 @@ use std::alloc::Global;
 #[derive(Drop)]
 pub(crate) struct Moving {
     pub(crate) setting: Setting,
-    pub(crate) plan: Plan,
+    pub(crate) plan: RemovalOrder,
 }
 
 /// The cells that a change empties, where these are the settings of the program and of that which the change makes.
@@ -35,7 +35,7 @@ fn emptied<D: Domain>(
     change: &Change,
     setting: &Setting,
     other: &Setting,
-) -> Result<Plan, Memory>
+) -> Result<RemovalOrder, Memory>
     requires right { IsRight (D.operations engine.now.domain) (flow_of setting.now.engine table.now.program) engine.now.store }
     requires leads { Leads table.now.room table.now.program change.now }
     requires set { setting.now ≡ setting_of setting.now.engine (routines_of table.now.program) }
@@ -82,7 +82,7 @@ pub(crate) fn planned_move<D: Domain>(
 }
 
 /// Takes the planned cells away: what is left is right for the program that is moved to.
-pub(crate) fn leave<D: Domain>(engine: &mut Engine<D>, plan: Plan)
+pub(crate) fn leave<D: Domain>(engine: &mut Engine<D>, plan: RemovalOrder)
     requires order { IsOrder engine.old.store.graph.cells plan }
     ensures leaves { (e : BatchEngine) (old new : List Procedure) → AreOneApart old new → IsRight (D.operations engine.old.domain) (flow_of e old) engine.old.store → Empties (flow_of e old) (flow_of e new) engine.old.store plan →
         Leaves (D.operations engine.old.domain) (flow_of e old) (flow_of e new) engine.old.store engine.new.store }

@@ -2,7 +2,7 @@
 use Rattle.std.specs.Prelude.{◌≡◌, ℕ, ◌<◌, ◌≤◌, ◌+◌, ◌*◌, ◌^◌, ℤ, pos, negsuc, neg_ℤ, int_lt, ◌≤ℤ◌, ◌<ℤ◌, Option, Some, None, Bool, true, false, ◌||◌, if◌then◌else◌, List, [], ◌∷◌, ◌++◌, length, refl, ◌⊎◌}
 use Rattle.std.proofs.Common.{arith, sym, suc, zero, subst, inl, inr, add-one}
 use Rattle.std.proofs.lemmas.Int.{ints}
-use Rattle.std.proofs.lemmas.Bool.{cases_lt}
+use Rattle.std.proofs.lemmas.Bool.{cases_lt, or_parts}
 use Rattle.dbm_close.proofs.LawLemmas.{close-kinds, close-limited, close-meaning, close-unique}
 use Rattle.dbm_close.proofs.RoundLemmas.{negative-path, sound-from_diagonal, weights-from_walks}
 use Rattle.dbm_close.proofs.StrongLemmas.{cut-coherent, strengthened-coherent, tightened-coherent}
@@ -31,10 +31,6 @@ or-true : (a b : Bool) → a || b ≡ true → (a ≡ true) ⊎ (b ≡ true)
 or-true true b e = inl refl
 or-true false b e = inr e
 
-or-false : (a b : Bool) → a || b ≡ false → (a ≡ false) × (b ≡ false)
-or-false true b e = absurd (let f : ⊥ = cc in f)
-or-false false b e = (refl, e)
-
 pub some_below-true : (n : ℕ) (p : ℕ → Bool) → some_below n p ≡ true → (i : ℕ) × ((i < n) × (p i ≡ true))
 some_below-true zero p e = absurd (let f : ⊥ = cc in f)
 some_below-true (suc n) p e = elim (or-true (p n) (some_below n p) e) [
@@ -45,7 +41,7 @@ some_below-true (suc n) p e = elim (or-true (p n) (some_below n p) e) [
 pub some_below-false : (n : ℕ) (p : ℕ → Bool) → some_below n p ≡ false → (i : ℕ) → i < n → p i ≡ false
 some_below-false zero p e i l = absurd (omega arith)
 some_below-false (suc n) p e i l =
-    let q : (p n ≡ false) × (some_below n p ≡ false) = or-false (p n) (some_below n p) e in
+    let q : (p n ≡ false) × (some_below n p ≡ false) = or_parts (p n) (some_below n p) e in
     elim (cases_lt i n) [
       | inl k ↦ some_below-false n p q.1 i k
       | inr k ↦ let f : n ≡ i = omega arith in subst (λ j. p j ≡ false) f q.0

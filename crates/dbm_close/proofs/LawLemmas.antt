@@ -16,7 +16,7 @@ use Rattle.dbm_close.specs.Walks.{Below, IsWalk, walk_end, walk_weight, AreLeast
 use Rattle.dbm_core.proofs.NodeLemmas.{flip-below, flip-flip, parity}
 use Rattle.dbm_core.proofs.LimitLemmas.{IsLimited-entries}
 use Rattle.dbm_core.proofs.SameLemmas.{HasEntries-one}
-use Rattle.dbm_core.proofs.ValuationLemmas.{Meets-from_entries, node-negative, node-plain, node_value-even, node_value-flip, node_value-odd}
+use Rattle.dbm_core.proofs.ValuationLemmas.{Meets-from_entries, node-negative, node-plain, node_value-even, node_value-flip, node_value-odd, zero_apart}
 use Rattle.dbm_core.proofs.WeightLemmas.{AtMost-both, AtMost-refl, AtMost-trans, add_weight-mono, least-greatest, least-left}
 use Rattle.dbm_core.specs.Half.{HalfMatrix, entry, nodes}
 use Rattle.dbm_core.specs.Limits.{AreWithin, IsWithin}
@@ -68,11 +68,8 @@ closed-within s n h i j hi hj = bounded (strong s i j) (h i j hi hj)
         by_test x p true e = (p, grind (arith, ints))
         by_test x p false e = tt
 
-still : (y : ℤ) → AtMost (Some (y -ℤ y)) (Some (pos 0))
-still y = omega (arith, ints)
-
 walk-sound : (w : ℕ → ℕ → Option ℤ) (n : ℕ) (x : ℕ → ℤ) → Meets n w x → (i : ℕ) (xs : List ℕ) → i < n → Below n xs → AtMost (Some (node_value x (walk_end i xs) -ℤ node_value x i)) (walk_weight w i xs)
-walk-sound w n x m i [] hi b = still (node_value x i)
+walk-sound w n x m i [] hi b = zero_apart (node_value x i)
 walk-sound w n x m i (k ∷ xs) hi b =
     let e : (node_value x k -ℤ node_value x i) +ℤ (node_value x (walk_end k xs) -ℤ node_value x k) ≡ node_value x (walk_end k xs) -ℤ node_value x i = omega (arith, ints) in
     subst (λ v. AtMost (Some v) (add_weight (w i k) (walk_weight w k xs))) e

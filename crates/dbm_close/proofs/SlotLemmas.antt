@@ -19,10 +19,10 @@ use Rattle.dbm_core.specs.Weights.{AtMost, add_weight}
 node-of : (i q : ℕ) → i / 2 ≡ q → (i ≡ 2 * q) ⊎ (i ≡ 2 * q + 1)
 node-of i q e = elim (parity i) [ inl p ↦ inl (omega arith) | inr p ↦ inr (omega arith) ]
 
-even-flip : (q : ℕ) → flip (2 * q) ≡ 2 * q + 1
+pub even-flip : (q : ℕ) → flip (2 * q) ≡ 2 * q + 1
 even-flip q = let e : (2 * q) % 2 ≡ 0 = omega arith in flip-even (2 * q) e
 
-odd-flip : (q : ℕ) → flip (2 * q + 1) ≡ 2 * q
+pub odd-flip : (q : ℕ) → flip (2 * q + 1) ≡ 2 * q
 odd-flip q = ap flip (sym (even-flip q)) ∙ flip-flip (2 * q)
 
 -- ---- step 3

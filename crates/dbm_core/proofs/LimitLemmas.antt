@@ -36,17 +36,17 @@ lowered-within d i j x n b w h p q hp hq = elim (is_pair i j p q) as (λ v. IsWi
   | false ↦ h p q hp hq
 ]
 
-greatest-left : (a b : Option ℤ) → AtMost a (greatest a b)
+pub greatest-left : (a b : Option ℤ) → AtMost a (greatest a b)
 greatest-left None b = tt
 greatest-left (Some x) None = tt
 greatest-left (Some x) (Some y) = omega (arith, ints, clamps)
 
-greatest-right : (a b : Option ℤ) → AtMost b (greatest a b)
+pub greatest-right : (a b : Option ℤ) → AtMost b (greatest a b)
 greatest-right None b = tt
 greatest-right (Some x) None = tt
 greatest-right (Some x) (Some y) = omega (arith, ints, clamps)
 
-greatest-cases : (P : Option ℤ → Type 0) (a b : Option ℤ) → P None → P a → P b → P (greatest a b)
+pub greatest-cases : (P : Option ℤ → Type 0) (a b : Option ℤ) → P None → P a → P b → P (greatest a b)
 greatest-cases P None b n p q = n
 greatest-cases P (Some x) None n p q = n
 greatest-cases P (Some x) (Some y) n p q = elim (int_lt y x) as (λ v. P (Some (cond v x y))) [ true ↦ p | false ↦ q ]

@@ -55,7 +55,7 @@ hits i j a b = elim (cases_eq i a) [
 pub either_first : (i j k l a b : ℕ) → i ≡ a → j ≡ b → (eqb a i && eqb b j) || (eqb a k && eqb b l) ≡ true
 either_first i j k l a b p q = rw (eq-eqb a i (sym p), eq-eqb b j (sym q)) refl
 
-or_true : (p : Bool) → p || true ≡ true
+pub or_true : (p : Bool) → p || true ≡ true
 or_true true = refl
 or_true false = refl
 

@@ -76,7 +76,7 @@ both_if_ok P Q R (Err e) f p q = tt
 
 -- ---- no bounds
 
-zero_apart : (y : ℤ) → AtMost (Some (y -ℤ y)) (Some (pos 0))
+pub zero_apart : (y : ℤ) → AtMost (Some (y -ℤ y)) (Some (pos 0))
 zero_apart y = omega (arith, ints)
 
 pub unbounded-meets : (n : ℕ) (x : ℕ → ℤ) → Meets n unbounded x
@@ -118,7 +118,7 @@ mirror_apart : (x : ℕ → ℤ) (i j : ℕ) → node_value x (flip i) -ℤ node
 mirror_apart x i j = let f : node_value x (flip i) ≡ neg_ℤ (node_value x i) = node_value-flip x i in
     let g : node_value x (flip j) ≡ neg_ℤ (node_value x j) = node_value-flip x j in omega (arith, ints)
 
-lowered-here : (d : ℕ → ℕ → Option ℤ) (i j : ℕ) (b : ℤ) → AtMost (lowered d i j b i j) (Some b)
+pub lowered-here : (d : ℕ → ℕ → Option ℤ) (i j : ℕ) (b : ℤ) → AtMost (lowered d i j b i j) (Some b)
 unfolding lowered
 lowered-here d i j b = rw (either_first i j (flip j) (flip i) i j refl refl) (least-right (d i j) (Some b))
 

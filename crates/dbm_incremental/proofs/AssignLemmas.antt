@@ -1,7 +1,7 @@
 -- Least weights after a slot is forgotten and is then bound by an equation or by a range.
 use Rattle.std.specs.Prelude.{◌≡◌, ℕ, ◌<◌, ◌+◌, ◌*◌, ◌/◌, ◌||◌, ◌^◌, ℤ, pos, neg_ℤ, ◌-ℤ◌, Option, Some, None, Bool, true, false, length, refl}
 use Rattle.std.proofs.Common.{arith, ap, sym, ◌∙◌, subst, inl, inr}
-use Rattle.std.proofs.lemmas.Bool.{cases_eq}
+use Rattle.std.proofs.lemmas.Bool.{cases_eq, or_parts}
 use Rattle.std.proofs.lemmas.Int.{ints}
 use Rattle.dbm_close.specs.Close.{strong}
 use Rattle.dbm_core.proofs.NodeLemmas.{flip-below}
@@ -13,14 +13,16 @@ use Rattle.dbm_core.specs.Nodes.{flip}
 use Rattle.dbm_core.specs.Operations.{forgotten, lowered}
 use Rattle.dbm_core.specs.Weights.{AtMost, add_weight}
 use Rattle.dbm_incremental.proofs.EndsLemmas.{same-sound}
-use Rattle.dbm_incremental.proofs.InsertLemmas.{below-lowered, lowered-first, lowered-second}
+use Rattle.dbm_incremental.proofs.InsertLemmas.{below-lowered, lowered-second}
 use Rattle.dbm_core.proofs.LowerLemmas.{lowered-below}
 use Rattle.dbm_incremental.proofs.KeepLemmas.{forgotten-free, forgotten-kept, forgotten-same, in_slot}
 use Rattle.dbm_incremental.proofs.TriangleLemmas.{IsReached, reached-edge}
 use Rattle.dbm_incremental.specs.ClosedMatrices.{IsStrong}
 use Rattle.dbm_incremental.specs.Equations.{equated, stand_node, stand_shift, stood_entry}
 use Rattle.dbm_incremental.specs.Triangles.{AreSoundWeights}
-use Rattle.dbm_incremental.proofs.StandLemmas.{apart-even, apart-odd, by_node, flip-double, flip-out, neg-twice, neg-zero, node-even, node-odd, node-other, or-both, reached-self, shift-even, shift-odd, shift-other, stood, stood-inside, stood-out, stood-strong, stood-weights}
+use Rattle.dbm_incremental.proofs.StandLemmas.{apart-even, apart-odd, by_node, flip-out, neg-twice, neg-zero, node-even, node-odd, node-other, reached-self, shift-even, shift-odd, shift-other, stood, stood-inside, stood-out, stood-strong, stood-weights}
+use Rattle.dbm_close.proofs.SlotLemmas.{even-flip}
+use Rattle.dbm_core.proofs.ValuationLemmas.{lowered-here}
 
 -- entries from a node to one that stands for the same
 stood-edge : (d : ℕ → ℕ → Option ℤ) (n : ℕ) (o : ℕ → ℕ) (p : ℕ → ℤ) (i j k : ℕ) (z : ℤ) → HasZeroDiagonal n d → k < n → o i ≡ k → o j ≡ k → p j -ℤ p i ≡ z → AtMost (stood d o p i j) (Some z)
@@ -46,7 +48,7 @@ stood-below d h q y c zero s i j hi hj = elim (cases_eq i j) [
     by_slots : (i ≡ j → ⊥) → (b : Bool) → in_slot q i || in_slot q j ≡ b → AtMost (stood d (stand_node q y) (stand_shift q c) i j) (forgotten d q i j)
     by_slots n true e = subst (λ v. AtMost (stood d (stand_node q y) (stand_shift q c) i j) v) (sym (forgotten-free d q i j n e)) tt
     by_slots n false e =
-        let b : (in_slot q i ≡ false) × (in_slot q j ≡ false) = or-both (in_slot q i) (in_slot q j) e in
+        let b : (in_slot q i ≡ false) × (in_slot q j ≡ false) = or_parts (in_slot q i) (in_slot q j) e in
         let ie : i ≡ 2 * q → ⊥ = apart-even q i b.0 in let io : i ≡ 2 * q + 1 → ⊥ = apart-odd q i b.0 in
         let je : j ≡ 2 * q → ⊥ = apart-even q j b.1 in let jo : j ≡ 2 * q + 1 → ⊥ = apart-odd q j b.1 in
         subst (λ v. AtMost (stood d (stand_node q y) (stand_shift q c) i j) v) (sym (forgotten-kept d q i j e))
@@ -93,17 +95,17 @@ equation-weights d h q y c hq hy ye yo s = stood-weights w d h o p strong (stood
     less = lowered-below first (2 * q) y (neg_ℤ c) (2 * h)
 
     to_even : AtMost (w y (2 * q)) (Some c)
-    to_even = AtMost-trans (w y (2 * q)) (first y (2 * q)) (Some c) (less y (2 * q) hy h0) (lowered-first f y (2 * q) c)
+    to_even = AtMost-trans (w y (2 * q)) (first y (2 * q)) (Some c) (less y (2 * q) hy h0) (lowered-here f y (2 * q) c)
 
     from_odd : AtMost (w (2 * q + 1) (flip y)) (Some c)
-    from_odd = subst (λ k. AtMost (w k (flip y)) (Some c)) (flip-double q)
+    from_odd = subst (λ k. AtMost (w k (flip y)) (Some c)) (even-flip q)
         (AtMost-trans (w (flip (2 * q)) (flip y)) (first (flip (2 * q)) (flip y)) (Some c) (less (flip (2 * q)) (flip y) (flip-below (2 * q) h h0) fy) (lowered-second f y (2 * q) c))
 
     from_even : AtMost (w (2 * q) y) (Some (neg_ℤ c))
-    from_even = lowered-first first (2 * q) y (neg_ℤ c)
+    from_even = lowered-here first (2 * q) y (neg_ℤ c)
 
     to_odd : AtMost (w (flip y) (2 * q + 1)) (Some (neg_ℤ c))
-    to_odd = subst (λ k. AtMost (w (flip y) k) (Some (neg_ℤ c))) (flip-double q) (lowered-second first (2 * q) y (neg_ℤ c))
+    to_odd = subst (λ k. AtMost (w (flip y) k) (Some (neg_ℤ c))) (even-flip q) (lowered-second first (2 * q) y (neg_ℤ c))
 
     out : (i : ℕ) → i < 2 * h → IsReached w (2 * h) i (o i) (Some (neg_ℤ (p i)))
     out = by_node (λ i. i < 2 * h → IsReached w (2 * h) i (o i) (Some (neg_ℤ (p i)))) q
@@ -151,10 +153,10 @@ equation-weights d h q y c hq hy ye yo s = stood-weights w d h o p strong (stood
     below = below-lowered first (stood d o p) (2 * h) (2 * q) y (neg_ℤ c)
         (below-lowered f (stood d o p) (2 * h) y (2 * q) c (stood-below d h q y c s.diagonal strong)
         (stood-edge d (2 * h) o p y (2 * q) y c s.diagonal hy same (node-even q y) (minus (p (2 * q)) (p y) no_shift ∙ shift-even q c))
-        (subst (λ k. AtMost (stood d o p k (flip y)) (Some c)) (sym (flip-double q))
+        (subst (λ k. AtMost (stood d o p k (flip y)) (Some c)) (sym (even-flip q))
         (stood-edge d (2 * h) o p (2 * q + 1) (flip y) (flip y) c s.diagonal fy (node-odd q y) same_flip (from_zero (p (2 * q + 1)) (p (flip y)) no_shift_flip ∙ ap neg_ℤ (shift-odd q c) ∙ sym (neg-twice c)))))
         (stood-edge d (2 * h) o p (2 * q) y y (neg_ℤ c) s.diagonal hy (node-even q y) same (from_zero (p (2 * q)) (p y) no_shift ∙ ap neg_ℤ (shift-even q c)))
-        (subst (λ k. AtMost (stood d o p (flip y) k) (Some (neg_ℤ c))) (sym (flip-double q))
+        (subst (λ k. AtMost (stood d o p (flip y) k) (Some (neg_ℤ c))) (sym (even-flip q))
         (stood-edge d (2 * h) o p (flip y) (2 * q + 1) (flip y) (neg_ℤ c) s.diagonal fy same_flip (node-odd q y) (minus (p (2 * q + 1)) (p (flip y)) no_shift_flip ∙ shift-odd q c)))
 
 shift-within : (q : ℕ) (c : ℤ) → IsWithin (2 ^ 70) (Some c) → (i : ℕ) → IsWithin (2 ^ 70) (Some (stand_shift q c i))

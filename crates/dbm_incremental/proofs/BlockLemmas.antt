@@ -9,19 +9,11 @@ use Rattle.dbm_core.proofs.WeightLemmas.{add_weight-comm}
 use Rattle.dbm_core.specs.Limits.{HasZeroDiagonal}
 use Rattle.dbm_core.specs.Operations.{forgotten}
 use Rattle.dbm_core.specs.Weights.{AtMost, add_weight}
-use Rattle.dbm_incremental.proofs.KeepLemmas.{forgotten-free, forgotten-kept, forgotten-same, in_slot}
+use Rattle.dbm_incremental.proofs.KeepLemmas.{forgotten-free, forgotten-kept, forgotten-same, in_slot, add_zero, zero_add}
 use Rattle.dbm_incremental.proofs.MoveLemmas.{blocks-triangular}
 use Rattle.dbm_incremental.proofs.TriangleLemmas.{own-weights}
 use Rattle.dbm_incremental.specs.Far.{IsBelowHalf, SmallIsWhole}
 use Rattle.dbm_incremental.specs.Triangles.{AreSoundWeights, IsTriangular}
-
-add_zero : (a : Option ℤ) → AtMost a (add_weight (Some (pos 0)) a)
-add_zero None = tt
-add_zero (Some x) = omega (arith, ints)
-
-zero_add : (a : Option ℤ) → AtMost a (add_weight a (Some (pos 0)))
-zero_add None = tt
-zero_add (Some x) = omega (arith, ints)
 
 -- within the two nodes of one slot the triangle law says that its range is not empty
 pub single-triangles : (w : ℕ → ℕ → Option ℤ) (n q : ℕ) → HasZeroDiagonal n w → AtMost (Some (pos 0)) (add_weight (w (2 * q) (2 * q + 1)) (w (2 * q + 1) (2 * q))) →

@@ -1,10 +1,9 @@
 -- The least weights after an edge and its mirror image are lowered.
-use Rattle.std.specs.Prelude.{◌≡◌, ℕ, ◌<◌, ℤ, pos, Option, Some, None, true}
+use Rattle.std.specs.Prelude.{ℕ, ◌<◌, ℤ, pos, Option, Some, None}
 use Rattle.std.proofs.Common.{arith, ap, sym, ◌∙◌, subst}
 use Rattle.std.proofs.lemmas.Int.{ints}
 use Rattle.dbm_core.proofs.WeightLemmas.{AtMost-both, AtMost-refl, AtMost-trans, add_weight-assoc, add_weight-mono, least-cases, least-greatest, least-left, least-right}
 use Rattle.dbm_core.specs.Limits.{AreAtMost, HasZeroDiagonal}
-use Rattle.dbm_core.specs.Operations.{is_pair, lowered}
 use Rattle.dbm_core.specs.Weights.{AtMost, add_weight}
 use Rattle.dbm_incremental.proofs.TriangleLemmas.{IsReached, reached-edge, reached-least, reached-sum}
 use Rattle.dbm_incremental.specs.Triangles.{IsTriangular, edged, via_edge}
@@ -69,10 +68,3 @@ edged-reached v d n a b c ha hb l r i j hi hj =
     reached-least v n i j (d i j) (via_edge d a b c i j) (r i j hi hj)
     (reached-sum v n i a j (d i a) (add_weight (Some c) (d b j)) (r i a hi ha)
     (reached-sum v n a b j (Some c) (d b j) (reached-edge v n a b (Some c) hb l) (r b j hb hj)))
-
-lowered-here : (d : ℕ → ℕ → Option ℤ) (i j : ℕ) (x : ℤ) → AtMost (lowered d i j x i j) (Some x)
-unfolding lowered
-lowered-here d i j x = rw (pair-here i j) (least-right (d i j) (Some x))
-  where
-    pair-here : (i j : ℕ) → is_pair i j i j ≡ true
-    pair-here i j = grind arith

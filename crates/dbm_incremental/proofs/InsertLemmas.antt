@@ -12,6 +12,7 @@ use Rattle.dbm_core.specs.Weights.{AtMost, add_weight}
 use Rattle.dbm_incremental.proofs.EdgeLemmas.{edged-below, edged-diagonal, edged-edge, edged-reached, edged-triangular}
 use Rattle.dbm_incremental.proofs.TriangleLemmas.{IsReached, reached-below, reached-edge, reached-sum, reached-weights, triangle-walk, triangles-from_weights, weights-below, weights-diagonal, weights-from_triangles}
 use Rattle.dbm_incremental.specs.Triangles.{AreSoundWeights, IsTriangular, edged, inserted}
+use Rattle.dbm_core.proofs.ValuationLemmas.{lowered-here}
 
 pub below-lowered : (w e : ℕ → ℕ → Option ℤ) (n a b : ℕ) (c : ℤ) → AreAtMost n e w → AtMost (e a b) (Some c) → AtMost (e (flip b) (flip a)) (Some c) → AreAtMost n e (lowered w a b c)
 unfolding lowered
@@ -25,10 +26,6 @@ below-lowered w e n a b c l p q i j hi hj = elim (hits a b i j) [
   ]
 ]
 
-pub lowered-first : (w : ℕ → ℕ → Option ℤ) (a b : ℕ) (c : ℤ) → AtMost (lowered w a b c a b) (Some c)
-unfolding lowered
-lowered-first w a b c = rw (either_first a b (flip b) (flip a) a b refl refl) (least-right (w a b) (Some c))
-
 pub lowered-second : (w : ℕ → ℕ → Option ℤ) (a b : ℕ) (c : ℤ) → AtMost (lowered w a b c (flip b) (flip a)) (Some c)
 unfolding lowered
 lowered-second w a b c = rw (either_second a b (flip b) (flip a) (flip b) (flip a) refl refl) (least-right (w (flip b) (flip a)) (Some c))
@@ -37,7 +34,7 @@ reached-first : (w s : ℕ → ℕ → Option ℤ) (n a b : ℕ) (c : ℤ) → A
 reached-first w s n a b c h i j hi hj = reached-below (lowered w a b c) w n i j (s i j) (lowered-below w a b c n) hi (reached-weights w s n i j h hi hj)
 
 reached-second : (w s : ℕ → ℕ → Option ℤ) (n a b : ℕ) (c : ℤ) → a < n → b < n → AreLeastWeights w n s → (i j : ℕ) → i < n → j < n → IsReached (lowered w a b c) n i j (edged s a b c i j)
-reached-second w s n a b c ha hb h = edged-reached (lowered w a b c) s n a b c ha hb (lowered-first w a b c) (reached-first w s n a b c h)
+reached-second w s n a b c ha hb h = edged-reached (lowered w a b c) s n a b c ha hb (lowered-here w a b c) (reached-first w s n a b c h)
 
 reached-negative : (w : ℕ → ℕ → Option ℤ) (n i : ℕ) (v : Option ℤ) → i < n → IsReached w n i i v → AtMost v (Some (negsuc 0)) → HasNegativeWalk w n
 reached-negative w n i None hi p z = absurd z
@@ -48,7 +45,7 @@ reached-negative w n i (Some x) hi p z =
 -- the edge closes a negative walk
 pub negative-first : (w s : ℕ → ℕ → Option ℤ) (n a b : ℕ) (c : ℤ) → a < n → b < n → AreLeastWeights w n s → AtMost (add_weight (Some c) (s b a)) (Some (negsuc 0)) → HasNegativeWalk (lowered w a b c) n
 negative-first w s n a b c ha hb h z = reached-negative (lowered w a b c) n a (add_weight (Some c) (s b a)) ha
-    (reached-sum (lowered w a b c) n a b a (Some c) (s b a) (reached-edge (lowered w a b c) n a b (Some c) hb (lowered-first w a b c)) (reached-first w s n a b c h b a hb ha)) z
+    (reached-sum (lowered w a b c) n a b a (Some c) (s b a) (reached-edge (lowered w a b c) n a b (Some c) hb (lowered-here w a b c)) (reached-first w s n a b c h b a hb ha)) z
 
 -- the edge and its mirror image close one
 pub negative-second : (w s : ℕ → ℕ → Option ℤ) (h a b : ℕ) (c : ℤ) → a < 2 * h → b < 2 * h → AreLeastWeights w (2 * h) s → AtMost (add_weight (Some c) (edged s a b c (flip a) (flip b))) (Some (negsuc 0)) → HasNegativeWalk (lowered w a b c) (2 * h)

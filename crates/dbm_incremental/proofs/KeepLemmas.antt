@@ -1,5 +1,5 @@
 -- What keeps a matrix closed, and its triangle law.
-use Rattle.std.specs.Prelude.{◌≡◌, ℕ, ◌*◌, ◌/◌, ◌^◌, ◌||◌, ℤ, pos, neg_ℤ, ◌≤ℤ◌, Option, Some, None, Bool, true, false, cond, eqb, int_lt, List, length, slice_index_or, ◌⊎◌, ◌+◌, refl}
+use Rattle.std.specs.Prelude.{◌≡◌, ℕ, ◌*◌, ◌/◌, ◌^◌, ◌||◌, ℤ, pos, neg_ℤ, ◌≤ℤ◌, Option, Some, None, Bool, true, false, cond, eqb, List, length, slice_index_or, ◌⊎◌, ◌+◌, refl}
 use Rattle.std.specs.Int.{int_div_euclid, int_min, int_max}
 use Rattle.std.proofs.Common.{arith, ap, sym, ◌∙◌, subst, inl, inr}
 use Rattle.std.proofs.lemmas.Bool.{cases_eq, eq-eqb, ne_eqb}
@@ -17,27 +17,14 @@ use Rattle.dbm_core.specs.Weights.{AtMost, add_weight, greatest}
 use Rattle.dbm_close.proofs.HalvesLemmas.{half-mono}
 use Rattle.dbm_incremental.specs.ClosedMatrices.{IsClosed, IsStrong, IsWhole}
 use Rattle.dbm_incremental.specs.Triangles.{IsTriangular}
-
-greatest-left : (a b : Option ℤ) → AtMost a (greatest a b)
-greatest-left None b = tt
-greatest-left (Some x) None = tt
-greatest-left (Some x) (Some y) = omega (arith, ints, clamps)
-
-greatest-right : (a b : Option ℤ) → AtMost b (greatest a b)
-greatest-right None b = tt
-greatest-right (Some x) None = tt
-greatest-right (Some x) (Some y) = omega (arith, ints, clamps)
+use Rattle.dbm_core.proofs.LimitLemmas.{greatest-left, greatest-right, greatest-cases}
+use Rattle.dbm_core.proofs.LowerLemmas.{or_true}
 
 greatest-least : (a b c : Option ℤ) → AtMost a c → AtMost b c → AtMost (greatest a b) c
 greatest-least a b None p q = tt
 greatest-least None b (Some z) p q = absurd p
 greatest-least (Some x) None (Some z) p q = absurd q
 greatest-least (Some x) (Some y) (Some z) p q = omega (arith, ints, clamps)
-
-greatest-cases : (P : Option ℤ → Type 0) (a b : Option ℤ) → P None → P a → P b → P (greatest a b)
-greatest-cases P None b n p q = n
-greatest-cases P (Some x) None n p q = n
-greatest-cases P (Some x) (Some y) n p q = elim (int_lt y x) as (λ v. P (Some (cond v x y))) [ true ↦ p | false ↦ q ]
 
 -- ---- join
 
@@ -162,15 +149,11 @@ none_right : (a : Option ℤ) → add_weight a None ≡ None
 none_right None = refl
 none_right (Some x) = refl
 
-or_true : (p : Bool) → p || true ≡ true
-or_true true = refl
-or_true false = refl
-
-add_zero : (a : Option ℤ) → AtMost a (add_weight (Some (pos 0)) a)
+pub add_zero : (a : Option ℤ) → AtMost a (add_weight (Some (pos 0)) a)
 add_zero None = tt
 add_zero (Some x) = omega (arith, ints)
 
-zero_add : (a : Option ℤ) → AtMost a (add_weight a (Some (pos 0)))
+pub zero_add : (a : Option ℤ) → AtMost a (add_weight a (Some (pos 0)))
 zero_add None = tt
 zero_add (Some x) = omega (arith, ints)
 

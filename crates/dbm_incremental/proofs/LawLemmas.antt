@@ -23,7 +23,7 @@ answer-closed m (Matrix r) t p = close-closed m r t p
 pub close_of-closed : CloseIsClosed
 close_of-closed m t z = answer-closed m (close_of m) t (close_of-is m t z)
 
-closed-zero : (m : HalfMatrix) → IsClosed m → IsZeroAtMost (nodes m) (entry m)
+pub closed-zero : (m : HalfMatrix) → IsClosed m → IsZeroAtMost (nodes m) (entry m)
 closed-zero m c = zero-at_most (nodes m) (entry m) (closed-diagonal m c)
 
 pub closed-same : ClosedIsItsClose

@@ -1,9 +1,9 @@
 -- Nodes that stand for others, and the entries between those: a slot that is another plus a number.
-use Rattle.std.specs.Prelude.{◌≡◌, ℕ, ◌<◌, ◌+◌, ◌*◌, ◌/◌, ◌%◌, ◌||◌, ℤ, pos, neg_ℤ, ◌+ℤ◌, ◌-ℤ◌, Option, Some, None, Bool, true, false, eqb, [], refl}
+use Rattle.std.specs.Prelude.{◌≡◌, ℕ, ◌<◌, ◌+◌, ◌*◌, ◌/◌, ℤ, pos, neg_ℤ, ◌+ℤ◌, ◌-ℤ◌, Option, Some, None, true, false, eqb, [], refl}
 use Rattle.std.proofs.Common.{arith, ap, sym, ◌∙◌, subst, inl, inr}
 use Rattle.std.proofs.lemmas.Bool.{cases_eq, eq-eqb, ne_eqb}
 use Rattle.std.proofs.lemmas.Int.{ints}
-use Rattle.dbm_core.proofs.NodeLemmas.{flip-below, flip-even, flip-flip, parity}
+use Rattle.dbm_core.proofs.NodeLemmas.{flip-below, flip-flip, parity}
 use Rattle.dbm_core.proofs.WeightLemmas.{AtMost-refl}
 use Rattle.dbm_core.specs.Limits.{AreAtMost, IsZeroAtMost}
 use Rattle.dbm_core.specs.Nodes.{flip}
@@ -15,6 +15,7 @@ use Rattle.dbm_incremental.proofs.TriangleLemmas.{IsReached, reached-edge, reach
 use Rattle.dbm_incremental.specs.ClosedMatrices.{IsStrong}
 use Rattle.dbm_incremental.specs.Equations.{stand_node, stand_shift}
 use Rattle.dbm_incremental.specs.Triangles.{AreSoundWeights}
+use Rattle.dbm_close.proofs.SlotLemmas.{even-flip, odd-flip}
 
 -- ---- an equation: each node i stands for o i plus p i
 
@@ -66,22 +67,16 @@ shift-odd q c = let n : 2 * q + 1 ≡ 2 * q → ⊥ = λ e. absurd (omega arith)
 pub shift-other : (q : ℕ) (c : ℤ) (i : ℕ) → (i ≡ 2 * q → ⊥) → (i ≡ 2 * q + 1 → ⊥) → stand_shift q c i ≡ pos 0
 shift-other q c i e f = rw (ne_eqb i (2 * q) e, ne_eqb i (2 * q + 1) f) refl
 
-pub flip-double : (q : ℕ) → flip (2 * q) ≡ 2 * q + 1
-flip-double q = let e : (2 * q) % 2 ≡ 0 = omega arith in flip-even (2 * q) e
-
-pub flip-next : (q : ℕ) → flip (2 * q + 1) ≡ 2 * q
-flip-next q = ap flip (sym (flip-double q)) ∙ flip-flip (2 * q)
-
 pub flip-out : (q i : ℕ) → (i ≡ 2 * q → ⊥) → (i ≡ 2 * q + 1 → ⊥) → (flip i ≡ 2 * q → ⊥) × (flip i ≡ 2 * q + 1 → ⊥)
 flip-out q i e f = (
-  (λ g. f (sym (flip-flip i) ∙ ap flip g ∙ flip-double q)),
-  (λ g. e (sym (flip-flip i) ∙ ap flip g ∙ flip-next q)),
+  (λ g. f (sym (flip-flip i) ∙ ap flip g ∙ even-flip q)),
+  (λ g. e (sym (flip-flip i) ∙ ap flip g ∙ odd-flip q)),
 )
 
 pub stand_node-flip : (q y i : ℕ) → stand_node q y (flip i) ≡ flip (stand_node q y i)
 stand_node-flip q y = by_node (λ i. stand_node q y (flip i) ≡ flip (stand_node q y i)) q
-    (ap (stand_node q y) (flip-double q) ∙ node-odd q y ∙ ap flip (sym (node-even q y)))
-    (ap (stand_node q y) (flip-next q) ∙ node-even q y ∙ sym (flip-flip y) ∙ ap flip (sym (node-odd q y)))
+    (ap (stand_node q y) (even-flip q) ∙ node-odd q y ∙ ap flip (sym (node-even q y)))
+    (ap (stand_node q y) (odd-flip q) ∙ node-even q y ∙ sym (flip-flip y) ∙ ap flip (sym (node-odd q y)))
     (λ i e f. node-other q y (flip i) (flip-out q i e f).0 (flip-out q i e f).1 ∙ ap flip (sym (node-other q y i e f)))
 
 pub neg-twice : (c : ℤ) → c ≡ neg_ℤ (neg_ℤ c)
@@ -92,8 +87,8 @@ neg-zero = omega (arith, ints)
 
 pub stand_shift-flip : (q : ℕ) (c : ℤ) (i : ℕ) → stand_shift q c (flip i) ≡ neg_ℤ (stand_shift q c i)
 stand_shift-flip q c = by_node (λ i. stand_shift q c (flip i) ≡ neg_ℤ (stand_shift q c i)) q
-    (ap (stand_shift q c) (flip-double q) ∙ shift-odd q c ∙ ap neg_ℤ (sym (shift-even q c)))
-    (ap (stand_shift q c) (flip-next q) ∙ shift-even q c ∙ neg-twice c ∙ ap neg_ℤ (sym (shift-odd q c)))
+    (ap (stand_shift q c) (even-flip q) ∙ shift-odd q c ∙ ap neg_ℤ (sym (shift-even q c)))
+    (ap (stand_shift q c) (odd-flip q) ∙ shift-even q c ∙ neg-twice c ∙ ap neg_ℤ (sym (shift-odd q c)))
     (λ i e f. shift-other q c (flip i) (flip-out q i e f).0 (flip-out q i e f).1 ∙ neg-zero ∙ ap neg_ℤ (sym (shift-other q c i e f)))
 
 pub stood-strong : (d : ℕ → ℕ → Option ℤ) (h q y : ℕ) (c : ℤ) → y < 2 * h → IsStrong (2 * h) d → IsStrong (2 * h) (stood d (stand_node q y) (stand_shift q c))
@@ -117,10 +112,6 @@ apart-even q i e f = let g : i / 2 ≡ q = omega arith in let k : eqb (i / 2) q 
 
 pub apart-odd : (q i : ℕ) → in_slot q i ≡ false → i ≡ 2 * q + 1 → ⊥
 apart-odd q i e f = let g : i / 2 ≡ q = omega arith in let k : eqb (i / 2) q ≡ true = eq-eqb (i / 2) q g in absurd (let b : ⊥ = cc in b)
-
-pub or-both : (a b : Bool) → a || b ≡ false → (a ≡ false) × (b ≡ false)
-or-both true b e = absurd (let f : ⊥ = cc in f)
-or-both false b e = (refl, e)
 
 pub stood-out : (q y : ℕ) → (y ≡ 2 * q → ⊥) → (y ≡ 2 * q + 1 → ⊥) → (i : ℕ) → in_slot q (stand_node q y i) ≡ false
 stood-out q y n m = by_node (λ i. in_slot q (stand_node q y i) ≡ false) q

@@ -2,8 +2,7 @@
 use Rattle.std.proofs.Common.{◌≡◌, ℕ, ◌+◌, ◌≤◌, Bool, true, false, cond, List, [], ◌∷◌, refl, sym, ap, ◌∙◌, inl, inr, arith}
 use Rattle.demand_order.specs.Order.{System, IsAcyclic, member}
 use Rattle.demand_order.specs.Within.{AreDependents}
-use Rattle.std.proofs.lemmas.Bool.{or_left, or_right}
-use Rattle.demand_order.proofs.OrderLemmas.{or_cases}
+use Rattle.std.proofs.lemmas.Bool.{or_left, or_right, or_cases}
 
 module _ {T : Type 0} (same : T → T → Bool) (eq : (x y : T) → same x y ≡ true → x ≡ y) where
   -- the names of a list that pass a test

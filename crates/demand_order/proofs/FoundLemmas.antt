@@ -3,6 +3,7 @@ use Rattle.std.proofs.Common.{◌≡◌, ℕ, zero, suc, ◌<◌, ◌≤◌, tru
 use Rattle.demand_order.specs.Store.{has, first_absent}
 use Rattle.demand_order.specs.Found.{AreFound, Grown}
 use Rattle.demand_order.proofs.OrderLemmas.{by_bool}
+use Rattle.std.proofs.lemmas.List.{map_push}
 
 split_at : {T : Type 0} (xs : List T) (k : ℕ) (x : T) → slice_get xs k ≡ Some x → (k < length xs) × (drop k xs ≡ x ∷ drop (suc k) xs) × (take (suc k) xs ≡ take k xs ++ x ∷ [])
 split_at [] k x h = cc
@@ -13,10 +14,6 @@ split_none : {T : Type 0} (xs : List T) (k : ℕ) → slice_get xs k ≡ None �
 split_none [] k h = omega arith
 split_none (y ∷ ys) zero h = cc
 split_none (y ∷ ys) (suc k) h = let r : length ys ≤ k = split_none ys k h in omega arith
-
-map-push : {T V : Type 0} (f : T → V) (xs : List T) (x : T) → map f (xs ++ x ∷ []) ≡ map f xs ++ f x ∷ []
-map-push f [] x = refl
-map-push f (y ∷ ys) x = ap (λ v. f y ∷ v) (map-push f ys x)
 
 drop_end : {T : Type 0} (xs : List T) (k : ℕ) → length xs ≤ k → drop k xs ≡ []
 drop_end [] zero h = refl
@@ -69,7 +66,7 @@ module _ {T V : Type 0} (value : T → V) (get : T → Option V) (xs : List T) (
       record {
         within = let lt : length found < length xs = r.0 in omega arith;
         values =
-            rw (len, r.2, map-push value (take (length found) xs) x)
+            rw (len, r.2, map_push value (take (length found) xs) x)
             (ap (λ w. w ++ v ∷ []) f.values ∙ ap (λ w. map value (take (length found) xs) ++ w ∷ []) is);
         there = rw (len, r.2) (absent-push get (take (length found) xs) x f.there (ap is_some held));
       }

@@ -4,8 +4,7 @@ use Rattle.demand_order.specs.Order.{System, IsAcyclic, member, fill_all}
 use Rattle.demand_order.specs.Machine.{AreBelow}
 use Rattle.demand_order.specs.OrderLaws.{under}
 use Rattle.demand_order.specs.Theorems.{OrderIsDistinct, OrderFollowsInputs, OrderIsNeeded, OrderIsClosed, MissingIsRest, FilledIsKeptOrNeeded, FilledIsClosed, RowsAreStable}
-use Rattle.std.proofs.lemmas.Bool.{or_left}
-use Rattle.demand_order.proofs.OrderLemmas.{or_cases}
+use Rattle.std.proofs.lemmas.Bool.{or_left, or_cases}
 use Rattle.demand_order.proofs.OrderLawProofs.{order-distinct, order-follows, order-needed, needed-seen, missing-order, closed-after}
 use Rattle.demand_order.proofs.Stable.{stable}
 

@@ -2,6 +2,5 @@ pub mod Collected
 pub mod Assumed
 pub mod Findings
 pub mod Left
-pub mod Written
 pub mod Started
 pub mod Stays

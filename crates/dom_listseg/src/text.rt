@@ -44,7 +44,7 @@ fn put_space(text: &mut Text, slot: usize) -> Result<(), Memory>
 }
 
 // `p=nil` or `p=k`, with a space in front of each but the first.
-#[tactic(auto, using(crate::proofs::Written::slot_joined))]
+#[tactic(auto, using(plain_values::proofs::Joined::joined_4))]
 fn put_slot(text: &mut Text, slot: usize, name: &Text, target: Option<usize>) -> Result<(), Memory>
     ensures value { OnOk result (text.new ≡ text.old ++ (texts.space_at slot ++ name.now ++ codes "=" ++ texts.target_text target)) }
 {
@@ -66,7 +66,7 @@ fn put_kind(text: &mut Text, many: bool) -> Result<(), Memory>
 }
 
 // `k:one(t)` or `k:seg(t)`, with a space in front.
-#[tactic(auto, unfolding(listseg_meaning::specs::Text::node_text), using(crate::proofs::Written::node_joined))]
+#[tactic(auto, unfolding(listseg_meaning::specs::Text::node_text), using(plain_values::proofs::Joined::joined_5))]
 fn put_node(text: &mut Text, node: usize, atom: Atom) -> Result<(), Memory>
     ensures value { OnOk result (text.new ≡ text.old ++ texts.node_text node atom) }
 {
@@ -101,7 +101,7 @@ fn put_nodes(text: &mut Text, atoms: &[Atom]) -> Result<(), Memory>
 }
 
 // The slots of the last frame, then the nodes.
-#[tactic(auto, unfolding(listseg_meaning::specs::Text::graph_text), using(crate::proofs::Written::graph_joined))]
+#[tactic(auto, unfolding(listseg_meaning::specs::Text::graph_text), using(plain_values::proofs::Joined::joined_2))]
 fn put_graph(text: &mut Text, names: &[Text], graph: &Graph) -> Result<(), Memory>
     ensures value { OnOk result (text.new ≡ text.old ++ texts.graph_text names.now graph.now) }
 {

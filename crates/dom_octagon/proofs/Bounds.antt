@@ -25,6 +25,7 @@ use Rattle.octagon_meaning.specs.declared.form.Form.TheVariants.{Node}
 use Rattle.octagon_meaning.specs.Forms.{slot_form}
 use Rattle.octagon_meaning.specs.Matrices.{with_bound, with_equation, without}
 use Rattle.dom_octagon.specs.Added.{with_bound_if, with_bounds}
+use Rattle.dbm_incremental.proofs.LawLemmas.{closed-zero}
 
 pub bound-entries : (m : HalfMatrix) (i j : ℕ) (c : ℤ) → IsMatrix m → HasEntries m.kinds (lowered (entry m) i j c) (with_bound m i j c)
 unfolding with_bound
@@ -50,9 +51,6 @@ bounds-entries kinds w m (b ∷ bs) h = bounds-entries kinds (lowered w b.row b.
 lowered_all-zero : (w : ℕ → ℕ → Option ℤ) (n : ℕ) (bs : List Bound) → IsZeroAtMost n w → IsZeroAtMost n (lowered_all w bs)
 lowered_all-zero w n [] z = z
 lowered_all-zero w n (b ∷ bs) z = lowered_all-zero (lowered w b.row b.column b.bound) n bs (lowered-diagonal w b.row b.column b.bound n z)
-
-closed-zero : (m : HalfMatrix) → IsClosed m → IsZeroAtMost (nodes m) (entry m)
-closed-zero m h = zero-at_most (nodes m) (entry m) (closed-diagonal m h)
 
 pub bounds_close : (m : HalfMatrix) (bs : List Bound) (c : Closed) → IsClosed m → ClosesAllLowered m bs c → c ≡ close_of (with_bounds m bs)
 bounds_close m bs c h p =

@@ -2,11 +2,10 @@
 use Rattle.std.specs.Prelude.{◌≡◌, ℕ, ◌+◌, ◌*◌, ◌/◌, ◌%◌, ℤ, pos, Option, Some, None, List, slice_get, refl}
 use Rattle.std.proofs.Common.{arith, ap, sym, ◌∙◌, subst, inl, inr}
 use Rattle.std.proofs.lemmas.Bool.{cases_eq, cases_lt, eq-eqb, ne_eqb}
-use Rattle.std.proofs.lemmas.Int.{ints}
 use Rattle.dbm_core.proofs.HalfLemmas.{entry-outside}
 use Rattle.dbm_core.specs.Half.{HalfMatrix, IsMatrix, entry, nodes}
 use Rattle.dbm_core.specs.Weights.{AtMost, add_weight}
-use Rattle.dbm_incremental.proofs.KeepLemmas.{closed-diagonal}
+use Rattle.dbm_incremental.proofs.KeepLemmas.{closed-diagonal, add_zero, zero_add}
 use Rattle.dbm_incremental.specs.ClosedMatrices.{IsClosed, IsWhole}
 use Rattle.octagon_meaning.specs.declared.source.Source.{Source}
 use Rattle.octagon_meaning.specs.declared.source.Source.TheVariants.{FromSlot, InRange}
@@ -79,14 +78,6 @@ back-anywhere m h t a b = elim (cases_lt a (nodes m)) [
   | inl p ↦ subst (λ v. AtMost v (add_weight (entry m a b) (entry m b a))) (closed-diagonal m h a p) (triangle-anywhere m h.1.matrix t a b a)
   | inr p ↦ subst (λ v. AtMost (Some (pos 0)) (add_weight v (entry m b a))) (sym (entry-outside m h.1.matrix a b (inl p))) tt
 ]
-
-pub add_zero : (a : Option ℤ) → AtMost a (add_weight (Some (pos 0)) a)
-add_zero None = tt
-add_zero (Some x) = omega (arith, ints)
-
-pub zero_add : (a : Option ℤ) → AtMost a (add_weight a (Some (pos 0)))
-zero_add None = tt
-zero_add (Some x) = omega (arith, ints)
 
 -- among the slots that are copied
 pub copies-triangular : (m : HalfMatrix) (ss : List Source) (i k j x y z : ℕ) → IsClosed m → IsWhole m → slice_get ss (i / 2) ≡ Some (FromSlot x) → slice_get ss (k / 2) ≡ Some (FromSlot y) → slice_get ss (j / 2) ≡ Some (FromSlot z) →

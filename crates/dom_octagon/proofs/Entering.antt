@@ -23,11 +23,12 @@ use Rattle.octagon_meaning.specs.declared.source.Source.TheVariants.{FromSlot, I
 use Rattle.octagon_meaning.specs.Matrices.{is_beyond, meets_end, meets_range, with_greatest}
 use Rattle.octagon_meaning.specs.Operations.{copied, entered, meet_sources}
 use Rattle.dom_octagon.proofs.Bounds.{bound-entries}
-use Rattle.dom_octagon.proofs.Copies.{IsRanged, add_zero, block, copied-none, copies-triangular, copy-block, entered-copied, entered-same, range-block, source_block, zero-block}
+use Rattle.dom_octagon.proofs.Copies.{IsRanged, block, copied-none, copies-triangular, copy-block, entered-copied, entered-same, range-block, source_block, zero-block}
 use Rattle.dom_octagon.proofs.Triangles.{entries-obey, single-least, single-miss}
 use Rattle.dom_octagon.specs.Limits.{ObeysTriangles}
 use Rattle.dom_octagon.specs.Lists.{AreOrdered}
-use Rattle.dbm_incremental.proofs.StandLemmas.{flip-double, flip-next}
+use Rattle.dbm_close.proofs.SlotLemmas.{even-flip, odd-flip}
+use Rattle.dbm_incremental.proofs.KeepLemmas.{add_zero}
 
 -- ---- ranges that are met
 
@@ -111,10 +112,10 @@ module _ (m : HalfMatrix) (kinds : List Bool) (ss : List Source) (k : ℕ) (r : 
   leaves w h = subst (λ z. Leaves z (entry w (2 * k + 1) (2 * k)) (entry w (2 * k) (2 * k + 1))) s (h.own k l is_ranged)
 
   entered-high : (w : HalfMatrix) → IsEntered m kinds ss w → IsEntered m kinds ss (with_greatest w (2 * k) r.hi)
-  entered-high w h = lowered-entered w (2 * k) r.hi (omega arith) (let f : flip (2 * k) ≡ 2 * k + 1 = flip-double k in omega arith) (λ g. let f : flip (2 * k) ≡ 2 * k + 1 = flip-double k in absurd (omega arith)) h (
+  entered-high w h = lowered-entered w (2 * k) r.hi (omega arith) (let f : flip (2 * k) ≡ 2 * k + 1 = even-flip k in omega arith) (λ g. let f : flip (2 * k) ≡ 2 * k + 1 = even-flip k in absurd (omega arith)) h (
     subst (AtMost (Some (r.hi +ℤ r.hi))) (sym (e.entries (2 * k + 1) (2 * k) (omega (arith, size)) (omega (arith, size))))
-        (subst (λ z. AtMost (Some (r.hi +ℤ r.hi)) (lowered (entry w) (flip (2 * k)) (2 * k) (r.hi +ℤ r.hi) z (2 * k))) (flip-double k)
-        (single-least (entry w) (2 * k) (r.hi +ℤ r.hi) (r.hi +ℤ r.hi) (subst (λ z. AtMost (Some (r.hi +ℤ r.hi)) (entry w z (2 * k))) (sym (flip-double k)) (leaves w h).0) (omega (arith, ints)))),
+        (subst (λ z. AtMost (Some (r.hi +ℤ r.hi)) (lowered (entry w) (flip (2 * k)) (2 * k) (r.hi +ℤ r.hi) z (2 * k))) (even-flip k)
+        (single-least (entry w) (2 * k) (r.hi +ℤ r.hi) (r.hi +ℤ r.hi) (subst (λ z. AtMost (Some (r.hi +ℤ r.hi)) (entry w z (2 * k))) (sym (even-flip k)) (leaves w h).0) (omega (arith, ints)))),
     subst (AtMost (Some (neg_ℤ r.lo +ℤ neg_ℤ r.lo))) (sym (e.entries (2 * k) (2 * k + 1) (omega (arith, size)) (omega (arith, size)) ∙ single-miss (entry w) (2 * k) (r.hi +ℤ r.hi) (2 * k) (2 * k + 1) (λ p. absurd (omega (arith, p.1))))) (leaves w h).1,
   )
     where
@@ -125,11 +126,11 @@ module _ (m : HalfMatrix) (kinds : List Bool) (ss : List Source) (k : ℕ) (r : 
       e = bound-entries w (flip (2 * k)) (2 * k) (r.hi +ℤ r.hi) h.matrix
 
   entered-low : (w : HalfMatrix) → IsEntered m kinds ss w → IsEntered m kinds ss (with_greatest w (2 * k + 1) (neg_ℤ r.lo))
-  entered-low w h = lowered-entered w (2 * k + 1) (neg_ℤ r.lo) (omega arith) (let f : flip (2 * k + 1) ≡ 2 * k = flip-next k in omega arith) (λ g. let f : flip (2 * k + 1) ≡ 2 * k = flip-next k in absurd (omega arith)) h (
+  entered-low w h = lowered-entered w (2 * k + 1) (neg_ℤ r.lo) (omega arith) (let f : flip (2 * k + 1) ≡ 2 * k = odd-flip k in omega arith) (λ g. let f : flip (2 * k + 1) ≡ 2 * k = odd-flip k in absurd (omega arith)) h (
     subst (AtMost (Some (r.hi +ℤ r.hi))) (sym (e.entries (2 * k + 1) (2 * k) (omega (arith, size)) (omega (arith, size)) ∙ single-miss (entry w) (2 * k + 1) (neg_ℤ r.lo +ℤ neg_ℤ r.lo) (2 * k + 1) (2 * k) (λ p. absurd (omega (arith, p.1))))) (leaves w h).0,
     subst (AtMost (Some (neg_ℤ r.lo +ℤ neg_ℤ r.lo))) (sym (e.entries (2 * k) (2 * k + 1) (omega (arith, size)) (omega (arith, size))))
-        (subst (λ z. AtMost (Some (neg_ℤ r.lo +ℤ neg_ℤ r.lo)) (lowered (entry w) (flip (2 * k + 1)) (2 * k + 1) (neg_ℤ r.lo +ℤ neg_ℤ r.lo) z (2 * k + 1))) (flip-next k)
-        (single-least (entry w) (2 * k + 1) (neg_ℤ r.lo +ℤ neg_ℤ r.lo) (neg_ℤ r.lo +ℤ neg_ℤ r.lo) (subst (λ z. AtMost (Some (neg_ℤ r.lo +ℤ neg_ℤ r.lo)) (entry w z (2 * k + 1))) (sym (flip-next k)) (leaves w h).1) (omega (arith, ints)))),
+        (subst (λ z. AtMost (Some (neg_ℤ r.lo +ℤ neg_ℤ r.lo)) (lowered (entry w) (flip (2 * k + 1)) (2 * k + 1) (neg_ℤ r.lo +ℤ neg_ℤ r.lo) z (2 * k + 1))) (odd-flip k)
+        (single-least (entry w) (2 * k + 1) (neg_ℤ r.lo +ℤ neg_ℤ r.lo) (neg_ℤ r.lo +ℤ neg_ℤ r.lo) (subst (λ z. AtMost (Some (neg_ℤ r.lo +ℤ neg_ℤ r.lo)) (entry w z (2 * k + 1))) (sym (odd-flip k)) (leaves w h).1) (omega (arith, ints)))),
   )
     where
       size : length w.kinds ≡ length kinds

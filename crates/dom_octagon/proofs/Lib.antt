@@ -7,5 +7,4 @@ pub mod Tables
 pub mod Tight
 pub mod Triangles
 pub mod Words
-pub mod Written
 pub mod Carried

@@ -28,7 +28,7 @@ use Rattle.octagon_meaning.specs.Forms.{slot_form}
 use Rattle.octagon_meaning.specs.Matrices.{carried, is_beyond, meets_end, meets_range, shift, shifted, turned, with_equation, with_greatest, without}
 use Rattle.dom_octagon.proofs.Bounds.{bound-entries, without-entries}
 use Rattle.dom_octagon.specs.Limits.{ChangesOnly, ObeysTriangles}
-use Rattle.dbm_incremental.proofs.StandLemmas.{flip-double, flip-next}
+use Rattle.dbm_close.proofs.SlotLemmas.{even-flip, odd-flip}
 
 pub entries-obey : (kinds : List Bool) (f : ℕ → ℕ → Option ℤ) (r : HalfMatrix) → HasEntries kinds f r → HasZeroDiagonal (2 * length kinds) f → IsTriangular (2 * length kinds) f → ObeysTriangles r
 entries-obey kinds f r h z t = let n : length r.kinds ≡ length kinds = ap length h.same_kinds in record {
@@ -129,8 +129,8 @@ own-high m k lo hi w c l q h = record {
   same_kinds = e.same_kinds ∙ h.same_kinds;
   rest = λ i j a b n. e.entries i j (omega (arith, size)) (omega (arith, size)) ∙ single-miss (entry w) (2 * k) (c +ℤ c) i j (λ p. n (apart i j p)) ∙ h.rest i j a b n;
   high = subst (AtMost (Some (hi +ℤ hi))) (sym (e.entries (2 * k + 1) (2 * k) (omega (arith, size)) (omega (arith, size))))
-      (subst (λ z. AtMost (Some (hi +ℤ hi)) (lowered (entry w) (flip (2 * k)) (2 * k) (c +ℤ c) z (2 * k))) (flip-double k)
-      (single-least (entry w) (2 * k) (c +ℤ c) (hi +ℤ hi) (subst (λ z. AtMost (Some (hi +ℤ hi)) (entry w z (2 * k))) (sym (flip-double k)) h.high) (twice hi c q)));
+      (subst (λ z. AtMost (Some (hi +ℤ hi)) (lowered (entry w) (flip (2 * k)) (2 * k) (c +ℤ c) z (2 * k))) (even-flip k)
+      (single-least (entry w) (2 * k) (c +ℤ c) (hi +ℤ hi) (subst (λ z. AtMost (Some (hi +ℤ hi)) (entry w z (2 * k))) (sym (even-flip k)) h.high) (twice hi c q)));
   low = subst (AtMost (Some (neg_ℤ lo +ℤ neg_ℤ lo))) (sym (e.entries (2 * k) (2 * k + 1) (omega (arith, size)) (omega (arith, size)) ∙ single-miss (entry w) (2 * k) (c +ℤ c) (2 * k) (2 * k + 1) (λ p. absurd (omega (arith, p.1))))) h.low;
 }
   where
@@ -141,7 +141,7 @@ own-high m k lo hi w c l q h = record {
     e = bound-entries w (flip (2 * k)) (2 * k) (c +ℤ c) h.matrix
 
     apart : (i j : ℕ) → (i ≡ flip (2 * k)) × (j ≡ 2 * k) → (i ≡ j → ⊥) × ((i / 2 ≡ k) × (j / 2 ≡ k))
-    apart i j p = let a : i ≡ 2 * k + 1 = p.0 ∙ flip-double k in let b : j ≡ 2 * k = p.1 in ((λ g. absurd (omega arith)), (omega arith, omega arith))
+    apart i j p = let a : i ≡ 2 * k + 1 = p.0 ∙ even-flip k in let b : j ≡ 2 * k = p.1 in ((λ g. absurd (omega arith)), (omega arith, omega arith))
 
 own-low : (m : HalfMatrix) (k : ℕ) (lo hi : ℤ) (w : HalfMatrix) (c : ℤ) → k < length m.kinds → neg_ℤ lo ≤ℤ c → HasOwn m k lo hi w → HasOwn m k lo hi (with_greatest w (2 * k + 1) c)
 own-low m k lo hi w c l q h = record {
@@ -150,8 +150,8 @@ own-low m k lo hi w c l q h = record {
   rest = λ i j a b n. e.entries i j (omega (arith, size)) (omega (arith, size)) ∙ single-miss (entry w) (2 * k + 1) (c +ℤ c) i j (λ p. n (apart i j p)) ∙ h.rest i j a b n;
   high = subst (AtMost (Some (hi +ℤ hi))) (sym (e.entries (2 * k + 1) (2 * k) (omega (arith, size)) (omega (arith, size)) ∙ single-miss (entry w) (2 * k + 1) (c +ℤ c) (2 * k + 1) (2 * k) (λ p. absurd (omega (arith, p.1))))) h.high;
   low = subst (AtMost (Some (neg_ℤ lo +ℤ neg_ℤ lo))) (sym (e.entries (2 * k) (2 * k + 1) (omega (arith, size)) (omega (arith, size))))
-      (subst (λ z. AtMost (Some (neg_ℤ lo +ℤ neg_ℤ lo)) (lowered (entry w) (flip (2 * k + 1)) (2 * k + 1) (c +ℤ c) z (2 * k + 1))) (flip-next k)
-      (single-least (entry w) (2 * k + 1) (c +ℤ c) (neg_ℤ lo +ℤ neg_ℤ lo) (subst (λ z. AtMost (Some (neg_ℤ lo +ℤ neg_ℤ lo)) (entry w z (2 * k + 1))) (sym (flip-next k)) h.low) (twice (neg_ℤ lo) c q)));
+      (subst (λ z. AtMost (Some (neg_ℤ lo +ℤ neg_ℤ lo)) (lowered (entry w) (flip (2 * k + 1)) (2 * k + 1) (c +ℤ c) z (2 * k + 1))) (odd-flip k)
+      (single-least (entry w) (2 * k + 1) (c +ℤ c) (neg_ℤ lo +ℤ neg_ℤ lo) (subst (λ z. AtMost (Some (neg_ℤ lo +ℤ neg_ℤ lo)) (entry w z (2 * k + 1))) (sym (odd-flip k)) h.low) (twice (neg_ℤ lo) c q)));
 }
   where
     size : length w.kinds ≡ length m.kinds
@@ -161,7 +161,7 @@ own-low m k lo hi w c l q h = record {
     e = bound-entries w (flip (2 * k + 1)) (2 * k + 1) (c +ℤ c) h.matrix
 
     apart : (i j : ℕ) → (i ≡ flip (2 * k + 1)) × (j ≡ 2 * k + 1) → (i ≡ j → ⊥) × ((i / 2 ≡ k) × (j / 2 ≡ k))
-    apart i j p = let a : i ≡ 2 * k = p.0 ∙ flip-next k in let b : j ≡ 2 * k + 1 = p.1 in ((λ g. absurd (omega arith)), (omega arith, omega arith))
+    apart i j p = let a : i ≡ 2 * k = p.0 ∙ odd-flip k in let b : j ≡ 2 * k + 1 = p.1 in ((λ g. absurd (omega arith)), (omega arith, omega arith))
 
 own-obey : (m : HalfMatrix) (k : ℕ) (lo hi : ℤ) (w : HalfMatrix) → IsClosed m → IsWhole m → lo ≤ℤ hi → HasOwn m k lo hi w → ObeysTriangles w
 own-obey m k lo hi w h t l o = entries-obey m.kinds (entry w) w (record { matrix = o.matrix; same_kinds = o.same_kinds; entries = λ i j a b. refl })
@@ -210,7 +210,7 @@ range_obeys m k r h t o = elim (cases_lt k (length m.kinds)) [
 pub constant_obeys : (m : HalfMatrix) (k : ℕ) (c : ℤ) → IsClosed m → IsWhole m → ObeysTriangles (with_equation (without m k) (slot_form k) (Constant c))
 constant_obeys m k c h t = elim (cases_lt k (length m.kinds)) [
   | inl l ↦ own-obey m k c c (with_equation (without m k) (slot_form k) (Constant c)) h t (omega (arith, ints))
-      (subst (λ z. HasOwn m k c c (with_greatest (with_greatest (without m k) (2 * k) ((pos 0 +ℤ c) -ℤ pos 0)) z ((pos 0 +ℤ pos 0) -ℤ c))) (sym (flip-double k))
+      (subst (λ z. HasOwn m k c c (with_greatest (with_greatest (without m k) (2 * k) ((pos 0 +ℤ c) -ℤ pos 0)) z ((pos 0 +ℤ pos 0) -ℤ c))) (sym (even-flip k))
       (own-low m k c c (with_greatest (without m k) (2 * k) ((pos 0 +ℤ c) -ℤ pos 0)) ((pos 0 +ℤ pos 0) -ℤ c) l (omega (arith, ints))
       (own-high m k c c (without m k) ((pos 0 +ℤ c) -ℤ pos 0) l (omega (arith, ints)) (own-free m k c c h.1.matrix l))))
   | inr l ↦ outside l
@@ -224,7 +224,7 @@ constant_obeys m k c h t = elim (cases_lt k (length m.kinds)) [
         let n : length (without m k).kinds ≡ length m.kinds = ap length e.same_kinds in
         let first : without m k ≡ with_greatest (without m k) (2 * k) ((pos 0 +ℤ c) -ℤ pos 0) =
         bound-outside (without m k) (flip (2 * k)) (2 * k) (((pos 0 +ℤ c) -ℤ pos 0) +ℤ ((pos 0 +ℤ c) -ℤ pos 0)) e.matrix (inr (omega arith)) in
-        let f : flip (2 * k) ≡ 2 * k + 1 = flip-double k in
+        let f : flip (2 * k) ≡ 2 * k + 1 = even-flip k in
         let second : without m k ≡ with_greatest (without m k) (flip (2 * k)) ((pos 0 +ℤ pos 0) -ℤ c) =
         bound-outside (without m k) (flip (flip (2 * k))) (flip (2 * k)) (((pos 0 +ℤ pos 0) -ℤ c) +ℤ ((pos 0 +ℤ pos 0) -ℤ c)) e.matrix (inr (omega arith)) in
         subst ObeysTriangles (second ∙ ap (λ w. with_greatest w (flip (2 * k)) ((pos 0 +ℤ pos 0) -ℤ c)) first) (without-obeys m k h t)
@@ -240,6 +240,6 @@ range_changes m k r h l = own-changes m k r.lo r.hi (meets_range (without m k) k
 
 pub constant_changes : (m : HalfMatrix) (k : ℕ) (c : ℤ) → IsMatrix m → k < length m.kinds → ChangesOnly k m (with_equation (without m k) (slot_form k) (Constant c))
 constant_changes m k c h l = own-changes m k c c (with_equation (without m k) (slot_form k) (Constant c))
-    (subst (λ z. HasOwn m k c c (with_greatest (with_greatest (without m k) (2 * k) ((pos 0 +ℤ c) -ℤ pos 0)) z ((pos 0 +ℤ pos 0) -ℤ c))) (sym (flip-double k))
+    (subst (λ z. HasOwn m k c c (with_greatest (with_greatest (without m k) (2 * k) ((pos 0 +ℤ c) -ℤ pos 0)) z ((pos 0 +ℤ pos 0) -ℤ c))) (sym (even-flip k))
     (own-low m k c c (with_greatest (without m k) (2 * k) ((pos 0 +ℤ c) -ℤ pos 0)) ((pos 0 +ℤ pos 0) -ℤ c) l (omega (arith, ints))
     (own-high m k c c (without m k) ((pos 0 +ℤ c) -ℤ pos 0) l (omega (arith, ints)) (own-free m k c c h l))))

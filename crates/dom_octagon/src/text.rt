@@ -18,7 +18,7 @@ use plain_values::{Memory, Text};
 use std::alloc::Global;
 
 /// The ranges of the slots from this one on.
-#[tactic(auto, using(crate::proofs::Written::three_joined))]
+#[tactic(auto, using(plain_values::proofs::Joined::joined_3))]
 fn put_ranges(
     text: &mut Text,
     m: &Matrix,
@@ -83,7 +83,7 @@ fn sharp(m: &Matrix, i: usize, j: usize) -> Option<i128>
 }
 
 /// What a bound says of two slots.
-#[tactic(auto, unfolding(octagon_meaning::specs::Text::bound_text), using(crate::proofs::Written::bound_joined))]
+#[tactic(auto, unfolding(octagon_meaning::specs::Text::bound_text), using(plain_values::proofs::Joined::joined_6))]
 fn put_bound(
     text: &mut Text,
     sign: &[u8],
@@ -107,7 +107,7 @@ fn put_bound(
 }
 
 /// The sharp bounds on two slots.
-#[tactic(auto, unfolding(octagon_meaning::specs::Text::pair_text), using(crate::proofs::Written::pair_joined))]
+#[tactic(auto, unfolding(octagon_meaning::specs::Text::pair_text), using(plain_values::proofs::Joined::joined_4))]
 fn put_pair(
     text: &mut Text,
     m: &Matrix,
@@ -128,7 +128,7 @@ fn put_pair(
 }
 
 /// The pairs of slot a with those from b on.
-#[tactic(auto, using(crate::proofs::Written::two_joined))]
+#[tactic(auto, using(plain_values::proofs::Joined::joined_2))]
 fn put_pairs_with(
     text: &mut Text,
     m: &Matrix,
@@ -152,7 +152,7 @@ fn put_pairs_with(
 }
 
 /// The pairs of the slots from this one on.
-#[tactic(auto, using(crate::proofs::Written::two_joined))]
+#[tactic(auto, using(plain_values::proofs::Joined::joined_2))]
 fn put_pairs(
     text: &mut Text,
     m: &Matrix,

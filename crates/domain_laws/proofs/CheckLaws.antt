@@ -1,5 +1,5 @@
 -- Checks hold exactly where statements do not fail them, and negation turns truth values round.
-use Rattle.std.proofs.Common.{◌≡◌, refl, sym, ap, ◌∙◌, ℕ, suc, zero, ◌<◌, ◌≤◌, ℤ, pos, negsuc, List, [], ◌∷◌, length, slice_get, slice_set, slice_index_or, Option, Some, None, Bool, true, false, not, ◌&&◌, All, arith, subst, nat_lt, int_le, int_lt, int_div, int_rem, neg_ℤ, ◌+ℤ◌, ◌-ℤ◌, ◌*ℤ◌, if◌then◌else◌, ◌⊎◌, inl, inr}
+use Rattle.std.proofs.Common.{◌≡◌, refl, sym, ap, ◌∙◌, ℕ, ◌<◌, ◌≤◌, ℤ, pos, negsuc, List, length, slice_get, slice_set, Option, Some, None, Bool, true, false, not, ◌&&◌, All, arith, subst, nat_lt, int_le, int_lt, int_div, int_rem, neg_ℤ, ◌+ℤ◌, ◌-ℤ◌, ◌*ℤ◌, if◌then◌else◌, ◌⊎◌, inl, inr}
 use Rattle.std.proofs.lemmas.Int.{ints}
 use borrow.Author.Tests.{ltb-true, ltb-false}
 use Rattle.concrete_sem.specs.Effects.{element, with_element, cell_of, effect_of, with_cell}
@@ -19,6 +19,9 @@ use Rattle.imp_slots.specs.Plain as plain
 use Rattle.concrete_sem.specs.Evaluation.{relates, word, quotient, combine, value_of, truth_of, same_link}
 use Rattle.domain_laws.specs.Checks.{Check, Within, IsCell, check_of, checked_guard, opposite}
 use Rattle.domain_laws.specs.Claims.{ChecksTo, FailsCheck}
+use Rattle.std.proofs.lemmas.Option.{slice_get_within}
+use Rattle.plain_values.proofs.Lists.{none_past}
+use Rattle.concrete_sem.proofs.Keeps.{link_is, given_some}
 
 not_not : (b : Bool) → not (not b) ≡ b
 not_not true = refl
@@ -143,16 +146,6 @@ within-truth v a e i h = rw h (both (int_le (pos 0) i))
     both true = refl
     both false = refl
 
-some-within : {A : Type 0} (xs : List A) (k : ℕ) (x : A) → slice_get xs k ≡ Some x → k < length xs
-some-within [] k x h = cc
-some-within (y ∷ ys) zero x h = omega arith
-some-within (y ∷ ys) (suc k) x h = omega (arith, some-within ys k x h)
-
-none-past : {A : Type 0} (xs : List A) (k : ℕ) → slice_get xs k ≡ None → length xs ≤ k
-none-past [] k h = omega arith
-none-past (y ∷ ys) zero h = cc
-none-past (y ∷ ys) (suc k) h = omega (arith, none-past ys k h)
-
 -- an index is in its list
 abbrev in_list : {A : Type 0} → List A → ℤ → Bool
 in_list zs i = if int_le (pos 0) i then int_lt i (pos (length zs)) else false
@@ -169,20 +162,16 @@ in_list-false zs k h =
     let b : int_lt (pos k) (pos (length zs)) ≡ false = grind (arith, ints) in
     rw a b
 
-given-some : {A : Type 0} (k : FaultKind) (o : Option A) (a : A) → given_or k o ≡ Gives a → o ≡ Some a
-given-some k None a h = cc
-given-some k (Some b) a h = let e : b ≡ a = cc in ap Some e
-
 given-none : {A : Type 0} (j k : FaultKind) (o : Option A) → given_or j o ≡ Faults k → o ≡ None
 given-none j k None h = refl
 given-none j k (Some b) h = cc
 
 element-in : (zs : List ℤ) (i z : ℤ) → element zs i ≡ Gives z → in_list zs i ≡ true
-element-in zs (pos k) z h = in_list-true zs k (some-within zs k z (given-some Index (slice_get zs k) z h))
+element-in zs (pos k) z h = in_list-true zs k (slice_get_within zs k z (given_some Index (slice_get zs k) z h))
 element-in zs (negsuc k) z h = cc
 
 element-out : (zs : List ℤ) (i : ℤ) (k : FaultKind) → element zs i ≡ Faults k → in_list zs i ≡ false
-element-out zs (pos j) k h = in_list-false zs j (none-past zs j (given-none Index k (slice_get zs j) h))
+element-out zs (pos j) k h = in_list-false zs j (none_past zs j (given-none Index k (slice_get zs j) h))
 element-out zs (negsuc j) k h = refl
 
 with_element-in : (zs : List ℤ) (i z : ℤ) (ys : List ℤ) → with_element zs i z ≡ Gives ys → in_list zs i ≡ true
@@ -210,14 +199,9 @@ cell-none : (cells : List Cell) (l : Option ℕ) (k : FaultKind) → IsLink (len
 cell-none cells None k w h = refl
 cell-none cells (Some j) k w h =
     elim (andthen-faults (given_or Null (slice_get cells j)) (λ c. Gives (j, c)) k h) [
-      | inl e ↦ let past = none-past cells j (given-none Null k (slice_get cells j) e) in absurd (omega arith)
+      | inl e ↦ let past = none_past cells j (given-none Null k (slice_get cells j) e) in absurd (omega arith)
       | inr e ↦ cc (e.2)
     ]
-
-link-in : (n : ℕ) (ls : List (Option ℕ)) (p : ℕ) → All (IsLink n) ls → IsLink n (slice_index_or ls p None)
-link-in n [] p h = tt
-link-in n (l ∷ ls) zero h = h 0 None (omega arith)
-link-in n (l ∷ ls) (suc p) h = link-in n ls p (λ k d lt. h (suc k) d (omega arith))
 
 cell-passed : (v : Variables) (cells : List Cell) (p : ℕ) (c : ℕ × Cell) → cell_of cells (link_at v p) ≡ Gives c → truth_of v (checked_guard (IsCell p)) ≡ Gives true
 unfolding truth_of
@@ -284,7 +268,7 @@ first-faults LacksInput f k h = cc
 
 cell-failed : (v : Variables) (cells : List Cell) (p : ℕ) → All (IsLink (length cells)) v.links → cell_of cells (link_at v p) ≡ Faults Null → truth_of v (checked_guard (IsCell p)) ≡ Gives false
 unfolding truth_of
-cell-failed v cells p w h = ap Gives (cell-none cells (link_at v p) Null (link-in (length cells) v.links p w) h)
+cell-failed v cells p w h = ap Gives (cell-none cells (link_at v p) Null (link_is (length cells) v.links p w) h)
 
 claim-failed : (m : Attempt Bool) (h : Heap) (v : Variables) → (m ≡ Faults Failed → ⊥) → andthen {B = Heap × Variables} m (λ b. if b then Gives (h, v) else Faults Failed) ≡ Faults Failed → m ≡ Gives false
 claim-failed (Gives true) h v n g = cc

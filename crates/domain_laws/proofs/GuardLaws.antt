@@ -1,6 +1,6 @@
 -- A domain that assumes comparisons rightly assumes guards rightly, and its verdicts are right.
 use Rattle.std.proofs.Common.{◌≡◌, refl, sym, ap, ◌∙◌, subst, ℕ, Option, Some, None, Bool, true, false, not, if◌then◌else◌, ◌⊎◌, inl, inr}
-use Rattle.std.proofs.lemmas.Bool.{and_parts}
+use Rattle.std.proofs.lemmas.Bool.{and_parts, not-false}
 use Rattle.imp_syntax.specs.declared.words.Relation.{Relation}
 use Rattle.imp_slots.specs.Plain.{Layout, Term, Guard, Compare, CompareLinks, Not, And, Or}
 use Rattle.imp_slots.specs.Fits.{fits_term, fits_guard, is_side}
@@ -12,17 +12,11 @@ use Rattle.domain_laws.specs.Checks.{Check, check_of, checked_guard, opposite, p
 use Rattle.domain_laws.specs.Guards.{assumed, verdict_on, verdict_by, Compares, Tells}
 use Rattle.domain_laws.specs.Claims.{same_truth}
 use Rattle.domain_laws.proofs.CheckLaws.{andthen-gives, relates-opposite}
-
-gives-same : {A : Type 0} {a b : A} → Gives a ≡ Gives b → a ≡ b
-gives-same h = cc
-
-false_not : (b : Bool) → not b ≡ false → b ≡ true
-false_not true h = refl
-false_not false h = sym h
+use Rattle.concrete_sem.proofs.Forms.{gives_same}
 
 not-gives : (m : Attempt Bool) (b : Bool) → andthen m (λ x. Gives (not x)) ≡ Gives b → m ≡ Gives (not b)
-not-gives (Gives true) b h = ap (λ x. Gives (not x)) (gives-same h)
-not-gives (Gives false) b h = ap (λ x. Gives (not x)) (gives-same h)
+not-gives (Gives true) b h = ap (λ x. Gives (not x)) (gives_same h)
+not-gives (Gives false) b h = ap (λ x. Gives (not x)) (gives_same h)
 not-gives (Faults k) b h = cc
 not-gives LacksInput b h = cc
 
@@ -84,18 +78,18 @@ module _ {S : Type 0} (compare : Relation → Term → Term → S → S) (links 
         let p = and_parts (fits_term l x) (fits_term l y) f in
         let a = andthen-gives (value_of v x) (λ i. andthen (value_of v y) (λ j. Gives (relates r i j))) true t in
         let d = andthen-gives (value_of v y) (λ j. Gives (relates r a.0 j)) true a.2 in
-        tells.compare_tells r x y a.0 d.0 s p.0 p.1 k a.1 d.1 (gives-same d.2) c
+        tells.compare_tells r x y a.0 d.0 s p.0 p.1 k a.1 d.1 (gives_same d.2) c
     compared r x y false s f k t c =
         let p = and_parts (fits_term l x) (fits_term l y) f in
         let a = andthen-gives (value_of v x) (λ i. andthen (value_of v y) (λ j. Gives (relates r i j))) false t in
         let d = andthen-gives (value_of v y) (λ j. Gives (relates r a.0 j)) false a.2 in
-        tells.compare_tells (opposite r) x y a.0 d.0 s p.0 p.1 k a.1 d.1 (relates-opposite r a.0 d.0 ∙ ap not (gives-same d.2)) c
+        tells.compare_tells (opposite r) x y a.0 d.0 s p.0 p.1 k a.1 d.1 (relates-opposite r a.0 d.0 ∙ ap not (gives_same d.2)) c
 
     linked : (equal : Bool) (p q : Option ℕ) (b : Bool) (s : S) → fits_guard l (CompareLinks equal p q) ≡ true → Fits s → truth_of v (CompareLinks equal p q) ≡ Gives b → Covers s → Covers (assumed compare links join (CompareLinks equal p q) b s)
     unfolding fits_guard truth_of
-    linked equal p q true s f k t c = let w = and_parts (is_side l p) (is_side l q) f in tells.links_tell equal p q s w.0 w.1 k (gives-same t) c
-    linked true p q false s f k t c = let w = and_parts (is_side l p) (is_side l q) f in tells.links_tell false p q s w.0 w.1 k (ap not (gives-same t)) c
-    linked false p q false s f k t c = let w = and_parts (is_side l p) (is_side l q) f in tells.links_tell true p q s w.0 w.1 k (false_not (same_link (side_at v p) (side_at v q)) (gives-same t)) c
+    linked equal p q true s f k t c = let w = and_parts (is_side l p) (is_side l q) f in tells.links_tell equal p q s w.0 w.1 k (gives_same t) c
+    linked true p q false s f k t c = let w = and_parts (is_side l p) (is_side l q) f in tells.links_tell false p q s w.0 w.1 k (ap not (gives_same t)) c
+    linked false p q false s f k t c = let w = and_parts (is_side l p) (is_side l q) f in tells.links_tell true p q s w.0 w.1 k (not-false (same_link (side_at v p) (side_at v q)) (gives_same t)) c
 
     -- a state that describes a frame describes it where a guard has its truth value there
     pub assumed-covers : (g : Guard) (b : Bool) (s : S) → fits_guard l g ≡ true → Fits s → truth_of v g ≡ Gives b → Covers s → Covers (assumed compare links join g b s)
@@ -169,14 +163,14 @@ and_true m n false c f h = h
 
 and_not : (m n : Attempt Bool) (b c : Bool) → (m ≡ Gives c → n ≡ Gives (not c)) → (if b then m else Gives false) ≡ Gives c → (if not b then Gives true else n) ≡ Gives (not c)
 and_not m n true c f h = f h
-and_not m n false c f h = ap (λ x. Gives (not x)) (gives-same h)
+and_not m n false c f h = ap (λ x. Gives (not x)) (gives_same h)
 
 or_true : (m n : Attempt Bool) (b c : Bool) → (m ≡ Gives c → n ≡ Gives c) → (if b then Gives true else m) ≡ Gives c → (if b then Gives true else n) ≡ Gives c
 or_true m n true c f h = h
 or_true m n false c f h = f h
 
 or_not : (m n : Attempt Bool) (b c : Bool) → (m ≡ Gives c → n ≡ Gives (not c)) → (if b then Gives true else m) ≡ Gives c → (if not b then n else Gives false) ≡ Gives (not c)
-or_not m n true c f h = ap (λ x. Gives (not x)) (gives-same h)
+or_not m n true c f h = ap (λ x. Gives (not x)) (gives_same h)
 or_not m n false c f h = f h
 
 pub positive-truth : (v : Variables) (g : Guard) (b c : Bool) → truth_of v g ≡ Gives c → truth_of v (positive b g) ≡ Gives (same_truth b c)
@@ -185,10 +179,10 @@ positive-truth v (Compare r x y) true c t = t
 positive-truth v (Compare r x y) false c t =
     let a = andthen-gives (value_of v x) (λ i. andthen (value_of v y) (λ j. Gives (relates r i j))) c t in
     let d = andthen-gives (value_of v y) (λ j. Gives (relates r a.0 j)) c a.2 in
-    (λ i. andthen (a.1 i) (λ x. andthen (d.1 i) (λ y. Gives (relates (opposite r) x y)))) ∙ ap Gives (relates-opposite r a.0 d.0 ∙ ap not (gives-same d.2))
+    (λ i. andthen (a.1 i) (λ x. andthen (d.1 i) (λ y. Gives (relates (opposite r) x y)))) ∙ ap Gives (relates-opposite r a.0 d.0 ∙ ap not (gives_same d.2))
 positive-truth v (CompareLinks equal p q) true c t = t
-positive-truth v (CompareLinks true p q) false c t = ap (λ b. Gives (not b)) (gives-same t)
-positive-truth v (CompareLinks false p q) false c t = ap Gives (sym (not_not (same_link (side_at v p) (side_at v q))) ∙ ap not (gives-same t))
+positive-truth v (CompareLinks true p q) false c t = ap (λ b. Gives (not b)) (gives_same t)
+positive-truth v (CompareLinks false p q) false c t = ap Gives (sym (not_not (same_link (side_at v p) (side_at v q))) ∙ ap not (gives_same t))
 positive-truth v (Not g) true c t = positive-truth v g false (not c) (not-gives (truth_of v g) c t) ∙ ap Gives (not_not c)
 positive-truth v (Not g) false c t = positive-truth v g true (not c) (not-gives (truth_of v g) c t)
 positive-truth v (And g h) true c t =

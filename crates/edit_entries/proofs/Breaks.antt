@@ -4,7 +4,7 @@ use Rattle.std.proofs.lemmas.List.{take-append-drop}
 use Rattle.imp_syntax.specs.Plain.{Condition, Statement, Simple, Break, Call, If, While, Statements, Ends, Starts, Procedure, numbers_in, numbers, program_numbers}
 use Rattle.imp_slots.specs.Fits.{Absent, Distinct}
 use Rattle.imp_check.specs.Programs.{has}
-use Rattle.imp_check.specs.Slots.{Frame}
+use Rattle.imp_check.specs.Slots.{Resolver}
 use Rattle.imp_check.specs.Parts.{ends_of, first_or, last_or, leaving_in, leaving}
 use Rattle.imp_check.specs.Entries.{entry_at, entries_of, entry_of, frame_at, context_at}
 use Rattle.imp_check.specs.declared.entry.Context.{Context}
@@ -13,11 +13,12 @@ use Rattle.edit_entries.specs.Spliced.{left_of, among, breaking}
 use Rattle.edit_entries.specs.Holes.{append, Hole, Then, Else, Body, fill, plug, holder, loop_of, between, with_body}
 use Rattle.edit_entries.proofs.Others.{leaving_append}
 use Rattle.edit_entries.proofs.Filled.{context_in, ends_filled, has_loop, no_loop, some_loop}
-use Rattle.edit_entries.proofs.Stay.{last_holder, left_absent, right_absent}
+use Rattle.edit_entries.proofs.Stay.{last_holder}
 use Rattle.edit_entries.proofs.Located.{Has, has_parts}
-use Rattle.edit_entries.proofs.Numbers.{Apart, numbers_append, filled, both_absent, absent_not, has_true, has_false, middle_alone}
+use Rattle.edit_entries.proofs.Numbers.{Apart, numbers_append, filled, absent_not, has_true, has_false, middle_alone}
 use Rattle.edit_entries.proofs.Standing.{has_left, has_right, has_plugged, inner_once, deep_once, own_distinct}
 use Rattle.edit_entries.proofs.Touched.{context_of, holder_found}
+use Rattle.imp_slots.proofs.Distinct.{absent_both, absent_left, absent_right}
 
 -- Breaks that leave a block are statements of it.
 either : {A B C : Type 0} → A ⊎ B → (A → C) → (B → C) → C
@@ -48,13 +49,13 @@ mutual
   leaving_absent_in m (Break n) h = h
   leaving_absent_in m (Call n x g es) h = tt
   leaving_absent_in m (If n c t e) h =
-      both_absent m (leaving t) (leaving e) (leaving_absent m t (left_absent m (numbers t) (numbers e) h.1)) (leaving_absent m e (right_absent m (numbers t) (numbers e) h.1))
+      absent_both m (leaving t) (leaving e) (leaving_absent m t (absent_left m (numbers t) (numbers e) h.1)) (leaving_absent m e (absent_right m (numbers t) (numbers e) h.1))
   leaving_absent_in m (While n c b) h = tt
 
   leaving_absent : (m : ℕ) (b : Statements) → Absent m (numbers b) → Absent m (leaving b)
   leaving_absent m Ends h = tt
   leaving_absent m (Starts s ss) h =
-      both_absent m (leaving_in s) (leaving ss) (leaving_absent_in m s (left_absent m (numbers_in s) (numbers ss) h)) (leaving_absent m ss (right_absent m (numbers_in s) (numbers ss) h))
+      absent_both m (leaving_in s) (leaving ss) (leaving_absent_in m s (absent_left m (numbers_in s) (numbers ss) h)) (leaving_absent m ss (absent_right m (numbers_in s) (numbers ss) h))
 
 -- Which are left.
 left_append : (gone xs ys : List ℕ) → left_of gone (xs ++ ys) ≡ left_of gone xs ++ left_of gone ys
@@ -115,11 +116,11 @@ module _ (before olds news behind : Statements) (quits : leaving news ≡ []) wh
       ∙ sym (
       ap (left_of gone) (leaving_append before (append olds behind) ∙ ap (λ k. leaving before ++ k) (leaving_append olds behind))
       ∙ left_append gone (leaving before) (leaving olds ++ leaving behind)
-      ∙ ap (λ k. k ++ left_of gone (leaving olds ++ leaving behind)) (kept before (λ m h. left_absent m (numbers before) (numbers behind) (alone m h)))
+      ∙ ap (λ k. k ++ left_of gone (leaving olds ++ leaving behind)) (kept before (λ m h. absent_left m (numbers before) (numbers behind) (alone m h)))
       ∙ ap (λ k. leaving before ++ k)
       (left_append gone (leaving olds) (leaving behind)
       ∙ ap (λ k. k ++ left_of gone (leaving behind)) (none_left gone (leaving olds) (λ m h. leaving_has m olds h))
-      ∙ kept behind (λ m h. right_absent m (numbers before) (numbers behind) (alone m h)))
+      ∙ kept behind (λ m h. absent_right m (numbers before) (numbers behind) (alone m h)))
       )
 
   -- .. that stands in ifs.
@@ -145,19 +146,19 @@ module _ (before olds news behind : Statements) (quits : leaving news ≡ []) wh
   filled_lost (Then b n c e r) x y i once sub q =
       let f = filled (Then b n c e r) in
       let a : (m : ℕ) → Has m gone → Absent m ((numbers b ++ n ∷ []) ++ (numbers e ++ numbers r)) = λ m h. middle_alone f.0 (numbers x) f.1 m (subst Distinct (f.2 x) once) (sub m h) in
-      let l : (m : ℕ) → Has m gone → Absent m (numbers b ++ n ∷ []) = λ m h. left_absent m (numbers b ++ n ∷ []) (numbers e ++ numbers r) (a m h) in
-      let k : (m : ℕ) → Has m gone → Absent m (numbers e ++ numbers r) = λ m h. right_absent m (numbers b ++ n ∷ []) (numbers e ++ numbers r) (a m h) in
+      let l : (m : ℕ) → Has m gone → Absent m (numbers b ++ n ∷ []) = λ m h. absent_left m (numbers b ++ n ∷ []) (numbers e ++ numbers r) (a m h) in
+      let k : (m : ℕ) → Has m gone → Absent m (numbers e ++ numbers r) = λ m h. absent_right m (numbers b ++ n ∷ []) (numbers e ++ numbers r) (a m h) in
       leaving_append b (Starts (If n c y e) r)
       ∙ ap (λ z. leaving b ++ ((z ++ leaving e) ++ leaving r)) q
-      ∙ sym (three (leaving b) (leaving x) (leaving e) (leaving r) (kept b (λ m h. left_absent m (numbers b) (n ∷ []) (l m h))) (kept e (λ m h. left_absent m (numbers e) (numbers r) (k m h))) (kept r (λ m h. right_absent m (numbers e) (numbers r) (k m h))))
+      ∙ sym (three (leaving b) (leaving x) (leaving e) (leaving r) (kept b (λ m h. absent_left m (numbers b) (n ∷ []) (l m h))) (kept e (λ m h. absent_left m (numbers e) (numbers r) (k m h))) (kept r (λ m h. absent_right m (numbers e) (numbers r) (k m h))))
       ∙ ap (left_of gone) (sym (leaving_append b (Starts (If n c x e) r)))
   filled_lost (Else b n c t r) x y i once sub q =
       let f = filled (Else b n c t r) in
       let a : (m : ℕ) → Has m gone → Absent m ((numbers b ++ n ∷ numbers t) ++ numbers r) = λ m h. middle_alone f.0 (numbers x) f.1 m (subst Distinct (f.2 x) once) (sub m h) in
-      let l : (m : ℕ) → Has m gone → Absent m (numbers b ++ n ∷ numbers t) = λ m h. left_absent m (numbers b ++ n ∷ numbers t) (numbers r) (a m h) in
+      let l : (m : ℕ) → Has m gone → Absent m (numbers b ++ n ∷ numbers t) = λ m h. absent_left m (numbers b ++ n ∷ numbers t) (numbers r) (a m h) in
       leaving_append b (Starts (If n c t y) r)
       ∙ ap (λ z. leaving b ++ ((leaving t ++ z) ++ leaving r)) q
-      ∙ sym (three' (leaving b) (leaving t) (leaving x) (leaving r) (kept b (λ m h. left_absent m (numbers b) (n ∷ numbers t) (l m h))) (kept t (λ m h. (right_absent m (numbers b) (n ∷ numbers t) (l m h)).1)) (kept r (λ m h. right_absent m (numbers b ++ n ∷ numbers t) (numbers r) (a m h))))
+      ∙ sym (three' (leaving b) (leaving t) (leaving x) (leaving r) (kept b (λ m h. absent_left m (numbers b) (n ∷ numbers t) (l m h))) (kept t (λ m h. (absent_right m (numbers b) (n ∷ numbers t) (l m h)).1)) (kept r (λ m h. absent_right m (numbers b ++ n ∷ numbers t) (numbers r) (a m h))))
       ∙ ap (left_of gone) (sym (leaving_append b (Starts (If n c t x) r)))
   filled_lost (Body b n c r) x y i once sub q = cc
 
@@ -338,7 +339,7 @@ pub loop_gained : (ps qs : List Procedure) (p : Procedure) (hs : List Hole) (m :
 loop_gained ps qs p hs m l before olds news behind once = gained before olds news behind l.inner l.plain (loop_once ps qs p hs m l (between before behind olds) once)
 
 -- A loop whose body keeps its ends and has other breaks.
-pub rebroken_loop : (f : Frame) (k : Context) (a b : Option ℕ) (m : ℕ) (c : Condition) (ns : List ℕ) (x y : Statements) → ends_of y ≡ ends_of x → leaving y ≡ ns →
+pub rebroken_loop : (f : Resolver) (k : Context) (a b : Option ℕ) (m : ℕ) (c : Condition) (ns : List ℕ) (x y : Statements) → ends_of y ≡ ends_of x → leaving y ≡ ns →
     entry_at f k a b (While m c y) ≡ breaking ns (entry_at f k a b (While m c x))
 rebroken_loop f k a b m c ns x y p q =
     ap (λ s. record (entry_at f k a b (While m c y)) { inner = s }) p

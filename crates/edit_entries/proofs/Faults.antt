@@ -4,14 +4,11 @@ use Rattle.imp_syntax.specs.Plain.{Statement, Statements, Ends, Starts, If, Whil
 use Rattle.imp_check.specs.Faults.{first, at}
 use Rattle.imp_check.specs.Statements.{Scope, condition_fault, statement_fault, block_fault}
 use Rattle.edit_entries.specs.Holes.{append, Hole, Then, Else, Body, fill, plug, in_loop, between}
+use Rattle.imp_check.proofs.FewLemmas.{first_none}
 
-pub first_parts : {A : Type 0} (a b : Option A) → first a b ≡ None → (a ≡ None) × (b ≡ None)
-first_parts None b h = (refl, h)
-first_parts (Some x) b h = absurd cc
-
-pub first_none : {A : Type 0} (a : Option A) → first a None ≡ a
-first_none None = refl
-first_none (Some x) = refl
+pub first_alone : {A : Type 0} (a : Option A) → first a None ≡ a
+first_alone None = refl
+first_alone (Some x) = refl
 
 first_assoc : {A : Type 0} (a b c : Option A) → first (first a b) c ≡ first a (first b c)
 first_assoc None b c = refl
@@ -19,7 +16,7 @@ first_assoc (Some x) b c = refl
 
 -- Of three parts of which the outer ones have no fault, the fault is that of the middle one.
 pub first_middle : {A : Type 0} (a b c : Option A) → a ≡ None → c ≡ None → first a (first b c) ≡ b
-first_middle a b c p q = ap (λ o. first o (first b c)) p ∙ ap (first b) q ∙ first_none b
+first_middle a b c p q = ap (λ o. first o (first b c)) p ∙ ap (first b) q ∙ first_alone b
 
 module _ (s : Scope) where
   pub fault_append : (i : Bool) (xs ys : Statements) → block_fault s i (append xs ys) ≡ first (block_fault s i xs) (block_fault s i ys)
@@ -37,27 +34,27 @@ module _ (s : Scope) where
 
   fill_fault : (i : Bool) (h : Hole) (x y : Statements) → block_fault s i (fill h x) ≡ None → Brings i (h ∷ []) x y
   fill_fault i (Then b n c e r) x y z =
-      let a = first_parts (block_fault s i b) _ (sym (fault_among i b r (If n c x e)) ∙ z) in
-      let d = first_parts (statement_fault s i (If n c x e)) (block_fault s i r) a.1 in
-      let g = first_parts (at n (condition_fault s.variables c)) _ d.0 in
-      let k = first_parts (block_fault s i x) (block_fault s i e) g.1 in
+      let a = first_none (block_fault s i b) _ (sym (fault_among i b r (If n c x e)) ∙ z) in
+      let d = first_none (statement_fault s i (If n c x e)) (block_fault s i r) a.1 in
+      let g = first_none (at n (condition_fault s.variables c)) _ d.0 in
+      let k = first_none (block_fault s i x) (block_fault s i e) g.1 in
       record {
         none = k.0;
         own = fault_among i b r (If n c y e) ∙ first_middle (block_fault s i b) (statement_fault s i (If n c y e)) (block_fault s i r) a.0 d.1 ∙ first_middle (at n (condition_fault s.variables c)) (block_fault s i y) (block_fault s i e) g.0 k.1;
       }
   fill_fault i (Else b n c t r) x y z =
-      let a = first_parts (block_fault s i b) _ (sym (fault_among i b r (If n c t x)) ∙ z) in
-      let d = first_parts (statement_fault s i (If n c t x)) (block_fault s i r) a.1 in
-      let g = first_parts (at n (condition_fault s.variables c)) _ d.0 in
-      let k = first_parts (block_fault s i t) (block_fault s i x) g.1 in
+      let a = first_none (block_fault s i b) _ (sym (fault_among i b r (If n c t x)) ∙ z) in
+      let d = first_none (statement_fault s i (If n c t x)) (block_fault s i r) a.1 in
+      let g = first_none (at n (condition_fault s.variables c)) _ d.0 in
+      let k = first_none (block_fault s i t) (block_fault s i x) g.1 in
       record {
         none = k.1;
         own = fault_among i b r (If n c t y) ∙ first_middle (block_fault s i b) (statement_fault s i (If n c t y)) (block_fault s i r) a.0 d.1 ∙ ap (λ o. first o (first (block_fault s i t) (block_fault s i y))) g.0 ∙ ap (λ o. first o (block_fault s i y)) k.0;
       }
   fill_fault i (Body b n c r) x y z =
-      let a = first_parts (block_fault s i b) _ (sym (fault_among i b r (While n c x)) ∙ z) in
-      let d = first_parts (statement_fault s i (While n c x)) (block_fault s i r) a.1 in
-      let g = first_parts (at n (condition_fault s.variables c)) (block_fault s true x) d.0 in
+      let a = first_none (block_fault s i b) _ (sym (fault_among i b r (While n c x)) ∙ z) in
+      let d = first_none (statement_fault s i (While n c x)) (block_fault s i r) a.1 in
+      let g = first_none (at n (condition_fault s.variables c)) (block_fault s true x) d.0 in
       record {
         none = g.1;
         own = fault_among i b r (While n c y) ∙ first_middle (block_fault s i b) (statement_fault s i (While n c y)) (block_fault s i r) a.0 d.1 ∙ ap (λ o. first o (block_fault s true y)) g.0;
@@ -78,8 +75,8 @@ module _ (s : Scope) where
   edit_fault i hs before olds news behind z =
       let o = plug_fault i hs (between before behind olds) (between before behind news) z in
       let j = in_loop i hs in
-      let a = first_parts (block_fault s j before) (block_fault s j (append olds behind)) (sym (fault_append j before (append olds behind)) ∙ o.none) in
-      let d = first_parts (block_fault s j olds) (block_fault s j behind) (sym (fault_append j olds behind) ∙ a.1) in
+      let a = first_none (block_fault s j before) (block_fault s j (append olds behind)) (sym (fault_append j before (append olds behind)) ∙ o.none) in
+      let d = first_none (block_fault s j olds) (block_fault s j behind) (sym (fault_append j olds behind) ∙ a.1) in
       o.own
       ∙ fault_append j before (append news behind)
       ∙ ap (first (block_fault s j before)) (fault_append j news behind)

@@ -2,7 +2,7 @@
 use Rattle.std.proofs.Common.{◌≡◌, ℕ, ◌==◌, cond, List, [], ◌∷◌, ◌++◌, Option, Some, None, Bool, true, false, refl, sym, ap, ◌∙◌}
 use Rattle.imp_syntax.specs.Plain.{Statement, Statements, Starts, If, While, number_of}
 use Rattle.imp_check.specs.Faults.{first}
-use Rattle.imp_check.specs.Slots.{Frame}
+use Rattle.imp_check.specs.Slots.{Resolver}
 use Rattle.imp_check.specs.declared.entry.Which.TheVariants as which
 use Rattle.imp_check.specs.declared.entry.Context.{Context}
 use Rattle.imp_check.specs.declared.entry.Entry.{Entry}
@@ -87,7 +87,7 @@ some_loop o p (Then b n c e r ∷ hs) h = some_loop o p hs h
 some_loop o p (Else b n c t r ∷ hs) h = some_loop o p hs h
 some_loop o p (Body b n c r ∷ hs) h = refl
 
-module _ (f : Frame) (m : ℕ) where
+module _ (f : Resolver) (m : ℕ) where
   -- What is found in a filled hole, by the spot of its statement and what is found in the block.
   abbrev look : Context → Hole → Entry → Option Entry → Option Entry
   look k (Then b n c e r) s o = first (entry_of (block_entries f k None (Some n) b) m) (first (cond (n == m) (Some s) (first o (entry_of (block_entries f (inside k n which.Else) None None e) m))) (entry_of (block_entries f k (Some n) None r) m))

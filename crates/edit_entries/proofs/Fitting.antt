@@ -1,25 +1,25 @@
 -- A program fits again where a part of a block is exchanged for one that fits in the same place.
 use Rattle.std.proofs.Common.{◌≡◌, ℕ, zero, suc, ◌<◌, ◌||◌, Bool, true, false, List, [], ◌∷◌, ◌++◌, length, map, slice_get, refl, sym, ap, ◌∙◌, subst, arith}
 use Rattle.std.proofs.lemmas.List.{map-append}
-use Rattle.imp_syntax.specs.Plain.{Statement, Statements, Ends, Starts, Procedure, numbers, program_numbers}
+use Rattle.imp_syntax.specs.Plain.{Statement, Statements, Ends, Starts, Procedure}
 use Rattle.imp_syntax.specs.Plain as tree
 use Rattle.imp_slots.specs.Plain.{Layout, Invoke, Code, Routine}
 use Rattle.imp_slots.specs.Plain as slot
-use Rattle.imp_slots.specs.Fits.{FitsCode, FitsCall, FitsRoutine, FitInTurn, IsChecked, Absent, Distinct, breaks, routine_numbers}
-use Rattle.imp_check.specs.Slots.{Frame, layout_in, guard_in, invoke_of, invoke_in, callee_in, statement_in, code_in, routine_of, routines_from, routines_of}
+use Rattle.imp_slots.specs.Fits.{FitsCode, FitsCall, FitsRoutine, FitInTurn, IsChecked, Absent, Distinct, breaks}
+use Rattle.imp_check.specs.Slots.{Resolver, layout_in, guard_in, invoke_of, invoke_in, callee_in, statement_in, code_in, routine_of, routines_from, routines_of}
 use Rattle.imp_check.specs.Names.{place_named}
 use Rattle.imp_check.specs.Parts.{leaving_in, leaving}
 use Rattle.imp_check.specs.Entries.{frame_at}
 use Rattle.imp_check.specs.Programs.{AreNumbered}
-use Rattle.imp_check.proofs.FitsBlocks.{block_numbers}
 use Rattle.edit_entries.specs.Holes.{append, Hole, Then, Else, Body, fill, plug, between}
 use Rattle.edit_entries.proofs.Heads.{bare, bares, one_more, place_bare, get_bare, invoke_bare}
 use Rattle.edit_entries.proofs.Programs.{old_one, new_one, old_program, new_program, bares_at}
 use Rattle.edit_entries.proofs.Filled.{plug_leaving}
 use Rattle.edit_entries.proofs.Holders.{leaving_between}
+use Rattle.imp_check.proofs.FitsPrograms.{all_numbers}
 
 -- Blocks of one procedure.
-module _ (before : List Routine) (l : Layout) (f : Frame) where
+module _ (before : List Routine) (l : Layout) (f : Resolver) where
   abbrev pub Fits : Statements → Type 0
   Fits b = FitsCode before l (code_in f b)
 
@@ -106,7 +106,7 @@ or_again : (a b c : Bool) → (a || (b || c)) ≡ ((a || b) || c)
 or_again true b c = refl
 or_again false b c = refl
 
-module _ (f : Frame) where
+module _ (f : Resolver) where
   mutual
     statement_breaks : (s : Statement) (r : Code) → breaks (statement_in f s r) ≡ (some (leaving_in s) || breaks r)
     statement_breaks (tree.Simple n a) r = refl
@@ -125,10 +125,10 @@ module _ (f : Frame) where
 
 -- Procedures behind others with the same heads.
 module _ (l : Layout) (ps : List Procedure) where
-  abbrev whole : Frame
+  abbrev whole : Resolver
   whole = record { layout = l; earlier = ps }
 
-  abbrev heads : Frame
+  abbrev heads : Resolver
   heads = record { layout = l; earlier = bares ps }
 
   mutual
@@ -219,12 +219,6 @@ module _ (p : Procedure) (hs : List Hole) (front olds news behind : Statements) 
     fits_along xs es [] qs w =
         (own_fits xs es w.0, fits_alike (xs ++ routine_of es O ∷ []) (xs ++ routine_of es N ∷ []) (es ++ O ∷ []) (es ++ N ∷ []) qs (one_layout xs xs (routine_of es O) (routine_of es N) refl refl) (bares_at p hs front olds news behind es []) w.1)
     fits_along xs es (x ∷ ps) qs w = (w.0, fits_along (xs ++ routine_of es x ∷ []) (es ++ x ∷ []) ps qs w.1)
-
-all_numbers : (es ps : List Procedure) → routine_numbers (routines_from es ps) ≡ program_numbers ps
-all_numbers es [] = refl
-all_numbers es (p ∷ ps) =
-    ap (λ (z : List ℕ). z ++ routine_numbers (routines_from (es ++ p ∷ []) ps)) (block_numbers (record { layout = layout_in p; earlier = es }) p.body)
-    ∙ ap (λ (z : List ℕ). numbers p.body ++ z) (all_numbers (es ++ p ∷ []) ps)
 
 names : (es ds ps qs : List Procedure) → bares ps ≡ bares qs → map (λ (r : Routine). r.name) (routines_from es ps) ≡ map (λ (r : Routine). r.name) (routines_from ds qs)
 names es ds [] [] h = refl

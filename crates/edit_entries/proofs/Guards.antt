@@ -4,7 +4,7 @@ use Rattle.imp_syntax.specs.Plain.{Condition, Statement, Simple, Break, Call, If
 use Rattle.imp_syntax.specs.Changes.{with_condition}
 use Rattle.imp_slots.specs.Fits.{Distinct}
 use Rattle.imp_check.specs.Faults.{first}
-use Rattle.imp_check.specs.Slots.{Frame}
+use Rattle.imp_check.specs.Slots.{Resolver}
 use Rattle.imp_check.specs.Entries.{form_in, entry_at, statement_entries, block_entries, procedure_entries, entries_from, entries_of, entry_of, frame_at, context_at}
 use Rattle.imp_check.specs.declared.entry.Context.{Context}
 use Rattle.imp_check.specs.declared.entry.Entry.{Entry}
@@ -43,7 +43,7 @@ same_leaving (Call n x g es) d = refl
 same_leaving (If n c t e) d = refl
 same_leaving (While n c b) d = refl
 
-module _ (f : Frame) (m : ℕ) where
+module _ (f : Resolver) (m : ℕ) where
   guard_head : (k : Context) (a p : Option ℕ) (s : Statement) (d : Condition) → (number_of s == m) ≡ false → entry_of (block_entries f k a p (one s)) m ≡ entry_of (block_entries f k a p (one (with_condition s d))) m
   guard_head k a p (Simple n x) d h = refl
   guard_head k a p (Break n) d h = refl

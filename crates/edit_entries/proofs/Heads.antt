@@ -10,7 +10,7 @@ use Rattle.imp_check.specs.Faults.{first, unless, at}
 use Rattle.imp_check.specs.declared.fault.Fault.{Fault}
 use Rattle.imp_check.specs.declared.fault.Fault.TheVariants.{UnknownName, CallsLater}
 use Rattle.imp_check.specs.Names.{place_named, is_named, procedure_named}
-use Rattle.imp_check.specs.Slots.{Frame, layout_in, invoke_of}
+use Rattle.imp_check.specs.Slots.{Resolver, layout_in, invoke_of}
 use Rattle.imp_check.specs.Entries.{form_in, inside, inside_loop, entry_at, statement_entries, block_entries, context_at, procedure_entries, entries_from}
 use Rattle.imp_check.specs.Statements.{Scope, condition_fault, knows_target, arguments_fault, call_fault, statement_fault, block_fault}
 use Rattle.imp_check.specs.Kinds.{knows_operands}
@@ -57,10 +57,10 @@ invoke_bare l x es None = refl
 invoke_bare l x es (Some p) = refl
 
 module _ (l : Layout) (ps : List Procedure) where
-  abbrev f : Frame
+  abbrev f : Resolver
   f = record { layout = l; earlier = ps }
 
-  abbrev g : Frame
+  abbrev g : Resolver
   g = record { layout = l; earlier = bares ps }
 
   form_bare : (s : Statement) → form_in f s ≡ form_in g s

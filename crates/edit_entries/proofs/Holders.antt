@@ -4,7 +4,7 @@ use Rattle.std.proofs.Common.{◌≡◌, ℕ, List, [], ◌∷◌, ◌++◌, len
 use Rattle.std.specs.Option.{option_map}
 use Rattle.imp_syntax.specs.Plain.{Statement, Simple, Break, Call, If, While, Statements, Procedure, numbers, program_numbers}
 use Rattle.imp_slots.specs.Fits.{Distinct}
-use Rattle.imp_check.specs.Slots.{Frame}
+use Rattle.imp_check.specs.Slots.{Resolver}
 use Rattle.imp_check.specs.declared.entry.Context.{Context}
 use Rattle.imp_check.specs.declared.entry.Entry.{Entry}
 use Rattle.imp_check.specs.declared.entry.BlockEnds.{BlockEnds}
@@ -38,7 +38,7 @@ held (Else b n c t r) s x = record x { other = s }
 held (Body b n c r) s x = record x { inner = s }
 
 -- the same of a statement that had the block, and has other breaks where it is the loop around it
-rebroken_held : (f : Frame) (k : Context) (a p : Option ℕ) (ns : List ℕ) (h : Hole) (t : Bool) (x y : Statements) → t ≡ has_loop (h ∷ []) → (t ≡ true → leaving y ≡ ns) →
+rebroken_held : (f : Resolver) (k : Context) (a p : Option ℕ) (ns : List ℕ) (h : Hole) (t : Bool) (x y : Statements) → t ≡ has_loop (h ∷ []) → (t ≡ true → leaving y ≡ ns) →
     Some (entry_at f k a p (holding h y)) ≡ option_map (held h (ends_of y)) (cond t (option_map (breaking ns) (Some (entry_at f k a p (holding h x)))) (Some (entry_at f k a p (holding h x))))
 rebroken_held f k a p ns (Then b n c e r) true x y i q = cc
 rebroken_held f k a p ns (Then b n c e r) false x y i q = refl
@@ -98,7 +98,7 @@ module _ (ps qs : List Procedure) (p : Procedure) (gs : List Hole) (h : Hole) (b
         some_from None m e = cc
         some_from (Some n) m e = ap Some (some_is n m e)
 
-        differ : (h : Hole) → has_loop (h ∷ []) ≡ false → (y : Entry) (f : Frame) (k : Context) (a p : Option ℕ) (x : Statements) → is_while y.part ≡ true → Some y ≡ Some (entry_at f k a p (holding h x)) → ⊥
+        differ : (h : Hole) → has_loop (h ∷ []) ≡ false → (y : Entry) (f : Resolver) (k : Context) (a p : Option ℕ) (x : Statements) → is_while y.part ≡ true → Some y ≡ Some (entry_at f k a p (holding h x)) → ⊥
         differ (Then b n c e r) i y f k a p x w q = let z : y ≡ entry_at f k a p (If n c x e) = cc in let no : true ≡ false = sym w ∙ ap (λ (o : Entry). is_while o.part) z in absurd cc
         differ (Else b n c t r) i y f k a p x w q = let z : y ≡ entry_at f k a p (If n c t x) = cc in let no : true ≡ false = sym w ∙ ap (λ (o : Entry). is_while o.part) z in absurd cc
         differ (Body b n c r) i y f k a p x w q = absurd cc
@@ -140,7 +140,7 @@ module _ (ps qs : List Procedure) (p : Procedure) (gs : List Hole) (h : Hole) (b
           from None i = cc
           from (Some n) i = ap Some (some_is n m i)
 
-      told_breaks : (h : Hole) (f : Frame) (k : Context) (a b : Option ℕ) (y : Statements) → has_loop (h ∷ []) ≡ true → (entry_at f k a b (holding h y)).breaks ≡ breaks → leaving y ≡ breaks
+      told_breaks : (h : Hole) (f : Resolver) (k : Context) (a b : Option ℕ) (y : Statements) → has_loop (h ∷ []) ≡ true → (entry_at f k a b (holding h y)).breaks ≡ breaks → leaving y ≡ breaks
       told_breaks (Then v n c e r) f k a b y i w = absurd cc
       told_breaks (Else v n c t r) f k a b y i w = absurd cc
       told_breaks (Body v n c r) f k a b y i w = w

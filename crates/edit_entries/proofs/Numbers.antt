@@ -5,8 +5,8 @@ use Rattle.imp_syntax.specs.Plain.{Statements, Ends, Starts, If, While, Procedur
 use Rattle.imp_slots.specs.Fits.{Absent, Distinct}
 use Rattle.imp_check.specs.Programs.{has}
 use Rattle.edit_entries.specs.Holes.{append, Hole, Then, Else, Body, fill, plug, between, with_body}
-use Rattle.edit_entries.proofs.Stay.{left_absent, right_absent}
 use Rattle.edit_entries.proofs.Located.{Has}
+use Rattle.imp_slots.proofs.Distinct.{absent_both, absent_left, absent_right}
 
 pub numbers_append : (xs ys : Statements) → numbers (append xs ys) ≡ numbers xs ++ numbers ys
 numbers_append Ends ys = refl
@@ -72,11 +72,6 @@ around_program (y ∷ ps) qs p of a =
 pub around_edit : (ps qs : List Procedure) (p : Procedure) (hs : List Hole) (before behind : Statements) → Around (λ x. program_numbers (ps ++ with_body p (plug hs (between before behind x)) ∷ qs))
 around_edit ps qs p hs before behind = around_program ps qs p (λ x. plug hs (between before behind x)) (around_plug hs (λ x. between before behind x) (around_part before behind))
 
--- Lists without repetitions.
-pub both_absent : (m : ℕ) (xs ys : List ℕ) → Absent m xs → Absent m ys → Absent m (xs ++ ys)
-both_absent m [] ys a b = b
-both_absent m (x ∷ xs) ys a b = (a.0, both_absent m xs ys a.1 b)
-
 pub absent_not : (m : ℕ) (xs : List ℕ) → Absent m xs → Has m xs → ⊥
 absent_not m [] a h = h
 absent_not m (x ∷ xs) a (inl e) = a.0 e
@@ -105,9 +100,9 @@ middle_alone [] ms r m d h = first ms d h
   where
     first : (ms : List ℕ) → Distinct (ms ++ r) → Has m ms → Absent m r
     first [] d h = absurd h
-    first (x ∷ ms) d (inl e) = subst (λ n. Absent n r) (sym e) (right_absent x ms r d.0)
+    first (x ∷ ms) d (inl e) = subst (λ n. Absent n r) (sym e) (absent_right x ms r d.0)
     first (x ∷ ms) d (inr h) = first ms d.1 h
-middle_alone (x ∷ l) ms r m d h = (λ e. absent_not x ms (left_absent x ms r (right_absent x l (ms ++ r) d.0)) (subst (λ n. Has n ms) e h), middle_alone l ms r m d.1 h)
+middle_alone (x ∷ l) ms r m d h = (λ e. absent_not x ms (absent_left x ms r (absent_right x l (ms ++ r) d.0)) (subst (λ n. Has n ms) e h), middle_alone l ms r m d.1 h)
 
 -- Numbers that all are away from others.
 abbrev pub Apart : List ℕ → List ℕ → Type 0
@@ -123,13 +118,13 @@ distinct_right (x ∷ xs) ys d = distinct_right xs ys d.1
 
 distinct_both : (xs ys : List ℕ) → Distinct xs → Distinct ys → Apart xs ys → Distinct (xs ++ ys)
 distinct_both [] ys d e a = e
-distinct_both (x ∷ xs) ys d e a = (both_absent x xs ys d.0 (a x (inl refl)), distinct_both xs ys d.1 e (λ m h. a m (inr h)))
+distinct_both (x ∷ xs) ys d e a = (absent_both x xs ys d.0 (a x (inl refl)), distinct_both xs ys d.1 e (λ m h. a m (inr h)))
 
 -- With new numbers in the middle, which stand once and nowhere else, numbers stand once again.
 pub distinct_edit : (l olds news r : List ℕ) → Distinct (l ++ (olds ++ r)) → Distinct news → Apart news (l ++ r) → Distinct (l ++ (news ++ r))
 distinct_edit [] olds news r d e a = distinct_both news r e (distinct_right olds r d) a
 distinct_edit (x ∷ l) olds news r d e a = (
-  both_absent x l (news ++ r) (left_absent x l (olds ++ r) d.0)
-      (both_absent x news r (away x news (λ m h. (a m h).0)) (right_absent x olds r (right_absent x l (olds ++ r) d.0))),
+  absent_both x l (news ++ r) (absent_left x l (olds ++ r) d.0)
+      (absent_both x news r (away x news (λ m h. (a m h).0)) (absent_right x olds r (absent_right x l (olds ++ r) d.0))),
   distinct_edit l olds news r d.1 e (λ m h. (a m h).1),
 )

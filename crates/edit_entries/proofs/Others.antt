@@ -3,7 +3,7 @@ use Rattle.std.proofs.Common.{◌≡◌, ℕ, ◌==◌, cond, List, [], ◌∷�
 use Rattle.imp_syntax.specs.Plain.{Statement, Statements, Ends, Starts, number_of}
 use Rattle.imp_syntax.specs.Plain as tree
 use Rattle.imp_check.specs.Faults.{first}
-use Rattle.imp_check.specs.Slots.{Frame}
+use Rattle.imp_check.specs.Slots.{Resolver}
 use Rattle.imp_check.specs.declared.entry.Context.{Context}
 use Rattle.imp_check.specs.declared.entry.Entry.{Entry}
 use Rattle.imp_check.specs.Parts.{first_or, last_or, leaving_in, leaving}
@@ -25,7 +25,7 @@ leaving_append Ends ys = refl
 leaving_append (Starts s xs) ys = ap (λ k. leaving_in s ++ k) (leaving_append xs ys) ∙ sym (append_assoc (leaving_in s) (leaving xs) (leaving ys))
 
 -- The spots of a block are those of its parts, of which each knows its neighbours.
-pub entries_append : (f : Frame) (c : Context) (front next : Option ℕ) (xs ys : Statements) →
+pub entries_append : (f : Resolver) (c : Context) (front next : Option ℕ) (xs ys : Statements) →
     block_entries f c front next (append xs ys) ≡ block_entries f c front (first_or ys next) xs ++ block_entries f c (last_or xs front) next ys
 entries_append f c front next Ends ys = refl
 entries_append f c front next (Starts s xs) ys =
@@ -41,7 +41,7 @@ entry_append (x ∷ xs) ys m = go (x.number == m) (entry_append xs ys m)
     go true e = refl
     go false e = e
 
-module _ (f : Frame) (m : ℕ) where
+module _ (f : Resolver) (m : ℕ) where
   -- Neighbours are known of the first statement alone, and of the last.
   head_other : (c : Context) (a b p q : Option ℕ) (s : Statement) → (number_of s == m) ≡ false → entry_of (statement_entries f c a p s) m ≡ entry_of (statement_entries f c b q s) m
   head_other c a b p q (tree.Simple n x) h = rw h refl

@@ -13,10 +13,10 @@ use Rattle.imp_check.specs.declared.fault.Fault.{Fault}
 use Rattle.imp_check.specs.declared.fault.Fault.TheVariants.{Procedures, Statements as TooManyStatements, Nesting, Redeclared, NoMain, MainHasParameters, Depth, Chains}
 use Rattle.imp_check.specs.declared.fault.Found.{Found}
 use Rattle.edit_entries.specs.Holes.{Hole, plug, in_loop, between, with_body}
-use Rattle.edit_entries.proofs.Faults.{first_parts, first_none, edit_fault}
+use Rattle.edit_entries.proofs.Faults.{first_alone, edit_fault}
 use Rattle.edit_entries.proofs.Heads.{bare, bares, as_many, named_bare, block_fault_bare, one_more}
 use Rattle.edit_entries.proofs.Counts.{calls_edited, all_alike, alike_at, count_edited, deep_edited, count_program, deepest_program, deepest_other}
-use Rattle.imp_check.proofs.FewLemmas.{unless_none}
+use Rattle.imp_check.proofs.FewLemmas.{unless_none, first_none}
 
 same_names : (es ds : List Procedure) (g : List ℕ) → bares es ≡ bares ds → is_named es g ≡ is_named ds g
 same_names es ds g h = named_bare es g ∙ ap (λ (os : List Procedure). is_named os g) h ∙ sym (named_bare ds g)
@@ -121,8 +121,8 @@ module _ (p : Procedure) (hs : List Hole) (before olds news behind : Statements)
   own_fault : (es ds qs : List Procedure) → bares es ≡ bares ds → procedure_fault es (old_one ∷ qs) old_one ≡ None →
       procedure_fault ds (new_one ∷ qs) new_one ≡ block_fault (scope_at es qs) (in_loop false hs) news
   own_fault es ds qs h z =
-      let a = first_parts (at 0 (unless (not (is_named es p.name)) Redeclared)) _ z in
-      let b = first_parts (at 0 (variables_fault [] (variables p))) _ a.1 in
+      let a = first_none (at 0 (unless (not (is_named es p.name)) Redeclared)) _ z in
+      let b = first_none (at 0 (variables_fault [] (variables p))) _ a.1 in
       ap (λ t. first (at 0 (unless (not t) Redeclared)) (first (at 0 (variables_fault [] (variables p))) (block_fault (record { earlier = ds; others = new_one ∷ qs; variables = variables p }) false new_body))) (sym (same_names es ds p.name h))
       ∙ ap (λ o. first o (first (at 0 (variables_fault [] (variables p))) (block_fault (record { earlier = ds; others = new_one ∷ qs; variables = variables p }) false new_body))) a.0
       ∙ ap (λ o. first o (block_fault (record { earlier = ds; others = new_one ∷ qs; variables = variables p }) false new_body)) b.0
@@ -136,14 +136,14 @@ module _ (p : Procedure) (hs : List Hole) (before olds news behind : Statements)
   along : (es ds ps qs : List Procedure) → bares es ≡ bares ds → procedures_fault es (ps ++ old_one ∷ qs) ≡ None →
       procedures_fault ds (ps ++ new_one ∷ qs) ≡ news_fault (es ++ ps) qs
   along es ds [] qs h z =
-      let a = first_parts (in_procedure p.name (procedure_fault es (old_one ∷ qs) old_one)) (procedures_fault (es ++ old_one ∷ []) qs) z in
+      let a = first_none (in_procedure p.name (procedure_fault es (old_one ∷ qs) old_one)) (procedures_fault (es ++ old_one ∷ []) qs) z in
       let k : bares (ds ++ new_one ∷ []) ≡ bares (es ++ old_one ∷ []) = sym (one_more es ds old_one h ∙ bares_at ds []) in
       ap (λ o. first (in_procedure p.name o) (procedures_fault (ds ++ new_one ∷ []) qs)) (own_fault es ds qs h (in_none p.name es (old_one ∷ qs) old_one a.0))
       ∙ ap (first (news_fault es qs)) (procedures_fault_alike (ds ++ new_one ∷ []) (es ++ old_one ∷ []) qs k ∙ a.1)
-      ∙ first_none (news_fault es qs)
+      ∙ first_alone (news_fault es qs)
       ∙ ap (λ (os : List Procedure). news_fault os qs) (sym (append-nil es))
   along es ds (x ∷ ps) qs h z =
-      let a = first_parts (in_procedure x.name (procedure_fault es (x ∷ (ps ++ old_one ∷ qs)) x)) (procedures_fault (es ++ x ∷ []) (ps ++ old_one ∷ qs)) z in
+      let a = first_none (in_procedure x.name (procedure_fault es (x ∷ (ps ++ old_one ∷ qs)) x)) (procedures_fault (es ++ x ∷ []) (ps ++ old_one ∷ qs)) z in
       let k : bares (x ∷ (ps ++ new_one ∷ qs)) ≡ bares (x ∷ (ps ++ old_one ∷ qs)) = sym (bares_at (x ∷ ps) qs) in
       ap (λ o. first (in_procedure x.name o) (procedures_fault (ds ++ x ∷ []) (ps ++ new_one ∷ qs))) (procedure_fault_alike ds (x ∷ (ps ++ new_one ∷ qs)) es (x ∷ (ps ++ old_one ∷ qs)) x (sym h) k)
       ∙ ap (λ o. first o (procedures_fault (ds ++ x ∷ []) (ps ++ new_one ∷ qs))) a.0
@@ -196,8 +196,8 @@ module _ (p : Procedure) (hs : List Hole) (before olds news behind : Statements)
 
     size : size_fault O ≡ None → size_fault N ≡ news_size ps qs
     size z =
-        let a = first_parts (unless (nat_lt (length O) 65) Procedures) _ z in
-        let b = first_parts (unless (nat_lt (program_count O) 10001) TooManyStatements) (unless (nat_lt (deepest O) 33) Nesting) a.1 in
+        let a = first_none (unless (nat_lt (length O) 65) Procedures) _ z in
+        let b = first_none (unless (nat_lt (program_count O) 10001) TooManyStatements) (unless (nat_lt (deepest O) 33) Nesting) a.1 in
         let deep : deepest O < 33 = below (deepest O) 33 (unless_none (nat_lt (deepest O) 33) Nesting b.1) in
         ap (λ n. first (unless (nat_lt n 65) Procedures) (first (unless (nat_lt (program_count N) 10001) TooManyStatements) (unless (nat_lt (deepest N) 33) Nesting))) same_length
         ∙ ap (λ o. first o (first (unless (nat_lt (program_count N) 10001) TooManyStatements) (unless (nat_lt (deepest N) 33) Nesting))) a.0
@@ -216,10 +216,10 @@ module _ (p : Procedure) (hs : List Hole) (before olds news behind : Statements)
     -- The first fault of the new program is found in the statements that come, where calls stay.
     pub program_fault : check_fault O ≡ None → ((g : List ℕ) → calls g olds ≡ calls g news) → check_fault N ≡ first (in_procedure nm (at 0 (news_size ps qs))) (news_fault ps qs)
     program_fault z c =
-        let a = first_parts (in_procedure nm (at 0 (size_fault O))) (first (procedures_fault [] O) (in_procedure nm (at 0 (ending_fault O)))) z in
-        let b = first_parts (procedures_fault [] O) (in_procedure nm (at 0 (ending_fault O))) a.1 in
+        let a = first_none (in_procedure nm (at 0 (size_fault O))) (first (procedures_fault [] O) (in_procedure nm (at 0 (ending_fault O)))) z in
+        let b = first_none (procedures_fault [] O) (in_procedure nm (at 0 (ending_fault O))) a.1 in
         ap (λ x. first (in_procedure x (at 0 (size_fault N))) (first (procedures_fault [] N) (in_procedure x (at 0 (ending_fault N))))) (name_head (last_of N) (last_of O) same_last)
         ∙ ap (λ o. first (in_procedure nm (at 0 o)) (first (procedures_fault [] N) (in_procedure nm (at 0 (ending_fault N))))) (size (in_at_none nm (size_fault O) a.0))
         ∙ ap (λ o. first (in_procedure nm (at 0 (news_size ps qs))) (first o (in_procedure nm (at 0 (ending_fault N))))) (along [] [] ps qs refl b.0)
         ∙ ap (λ o. first (in_procedure nm (at 0 (news_size ps qs))) (first (news_fault ps qs) (in_procedure nm (at 0 o)))) (ending c ∙ in_at_none nm (ending_fault O) b.1)
-        ∙ ap (first (in_procedure nm (at 0 (news_size ps qs)))) (first_none (news_fault ps qs))
+        ∙ ap (first (in_procedure nm (at 0 (news_size ps qs)))) (first_alone (news_fault ps qs))

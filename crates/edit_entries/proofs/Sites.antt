@@ -2,7 +2,7 @@
 use Rattle.std.proofs.Common.{◌≡◌, ℕ, zero, suc, cond, Bool, true, false, List, [], ◌∷◌, ◌++◌, length, Option, Some, None, refl, sym, ap, ◌∙◌}
 use Rattle.imp_syntax.specs.Plain.{Statement, Statements, Ends, Starts, Procedure, number_of}
 use Rattle.imp_syntax.specs.Plain as tree
-use Rattle.imp_check.specs.Slots.{Frame}
+use Rattle.imp_check.specs.Slots.{Resolver}
 use Rattle.imp_check.specs.Parts.{first_or, last_or, ends_of}
 use Rattle.imp_check.specs.Entries.{inside, inside_loop, statement_entries, block_entries, procedure_entries, entries_from, entries_of, frame_at, context_at, calls_here, sites_in, sites_below, sites_of, head_of, heads_of}
 use Rattle.imp_check.specs.declared.entry.Context.{Context}
@@ -22,7 +22,7 @@ sites_both (x ∷ xs) ys k = go (calls_here x.form k) (sites_both xs ys k)
     go true e = ap (λ ns. x.number ∷ ns) e
     go false e = e
 
-module _ (f : Frame) (k : ℕ) where
+module _ (f : Resolver) (k : ℕ) where
   -- Calls do not depend on where statements stand.
   mutual
     statement_sites : (c d : Context) (a b p q : Option ℕ) (s : Statement) → sites_in (statement_entries f c a p s) k ≡ sites_in (statement_entries f d b q s) k

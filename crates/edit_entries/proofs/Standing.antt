@@ -14,10 +14,10 @@ use Rattle.imp_check.proofs.RebuildLemmas.{in_left, entry_numbers, all_numbers}
 use Rattle.edit_entries.specs.Holes.{append, Hole, Then, Else, Body, fill, plug, with_body}
 use Rattle.edit_entries.proofs.Filled.{context_in}
 use Rattle.edit_entries.proofs.Programs.{old_program}
-use Rattle.edit_entries.proofs.Stay.{left_absent}
 use Rattle.edit_entries.proofs.Touched.{context_of, part_found, own_in}
 use Rattle.edit_entries.proofs.Located.{Has, Located, locate, has_parts}
 use Rattle.edit_entries.proofs.Numbers.{numbers_append, filled}
+use Rattle.imp_slots.proofs.Distinct.{absent_left}
 
 pub record Stands (n : ℕ) (ps : List Procedure) : Type 0 where
   pub front : List Procedure
@@ -53,7 +53,7 @@ has_plugged n (h ∷ hs) x i = has_filled n h (plug hs x) (has_plugged n hs x i)
 
 pub distinct_left : (xs ys : List ℕ) → Distinct (xs ++ ys) → Distinct xs
 distinct_left [] ys d = tt
-distinct_left (x ∷ xs) ys d = (left_absent x xs ys d.0, distinct_left xs ys d.1)
+distinct_left (x ∷ xs) ys d = (absent_left x xs ys d.0, distinct_left xs ys d.1)
 
 pub distinct_right : (xs ys : List ℕ) → Distinct (xs ++ ys) → Distinct ys
 distinct_right [] ys d = d

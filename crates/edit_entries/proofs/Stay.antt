@@ -6,7 +6,7 @@ use Rattle.imp_syntax.specs.Plain.{Statement, Statements, Ends, Starts, Procedur
 use Rattle.imp_syntax.specs.Plain as tree
 use Rattle.imp_slots.specs.Fits.{Absent}
 use Rattle.imp_check.specs.Faults.{first}
-use Rattle.imp_check.specs.Slots.{Frame}
+use Rattle.imp_check.specs.Slots.{Resolver}
 use Rattle.imp_check.specs.declared.entry.Which.TheVariants as which
 use Rattle.imp_check.specs.declared.entry.Context.{Context}
 use Rattle.imp_check.specs.Parts.{first_or, last_or}
@@ -17,20 +17,13 @@ use Rattle.edit_entries.proofs.Others.{entry_append, part_other, Alike}
 use Rattle.edit_entries.proofs.Filled.{fill_same, fill_other, fill_then, fill_else, ends_filled, cut, has_loop, no_loop, some_loop}
 use Rattle.edit_entries.proofs.Heads.{entries_alike}
 use Rattle.edit_entries.proofs.Programs.{old_one, new_one, old_program, new_program, bares_at}
+use Rattle.imp_slots.proofs.Distinct.{absent_left, absent_right}
 
 -- the statement that has the block in the last hole
 abbrev pub last_holder : List Hole → Option ℕ
 last_holder [] = None
 last_holder (h ∷ []) = Some (holder h)
 last_holder (h ∷ g ∷ hs) = last_holder (g ∷ hs)
-
-pub left_absent : (m : ℕ) (xs ys : List ℕ) → Absent m (xs ++ ys) → Absent m xs
-left_absent m [] ys a = tt
-left_absent m (x ∷ xs) ys a = (a.0, left_absent m xs ys a.1)
-
-pub right_absent : (m : ℕ) (xs ys : List ℕ) → Absent m (xs ++ ys) → Absent m ys
-right_absent m [] ys a = a
-right_absent m (x ∷ xs) ys a = right_absent m xs ys a.1
 
 pub other_number : (n m : ℕ) → m ≢ n → (n == m) ≡ false
 other_number n m h = go (n == m) refl
@@ -40,7 +33,7 @@ other_number n m h = go (n == m) refl
     go true e = absurd (h (grind (arith, nat_tests)))
 
 -- A number that stands in no statement has no spot.
-module _ (f : Frame) (m : ℕ) where
+module _ (f : Resolver) (m : ℕ) where
   mutual
     statement_gone : (c : Context) (a p : Option ℕ) (s : Statement) → Absent m (numbers_in s) → entry_of (statement_entries f c a p s) m ≡ None
     statement_gone c a p (tree.Simple n x) h = rw (other_number n m h.0) refl
@@ -49,16 +42,16 @@ module _ (f : Frame) (m : ℕ) where
     statement_gone c a p (tree.If n d t e) h =
         rw (other_number n m h.0)
         (entry_append (block_entries f (inside c n which.Then) None None t) (block_entries f (inside c n which.Else) None None e) m
-        ∙ ap (λ o. first o (entry_of (block_entries f (inside c n which.Else) None None e) m)) (block_gone (inside c n which.Then) None None t (left_absent m (numbers t) (numbers e) h.1))
-        ∙ block_gone (inside c n which.Else) None None e (right_absent m (numbers t) (numbers e) h.1))
+        ∙ ap (λ o. first o (entry_of (block_entries f (inside c n which.Else) None None e) m)) (block_gone (inside c n which.Then) None None t (absent_left m (numbers t) (numbers e) h.1))
+        ∙ block_gone (inside c n which.Else) None None e (absent_right m (numbers t) (numbers e) h.1))
     statement_gone c a p (tree.While n d b) h = rw (other_number n m h.0) (block_gone (inside_loop c n) None None b h.1)
 
     pub block_gone : (c : Context) (a p : Option ℕ) (b : Statements) → Absent m (numbers b) → entry_of (block_entries f c a p b) m ≡ None
     block_gone c a p Ends h = refl
     block_gone c a p (Starts s ss) h =
         entry_append (statement_entries f c a (first_or ss p) s) (block_entries f c (Some (number_of s)) p ss) m
-        ∙ ap (λ o. first o (entry_of (block_entries f c (Some (number_of s)) p ss) m)) (statement_gone c a (first_or ss p) s (left_absent m (numbers_in s) (numbers ss) h))
-        ∙ block_gone c (Some (number_of s)) p ss (right_absent m (numbers_in s) (numbers ss) h)
+        ∙ ap (λ o. first o (entry_of (block_entries f c (Some (number_of s)) p ss) m)) (statement_gone c a (first_or ss p) s (absent_left m (numbers_in s) (numbers ss) h))
+        ∙ block_gone c (Some (number_of s)) p ss (absent_right m (numbers_in s) (numbers ss) h)
 
   -- Outside the block all stays but of the statement that has it, and of the innermost loop around it.
   plug_keep : (hs : List Hole) (x y : Statements) → is (last_holder hs) m ≡ false → is (loop_of None hs) m ≡ false → Alike f m x y → Alike f m (plug hs x) (plug hs y)
@@ -87,7 +80,7 @@ module _ (p : Procedure) (hs : List Hole) (before olds news behind : Statements)
   abbrev N : Procedure
   N = new_one p hs before olds news behind
 
-  part_stays : (f : Frame) → Alike f m (between before behind olds) (between before behind news)
+  part_stays : (f : Resolver) → Alike f m (between before behind olds) (between before behind news)
   part_stays f c = part_other f m c None None before olds news behind (λ a q. block_gone f m c a q olds away.not_gone) (λ a q. block_gone f m c a q news away.not_new) away.not_front away.not_next
 
   own_stays : (es : List Procedure) → is (loop_of None hs) m ≡ false → entry_of (procedure_entries es O) m ≡ entry_of (procedure_entries es N) m

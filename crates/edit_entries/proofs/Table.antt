@@ -13,13 +13,14 @@ use Rattle.imp_check.specs.Entries.{block_entries, procedure_entries, entries_fr
 use Rattle.edit_entries.specs.Spliced.{is, Splice, spliced, rebroken, breaking, with_next, with_front}
 use Rattle.edit_entries.specs.Holes.{append, Hole, Body, plug, loop_of, between}
 use Rattle.edit_entries.proofs.Others.{entry_append}
-use Rattle.edit_entries.proofs.Stay.{Away, last_holder, others_stay, left_absent, right_absent, block_gone}
+use Rattle.edit_entries.proofs.Stay.{Away, last_holder, others_stay, block_gone}
 use Rattle.edit_entries.proofs.Programs.{old_program, new_program}
 use Rattle.imp_check.proofs.RebuildLemmas.{In, entry_numbers, block_numbers}
 use Rattle.edit_entries.proofs.Touched.{context_of, part_found, front_found, next_found}
 use Rattle.edit_entries.proofs.Located.{Has}
-use Rattle.edit_entries.proofs.Numbers.{around_edit, has_true, has_false, middle_alone, both_absent, Apart}
+use Rattle.edit_entries.proofs.Numbers.{around_edit, has_true, has_false, middle_alone, Apart}
 use Rattle.edit_entries.proofs.Breaks.{Looped, looped, loop_found, loop_with, rebroken_loop, ends_plugged, holder_last}
+use Rattle.imp_slots.proofs.Distinct.{absent_both, absent_left, absent_right}
 
 is_some : (o : Option ℕ) (m : ℕ) → is o m ≡ true → o ≡ Some m
 is_some None m h = cc
@@ -30,8 +31,8 @@ program_gone : (m : ℕ) (es ps : List Procedure) → Absent m (program_numbers 
 program_gone m es [] h = refl
 program_gone m es (p ∷ ps) h =
     entry_append (procedure_entries es p) (entries_from (es ++ p ∷ []) ps) m
-    ∙ ap (λ o. first o (entry_of (entries_from (es ++ p ∷ []) ps) m)) (block_gone (frame_at es p) m (context_at _) None None p.body (left_absent m (numbers p.body) (program_numbers ps) h))
-    ∙ program_gone m (es ++ p ∷ []) ps (right_absent m (numbers p.body) (program_numbers ps) h)
+    ∙ ap (λ o. first o (entry_of (entries_from (es ++ p ∷ []) ps) m)) (block_gone (frame_at es p) m (context_at _) None None p.body (absent_left m (numbers p.body) (program_numbers ps) h))
+    ∙ program_gone m (es ++ p ∷ []) ps (absent_right m (numbers p.body) (program_numbers ps) h)
 
 -- One of the spots has a number of theirs.
 pub record Shown (m : ℕ) (xs : List Entry) : Type 0 where
@@ -105,8 +106,8 @@ module _ (ps qs : List Procedure) (p : Procedure) (hs : List Hole) (before olds 
         let alone : Absent m (a.left ++ a.right) = middle_alone a.left (numbers olds) a.right m (subst Distinct (a.is olds) old_once) i in
         program_gone m [] N
         (subst (Absent m) (sym (a.is news))
-        (both_absent m a.left (numbers news ++ a.right) (left_absent m a.left a.right alone)
-        (both_absent m (numbers news) a.right (apart m i) (right_absent m a.left a.right alone))))
+        (absent_both m a.left (numbers news ++ a.right) (absent_left m a.left a.right alone)
+        (absent_both m (numbers news) a.right (apart m i) (absent_right m a.left a.right alone))))
 
     come : (m : ℕ) → has (numbers news) m ≡ true → entry_of (entries_of N) m ≡ entry_of the_splice.come m
     come m h =

@@ -2,7 +2,7 @@
 use Rattle.std.proofs.Common.{◌≡◌, ℕ, ◌⊎◌, inl, inr, List, [], ◌∷◌, ◌++◌, length, Option, Some, None, refl, sym, ap, subst, append_assoc}
 use Rattle.imp_syntax.specs.Plain.{Statement, Simple, Break, Call, Statements, Ends, Starts, If, While, Procedure, number_of, program_numbers}
 use Rattle.imp_slots.specs.Fits.{Distinct}
-use Rattle.imp_check.specs.Slots.{Frame}
+use Rattle.imp_check.specs.Slots.{Resolver}
 use Rattle.imp_check.specs.declared.entry.Which.TheVariants as which
 use Rattle.imp_check.specs.declared.entry.Context.{Context}
 use Rattle.imp_check.specs.declared.entry.Entry.{Entry}
@@ -23,14 +23,14 @@ plug_last [] h x = refl
 plug_last (g ∷ hs) h x = ap (fill g) (plug_last hs h x)
 
 -- A statement's own spot.
-pub own_in : (f : Frame) (k : Context) (a p : Option ℕ) (s : Statement) → In (entry_at f k a p s) (statement_entries f k a p s)
+pub own_in : (f : Resolver) (k : Context) (a p : Option ℕ) (s : Statement) → In (entry_at f k a p s) (statement_entries f k a p s)
 own_in f k a p (Simple n x) = inl refl
 own_in f k a p (Break n) = inl refl
 own_in f k a p (Call n y g es) = inl refl
 own_in f k a p (If n c t u) = inl refl
 own_in f k a p (While n c t) = inl refl
 
-module _ (f : Frame) (e : Entry) where
+module _ (f : Resolver) (e : Entry) where
   in_part : (k : Context) (a p : Option ℕ) (xs ys : Statements) → In e (block_entries f k a (first_or ys p) xs) ⊎ In e (block_entries f k (last_or xs a) p ys) → In e (block_entries f k a p (append xs ys))
   in_part k a p xs ys (inl i) = subst (In e) (sym (entries_append f k a p xs ys)) (in_left e (block_entries f k a (first_or ys p) xs) (block_entries f k (last_or xs a) p ys) i)
   in_part k a p xs ys (inr i) = subst (In e) (sym (entries_append f k a p xs ys)) (in_right e (block_entries f k a (first_or ys p) xs) (block_entries f k (last_or xs a) p ys) i)
@@ -62,7 +62,7 @@ module _ (ps qs : List Procedure) (p : Procedure) (hs : List Hole) (before part 
   abbrev pub program : List Procedure
   program = ps ++ with_body p (plug hs (between before behind part)) ∷ qs
 
-  abbrev pub frame : Frame
+  abbrev pub frame : Resolver
   frame = frame_at ps p
 
   abbrev pub context : Context

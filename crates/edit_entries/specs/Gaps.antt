@@ -2,7 +2,7 @@
 use Rattle.std.specs.Prelude.{ℕ, zero, suc, List, [], ◌∷◌, Option, Some, None, Bool, true, false, ◌&&◌}
 use Rattle.imp_syntax.specs.Plain.{Statement, Simple, Break, Call, If, While, Statements, Ends, Starts, numbers}
 use Rattle.imp_syntax.specs.declared.words.Declaration.{Declaration}
-use Rattle.imp_check.specs.Slots.{Frame}
+use Rattle.imp_check.specs.Slots.{Resolver}
 use Rattle.imp_check.specs.Statements.{Scope}
 use Rattle.imp_check.specs.Parts.{first_or, last_or}
 use Rattle.imp_check.specs.Entries.{block_entries}
@@ -90,7 +90,7 @@ heads_in None hs place ends = head_with hs place ends
 heads_in (Some w) hs place ends = hs
 
 -- These statements come between two of a block, and those of these numbers go; the loop around then has these breaks.
-abbrev pub gap_splice : Frame → Context → (front next : Option ℕ) → (gone : List ℕ) → Statements → (breaks : List ℕ) → Splice
+abbrev pub gap_splice : Resolver → Context → (front next : Option ℕ) → (gone : List ℕ) → Statements → (breaks : List ℕ) → Splice
 gap_splice f k front next gone news breaks = record {
   gone = gone;
   come = block_entries f k front next news;

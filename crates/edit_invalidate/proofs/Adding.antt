@@ -6,9 +6,10 @@ use Rattle.daig_graph.specs.Cells.{AreCells, IsOwned}
 use Rattle.daig_graph.specs.Held.{IsIn}
 use Rattle.cell_names.specs.Paths.{CellName}
 use Rattle.imp_flow.specs.Plans.{Plan}
-use Rattle.cell_removal.specs.Removal.{Cells, LeadsTo, itself, through, Removes}
+use Rattle.cell_removal.specs.Removal.{Cells, Removes}
 use Rattle.cell_removal.proofs.Ins.{in_none, in_left, in_last, in_pushed}
 use Rattle.edit_invalidate.specs.Touched.{KeepsCell, name_at, inputs_at, IsTouchedOf, AddsTouched, AreTouched, AreNamed}
+use Rattle.cell_removal.proofs.Whole.{leads_as}
 
 -- the item of a turn
 pub at_turn : (all front : List ℕ) (x : ℕ) → (length front < length all) × (x ≡ get_or all (length front) x) → IsIn all x
@@ -88,16 +89,11 @@ module _ {V : Type 0} (old new : Plan) (names : List CellName) (cells : Cells V)
   pub touched_cells : (stmts xs : List ℕ) → AreTouched old new names cells stmts xs → AreCells cells xs
   touched_cells stmts xs are i x e = let o = ((are x).0 (i, e)).touched.owned in subst IsSome (sym o.1) refl
 
--- what leads to some leads to others that are the same
-leads_same : {V : Type 0} (cells : Cells V) (these those : ℕ → Type 0) → ((n : ℕ) → these n → those n) → (n : ℕ) → LeadsTo cells these n → LeadsTo cells those n
-leads_same cells these those f n (itself _ t) = itself n (f n t)
-leads_same cells these those f n (through m _ l u) = through m n (leads_same cells these those f m l) u
-
 pub removes_same : {V : Type 0} (cells : Cells V) (these those : ℕ → Type 0) (plan : List ℕ) → ((n : ℕ) → these n ↔ those n) → Removes cells these plan → Removes cells those plan
 removes_same cells these those plan same r = record {
   order = r.order;
-  only = λ n m. leads_same cells these those (λ k t. (same k).0 t) n (r.only n m);
-  each = λ n l. r.each n (leads_same cells those these (λ k t. (same k).1 t) n l);
+  only = λ n m. leads_as cells these those (λ k t. (same k).0 t) n (r.only n m);
+  each = λ n l. r.each n (leads_as cells those these (λ k t. (same k).1 t) n l);
 }
 
 pub removes_ok : {V E : Type 0} (cells : Cells V) (these those : ℕ → Type 0) (r : Result (List ℕ) E) → ((n : ℕ) → these n ↔ those n) → IfOk r (Removes cells these) → IfOk r (Removes cells those)

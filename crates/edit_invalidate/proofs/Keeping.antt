@@ -6,7 +6,6 @@ use Rattle.cell_names.specs.declared.frame.Point.{Point}
 use Rattle.cell_names.specs.declared.path.Name.{Name}
 use Rattle.cell_names.specs.Paths.{CellName, path_at, name_in}
 use Rattle.cell_rows.specs.Flat.{flat_row}
-use Rattle.plain_values.proofs.Cases.{some_inj}
 use Rattle.daig_graph.specs.Cells.{Filled}
 use Rattle.imp_flow.specs.Plans.{Plan}
 use Rattle.imp_flow.specs.Near.{last_frame, row_in}
@@ -14,6 +13,7 @@ use Rattle.imp_flow.specs.declared.row.Row.{Row}
 use Rattle.edit_invalidate.specs.RowCode.{is_nil}
 use Rattle.edit_invalidate.specs.Rows.{AskSame}
 use Rattle.edit_invalidate.specs.Touched.{KeepsCell, or_start, name_at, input_count}
+use Rattle.std.proofs.lemmas.Option.{same_Some}
 
 -- last frames
 pub last_none : (w : List Frame) → w ≡ [] → None ≡ last_frame w
@@ -39,7 +39,7 @@ none_counted (Some f) e = absurd cc
 
 pub some_counted : {V : Type 0} (o : Option (Filled V)) (xs : List ℕ) → Some xs ≡ option_map (λ (f : Filled V). f.inputs) o → length xs ≡ input_count o
 some_counted None xs e = absurd cc
-some_counted (Some f) xs e = ap length (some_inj xs f.inputs e)
+some_counted (Some f) xs e = ap length (same_Some xs f.inputs e)
 
 -- the rows that the code finds in a flow, by a last frame
 abbrev pub Finds : Plan → Option Frame → Point → Option Row → Type 0
@@ -62,8 +62,8 @@ module _ (old new : Plan) (paths : List (List Frame)) (x : Name) (count : ℕ) (
       let g = k w (sym last) in
       let t = d w (none_is_nil w frame last ∙ sym m) in (
         λ e. record { row = row_in w r; other = row_in w q; had = sym f; has = sym g; asked = subst (λ b. AskSame b (row_in w r) (row_in w q)) a (t.0 e) },
-        λ c. (let i : row_in w r ≡ c.row = some_inj (row_in w r) c.row (f ∙ c.had) in
-            let j : row_in w q ≡ c.other = some_inj (row_in w q) c.other (g ∙ c.has) in
+        λ c. (let i : row_in w r ≡ c.row = same_Some (row_in w r) c.row (f ∙ c.had) in
+            let j : row_in w q ≡ c.other = same_Some (row_in w q) c.other (g ∙ c.has) in
             t.1 (subst (λ b. AskSame b (row_in w r) (row_in w q)) (sym a) (subst (λ s. AskSame (count == 1) s (row_in w q)) (sym i) (subst (AskSame (count == 1) c.row) (sym j) c.asked)))),
       )
 

@@ -5,7 +5,7 @@ ghost use Rattle.edit_invalidate.specs.Touched.{AreNamed, IsTouched};
 
 use crate::touching::touched;
 use cell_names::Names;
-use cell_removal::{Plan, removal};
+use cell_removal::{RemovalOrder, removal};
 use daig_graph::Graph;
 use imp_flow::Flow;
 use plain_values::Memory;
@@ -26,7 +26,7 @@ pub fn plan<V>(
     old: &Flow<'_>,
     new: &Flow<'_>,
     changed: &[u32],
-) -> Result<Plan, Memory>
+) -> Result<RemovalOrder, Memory>
     requires named { AreNamed graph.now.cells names.now.names }
     requires rising { IsRising graph.now.cells }
     ensures removes { IfOk result (Removes graph.now.cells (IsTouched old.now new.now names.now.names graph.now.cells changed.now)) }

@@ -23,14 +23,15 @@ use Rattle.edit_entries.specs.Holes.{append}
 use Rattle.imp_edit.specs.Changes.{in_statement, in_block, in_program, deleted, exchanged, followed, then_started, else_started, body_started, guarded, at_named, started, declared_in, preceded, dropped}
 use Rattle.imp_edit.specs.Edited.{placed, edited, brought, uses, counting, Continues}
 use Rattle.imp_check.proofs.FewLemmas.{first_none, unless_none, at_none, in_none}
-use Rattle.plain_values.proofs.Cases.{some_inj}
 use Rattle.plain_values.proofs.Members.{Member, here, there, in_left, in_right, Each, each_more, each_both, none_there, each_as, keys, key_member}
 use Rattle.batch_meaning.specs.Places.{find}
 use Rattle.batch_meaning.proofs.Places.{found, found_member}
 use Rattle.cell_rows.specs.Flat.{Flat, flat}
 use Rattle.kept_set.specs.Places.{first_name, SamePlace, KeepPlaces}
 use Rattle.edit_places_stay.specs.Seats.{Seat, seat, seats_in, seats, program_seats}
-use Rattle.edit_places_stay.proofs.Seen.{keys_block, keys_program, all_numbers, all_seen}
+use Rattle.edit_places_stay.proofs.Seen.{keys_block, keys_program, all_seen}
+use Rattle.std.proofs.lemmas.Option.{same_Some}
+use Rattle.imp_check.proofs.FitsPrograms.{all_numbers}
 
 -- Each entry is new or one of the others.
 module _ (new : ℕ → Type 0) where
@@ -277,7 +278,7 @@ module _ (e : Edit) (old : List Procedure) (next : ℕ) (fine : IsFine old) (aft
   same_seat n s t m (inl a) =
       let lt : n < next = low next (program_numbers old) below n (subst (Member n) (keys_program old) (key_member (n, s) (program_seats old) m)) in
       absurd (omega arith)
-  same_seat n s t m (inr k) = some_inj s t (sym (found (n, s) (program_seats old) once m) ∙ found (n, t) (program_seats old) once k)
+  same_seat n s t m (inr k) = same_Some s t (sym (found (n, s) (program_seats old) once m) ∙ found (n, t) (program_seats old) once k)
 
   statements : (n : ℕ) (u v : Flat) → find n (flat (reverse (routines_of old))) ≡ Some u → find n (flat (reverse (routines_of (edited e old)))) ≡ Some v → SamePlace u v
   statements n u v h f =
@@ -287,7 +288,7 @@ module _ (e : Edit) (old : List Procedure) (next : ℕ) (fine : IsFine old) (aft
       record {
         procedure = ap (λ (s : Seat). s.procedure) q;
         loops = ap (λ (s : Seat). s.loops) q;
-        callee = λ f g h k. some_inj f g (sym (s.told f h) ∙ ap (λ (s : Seat). s.callee) q ∙ t.told g k);
+        callee = λ f g h k. same_Some f g (sym (s.told f h) ∙ ap (λ (s : Seat). s.callee) q ∙ t.told g k);
       }
 
   pub keep_places : KeepPlaces (routines_of old) (routines_of (edited e old))

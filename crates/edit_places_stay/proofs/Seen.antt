@@ -1,18 +1,16 @@
 -- The statements over slots have the seats of the tree.
-use Rattle.std.proofs.lemmas.List.{reverse-append, reverse-reverse}
+use Rattle.std.proofs.lemmas.List.{reverse-reverse}
 use Rattle.std.specs.Str.{bytes_eq}
 use Rattle.std.specs.Cmp.Lexicographic.{bytes_decides}
 use Rattle.std.proofs.Common.{◌≡◌, ℕ, suc, List, [], ◌∷◌, ◌++◌, map, reverse, slice_get, Option, Some, None, Bool, true, false, cond, refl, sym, ap, ◌∙◌, subst, append_assoc, append-nil}
 use Rattle.imp_syntax.specs.Plain.{Statement, Statements, Procedure, numbers_in, numbers, program_numbers}
 use Rattle.imp_syntax.specs.Plain as tree
 use Rattle.imp_slots.specs.Plain.{Invoke, Code, Simple, If, While, Call, Break, Routine, code_numbers}
-use Rattle.imp_slots.specs.Fits.{routine_numbers}
 use Rattle.imp_check.specs.Names.{place_named}
-use Rattle.imp_check.specs.Slots.{Frame, layout_in, guard_in, effect_in, invoke_in, callee_in, statement_in, code_in, routine_of, routines_from, routines_of}
+use Rattle.imp_check.specs.Slots.{Resolver, layout_in, guard_in, effect_in, invoke_in, callee_in, statement_in, code_in, routine_of, routines_from, routines_of}
 use Rattle.batch_meaning.specs.Places.{from, if_some}
 use Rattle.cell_names.specs.declared.frame.Point.{Point}
 use Rattle.cell_names.specs.declared.frame.Point.TheVariants.{Entry, Then, Else, Body, Post}
-use Rattle.plain_values.proofs.Cases.{some_inj}
 use Rattle.batch_meaning.proofs.Procedures.{look_get, look_from}
 use Rattle.plain_values.proofs.Members.{Member, here, there, in_left, in_right, Each, each_more, each_both, none_there, each_as, keys, keys_both}
 use Rattle.cell_rows.specs.Targets.{Text, deeper, texts, callee_of}
@@ -20,6 +18,8 @@ use Rattle.cell_rows.specs.Flat.{Flat, flat_of, flat}
 use Rattle.kept_set.specs.Places.{first_name, callee_name}
 use Rattle.cell_rows.proofs.Listed.{each_map, one}
 use Rattle.edit_places_stay.specs.Seats.{Seat, seat, seats_in, seats, program_seats}
+use Rattle.std.proofs.lemmas.Option.{same_Some}
+use Rattle.imp_check.proofs.SlotLemmas.{routines_push}
 
 -- numbers
 mutual
@@ -39,7 +39,7 @@ keys_program [] = refl
 keys_program (p ∷ ps) = keys_both (seats p.name [] p.body) (program_seats ps) ∙ ap (λ k. k ++ keys (program_seats ps)) (keys_block p.name [] p.body) ∙ ap (λ k. numbers p.body ++ k) (keys_program ps)
 
 mutual
-  code_statement : (f : Frame) (s : Statement) (r : Code) → code_numbers (statement_in f s r) ≡ numbers_in s ++ code_numbers r
+  code_statement : (f : Resolver) (s : Statement) (r : Code) → code_numbers (statement_in f s r) ≡ numbers_in s ++ code_numbers r
   code_statement f (tree.Simple n a) r = refl
   code_statement f (tree.Break n) r = refl
   code_statement f (tree.Call n x g es) r = refl
@@ -49,15 +49,9 @@ mutual
       ∙ ap (λ k. n ∷ k) (sym (append_assoc (numbers t) (numbers e) (code_numbers r)))
   code_statement f (tree.While n c b) r = ap (λ k. n ∷ (k ++ code_numbers r)) (code_block f b)
 
-  code_block : (f : Frame) (ss : Statements) → code_numbers (code_in f ss) ≡ numbers ss
+  code_block : (f : Resolver) (ss : Statements) → code_numbers (code_in f ss) ≡ numbers ss
   code_block f tree.Ends = refl
   code_block f (tree.Starts s ss) = code_statement f s (code_in f ss) ∙ ap (λ k. numbers_in s ++ k) (code_block f ss)
-
-pub all_numbers : (es ps : List Procedure) → routine_numbers (routines_from es ps) ≡ program_numbers ps
-all_numbers es [] = refl
-all_numbers es (p ∷ ps) =
-    ap (λ k. k ++ routine_numbers (routines_from (es ++ p ∷ []) ps)) (code_block (record { layout = layout_in p; earlier = es }) p.body)
-    ∙ ap (λ k. numbers p.body ++ k) (all_numbers (es ++ p ∷ []) ps)
 
 -- The first procedure of a name has that name.
 named : (es earlier : List Procedure) (g : List ℕ) (c : Routine) → slice_get (routines_from es earlier) (place_named earlier g) ≡ Some c → c.name ≡ g
@@ -65,7 +59,7 @@ named es [] g c e = absurd cc
 named es (p ∷ ps) g c e = go (bytes_eq p.name g) refl e (named (es ++ p ∷ []) ps g c)
   where
     go : (b : Bool) → bytes_eq p.name g ≡ b → slice_get (routine_of es p ∷ routines_from (es ++ p ∷ []) ps) (cond b 0 (suc (place_named ps g))) ≡ Some c → (slice_get (routines_from (es ++ p ∷ []) ps) (place_named ps g) ≡ Some c → c.name ≡ g) → c.name ≡ g
-    go true k e h = ap (λ (r : Routine). r.name) (sym (some_inj _ _ e)) ∙ (bytes_decides p.name g).0 k
+    go true k e h = ap (λ (r : Routine). r.name) (sym (same_Some _ _ e)) ∙ (bytes_decides p.name g).0 k
     go false k e h = h e
 
 callee_is : (earlier : List Procedure) (g m : List ℕ) → first_name (from (reverse (routines_of earlier)) (place_named earlier g)) ≡ Some m → m ≡ g
@@ -76,9 +70,9 @@ callee_is earlier g m e = go (from (reverse (routines_of earlier)) (place_named 
     go (c ∷ rest) k e =
         let l = look_from (reverse (routines_of earlier)) (place_named earlier g) c rest k in
         let s = sym (ap (λ rs. slice_get rs (place_named earlier g)) (reverse-reverse (routines_of earlier))) ∙ sym (look_get (reverse (routines_of earlier)) (place_named earlier g)) ∙ l in
-        sym (some_inj _ _ e) ∙ named [] earlier g c s
+        sym (same_Some _ _ e) ∙ named [] earlier g c s
 
-module _ (f : Frame) (name : List ℕ) where
+module _ (f : Resolver) (name : List ℕ) where
   -- A text has its seat among these, in these loops.
   pub record TextSeen (xs : List (ℕ × Seat)) (ls : List ℕ) (q : ℕ × Text) : Type 0 where
     pub callee : Option (List ℕ)
@@ -108,7 +102,7 @@ module _ (f : Frame) (name : List ℕ) where
         (seen_more ys ((n, seat name ls None) ∷ ys) ls (λ x. there) _ (h (Post n)))
     statement_seen ls (tree.Call n x g es) r p ys h =
         each_more (TextSeen ((n, seat name ls (Some g)) ∷ ys) ls) (one p (Call n (invoke_in f x g es) (callee_in f g) r)) _
-        (record { callee = Some g; sits = own ls n (Some g) ys; told = λ c e. (g, refl, ap (λ (k : Invoke × ℕ). k.1) (sym (some_inj _ _ e))) })
+        (record { callee = Some g; sits = own ls n (Some g) ys; told = λ c e. (g, refl, ap (λ (k : Invoke × ℕ). k.1) (sym (same_Some _ _ e))) })
         (seen_more ys ((n, seat name ls (Some g)) ∷ ys) ls (λ x. there) _ (h (Post n)))
     statement_seen ls (tree.If n c t e) r p ys h =
         let xt = seats name ls t in
@@ -140,7 +134,7 @@ is_more xs ys h us e = each_as (IsSeen xs) (IsSeen ys) us (λ u s. record { call
 
 procedure_seen : (es : List Procedure) (p : Procedure) → Each (IsSeen (seats p.name [] p.body)) (map (flat_of (routine_of es p) (reverse (routines_of es))) (texts (routine_of es p).code Entry))
 procedure_seen es p =
-    let f : Frame = record { layout = layout_in p; earlier = es } in
+    let f : Resolver = record { layout = layout_in p; earlier = es } in
     each_map (flat_of (routine_of es p) (reverse (routines_of es))) (TextSeen f p.name (seats p.name [] p.body) []) (IsSeen (seats p.name [] p.body)) seen (texts (routine_of es p).code Entry) (block_seen f p.name [] p.body Entry)
   where
     told : (c : Invoke × ℕ) (callee : Option (List ℕ)) → (g : List ℕ) × (callee ≡ Some g) × (c.1 ≡ place_named es g) → (m : List ℕ) → first_name (from (reverse (routines_of es)) c.1) ≡ Some m → callee ≡ Some m
@@ -153,13 +147,6 @@ procedure_seen es p =
     seen : (q : ℕ × Text) → TextSeen (record { layout = layout_in p; earlier = es }) p.name (seats p.name [] p.body) [] q → IsSeen (seats p.name [] p.body) (flat_of (routine_of es p) (reverse (routines_of es)) q)
     seen q s = record { callee = s.callee; sits = s.sits; told = λ m e. by_code (callee_of q.1.code) s.callee s.told m e }
 
-snoc : (es : List Procedure) (p : Procedure) → reverse (routines_of (es ++ p ∷ [])) ≡ routine_of es p ∷ reverse (routines_of es)
-snoc es p = ap reverse (split [] es) ∙ reverse-append (routines_of es) (routine_of es p ∷ [])
-  where
-    split : (bs es : List Procedure) → routines_from bs (es ++ p ∷ []) ≡ routines_from bs es ++ routine_of (bs ++ es) p ∷ []
-    split bs [] = ap (λ z. routine_of z p ∷ []) (sym (append-nil bs))
-    split bs (e ∷ es) = ap (λ z. routine_of bs e ∷ z) (split (bs ++ e ∷ []) es ∙ ap (λ z. routines_from (bs ++ e ∷ []) es ++ routine_of z p ∷ []) (append_assoc bs (e ∷ []) es))
-
 -- The same for procedures behind others.
 rest_seen : (es ps : List Procedure) (xs : List (ℕ × Seat)) → Each (IsSeen xs) (flat (reverse (routines_of es))) → Each (IsSeen (xs ++ program_seats ps)) (flat (reverse (routines_of (es ++ ps))))
 rest_seen es [] xs e =
@@ -170,7 +157,7 @@ rest_seen es (p ∷ ps) xs e =
     each_both (IsSeen (xs ++ one_more)) (map (flat_of (routine_of es p) (reverse (routines_of es))) (texts (routine_of es p).code Entry)) (flat (reverse (routines_of es)))
     (is_more one_more (xs ++ one_more) (λ x m. in_right xs m) _ (procedure_seen es p))
     (is_more xs (xs ++ one_more) (λ x m. in_left one_more m) _ e) in
-    let i = rest_seen (es ++ p ∷ []) ps (xs ++ one_more) (subst (λ rs. Each (IsSeen (xs ++ one_more)) (flat rs)) (sym (snoc es p)) h) in
+    let i = rest_seen (es ++ p ∷ []) ps (xs ++ one_more) (subst (λ rs. Each (IsSeen (xs ++ one_more)) (flat rs)) (sym (routines_push es p)) h) in
     subst (λ ys. Each (IsSeen ys) (flat (reverse (routines_of (es ++ p ∷ ps))))) (append_assoc xs one_more (program_seats ps))
     (subst (λ zs. Each (IsSeen ((xs ++ one_more) ++ program_seats ps)) (flat (reverse (routines_of zs)))) (append_assoc es (p ∷ []) ps) i)
 

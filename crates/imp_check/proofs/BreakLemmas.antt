@@ -3,7 +3,7 @@ use Rattle.std.proofs.Common.{◌≡◌, ℕ, ◌⊎◌, inl, inr, List, [], ◌
 use Rattle.imp_syntax.specs.Plain.{Statements, Ends, Starts, Procedure}
 use Rattle.imp_syntax.specs.Plain as tree
 use Rattle.imp_slots.specs.declared.actions.SlotStmt.TheVariants as act
-use Rattle.imp_check.specs.Slots.{Frame}
+use Rattle.imp_check.specs.Slots.{Resolver}
 use Rattle.imp_check.specs.Parts.{first_or, leaving}
 use Rattle.imp_check.specs.Programs.{AreNumbered}
 use Rattle.imp_check.specs.Entries.{inside, inside_loop, entry_at, block_entries, procedure_entries, entries_from, entries_of, entry_of, frame_at, context_at}
@@ -41,7 +41,7 @@ leaves_right xs ys head m l = record { entry = l.entry; there = in_right l.entry
 leaves_more : (x : Entry) (xs : List Entry) (head : Option ℕ) (m : ℕ) → Leaves xs head m → Leaves (x ∷ xs) head m
 leaves_more x xs head m l = record { entry = l.entry; there = inr l.there; number = l.number; break = l.break; loop = l.loop }
 
-module _ (f : Frame) where
+module _ (f : Resolver) where
   -- the breaks of a block leave the loop around it
   leave_block : (b : Statements) (c : Context) (a p : Option ℕ) (m : ℕ) → Has (leaving b) m → Leaves (block_entries f c a p b) c.head m
   leave_block Ends c a p m h = absurd h

@@ -7,6 +7,7 @@ use Rattle.imp_check.specs.Chains.{calls_in, calls, extended, chains_through, ch
 use Rattle.imp_check.specs.Programs.{longest}
 use Rattle.imp_check.specs.Tallies.{capped, tally_of, added, called, none, tallies_of}
 use Rattle.imp_check.specs.declared.chains.Tally.{Tally}
+use Rattle.plain_values.proofs.Lists.{drop_none}
 
 pub length_both : (f : List ℕ) (t e : Statements) → length (calls f t ++ calls f e) ≡ length (calls f t) + length (calls f e)
 length_both f t e = length-append (calls f t) (calls f e)
@@ -91,11 +92,6 @@ drop-nil : {A : Type 0} (n : ℕ) → drop {A = A} n [] ≡ []
 drop-nil zero = refl
 drop-nil (suc n) = refl
 
-drop_all : {A : Type 0} (xs : List A) (i : ℕ) → length xs ≤ i → drop i xs ≡ []
-drop_all [] i h = drop-nil i
-drop_all (x ∷ xs) zero h = absurd (omega arith)
-drop_all (x ∷ xs) (suc i) h = drop_all xs i (omega arith)
-
 cond_same : (b : Bool) (t : Tally) → cond b t t ≡ t
 cond_same true t = refl
 cond_same false t = refl
@@ -151,7 +147,7 @@ through_next f ps ts i p d total c new w n known h e en ec enew told =
 
 pub through_end : (f : List ℕ) (ps : List Procedure) (i : ℕ) (total w : Tally) → length ps ≤ i → total.count ≤ 2 ^ 32 - 1 → added total (tally_of (chains_through f (drop i ps))) ≡ w → total ≡ w
 through_end f ps i total w h few told =
-    let e : drop i ps ≡ [] = drop_all ps i h in
+    let e : drop i ps ≡ [] = drop_none ps i h in
     sym (added_none total few) ∙ ap (λ (z : List Procedure). added total (tally_of (chains_through f z))) (sym e) ∙ told
 
 pub only_main : (f : List ℕ) (ps : List Procedure) → true ≡ (length ps == 0) → record { count = 1; longest = 0 } ≡ tally_of (chains_to f ps)

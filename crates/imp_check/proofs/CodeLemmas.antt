@@ -1,7 +1,7 @@
 -- Blocks put together from statements.
 use Rattle.std.proofs.Common.{ℕ, zero, suc, ◌≤◌, length, drop, sym, ◌∙◌, arith, ◌≡◌, refl, ap, List, [], ◌∷◌, ◌++◌}
 use Rattle.imp_syntax.specs.Plain.{Statement, Ends, block_of}
-use Rattle.imp_check.specs.Slots.{Frame, code_in}
+use Rattle.imp_check.specs.Slots.{Resolver, code_in}
 use Rattle.imp_slots.specs.Plain.{Code, Stop}
 use Rattle.imp_slots.specs.BlockViews.{before_code, code_of}
 use Rattle.imp_slots.specs.declared.blocks.SlotNode.{SlotNode}
@@ -26,5 +26,5 @@ nothing_left (s ∷ ss) zero h = absurd (omega arith)
 nothing_left (s ∷ ss) (suc i) h = nothing_left ss i (omega arith)
 
 -- where nothing is to come, the statements are the block
-pub code_end : (ns : List SlotNode) (f : Frame) (ss : List Statement) (i : ℕ) (w : Code) → length ss ≤ i → code_then ns (code_in f (block_of (drop i ss))) ≡ w → code_of ns ≡ w
+pub code_end : (ns : List SlotNode) (f : Resolver) (ss : List Statement) (i : ℕ) (w : Code) → length ss ≤ i → code_then ns (code_in f (block_of (drop i ss))) ≡ w → code_of ns ≡ w
 code_end ns f ss i w h told = sym (then_ends ns) ∙ ap (code_then ns) (sym (ap (code_in f) (nothing_left ss i h))) ∙ told

@@ -5,7 +5,7 @@ use Rattle.imp_syntax.specs.Plain.{Statement, Starts, block_of, number_of, Proce
 use Rattle.imp_check.specs.Entries.{statement_entries, block_entries, procedure_entries, entries_from, heads_of, head_of}
 use Rattle.imp_check.specs.Puts.{put_all, with_sites}
 use Rattle.imp_check.specs.declared.entry.Entry.{Entry}
-use Rattle.imp_check.specs.Slots.{Frame}
+use Rattle.imp_check.specs.Slots.{Resolver}
 use Rattle.imp_check.specs.declared.entry.Context.{Context}
 use Rattle.imp_check.proofs.PartLemmas.{number_at, next_is}
 use Rattle.imp_check.proofs.PutLemmas.{all_both, sites_both}
@@ -35,13 +35,13 @@ pub heads_step : (ps : List Procedure) (i : ℕ) (p : Procedure) → i < length 
 heads_step ps i p h e = rw (drop-cons ps i p, add-one, ← e) refl
 
 -- a statement more of a block
-block_step : (f : Frame) (c : Context) (front : Option ℕ) (ss : List Statement) (i : ℕ) (s : Statement) → i < length ss → s ≡ get_or ss i s → block_entries f c front None (block_of (drop i ss)) ≡ statement_entries f c front (number_at ss (i + 1)) s ++ block_entries f c (Some (number_of s)) None (block_of (drop (i + 1) ss))
+block_step : (f : Resolver) (c : Context) (front : Option ℕ) (ss : List Statement) (i : ℕ) (s : Statement) → i < length ss → s ≡ get_or ss i s → block_entries f c front None (block_of (drop i ss)) ≡ statement_entries f c front (number_at ss (i + 1)) s ++ block_entries f c (Some (number_of s)) None (block_of (drop (i + 1) ss))
 block_step f c front ss i s h e =
     let later = block_of (drop (i + 1) ss) in
     let here : block_of (drop i ss) ≡ Starts s later = rw (drop-cons ss i s, add-one, ← e) refl in
     ap (block_entries f c front None) here ∙ ap (λ next. statement_entries f c front next s ++ block_entries f c (Some (number_of s)) None later) (next_is ss (i + 1))
 
-pub block_put : (f : Frame) (c : Context) (front : Option ℕ) (ss : List Statement) (i : ℕ) (s : Statement) (next : Option ℕ) (id : ℕ) (old new : List (Option Entry)) → i < length ss → s ≡ get_or ss i s → next ≡ number_at ss (i + 1) → id ≡ number_of s → new ≡ put_all (statement_entries f c front next s) old → put_all (block_entries f c (Some id) None (block_of (drop (i + 1) ss))) new ≡ put_all (block_entries f c front None (block_of (drop i ss))) old
+pub block_put : (f : Resolver) (c : Context) (front : Option ℕ) (ss : List Statement) (i : ℕ) (s : Statement) (next : Option ℕ) (id : ℕ) (old new : List (Option Entry)) → i < length ss → s ≡ get_or ss i s → next ≡ number_at ss (i + 1) → id ≡ number_of s → new ≡ put_all (statement_entries f c front next s) old → put_all (block_entries f c (Some id) None (block_of (drop (i + 1) ss))) new ≡ put_all (block_entries f c front None (block_of (drop i ss))) old
 block_put f c front ss i s next id old new h e n d q =
     let here = statement_entries f c front (number_at ss (i + 1)) s in
     let later = block_entries f c (Some (number_of s)) None (block_of (drop (i + 1) ss)) in
@@ -49,7 +49,7 @@ block_put f c front ss i s next id old new h e n d q =
     ∙ ap (put_all later) (q ∙ ap (λ o. put_all (statement_entries f c front o s) old) n)
     ∙ sym (ap (λ es. put_all es old) (block_step f c front ss i s h e) ∙ all_both here later old)
 
-pub block_sites : (f : Frame) (c : Context) (front : Option ℕ) (ss : List Statement) (i : ℕ) (s : Statement) (next : Option ℕ) (id : ℕ) (old new : List (List ℕ)) → i < length ss → s ≡ get_or ss i s → next ≡ number_at ss (i + 1) → id ≡ number_of s → new ≡ with_sites (statement_entries f c front next s) old → with_sites (block_entries f c (Some id) None (block_of (drop (i + 1) ss))) new ≡ with_sites (block_entries f c front None (block_of (drop i ss))) old
+pub block_sites : (f : Resolver) (c : Context) (front : Option ℕ) (ss : List Statement) (i : ℕ) (s : Statement) (next : Option ℕ) (id : ℕ) (old new : List (List ℕ)) → i < length ss → s ≡ get_or ss i s → next ≡ number_at ss (i + 1) → id ≡ number_of s → new ≡ with_sites (statement_entries f c front next s) old → with_sites (block_entries f c (Some id) None (block_of (drop (i + 1) ss))) new ≡ with_sites (block_entries f c front None (block_of (drop i ss))) old
 block_sites f c front ss i s next id old new h e n d q =
     let here = statement_entries f c front (number_at ss (i + 1)) s in
     let later = block_entries f c (Some (number_of s)) None (block_of (drop (i + 1) ss)) in

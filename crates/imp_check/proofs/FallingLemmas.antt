@@ -9,7 +9,7 @@ use Rattle.imp_check.specs.declared.change.Put.{Put}
 use Rattle.imp_check.proofs.PutLemmas.{other, same}
 use Rattle.imp_check.proofs.OverlayLemmas.{put_numbers, overlay_other}
 
-falling_tail : (p : Put) (ps : List Put) → AreFalling (p ∷ ps) → AreFalling ps
+pub falling_tail : (p : Put) (ps : List Put) → AreFalling (p ∷ ps) → AreFalling ps
 falling_tail p ps f i j d h l = f (suc i) (suc j) d (omega arith) (omega arith)
 
 -- the numbers behind the first are less

@@ -20,6 +20,12 @@ pub first_none : {A : Type 0} (a b : Option A) → first a b ≡ None → (a ≡
 first_none None b h = (refl, h)
 first_none (Some x) b h = cc
 
+pub first_left : {A : Type 0} (a b : Option A) → first a b ≡ None → a ≡ None
+first_left a b h = (first_none a b h).0
+
+pub first_right : {A : Type 0} (a b : Option A) → first a b ≡ None → b ≡ None
+first_right a b h = (first_none a b h).1
+
 pub unless_none : (b : Bool) (f : Fault) → unless b f ≡ None → b ≡ true
 unless_none true f h = refl
 unless_none false f h = cc

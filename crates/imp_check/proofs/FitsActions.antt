@@ -2,7 +2,7 @@
 use Rattle.std.proofs.Common.{ℕ, suc, ◌≡◌, Bool, true, false, ◌&&◌, ◌||◌, cond, ◌⊎◌, inl, inr, List, [], ◌∷◌, ◌++◌, length, Option, Some, None, refl, sym, ap, ◌∙◌, arith, subst, append_assoc}
 use Rattle.std.specs.Str.{bytes_eq}
 use Rattle.std.specs.Cmp.Lexicographic.{bytes_decides}
-use Rattle.std.proofs.lemmas.Bool.{and_parts, and_from, false≢true, lt-ltb}
+use Rattle.std.proofs.lemmas.Bool.{and_parts, and_from, false≢true, lt-ltb, or_cases, or_right}
 use Rattle.imp_syntax.specs.Plain.{Expression, Literal, Variable, Length, Negative, Binary, Operand, Null, Value, Action, Skip, Assert, Assign, Input, MakeArray, SetNull, MakeCell, ReadElement, ReadNext, ReadItem, WriteElement, WriteNext, WriteItem, Procedure}
 use Rattle.imp_syntax.specs.declared.words.Declaration.{Declaration}
 use Rattle.imp_syntax.specs.declared.words.Kind.{Kind}
@@ -17,7 +17,7 @@ use Rattle.imp_check.specs.Statements.{same_length, fits_parameter, fit_paramete
 use Rattle.imp_check.specs.Slots.{with_numeric, with_link, layout_of, layout_in, numerics, links, number_in, link_in, term_in, copy_in, assign_in, effect_in, expression_argument, argument_in, arguments_in, result_in, returning_in, invoke_of}
 use Rattle.imp_check.specs.Small.{small_expression, small_operand, small_operands, small_action}
 use Rattle.imp_check.proofs.Lookup.{Apart, int_slot, array_slot, link_there, named_link, named_array, not_array}
-use Rattle.imp_check.proofs.FitsTerms.{or_cases, fits_expression, int_is_no_link, array_is_no_link, condition_fits}
+use Rattle.imp_check.proofs.FitsTerms.{fits_expression, int_is_no_link, array_is_no_link, condition_fits}
 
 assign_int : (vs : List Declaration) (x : List ℕ) (e : Expression) → small_expression e ≡ true → int vs x ≡ true → int_expression vs e ≡ true → fits_effect (layout_of vs) (slot.SetInt (number_in (layout_of vs) x) (term_in (layout_of vs) e)) ≡ true
 unfolding fits_effect
@@ -168,10 +168,6 @@ own_by false y x ds k k' e n h = h
 pub own_kind : (ds : List Declaration) (d : Declaration) (rest : List Declaration) → Apart (ds ++ d ∷ rest) → kind_of (ds ++ d ∷ rest) d.name ≡ Some d.kind
 own_kind [] d rest a = let e = (bytes_decides d.name d.name).1 refl in rw e refl
 own_kind (c ∷ ds) d rest a = own_by (bytes_eq c.name d.name) c.name d.name (ds ++ d ∷ rest) d.kind c.kind refl a.0 (own_kind ds d rest a.1)
-
-or_right : (a b : Bool) → b ≡ true → (a || b) ≡ true
-or_right true b h = refl
-or_right false b h = h
 
 result_rest : (vs ms : List Declaration) → Apart vs → (x y : List ℕ) (k : Option Kind) → kind_of ms y ≡ k → ((is_array (kind_of vs x) && is_array k) ≡ true) ⊎ ((is_link (kind_of vs x) && is_link k) ≡ true) → fits_returning (layout_of ms) (layout_of vs) (Some (result_in (layout_of vs) (layout_of ms) x y)) ≡ true
 result_rest vs ms p x y k e (inl h) =

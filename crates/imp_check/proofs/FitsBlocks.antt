@@ -2,7 +2,7 @@
 use Rattle.std.proofs.Common.{ℕ, zero, suc, ◌≡◌, Bool, true, false, ◌&&◌, ◌||◌, cond, List, [], ◌∷◌, ◌++◌, slice_get, Option, Some, None, refl, sym, ap, ◌∙◌, subst, append_assoc}
 use Rattle.std.specs.Prelude.{MatchOption}
 use Rattle.std.specs.Str.{bytes_eq}
-use Rattle.std.proofs.lemmas.Bool.{and_parts, false≢true}
+use Rattle.std.proofs.lemmas.Bool.{and_parts, false≢true, or_from}
 use Rattle.imp_syntax.specs.Plain.{Operand, Condition, Action, Statement, Simple, Break, Call, If, While, Statements, Ends, Starts, Procedure, numbers_in, numbers}
 use Rattle.imp_syntax.specs.declared.words.Declaration.{Declaration}
 use Rattle.imp_slots.specs.Fits.{FitsCode, FitsCall, breaks, fits_invoke}
@@ -12,7 +12,7 @@ use Rattle.imp_check.specs.Faults.{unless, first, at}
 use Rattle.imp_check.specs.Names.{procedure_named, place_named, is_named, variables}
 use Rattle.imp_check.specs.Kinds.{knows_action, knows_condition, knows_operands, fits_action, fits_condition}
 use Rattle.imp_check.specs.Statements.{Scope, action_fault, condition_fault, callee_fault, knows_target, same_length, gives_result, fit_parameters, fits_result, arguments_fault, call_fault, statement_fault, block_fault}
-use Rattle.imp_check.specs.Slots.{Frame, layout_of, layout_in, invoke_of, invoke_in, statement_in, code_in, routine_of, routines_from, routines_of}
+use Rattle.imp_check.specs.Slots.{Resolver, layout_of, layout_in, invoke_of, invoke_in, statement_in, code_in, routine_of, routines_from, routines_of}
 use Rattle.imp_check.specs.Small.{small_operands, small_condition, small_statement, small_block}
 use Rattle.imp_check.proofs.FewLemmas.{first_none, unless_none, at_none}
 use Rattle.imp_check.proofs.Lookup.{Apart}
@@ -104,34 +104,30 @@ mutual
   block_fits earlier others vs each p inside Ends s h = tt
   block_fits earlier others vs each p inside (Starts st ss) s h =
       let sc : Scope = record { earlier = earlier; others = others; variables = vs } in
-      let f : Frame = record { layout = layout_of vs; earlier = earlier } in
+      let f : Resolver = record { layout = layout_of vs; earlier = earlier } in
       let u = and_parts (small_statement st) (small_block ss) s in
       let a = first_none (statement_fault sc inside st) (block_fault sc inside ss) h in
       statement_fits earlier others vs each p inside st (code_in f ss) u.0 a.0 (block_fits earlier others vs each p inside ss u.1 a.1)
 
-or_false : (a b : Bool) → a ≡ false → b ≡ false → (a || b) ≡ false
-or_false true b h k = h
-or_false false b h k = k
-
 mutual
-  statement_keeps : (sc : Scope) (f : Frame) (st : Statement) (r : Code) → statement_fault sc false st ≡ None → breaks r ≡ false → breaks (statement_in f st r) ≡ false
+  statement_keeps : (sc : Scope) (f : Resolver) (st : Statement) (r : Code) → statement_fault sc false st ≡ None → breaks r ≡ false → breaks (statement_in f st r) ≡ false
   statement_keeps sc f (Simple n a) r h k = k
   statement_keeps sc f (Break n) r h k = cc
   statement_keeps sc f (Call n x g es) r h k = k
   statement_keeps sc f (If n c t e) r h k =
       let a = first_none (at n (condition_fault sc.variables c)) (first (block_fault sc false t) (block_fault sc false e)) h in
       let b = first_none (block_fault sc false t) (block_fault sc false e) a.1 in
-      or_false (breaks (code_in f t)) (breaks (code_in f e) || breaks r) (block_keeps sc f t b.0) (or_false (breaks (code_in f e)) (breaks r) (block_keeps sc f e b.1) k)
+      or_from (breaks (code_in f t)) (breaks (code_in f e) || breaks r) (block_keeps sc f t b.0) (or_from (breaks (code_in f e)) (breaks r) (block_keeps sc f e b.1) k)
   statement_keeps sc f (While n c t) r h k = k
 
-  pub block_keeps : (sc : Scope) (f : Frame) (b : Statements) → block_fault sc false b ≡ None → breaks (code_in f b) ≡ false
+  pub block_keeps : (sc : Scope) (f : Resolver) (b : Statements) → block_fault sc false b ≡ None → breaks (code_in f b) ≡ false
   block_keeps sc f Ends h = refl
   block_keeps sc f (Starts st ss) h =
       let a = first_none (statement_fault sc false st) (block_fault sc false ss) h in
       statement_keeps sc f st (code_in f ss) a.0 (block_keeps sc f ss a.1)
 
 mutual
-  statement_numbers : (f : Frame) (st : Statement) (r : Code) → code_numbers (statement_in f st r) ≡ numbers_in st ++ code_numbers r
+  statement_numbers : (f : Resolver) (st : Statement) (r : Code) → code_numbers (statement_in f st r) ≡ numbers_in st ++ code_numbers r
   statement_numbers f (Simple n a) r = refl
   statement_numbers f (Break n) r = refl
   statement_numbers f (Call n x g es) r = refl
@@ -140,6 +136,6 @@ mutual
       (ap (λ (z : List ℕ). z ++ (code_numbers (code_in f e) ++ code_numbers r)) (block_numbers f t) ∙ ap (λ (z : List ℕ). numbers t ++ (z ++ code_numbers r)) (block_numbers f e) ∙ sym (append_assoc (numbers t) (numbers e) (code_numbers r)))
   statement_numbers f (While n c t) r = ap (λ (z : List ℕ). n ∷ (z ++ code_numbers r)) (block_numbers f t)
 
-  pub block_numbers : (f : Frame) (b : Statements) → code_numbers (code_in f b) ≡ numbers b
+  pub block_numbers : (f : Resolver) (b : Statements) → code_numbers (code_in f b) ≡ numbers b
   block_numbers f Ends = refl
   block_numbers f (Starts st ss) = statement_numbers f st (code_in f ss) ∙ ap (λ (z : List ℕ). numbers_in st ++ z) (block_numbers f ss)

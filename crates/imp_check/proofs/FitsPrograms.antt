@@ -1,8 +1,8 @@
 -- Programs without faults fit.
-use Rattle.std.proofs.Common.{ℕ, ◌≡◌, ◌≢◌, ◌<◌, Bool, true, false, not, ◌||◌, List, [], ◌∷◌, ◌++◌, length, map, None, refl, sym, ap, ◌∙◌, subst, arith, append_assoc, append-nil}
+use Rattle.std.proofs.Common.{ℕ, ◌≡◌, ◌≢◌, ◌<◌, true, false, not, List, [], ◌∷◌, ◌++◌, length, map, None, refl, sym, ap, ◌∙◌, subst, arith, append_assoc, append-nil}
 use Rattle.std.specs.Str.{bytes_eq}
 use Rattle.std.specs.Cmp.Lexicographic.{bytes_decides}
-use Rattle.std.proofs.lemmas.Bool.{and_parts, false≢true}
+use Rattle.std.proofs.lemmas.Bool.{and_parts, false≢true, not-true, or_from, or_parts}
 use Rattle.imp_syntax.specs.Plain.{Procedure, numbers, program_numbers}
 use Rattle.imp_slots.specs.Fits.{FitsRoutine, FitInTurn, IsChecked, Absent, Distinct, routine_numbers}
 use Rattle.imp_slots.specs.Plain.{Routine}
@@ -22,17 +22,13 @@ record Sound (earlier others : List Procedure) (p : Procedure) : Type 0 where
   vars : Apart (variables p)
   body : block_fault (record { earlier = earlier; others = others; variables = variables p }) false p.body ≡ None
 
-not_true : (b : Bool) → not b ≡ true → b ≡ false
-not_true true h = absurd (false≢true h)
-not_true false h = refl
-
 procedure_sound : (earlier others : List Procedure) (p : Procedure) → procedure_fault earlier others p ≡ None → Sound earlier others p
 procedure_sound earlier others p h =
     let block = block_fault (record { earlier = earlier; others = others; variables = variables p }) false p.body in
     let a = first_none (at 0 (unless (not (is_named earlier p.name)) Redeclared)) (first (at 0 (variables_fault [] (variables p))) block) h in
     let b = first_none (at 0 (variables_fault [] (variables p))) block a.1 in
     record {
-      new = not_true (is_named earlier p.name) (unless_none (not (is_named earlier p.name)) Redeclared (at_none 0 (unless (not (is_named earlier p.name)) Redeclared) a.0));
+      new = not-true (is_named earlier p.name) (unless_none (not (is_named earlier p.name)) Redeclared (at_none 0 (unless (not (is_named earlier p.name)) Redeclared) a.0));
       vars = apart [] (variables p) (at_none 0 (variables_fault [] (variables p)) b.0);
       body = b.1;
     }
@@ -62,7 +58,7 @@ fit_in_turn earlier (p ∷ ps) each s h =
     let next = fit_in_turn (earlier ++ p ∷ []) ps (more_apart earlier p each so.vars) t.1 q.1 in
     (routine_fits earlier (p ∷ ps) p each so t.0, subst (λ (z : List Routine). FitInTurn z (routines_from (earlier ++ p ∷ []) ps)) (more_routines [] earlier p) next)
 
-all_numbers : (earlier ps : List Procedure) → routine_numbers (routines_from earlier ps) ≡ program_numbers ps
+pub all_numbers : (earlier ps : List Procedure) → routine_numbers (routines_from earlier ps) ≡ program_numbers ps
 all_numbers earlier [] = refl
 all_numbers earlier (p ∷ ps) =
     ap (λ (z : List ℕ). z ++ routine_numbers (routines_from (earlier ++ p ∷ []) ps)) (block_numbers (record { layout = layout_in p; earlier = earlier }) p.body) ∙ ap (λ (z : List ℕ). numbers p.body ++ z) (all_numbers (earlier ++ p ∷ []) ps)
@@ -71,23 +67,15 @@ routine_names : (earlier ps : List Procedure) → map (λ (r : Routine). r.name)
 routine_names earlier [] = refl
 routine_names earlier (p ∷ ps) = ap (λ (z : List (List ℕ)). p.name ∷ z) (routine_names (earlier ++ p ∷ []) ps)
 
-or_parts : (a b : Bool) → (a || b) ≡ false → (a ≡ false) × (b ≡ false)
-or_parts true b h = absurd (false≢true (sym h))
-or_parts false b h = (refl, h)
-
 other_name : (x y : List ℕ) → bytes_eq x y ≡ false → x ≢ y
 other_name x y h e = false≢true (sym h ∙ (bytes_decides x y).1 e)
-
-or_again : (a b : Bool) → a ≡ false → b ≡ false → (a || b) ≡ false
-or_again true b h k = h
-or_again false b h k = k
 
 still_named : (xs : List Procedure) (p : Procedure) (x : List ℕ) → is_named (xs ++ p ∷ []) x ≡ false → (is_named xs x ≡ false) × (bytes_eq p.name x ≡ false)
 still_named [] p x h = (refl, (or_parts (bytes_eq p.name x) false h).0)
 still_named (y ∷ xs) p x h =
     let a = or_parts (bytes_eq y.name x) (is_named (xs ++ p ∷ []) x) h in
     let b = still_named xs p x a.1 in
-    (or_again (bytes_eq y.name x) (is_named xs x) a.0 b.0, b.1)
+    (or_from (bytes_eq y.name x) (is_named xs x) a.0 b.0, b.1)
 
 -- a name that an earlier procedure has is none of the later ones
 names_absent : (earlier ps : List Procedure) (x : List ℕ) → procedures_fault earlier ps ≡ None → ((y : List ℕ) → is_named earlier y ≡ false → x ≢ y) → Absent x (map (λ (p : Procedure). p.name) ps)

@@ -1,6 +1,6 @@
 -- Expressions, conditions and simple statements without faults fit the layout.
-use Rattle.std.proofs.Common.{ℕ, ◌≡◌, Bool, true, false, ◌&&◌, ◌||◌, ◌⊎◌, inl, inr, List, refl, sym}
-use Rattle.std.proofs.lemmas.Bool.{and_parts, and_from, false≢true}
+use Rattle.std.proofs.Common.{ℕ, ◌≡◌, true, false, ◌&&◌, ◌⊎◌, inl, inr, List, refl}
+use Rattle.std.proofs.lemmas.Bool.{and_parts, and_from, false≢true, or_cases, and_left}
 use Rattle.imp_syntax.specs.Plain.{Expression, Literal, Variable, Length, Negative, Binary, Operand, Null, Value, Condition, Compare, Not, And, Or}
 use Rattle.imp_syntax.specs.declared.words.Declaration.{Declaration}
 use Rattle.imp_syntax.specs.declared.words.Relation.{Relation}
@@ -10,10 +10,6 @@ use Rattle.imp_check.specs.Kinds.{int, array, int_expression, int_operand, link_
 use Rattle.imp_check.specs.Slots.{layout_of, term_in, is_link_in, is_link_expression, is_link_operand, link_of, side_in, operand_term, comparison_in, guard_in}
 use Rattle.imp_check.specs.Small.{small_expression, small_operand, small_condition}
 use Rattle.imp_check.proofs.Lookup.{Apart, int_slot, array_slot, link_there, named_link, not_link, int_no_link, array_no_link}
-
-pub or_cases : (a b : Bool) → (a || b) ≡ true → (a ≡ true) ⊎ (b ≡ true)
-or_cases true b h = inl refl
-or_cases false b h = inr h
 
 pub fits_expression : (vs : List Declaration) (e : Expression) → small_expression e ≡ true → int_expression vs e ≡ true → fits_term (layout_of vs) (term_in (layout_of vs) e) ≡ true
 unfolding fits_term
@@ -70,17 +66,13 @@ pub link_operand_fits : (vs : List Declaration) (a : Operand) → link_operand v
 link_operand_fits vs Null h = refl
 link_operand_fits vs (Value e) h = link_expression_fits vs e h
 
-and_false_left : (a b : Bool) → a ≡ false → (a && b) ≡ false
-and_false_left true b h = absurd (false≢true (sym h))
-and_false_left false b h = refl
-
 comparison_fits : (vs : List Declaration) → Apart vs → (r : Relation) (a b : Operand) → (small_operand a && small_operand b) ≡ true → ((int_operand vs a && int_operand vs b) ≡ true) ⊎ ((is_equality r && (link_operand vs a && link_operand vs b)) ≡ true) → fits_guard (layout_of vs) (comparison_in (layout_of vs) r a b) ≡ true
 unfolding fits_guard
 comparison_fits vs p r a b s (inl h) =
     let l = layout_of vs in
     let q = and_parts (int_operand vs a) (int_operand vs b) h in
     let t = and_parts (small_operand a) (small_operand b) s in
-    let e = and_false_left (is_link_operand l a) (is_link_operand l b) (int_no_link_operand vs p a q.0) in
+    let e = and_left (is_link_operand l a) (is_link_operand l b) (int_no_link_operand vs p a q.0) in
     rw e (and_from (fits_term l (operand_term l a)) (fits_term l (operand_term l b)) (int_operand_fits vs a t.0 q.0) (int_operand_fits vs b t.1 q.1))
 comparison_fits vs p r a b s (inr h) =
     let l = layout_of vs in

@@ -2,7 +2,7 @@
 use Rattle.std.proofs.Common.{ℕ, ◌≡◌, ◌+◌, ◌<◌, Bool, true, false, not, cond, List, [], ◌∷◌, ◌++◌, length, slice_get, Option, Some, None, refl, sym, ap, ◌∙◌, arith, nat_lt}
 use Rattle.std.specs.Str.{bytes_eq}
 use Rattle.std.specs.Cmp.Lexicographic.{bytes_decides}
-use Rattle.std.proofs.lemmas.Bool.{false≢true, lt-ltb}
+use Rattle.std.proofs.lemmas.Bool.{false≢true, lt-ltb, not-true}
 use Rattle.imp_syntax.specs.declared.words.Declaration.{Declaration}
 use Rattle.imp_syntax.specs.declared.words.Kind.{Kind}
 use Rattle.imp_syntax.specs.declared.words.Kind.TheVariants.{Int, Array, List as OfLinks}
@@ -137,15 +137,11 @@ known_more : (seen : List Declaration) (d : Declaration) (x : List ℕ) → is_k
 known_more [] d x h = absurd (false≢true h)
 known_more (s ∷ seen) d x h = known_more_by (bytes_eq s.name x) s.kind (kind_of seen x) (kind_of (seen ++ d ∷ []) x) (known_more seen d x) h
 
-not_true : (b : Bool) → not b ≡ true → b ≡ false
-not_true true h = absurd (false≢true h)
-not_true false h = refl
-
 new_name : (seen : List Declaration) (d : Declaration) → variable_fault seen d ≡ None → is_known (kind_of seen d.name) ≡ false
 new_name seen d h =
     let rest = first (unless (nat_lt (count_numeric seen + one_numeric d.kind) 17) Ints) (unless (nat_lt (count_links seen + one_link d.kind) 9) Lists) in
     let p = (first_none (unless (not (is_known (kind_of seen d.name))) Redeclared) rest h).0 in
-    not_true (is_known (kind_of seen d.name)) (unless_none (not (is_known (kind_of seen d.name))) Redeclared p)
+    not-true (is_known (kind_of seen d.name)) (unless_none (not (is_known (kind_of seen d.name))) Redeclared p)
 
 unknown_by : (b : Bool) (y x : List ℕ) (k : Kind) (o : Option Kind) (seen : List Declaration) → bytes_eq y x ≡ b → is_known (kind_of seen y) ≡ false → is_known (kind_of seen x) ≡ true → o ≡ None → cond b (Some k) o ≡ None
 unknown_by true y x k o seen e n h g = absurd (false≢true (sym n ∙ ap (λ (z : List ℕ). is_known (kind_of seen z)) ((bytes_decides y x).0 e) ∙ h))

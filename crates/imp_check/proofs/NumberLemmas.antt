@@ -1,10 +1,11 @@
 -- Statement numbers.
 use Rattle.std.proofs.Common.{ℕ, zero, suc, ◌≡◌, ◌≢◌, ◌+◌, ◌<◌, ◌≤◌, ◌==◌, ◌&&◌, ◌||◌, not, ◌↔◌, Bool, true, false, List, [], ◌∷◌, ◌++◌, length, drop, get_or, refl, sym, ap, ◌∙◌, arith, add-one, drop-cons, eq-eqb}
-use Rattle.std.proofs.lemmas.Bool.{and_parts, false≢true}
+use Rattle.std.proofs.lemmas.Bool.{and_parts, false≢true, not-true, or_parts}
 use borrow.Author.Tests.{eqb-true}
 use Rattle.imp_slots.specs.Fits.{Absent, Distinct}
 use Rattle.imp_syntax.specs.Plain.{Procedure, numbers, program_numbers}
 use Rattle.imp_check.specs.Programs.{AreNumbered, has, all_once}
+use Rattle.plain_values.proofs.Cases.{and_false}
 
 pub program_step : (ps : List Procedure) (i : ℕ) (p : Procedure) → i < length ps → p ≡ get_or ps i p → program_numbers (drop i ps) ≡ numbers p.body ++ program_numbers (drop (i + 1) ps)
 program_step ps i p h e = rw (drop-cons ps i p, add-one, ← e) refl
@@ -21,10 +22,6 @@ once_end [] (suc i) h = refl
 once_end (n ∷ ns) zero h = absurd (omega arith)
 once_end (n ∷ ns) (suc i) h = once_end ns i (omega arith)
 
-and_false : (b : Bool) → (b && false) ≡ false
-and_false true = refl
-and_false false = refl
-
 -- what fails from a place on fails
 pub once_fails : (ns : List ℕ) (i : ℕ) → all_once (drop i ns) ≡ false → all_once ns ≡ false
 once_fails ns zero h = h
@@ -37,14 +34,6 @@ zero_fails ns i n h e z = let f = eq-eqb n 0 z in once_fails ns i (once_step ns 
 
 pub again_fails : (ns : List ℕ) (i n : ℕ) → i < length ns → n ≡ get_or ns i 0 → has (drop (i + 1) ns) n ≡ true → all_once ns ≡ false
 again_fails ns i n h e f = once_fails ns i (once_step ns i n h e ∙ ap (λ (b : Bool). not (n == 0) && (not b && all_once (drop (i + 1) ns))) f ∙ and_false (not (n == 0)))
-
-not_true : (b : Bool) → not b ≡ true → b ≡ false
-not_true true h = absurd (false≢true h)
-not_true false h = refl
-
-or_parts : (a b : Bool) → (a || b) ≡ false → (a ≡ false) × (b ≡ false)
-or_parts true b h = absurd (false≢true (sym h))
-or_parts false b h = (refl, h)
 
 apart : (m n : ℕ) → (m == n) ≡ false → m ≢ n
 apart m n h e = false≢true (sym h ∙ eq-eqb m n e)
@@ -66,7 +55,7 @@ no_zero [] h = tt
 no_zero (n ∷ ns) h =
     let p = and_parts (not (n == 0)) (not (has ns n) && all_once ns) h in
     let q = and_parts (not (has ns n)) (all_once ns) p.1 in
-    let d = apart n 0 (not_true (n == 0) p.0) in
+    let d = apart n 0 (not-true (n == 0) p.0) in
     ((λ e. d (sym e)), no_zero ns q.1)
 
 distinct : (ns : List ℕ) → all_once ns ≡ true → Distinct ns
@@ -74,7 +63,7 @@ distinct [] h = tt
 distinct (n ∷ ns) h =
     let p = and_parts (not (n == 0)) (not (has ns n) && all_once ns) h in
     let q = and_parts (not (has ns n)) (all_once ns) p.1 in
-    (absent ns n (not_true (has ns n) q.0), distinct ns q.1)
+    (absent ns n (not-true (has ns n) q.0), distinct ns q.1)
 
 once : (ns : List ℕ) → Absent 0 ns → Distinct ns → all_once ns ≡ true
 once [] z d = refl

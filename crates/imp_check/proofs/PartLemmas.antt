@@ -1,9 +1,9 @@
 -- The ends of blocks, and how deep their statements are.
-use Rattle.std.proofs.Common.{◌≡◌, ℕ, zero, suc, ◌-◌, ◌<◌, ◌≤◌, max, List, [], ◌∷◌, length, drop, slice_get, slice_index_or, Option, Some, None, option_map, refl, ap, ◌∙◌, sym, arith}
-use Rattle.std.proofs.Math.Nat.{le-max_left, le-max_right}
+use Rattle.std.proofs.Common.{◌≡◌, ℕ, zero, suc, ◌-◌, ◌<◌, ◌≤◌, List, [], ◌∷◌, length, drop, slice_get, slice_index_or, Option, Some, None, option_map, refl, ap, ◌∙◌, sym, arith}
 use Rattle.imp_syntax.specs.Plain.{Statement, Statements, block_of, number_of, Procedure}
 use Rattle.imp_check.specs.Programs.{statement_nesting, nesting, deepest}
 use Rattle.imp_check.specs.Parts.{first_or, last_or, ends_of}
+pub use Rattle.std.proofs.Math.Nat.{le-max_left as below_max_left, le-max_right as below_max_right}
 
 -- the number of a statement of a list, if there is one
 abbrev pub number_at : List Statement → ℕ → Option ℕ
@@ -28,16 +28,10 @@ ends_are ss b e = ap ends_of (sym e) ∙ (λ i. record { first = next_is ss 0 i;
 
 pub member_nesting : (ss : List Statement) (i : ℕ) (s : Statement) → i < length ss → s ≡ slice_index_or ss i s → statement_nesting s ≤ nesting (block_of ss)
 member_nesting [] i s h e = absurd (omega arith)
-member_nesting (x ∷ ss) zero s h e = let same : statement_nesting s ≡ statement_nesting x = ap statement_nesting e in omega (arith, same, le-max_left (statement_nesting x) (nesting (block_of ss)))
-member_nesting (x ∷ ss) (suc i) s h e = omega (arith, member_nesting ss i s (omega arith) e, le-max_right (statement_nesting x) (nesting (block_of ss)))
+member_nesting (x ∷ ss) zero s h e = let same : statement_nesting s ≡ statement_nesting x = ap statement_nesting e in omega (arith, same, below_max_left (statement_nesting x) (nesting (block_of ss)))
+member_nesting (x ∷ ss) (suc i) s h e = omega (arith, member_nesting ss i s (omega arith) e, below_max_right (statement_nesting x) (nesting (block_of ss)))
 
 pub body_nesting : (ps : List Procedure) (i : ℕ) (p : Procedure) → i < length ps → p ≡ slice_index_or ps i p → nesting p.body ≤ deepest ps
 body_nesting [] i p h e = absurd (omega arith)
-body_nesting (x ∷ ps) zero p h e = let same : nesting p.body ≡ nesting x.body = ap (λ (q : Procedure). nesting q.body) e in omega (arith, same, le-max_left (nesting x.body) (deepest ps))
-body_nesting (x ∷ ps) (suc i) p h e = omega (arith, body_nesting ps i p (omega arith) e, le-max_right (nesting x.body) (deepest ps))
-
-pub below_max_left : (a b : ℕ) → a ≤ max a b
-below_max_left a b = le-max_left a b
-
-pub below_max_right : (a b : ℕ) → b ≤ max a b
-below_max_right a b = le-max_right a b
+body_nesting (x ∷ ps) zero p h e = let same : nesting p.body ≡ nesting x.body = ap (λ (q : Procedure). nesting q.body) e in omega (arith, same, below_max_left (nesting x.body) (deepest ps))
+body_nesting (x ∷ ps) (suc i) p h e = omega (arith, body_nesting ps i p (omega arith) e, below_max_right (nesting x.body) (deepest ps))

@@ -4,7 +4,7 @@ use Rattle.std.proofs.Common.{◌≡◌, ℕ, zero, suc, ◌<◌, ◌==◌, ◌�
 use Rattle.imp_syntax.specs.Plain.{Statement, Statements, Ends, Starts, Procedure, number_of, numbers_in, numbers, program_numbers}
 use Rattle.imp_syntax.specs.Plain as tree
 use Rattle.imp_slots.specs.Fits.{Absent, Distinct}
-use Rattle.imp_check.specs.Slots.{Frame}
+use Rattle.imp_check.specs.Slots.{Resolver}
 use Rattle.imp_check.specs.Programs.{block_count, program_count}
 use Rattle.imp_check.specs.declared.entry.Which.TheVariants as which
 use Rattle.imp_check.specs.declared.entry.Context.{Context}
@@ -36,7 +36,7 @@ known_left at xs ys k x h = k x (in_left x xs ys h)
 pub known_right : (at : ℕ → Option Entry) (xs ys : List Entry) → Known at (xs ++ ys) → Known at ys
 known_right at xs ys k x h = k x (in_right x xs ys h)
 
-module _ (at : ℕ → Option Entry) (f : Frame) where
+module _ (at : ℕ → Option Entry) (f : Resolver) where
   -- a statement whose spot is found, and what is behind it
   step : (m : ℕ) (x : Entry) (s : Statement) (ss : Statements) → at x.number ≡ Some x → statement_with x.part (block_from at m x.inner.first) (block_from at m x.other.first) ≡ s → block_from at m x.next ≡ ss → block_from at (suc m) (Some x.number) ≡ Starts s ss
   step m x s ss k e r = ap (from_entry (block_from at m)) k ∙ ap (λ (t : Statement). Starts t (block_from at m x.next)) e ∙ ap (Starts s) r
@@ -84,7 +84,7 @@ map_both : (xs ys : List Entry) → entry_numbers (xs ++ ys) ≡ entry_numbers x
 map_both [] ys = refl
 map_both (x ∷ xs) ys = ap (λ ns. x.number ∷ ns) (map_both xs ys)
 
-module _ (f : Frame) where
+module _ (f : Resolver) where
   mutual
     statement_numbers : (c : Context) (a p : Option ℕ) (s : Statement) → entry_numbers (statement_entries f c a p s) ≡ numbers_in s
     statement_numbers c a p (tree.Simple n x) = refl

@@ -3,6 +3,7 @@ use Rattle.std.proofs.Common.{ℕ, zero, suc, ◌≡◌, ◌+◌, ◌<◌, ◌�
 use Rattle.std.proofs.lemmas.Bool.{cases_lt}
 use Rattle.imp_check.specs.Entries.{sites_in, sites_below}
 use Rattle.imp_check.specs.declared.entry.Entry.{Entry}
+use Rattle.std.proofs.lemmas.Option.{slice_get_past}
 
 pub below_step : (es : List Entry) (n : ℕ) → sites_below es (n + 1) ≡ sites_below es n ++ sites_in es n ∷ []
 below_step es n = rw add-one refl
@@ -33,10 +34,5 @@ pub below_at : (es : List Entry) (n p : ℕ) → p < n → slice_get (sites_belo
 below_at es zero p h = absurd (omega arith)
 below_at es (suc n) p h = below_by es n p (below_at es n p) (cases_lt p n) h
 
-past : {A : Type 0} (xs : List A) (p : ℕ) → length xs ≤ p → slice_get xs p ≡ None
-past [] p h = refl
-past (x ∷ xs) zero h = absurd (omega arith)
-past (x ∷ xs) (suc p) h = past xs p (omega arith)
-
 pub below_past : (es : List Entry) (n p : ℕ) → n ≤ p → slice_get (sites_below es n) p ≡ None
-below_past es n p h = past (sites_below es n) p (omega (arith, below_length es n))
+below_past es n p h = slice_get_past (sites_below es n) p (omega (arith, below_length es n))

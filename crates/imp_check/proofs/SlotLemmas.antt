@@ -1,6 +1,6 @@
 -- Slots.
-use Rattle.std.proofs.Common.{ℕ, zero, suc, sym, ◌∙◌, slice_get, take, Some, None, ◌≡◌, ◌+◌, ◌<◌, ◌≤◌, List, [], ◌∷◌, ◌++◌, length, map, drop, refl, ap, arith, add-one, drop-cons, get_or}
-use Rattle.std.proofs.lemmas.List.{take-map}
+use Rattle.std.proofs.Common.{ℕ, zero, suc, sym, ◌∙◌, slice_get, take, Some, None, ◌≡◌, ◌+◌, ◌<◌, ◌≤◌, List, [], ◌∷◌, ◌++◌, length, map, drop, refl, ap, arith, add-one, drop-cons, get_or, reverse, append_assoc, append-nil}
+use Rattle.std.proofs.lemmas.List.{take-map, reverse-append}
 use Rattle.imp_syntax.specs.declared.words.Declaration.{Declaration}
 use Rattle.imp_syntax.specs.declared.words.Kind.{Kind}
 use Rattle.imp_syntax.specs.declared.words.Kind.TheVariants.{Int, Array, List as OfLinks}
@@ -12,7 +12,7 @@ use Rattle.imp_slots.specs.Plain.{Numeric, Layout, Argument}
 use Rattle.imp_slots.specs.CallViews.{argument_of}
 use Rattle.imp_slots.specs.declared.calls.Argument as declared
 use Rattle.imp_check.specs.Programs.{count_numeric, count_links, one_numeric, one_link}
-use Rattle.imp_check.specs.Slots.{with_numeric, with_link, numerics, links, argument_in, arguments_in, layout_in}
+use Rattle.imp_check.specs.Slots.{with_numeric, with_link, numerics, links, argument_in, arguments_in, layout_in, routine_of, routines_from, routines_of}
 
 length_with : (k : Kind) (x : List ℕ) (ns : List Numeric) → length (with_numeric k x ns) ≡ one_numeric k + length ns
 length_with Int x ns = omega arith
@@ -69,3 +69,11 @@ known_length ps ls k = ap length k ∙ map_length ps
 
 pub known_before : (ps : List Procedure) (ls : List Layout) (i : ℕ) → ls ≡ map layout_in ps → take i ls ≡ map layout_in (take i ps)
 known_before ps ls i k = ap (take i) k ∙ take-map layout_in i ps
+
+-- the routines of a program with one procedure more, backwards
+pub routines_push : (es : List Procedure) (p : Procedure) → reverse (routines_of (es ++ p ∷ [])) ≡ routine_of es p ∷ reverse (routines_of es)
+routines_push es p = ap reverse (split [] es) ∙ reverse-append (routines_of es) (routine_of es p ∷ [])
+  where
+    split : (bs es : List Procedure) → routines_from bs (es ++ p ∷ []) ≡ routines_from bs es ++ routine_of (bs ++ es) p ∷ []
+    split bs [] = ap (λ z. routine_of z p ∷ []) (sym (append-nil bs))
+    split bs (e ∷ es) = ap (λ z. routine_of bs e ∷ z) (split (bs ++ e ∷ []) es ∙ ap (λ z. routines_from (bs ++ e ∷ []) es ++ routine_of z p ∷ []) (append_assoc bs (e ∷ []) es))

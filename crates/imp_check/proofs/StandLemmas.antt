@@ -3,7 +3,7 @@ use Rattle.std.proofs.lemmas.Bool.Decides.{nat_tests}
 use Rattle.std.proofs.Common.{◌≡◌, ℕ, zero, suc, ◌+◌, ◌<◌, ◌==◌, ◌⊎◌, inl, inr, cond, Bool, true, false, List, [], ◌∷◌, ◌++◌, length, take, slice_get, Option, Some, None, refl, sym, ap, ◌∙◌, subst, arith, append_assoc, append-nil}
 use Rattle.imp_syntax.specs.Plain.{Statements, Ends, Starts, Procedure}
 use Rattle.imp_syntax.specs.Plain as tree
-use Rattle.imp_check.specs.Slots.{Frame}
+use Rattle.imp_check.specs.Slots.{Resolver}
 use Rattle.imp_check.specs.Entries.{inside, inside_loop, block_entries, procedure_entries, entries_from, entries_of, entry_of, frame_at, context_at, calls_here, sites_in}
 use Rattle.imp_check.specs.Changes.{overlay}
 use Rattle.imp_check.specs.Walks.{body_numbers, numbers_at}
@@ -20,7 +20,7 @@ either x (z ∷ xs) ys (inl e) = inl (inl e)
 either x (z ∷ xs) ys (inr h) = elim (either x xs ys h) [ inl a ↦ inl (inr a) | inr b ↦ inr b ]
 
 -- The statements of a block, and all inside them, are of its procedure.
-module _ (f : Frame) where
+module _ (f : Resolver) where
   pub procedure_is : (b : Statements) (c : Context) (a p : Option ℕ) (x : Entry) → In x (block_entries f c a p b) → x.context.proc ≡ c.proc
   procedure_is Ends c a p x h = absurd h
   procedure_is (Starts (tree.Simple n z) ss) c a p x (inl e) = ap (λ (y : Entry). y.context.proc) e

@@ -3,7 +3,7 @@ use Rattle.std.proofs.Common.{◌≡◌, ℕ, zero, suc, ◌-◌, ◌<◌, inl, 
 use Rattle.imp_syntax.specs.Plain.{Statements, Ends, Starts, Procedure, numbers}
 use Rattle.imp_syntax.specs.Plain as tree
 use Rattle.imp_slots.specs.Fits.{Distinct}
-use Rattle.imp_check.specs.Slots.{Frame}
+use Rattle.imp_check.specs.Slots.{Resolver}
 use Rattle.imp_check.specs.Programs.{AreNumbered, block_count, program_count}
 use Rattle.imp_check.specs.Parts.{first_or, ends_of}
 use Rattle.imp_check.specs.Entries.{inside, inside_loop, entry_at, block_entries, procedure_entries, entries_from, entries_of, entry_of, frame_at, context_at}
@@ -19,9 +19,6 @@ abbrev pub option_ends : Option Procedure → Option BlockEnds
 option_ends o = option_map (λ (p : Procedure). ends_of p.body) o
 
 -- Steps.
-pub walk_some : (at : ℕ → Option Entry) (left : ℕ) (o : Option ℕ) (e : Entry) → next_in at left o ≡ Some e → 0 < left
-walk_some at zero o e h = cc
-walk_some at (suc left) o e h = omega arith
 
 pub walk_step : (at : ℕ → Option Entry) (left : ℕ) (o : Option ℕ) (e : Entry) → next_in at left o ≡ Some e → walk at left o ≡ e.number ∷ (walk at (left - 1) e.inner.first ++ (walk at (left - 1) e.other.first ++ walk at (left - 1) e.next))
 walk_step at zero o e h = cc
@@ -36,7 +33,7 @@ walk_none at zero o h = refl
 walk_none at (suc left) None h = refl
 walk_none at (suc left) (Some n) h = ap (walked (walk at left)) h
 
-module _ (at : ℕ → Option Entry) (f : Frame) where
+module _ (at : ℕ → Option Entry) (f : Resolver) where
   -- a statement whose entry is found, those inside it, and those behind it
   step : (m : ℕ) (x : Entry) (xs ys zs : List ℕ) → at x.number ≡ Some x → walk at m x.inner.first ≡ xs → walk at m x.other.first ≡ ys → walk at m x.next ≡ zs → walk at (suc m) (Some x.number) ≡ x.number ∷ (xs ++ (ys ++ zs))
   step m x xs ys zs k p q r = ap (walked (walk at m)) k ∙ (λ i. x.number ∷ (p i ++ (q i ++ r i)))

@@ -5,7 +5,7 @@ use Rattle.imp_syntax.specs.Plain.{Statement, Statements, Procedure, number_of}
 use Rattle.imp_syntax.specs.Plain as tree
 use Rattle.imp_slots.specs.ActionViews.{action_of}
 use Rattle.imp_slots.specs.declared.actions.SlotStmt.TheVariants as act
-use Rattle.imp_check.specs.Slots.{Frame, layout_in, effect_in, guard_in, invoke_in, callee_in}
+use Rattle.imp_check.specs.Slots.{Resolver, layout_in, effect_in, guard_in, invoke_in, callee_in}
 use Rattle.imp_check.specs.Parts.{part_of, first_or, first_ends, second_ends, breaks_of, ends_of}
 use Rattle.imp_check.specs.declared.entry.Entry.{Entry}
 use Rattle.imp_check.specs.declared.entry.Head.{Head}
@@ -16,7 +16,7 @@ use Rattle.imp_check.specs.declared.entry.Which.TheVariants.{Then, Else, Body}
 use Rattle.imp_check.specs.declared.entry.Context.{Context}
 
 -- what a statement does, over slots
-abbrev pub form_in : Frame → Statement → SlotForm
+abbrev pub form_in : Resolver → Statement → SlotForm
 form_in f (tree.Simple n a) = form.Stmt (act.Simple (action_of (effect_in f.layout a)))
 form_in f (tree.Break n) = form.Stmt act.Break
 form_in f (tree.Call n x g es) = form.Call (invoke_in f x g es) (callee_in f g)
@@ -24,7 +24,7 @@ form_in f (tree.If n c t e) = form.Cond (guard_in f.layout c)
 form_in f (tree.While n c b) = form.Cond (guard_in f.layout c)
 
 -- a statement between these two of its block
-abbrev pub entry_at : Frame → Context → (front next : Option ℕ) → Statement → Entry
+abbrev pub entry_at : Resolver → Context → (front next : Option ℕ) → Statement → Entry
 entry_at f c front next s = record {
   number = number_of s;
   part = part_of s;
@@ -46,19 +46,19 @@ inside_loop c n = record { proc = c.proc; around = Some (record { stmt = n; whic
 
 -- a statement, then those inside it
 abbrev mutual
-  pub statement_entries : Frame → Context → (front next : Option ℕ) → Statement → List Entry
+  pub statement_entries : Resolver → Context → (front next : Option ℕ) → Statement → List Entry
   statement_entries f c front next (tree.Simple n a) = entry_at f c front next (tree.Simple n a) ∷ []
   statement_entries f c front next (tree.Break n) = entry_at f c front next (tree.Break n) ∷ []
   statement_entries f c front next (tree.Call n x g es) = entry_at f c front next (tree.Call n x g es) ∷ []
   statement_entries f c front next (tree.If n d t e) = entry_at f c front next (tree.If n d t e) ∷ (block_entries f (inside c n Then) None None t ++ block_entries f (inside c n Else) None None e)
   statement_entries f c front next (tree.While n d b) = entry_at f c front next (tree.While n d b) ∷ block_entries f (inside_loop c n) None None b
 
-  pub block_entries : Frame → Context → (front next : Option ℕ) → Statements → List Entry
+  pub block_entries : Resolver → Context → (front next : Option ℕ) → Statements → List Entry
   block_entries f c front next tree.Ends = []
   block_entries f c front next (tree.Starts s ss) = statement_entries f c front (first_or ss next) s ++ block_entries f c (Some (number_of s)) next ss
 
 -- a procedure's own block, with those before it
-abbrev pub frame_at : (earlier : List Procedure) → Procedure → Frame
+abbrev pub frame_at : (earlier : List Procedure) → Procedure → Resolver
 frame_at earlier p = record { layout = layout_in p; earlier = earlier }
 
 abbrev pub context_at : (place : ℕ) → Context

@@ -7,7 +7,7 @@ pub mod Programs
 pub mod ScopeCode
 pub mod Tallies
 pub mod Slots
-pub mod FrameCode
+pub mod ResolverCode
 pub mod Few
 pub mod Tables
 pub mod Refused

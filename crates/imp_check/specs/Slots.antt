@@ -181,26 +181,26 @@ invoke_of l x es None = record { entering = record { layout = l; arguments = arg
 invoke_of l x es (Some q) = record { entering = record { layout = layout_in q; arguments = arguments_in l es }; returning = returning_in l (layout_in q) x q.outcome }
 
 -- What the statements of a procedure are resolved by: its layout, and the procedures before it.
-pub record Frame : Type 0 where
+pub record Resolver : Type 0 where
   pub layout : Layout
   pub earlier : List Procedure
 
-abbrev pub callee_in : Frame → List ℕ → ℕ
+abbrev pub callee_in : Resolver → List ℕ → ℕ
 callee_in f g = place_named f.earlier g
 
-abbrev pub invoke_in : Frame → Option (List ℕ) → List ℕ → List Operand → Invoke
+abbrev pub invoke_in : Resolver → Option (List ℕ) → List ℕ → List Operand → Invoke
 invoke_in f x g es = invoke_of f.layout x es (slice_get f.earlier (callee_in f g))
 
 -- a statement with what comes behind it, and a block
 abbrev mutual
-  pub statement_in : Frame → Statement → Code → Code
+  pub statement_in : Resolver → Statement → Code → Code
   statement_in f (tree.Simple n a) r = slot.Simple n (effect_in f.layout a) r
   statement_in f (tree.Break n) r = slot.Break n r
   statement_in f (tree.Call n x g es) r = slot.Call n (invoke_in f x g es) (callee_in f g) r
   statement_in f (tree.If n c t e) r = slot.If n (guard_in f.layout c) (code_in f t) (code_in f e) r
   statement_in f (tree.While n c b) r = slot.While n (guard_in f.layout c) (code_in f b) r
 
-  pub code_in : Frame → Statements → Code
+  pub code_in : Resolver → Statements → Code
   code_in f tree.Ends = slot.Stop
   code_in f (tree.Starts s ss) = statement_in f s (code_in f ss)
 

@@ -10,7 +10,7 @@ use crate::counts::program_count;
 use crate::entries::{Making, block_entries};
 use crate::entry::Context;
 use crate::heads::heads_of;
-use crate::resolve::Frame;
+use crate::resolve::Resolver;
 use crate::routines::layouts_of;
 use crate::slots::Slots;
 use crate::table::Table;
@@ -46,7 +46,7 @@ fn add_procedure(
     ensures put { OnOk result (making.new.places.items ≡ put_all (procedure_entries earlier.now proc.now) making.old.places.items) }
     ensures sites { OnOk result (making.new.sites.items ≡ with_sites (procedure_entries earlier.now proc.now) making.old.sites.items) }
 {
-    let frame = Frame::new(slots, earlier, known);
+    let frame = Resolver::new(slots, earlier, known);
     let context = Context {
         proc: ProcId::new(earlier.len() as u32),
         around: None,

@@ -16,7 +16,7 @@ use crate::heads::number_at;
 use crate::parts::{breaks_of, first_ends, part_of, second_ends};
 use crate::place::Place;
 use crate::putting::put_entry;
-use crate::resolve::Frame;
+use crate::resolve::Resolver;
 use crate::slots::Slots;
 use crate::terms::{effect_in, guard_in};
 use imp_slots::SlotStmt;
@@ -34,7 +34,7 @@ fn simple_form(alloc: Global, slots: &Slots, action: &Action) -> Result<SlotForm
 }
 
 /// A call, over slots.
-fn call_form(alloc: Global, frame: &Frame, call: &Call) -> Result<SlotForm, Memory>
+fn call_form(alloc: Global, frame: &Resolver, call: &Call) -> Result<SlotForm, Memory>
     ensures is { IfOk result (λ f. f ≡ form.Call (invoke_in frame.now call.now.target call.now.callee (operands_of call.now.arguments)) (callee_in frame.now call.now.callee)) }
 {
     let invoke = frame.invoke(alloc, call)?;
@@ -49,7 +49,7 @@ fn guard_form(alloc: Global, slots: &Slots, cond: &Cond) -> Result<SlotForm, Mem
 }
 
 /// What a statement does, over slots.
-fn form_in(alloc: Global, frame: &Frame, stmt: &Stmt) -> Result<SlotForm, Memory>
+fn form_in(alloc: Global, frame: &Resolver, stmt: &Stmt) -> Result<SlotForm, Memory>
     ensures is { IfOk result (λ form. form ≡ form_in frame.now stmt.now) }
 {
     match stmt.node() {
@@ -97,7 +97,7 @@ fn told_of(alloc: Global, stmt: &Stmt) -> Result<(Stmt, Items<StmtId>), Memory>
 /// A statement between these two of its block.
 fn entry_at(
     alloc: Global,
-    frame: &Frame,
+    frame: &Resolver,
     context: &Context,
     front: Option<StmtId>,
     next: Option<StmtId>,
@@ -155,7 +155,7 @@ fn add_site(sites: &mut Vec<Items<StmtId>>, place: u32, site: StmtId) -> Result<
 #[tactic(auto, using(imp_syntax::specs::Blocks::member_smaller, imp_syntax::specs::Blocks::block_rest, crate::proofs::PartLemmas::member_nesting, crate::proofs::PartLemmas::next_is, crate::proofs::PutLemmas::all_both, crate::proofs::PutLemmas::sites_both))]
 pub(crate) fn block_entries(
     alloc: Global,
-    frame: &Frame,
+    frame: &Resolver,
     context: &Context,
     block: &Block,
     making: &mut Making,
@@ -179,7 +179,7 @@ pub(crate) fn block_entries(
 #[tactic(auto, using(crate::proofs::PartLemmas::below_max_left, crate::proofs::PartLemmas::below_max_right, crate::proofs::PutLemmas::all_both, crate::proofs::PutLemmas::sites_both))]
 fn statement_entries(
     alloc: Global,
-    frame: &Frame,
+    frame: &Resolver,
     context: &Context,
     front: Option<StmtId>,
     next: Option<StmtId>,

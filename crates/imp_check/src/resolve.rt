@@ -19,33 +19,33 @@ use std::marker::Model;
 
 /// What the statements of a procedure are resolved by: its slots, the procedures before it and theirs.
 #[derive(Drop)]
-pub(crate) struct Frame<'a> {
+pub(crate) struct Resolver<'a> {
     pub(crate) slots: &'a Slots,
     earlier: &'a [Proc],
     known: &'a [Slots],
 }
 
-impl<'a> Model for Frame<'a> {
+impl<'a> Model for Resolver<'a> {
     ghost use Rattle.std.specs.Prelude.{◌≡◌, ◌<◌, ◌^◌, length, map};
     ghost use Rattle.imp_check.specs.Slots as plain;
-    ghost use Rattle.imp_check.specs.FrameCode.{frame_code};
+    ghost use Rattle.imp_check.specs.ResolverCode.{resolver_code};
 
-    ghost Value = { plain.Frame };
+    ghost Value = { plain.Resolver };
 
-    ghost coded = { frame_code };
+    ghost coded = { resolver_code };
 
     ghost view = { λ a. record { layout = a.slots.now; earlier = a.earlier.now } };
 
     ghost invariant = { λ a. (length a.earlier.now < 2 ^ 32) × (a.known.now ≡ map plain.layout_in a.earlier.now) };
 }
 
-impl<'a> Frame<'a> {
-    pub(crate) fn new(slots: &'a Slots, earlier: &'a [Proc], known: &'a [Slots]) -> Frame<'a>
+impl<'a> Resolver<'a> {
+    pub(crate) fn new(slots: &'a Slots, earlier: &'a [Proc], known: &'a [Slots]) -> Resolver<'a>
         requires few { length earlier.now < 2 ^ 32 }
         requires known { known.now ≡ map layout_in earlier.now }
         ensures is { result ≡ record { layout = slots.now; earlier = earlier.now } }
     {
-        Frame {
+        Resolver {
             slots,
             earlier,
             known,
@@ -140,7 +140,7 @@ fn returning_in(
 /// A block.
 #[cycle(blocks)]
 #[tactic(auto, using(imp_syntax::specs::Blocks::member_smaller, imp_syntax::specs::Blocks::block_rest, crate::proofs::CodeLemmas::then_added, crate::proofs::CodeLemmas::then_ends))]
-pub(crate) fn code_in(alloc: Global, frame: &Frame, block: &Block) -> Result<SlotBlock, Memory>
+pub(crate) fn code_in(alloc: Global, frame: &Resolver, block: &Block) -> Result<SlotBlock, Memory>
     ensures is { IfOk result (λ b. b ≡ code_in frame.now block.now) }
 {
     let mut nodes = Vec::new(alloc);
@@ -152,7 +152,7 @@ pub(crate) fn code_in(alloc: Global, frame: &Frame, block: &Block) -> Result<Slo
 
 /// A statement.
 #[cycle(blocks)]
-fn statement_in(alloc: Global, frame: &Frame, stmt: &Stmt) -> Result<SlotNode, Memory>
+fn statement_in(alloc: Global, frame: &Resolver, stmt: &Stmt) -> Result<SlotNode, Memory>
     ensures is { IfOk result (λ node. (r : Code) → before_code node r ≡ statement_in frame.now stmt.now r) }
 {
     let number = stmt.id().number();

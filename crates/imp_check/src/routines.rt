@@ -4,7 +4,7 @@ ghost use Rattle.imp_check.specs.Slots.{layout_in, routine_of, routines_of};
 ghost use Rattle.imp_check.specs.Few.{HasFew, AreFew};
 
 use crate::programs::variables_of;
-use crate::resolve::{Frame, code_in};
+use crate::resolve::{Resolver, code_in};
 use crate::slots::Slots;
 use imp_slots::Routine;
 use imp_syntax::Proc;
@@ -68,7 +68,7 @@ fn routine_of(
     requires slots { slots.now ≡ layout_in proc.now }
     ensures is { IfOk result (λ r. r ≡ routine_of earlier.now proc.now) }
 {
-    let frame = Frame::new(slots, earlier, known);
+    let frame = Resolver::new(slots, earlier, known);
     let code = code_in(alloc, &frame, proc.body())?;
     let name = proc.name().clone()?;
     let layout = slots.layout().clone()?;

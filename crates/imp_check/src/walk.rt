@@ -25,7 +25,7 @@ fn next_in<'a>(view: &View<'a>, most: u32, at: Option<StmtId>) -> Option<&'a Ent
 
 /// Adds the numbers of the block whose first statement has this number, each followed by those inside it. `most` is more
 /// than there are statements.
-#[tactic(auto, using(crate::proofs::WalkLemmas::walk_some, crate::proofs::WalkLemmas::walk_step, crate::proofs::WalkLemmas::walk_none))]
+#[tactic(auto, using(crate::proofs::StepLemmas::step_some, crate::proofs::WalkLemmas::walk_step, crate::proofs::WalkLemmas::walk_none))]
 pub(crate) fn add_block(
     view: &View<'_>,
     most: u32,

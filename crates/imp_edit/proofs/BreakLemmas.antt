@@ -8,7 +8,7 @@ use Rattle.imp_check.specs.Entries.{inside, entry_at, entries_of, entry_of, fram
 use Rattle.imp_check.specs.Parts.{part_of, first_or, last_or, leaving_in, leaving}
 use Rattle.imp_check.specs.Programs.{block_count, program_count}
 use Rattle.imp_check.specs.Rebuilt.{next_in}
-use Rattle.imp_check.specs.Slots.{Frame}
+use Rattle.imp_check.specs.Slots.{Resolver}
 use Rattle.imp_check.specs.declared.entry.Around.{Around}
 use Rattle.imp_check.specs.declared.entry.Context.{Context}
 use Rattle.imp_check.specs.declared.entry.Entry.{Entry}
@@ -29,10 +29,6 @@ use Rattle.imp_edit.proofs.GapLemmas.{append_again}
 use Rattle.imp_edit.proofs.QuietLemmas.{own_count}
 
 -- Steps.
-pub leaving_some : (at : ℕ → Option Entry) (left : ℕ) (o : Option ℕ) (e : Entry) → next_in at left o ≡ Some e → 0 < left
-leaving_some at zero o e h = cc
-leaving_some at (suc left) o e h = omega arith
-
 pub leaving_step : (at : ℕ → Option Entry) (left : ℕ) (o : Option ℕ) (e : Entry) → next_in at left o ≡ Some e → leaving_from at left o ≡ leaving_part (leaving_from at (left - 1)) e e.part ++ leaving_from at (left - 1) e.next
 leaving_step at zero o e h = cc
 leaving_step at (suc left) None e h = cc
@@ -114,7 +110,7 @@ one_more (If n d t e) = omega arith
 one_more (While n d b) = omega arith
 
 -- What leaves a block whose statements are found.
-module _ (at : ℕ → Option Entry) (f : Frame) where
+module _ (at : ℕ → Option Entry) (f : Resolver) where
   nothing : (m : ℕ) → leaving_from at m None ≡ []
   nothing zero = refl
   nothing (suc m) = refl
@@ -198,7 +194,7 @@ module _ (ps qs : List Procedure) (p : Procedure) (outer : List Hole) (loop : Ho
   abbrev at' : ℕ → Option Entry
   at' = entry_of (entries_of P)
 
-  abbrev f : Frame
+  abbrev f : Resolver
   f = frame_at ps p
 
   abbrev holes : List Hole → List Hole

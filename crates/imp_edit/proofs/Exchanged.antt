@@ -4,11 +4,12 @@ use Rattle.std.proofs.Common.{◌≡◌, ◌≢◌, ℕ, ◌==◌, cond, List, [
 use Rattle.imp_syntax.specs.Plain.{Statement, Simple, Break, Call, If, While, Statements, Ends, Starts, Procedure, number_of, numbers_in, numbers, program_numbers}
 use Rattle.imp_slots.specs.Fits.{Absent, Distinct}
 use Rattle.edit_entries.specs.Holes.{append, Hole, Then, Else, Body, fill, plug, with_body}
-use Rattle.edit_entries.proofs.Stay.{left_absent, right_absent, other_number}
+use Rattle.edit_entries.proofs.Stay.{other_number}
 use Rattle.edit_entries.proofs.Located.{Has, Located}
 use Rattle.edit_entries.proofs.Numbers.{numbers_append, filled as numbers_filled, middle_alone}
 use Rattle.edit_entries.proofs.Standing.{Stands, has_left, has_right, has_plugged, distinct_right, inner_once, deep_once, head_has, own_distinct, located_has}
 use Rattle.imp_edit.specs.Changes.{in_statement, in_block, in_program}
+use Rattle.imp_slots.proofs.Distinct.{absent_left, absent_right}
 
 head_other : {n : ℕ} (s : Statement) → Absent n (numbers_in s) → n ≢ number_of s
 head_other (Simple m a) h = h.0
@@ -25,24 +26,24 @@ module _ (n : ℕ) (made : Statement → Statements) where
     absent_statement (Break m) h = refl
     absent_statement (Call m x g es) h = refl
     absent_statement (If m c t e) h =
-        ap (λ x. If m c x (in_block n made e)) (absent_block t (left_absent n (numbers t) (numbers e) h.1))
-        ∙ ap (If m c t) (absent_block e (right_absent n (numbers t) (numbers e) h.1))
+        ap (λ x. If m c x (in_block n made e)) (absent_block t (absent_left n (numbers t) (numbers e) h.1))
+        ∙ ap (If m c t) (absent_block e (absent_right n (numbers t) (numbers e) h.1))
     absent_statement (While m c b) h = ap (While m c) (absent_block b h.1)
 
     pub absent_block : (b : Statements) → Absent n (numbers b) → in_block n made b ≡ b
     absent_block Ends h = refl
     absent_block (Starts s ss) h =
-        ap (λ t. cond t (append (made s) ss) (Starts (in_statement n made s) (in_block n made ss))) (other_number (number_of s) n (head_other s (left_absent n (numbers_in s) (numbers ss) h)))
-        ∙ ap (λ x. Starts x (in_block n made ss)) (absent_statement s (left_absent n (numbers_in s) (numbers ss) h))
-        ∙ ap (Starts s) (absent_block ss (right_absent n (numbers_in s) (numbers ss) h))
+        ap (λ t. cond t (append (made s) ss) (Starts (in_statement n made s) (in_block n made ss))) (other_number (number_of s) n (head_other s (absent_left n (numbers_in s) (numbers ss) h)))
+        ∙ ap (λ x. Starts x (in_block n made ss)) (absent_statement s (absent_left n (numbers_in s) (numbers ss) h))
+        ∙ ap (Starts s) (absent_block ss (absent_right n (numbers_in s) (numbers ss) h))
 
   -- .. and comes to the one that has it.
   past : (b : Statements) (s : Statement) (r : Statements) → Absent n (numbers b) → in_block n made (append b (Starts s r)) ≡ append b (in_block n made (Starts s r))
   past Ends s r h = refl
   past (Starts x b) s r h =
-      ap (λ t. cond t (append (made x) (append b (Starts s r))) (Starts (in_statement n made x) (in_block n made (append b (Starts s r))))) (other_number (number_of x) n (head_other x (left_absent n (numbers_in x) (numbers b) h)))
-      ∙ ap (λ y. Starts y (in_block n made (append b (Starts s r)))) (absent_statement x (left_absent n (numbers_in x) (numbers b) h))
-      ∙ ap (Starts x) (past b s r (right_absent n (numbers_in x) (numbers b) h))
+      ap (λ t. cond t (append (made x) (append b (Starts s r))) (Starts (in_statement n made x) (in_block n made (append b (Starts s r))))) (other_number (number_of x) n (head_other x (absent_left n (numbers_in x) (numbers b) h)))
+      ∙ ap (λ y. Starts y (in_block n made (append b (Starts s r)))) (absent_statement x (absent_left n (numbers_in x) (numbers b) h))
+      ∙ ap (Starts x) (past b s r (absent_right n (numbers_in x) (numbers b) h))
 
   -- the numbers around a hole
   abbrev pub outside : Hole → Type 0
@@ -88,20 +89,20 @@ module _ (n : ℕ) (made : Statement → Statements) where
   around (Then b m c e r) x d i =
       let g = numbers_filled (Then b m c e r) in
       let a = middle_alone g.0 (numbers x) g.1 n (subst Distinct (g.2 x) d) i in
-      let l = left_absent n (numbers b ++ m ∷ []) (numbers e ++ numbers r) a in
-      let k = right_absent n (numbers b ++ m ∷ []) (numbers e ++ numbers r) a in
-      (left_absent n (numbers b) (m ∷ []) l, (right_absent n (numbers b) (m ∷ []) l).0, left_absent n (numbers e) (numbers r) k, right_absent n (numbers e) (numbers r) k)
+      let l = absent_left n (numbers b ++ m ∷ []) (numbers e ++ numbers r) a in
+      let k = absent_right n (numbers b ++ m ∷ []) (numbers e ++ numbers r) a in
+      (absent_left n (numbers b) (m ∷ []) l, (absent_right n (numbers b) (m ∷ []) l).0, absent_left n (numbers e) (numbers r) k, absent_right n (numbers e) (numbers r) k)
   around (Else b m c t r) x d i =
       let g = numbers_filled (Else b m c t r) in
       let a = middle_alone g.0 (numbers x) g.1 n (subst Distinct (g.2 x) d) i in
-      let l = left_absent n (numbers b ++ m ∷ numbers t) (numbers r) a in
-      let k = right_absent n (numbers b) (m ∷ numbers t) l in
-      (left_absent n (numbers b) (m ∷ numbers t) l, k.0, k.1, right_absent n (numbers b ++ m ∷ numbers t) (numbers r) a)
+      let l = absent_left n (numbers b ++ m ∷ numbers t) (numbers r) a in
+      let k = absent_right n (numbers b) (m ∷ numbers t) l in
+      (absent_left n (numbers b) (m ∷ numbers t) l, k.0, k.1, absent_right n (numbers b ++ m ∷ numbers t) (numbers r) a)
   around (Body b m c r) x d i =
       let g = numbers_filled (Body b m c r) in
       let a = middle_alone g.0 (numbers x) g.1 n (subst Distinct (g.2 x) d) i in
-      let l = left_absent n (numbers b ++ m ∷ []) (numbers r) a in
-      (left_absent n (numbers b) (m ∷ []) l, (right_absent n (numbers b) (m ∷ []) l).0, right_absent n (numbers b ++ m ∷ []) (numbers r) a)
+      let l = absent_left n (numbers b ++ m ∷ []) (numbers r) a in
+      (absent_left n (numbers b) (m ∷ []) l, (absent_right n (numbers b) (m ∷ []) l).0, absent_right n (numbers b ++ m ∷ []) (numbers r) a)
 
   all_around : (hs : List Hole) (x : Statements) → Distinct (numbers (plug hs x)) → Has n (numbers x) → Outside n made hs
   all_around [] x d i = tt
@@ -115,21 +116,21 @@ module _ (n : ℕ) (made : Statement → Statements) where
       let d2 : Distinct (numbers l.before ++ (numbers_in l.stmt ++ numbers l.behind)) = subst Distinct (numbers_append l.before (Starts l.stmt l.behind)) (deep_once l.holes x d1) in
       let i : Has n (numbers_in l.stmt) = head_has n l.stmt l.number in
       let j : Has n (numbers x) = subst (Has n) (sym (numbers_append l.before (Starts l.stmt l.behind))) (has_right n (numbers l.before) (numbers_in l.stmt ++ numbers l.behind) (has_left n (numbers_in l.stmt) (numbers l.behind) i)) in
-      let a = left_absent n (numbers l.before) (numbers l.behind) (middle_alone (numbers l.before) (numbers_in l.stmt) (numbers l.behind) n d2 i) in
+      let a = absent_left n (numbers l.before) (numbers l.behind) (middle_alone (numbers l.before) (numbers_in l.stmt) (numbers l.behind) n d2 i) in
       ap (in_block n made) l.is ∙ edit_is n made l.holes l.before l.stmt l.behind (all_around l.holes x d1 j) a l.number
 
   -- .. and in the program.
   absent_program : (ps : List Procedure) → Absent n (program_numbers ps) → in_program n made ps ≡ ps
   absent_program [] a = refl
   absent_program (p ∷ ps) a =
-      ap (λ b. with_body p b ∷ in_program n made ps) (absent_block n made p.body (left_absent n (numbers p.body) (program_numbers ps) a))
-      ∙ ap (λ (os : List Procedure). p ∷ os) (absent_program ps (right_absent n (numbers p.body) (program_numbers ps) a))
+      ap (λ b. with_body p b ∷ in_program n made ps) (absent_block n made p.body (absent_left n (numbers p.body) (program_numbers ps) a))
+      ∙ ap (λ (os : List Procedure). p ∷ os) (absent_program ps (absent_right n (numbers p.body) (program_numbers ps) a))
 
   program_at : (ps : List Procedure) (p : Procedure) (qs : List Procedure) → Distinct (program_numbers (ps ++ p ∷ qs)) → Has n (numbers p.body) → in_program n made (ps ++ p ∷ qs) ≡ ps ++ with_body p (in_block n made p.body) ∷ qs
   program_at [] p qs d i = ap (λ (os : List Procedure). with_body p (in_block n made p.body) ∷ os) (absent_program qs (middle_alone [] (numbers p.body) (program_numbers qs) n d i))
   program_at (x ∷ ps) p qs d i =
       let a = middle_alone (numbers x.body) (program_numbers (ps ++ p ∷ qs)) [] n (subst Distinct (ap (λ k. numbers x.body ++ k) (sym (nil (program_numbers (ps ++ p ∷ qs))))) d) (inside ps) in
-      ap (λ b. with_body x b ∷ in_program n made (ps ++ p ∷ qs)) (absent_block n made x.body (left_absent n (numbers x.body) [] a))
+      ap (λ b. with_body x b ∷ in_program n made (ps ++ p ∷ qs)) (absent_block n made x.body (absent_left n (numbers x.body) [] a))
       ∙ ap (λ (os : List Procedure). x ∷ os) (program_at ps p qs (distinct_right (numbers x.body) (program_numbers (ps ++ p ∷ qs)) d) i)
     where
       nil : (xs : List ℕ) → xs ++ [] ≡ xs

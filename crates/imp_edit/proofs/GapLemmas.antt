@@ -11,7 +11,7 @@ use Rattle.imp_check.specs.Entries.{inside, inside_loop, entry_at, statement_ent
 use Rattle.imp_check.specs.Names.{is_named, named_in, place_named}
 use Rattle.imp_check.specs.Parts.{part_of, first_ends, second_ends, first_or, last_or}
 use Rattle.imp_check.specs.Programs.{AreNumbered, block_count, program_count, check_fault}
-use Rattle.imp_check.specs.Slots.{Frame}
+use Rattle.imp_check.specs.Slots.{Resolver}
 use Rattle.imp_check.specs.declared.entry.Context.{Context}
 use Rattle.imp_check.specs.declared.entry.Entry.{Entry}
 use Rattle.imp_check.specs.declared.entry.Which.TheVariants as which
@@ -110,7 +110,7 @@ module _ (n : ℕ) (P : List Procedure) (once : Distinct (program_numbers P)) (s
   abbrev stmt : Statement
   stmt = s.place.stmt
 
-  abbrev f : Frame
+  abbrev f : Resolver
   f = frame_at s.front s.own
 
   abbrev k : Context

@@ -26,7 +26,7 @@ use Rattle.imp_check.specs.declared.entry.SlotForm.TheVariants as form
 use Rattle.edit_entries.specs.Holes.{Hole, plug, between, in_loop, with_body}
 use Rattle.edit_entries.proofs.Counts.{count_edited, count_program}
 use Rattle.edit_entries.proofs.Exchange.{faultless, exchanged_fault}
-use Rattle.edit_entries.proofs.Faults.{first_parts, first_none}
+use Rattle.edit_entries.proofs.Faults.{first_alone}
 use Rattle.edit_entries.proofs.Filled.{plug_ends}
 use Rattle.edit_entries.proofs.Fitting.{FitsThere, program_fits, same_leave}
 use Rattle.edit_entries.proofs.Guards.{one, same_leaving, guard_ends, guard_other, guard_own}
@@ -40,6 +40,7 @@ use Rattle.imp_edit.specs.declared.error.EditError.TheVariants.{Fault}
 use Rattle.imp_edit.specs.Short.{IsMade}
 use Rattle.imp_edit.specs.declared.refusals.Needed.TheVariants.{Conditional}
 use Rattle.imp_edit.proofs.Exchanged.{program_edited}
+use Rattle.imp_check.proofs.FewLemmas.{first_none}
 
 guarded_is : (d : Condition) (s : Statement) → guarded d s ≡ one (with_condition s d)
 guarded_is d (Simple n a) = refl
@@ -61,10 +62,10 @@ guarded_part d (While n c b) = refl
 
 -- The fault of a condition, with no other one behind it.
 alone_in : {A B : Type 0} (f : Option A → B) (o t e : Option A) → t ≡ None → e ≡ None → f (first (first o (first t e)) None) ≡ f o
-alone_in f o t e p q = ap (λ z. f (first (first o (first z e)) None)) p ∙ ap (λ z. f (first (first o z) None)) q ∙ ap f (first_none (first o None) ∙ first_none o)
+alone_in f o t e p q = ap (λ z. f (first (first o (first z e)) None)) p ∙ ap (λ z. f (first (first o z) None)) q ∙ ap f (first_alone (first o None) ∙ first_alone o)
 
 alone_while : {A B : Type 0} (f : Option A → B) (o t : Option A) → t ≡ None → f (first (first o t) None) ≡ f o
-alone_while f o t p = ap (λ z. f (first (first o z) None)) p ∙ ap f (first_none (first o None) ∙ first_none o)
+alone_while f o t p = ap (λ z. f (first (first o z) None)) p ∙ ap f (first_alone (first o None) ∙ first_alone o)
 
 module _ (p : Procedure) (hs : List Hole) (before behind : Statements) (ps qs : List Procedure) (d : Condition) where
   abbrev old : Statement → List Procedure
@@ -83,9 +84,9 @@ module _ (p : Procedure) (hs : List Hole) (before behind : Statements) (ps qs : 
       let sc = scope_at p hs before olds olds behind ps qs in
       let i = in_loop false hs in
       let w = (faultless p hs before olds news behind ps qs z).part in
-      let a = first_parts (first (at n (condition_fault (variables p) c)) (first (block_fault sc i t) (block_fault sc i e))) None w in
-      let b = first_parts (at n (condition_fault (variables p) c)) (first (block_fault sc i t) (block_fault sc i e)) a.0 in
-      let k = first_parts (block_fault sc i t) (block_fault sc i e) b.1 in
+      let a = first_none (first (at n (condition_fault (variables p) c)) (first (block_fault sc i t) (block_fault sc i e))) None w in
+      let b = first_none (at n (condition_fault (variables p) c)) (first (block_fault sc i t) (block_fault sc i e)) a.0 in
+      let k = first_none (block_fault sc i t) (block_fault sc i e) b.1 in
       exchanged_fault p hs before olds news behind ps qs z refl (omega arith) (λ g. refl)
       ∙ alone_in (in_procedure p.name) (at n (condition_fault (variables p) d)) (block_fault sc i t) (block_fault sc i e) k.0 k.1
   guard_fault (While n c b) f z =
@@ -94,8 +95,8 @@ module _ (p : Procedure) (hs : List Hole) (before behind : Statements) (ps qs : 
       let sc = scope_at p hs before olds olds behind ps qs in
       let i = in_loop false hs in
       let w = (faultless p hs before olds news behind ps qs z).part in
-      let a = first_parts (first (at n (condition_fault (variables p) c)) (block_fault sc true b)) None w in
-      let k = first_parts (at n (condition_fault (variables p) c)) (block_fault sc true b) a.0 in
+      let a = first_none (first (at n (condition_fault (variables p) c)) (block_fault sc true b)) None w in
+      let k = first_none (at n (condition_fault (variables p) c)) (block_fault sc true b) a.0 in
       exchanged_fault p hs before olds news behind ps qs z refl (omega arith) (λ g. refl)
       ∙ alone_while (in_procedure p.name) (at n (condition_fault (variables p) d)) (block_fault sc true b) k.1
 

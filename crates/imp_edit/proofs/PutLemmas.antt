@@ -6,10 +6,7 @@ use Rattle.std.specs.List.{All, insert}
 use Rattle.imp_check.specs.Changes.{overlay, AreFalling, AreWithin}
 use Rattle.imp_check.specs.declared.entry.Entry.{Entry}
 use Rattle.imp_check.specs.declared.change.Put.{Put}
-use Rattle.imp_check.proofs.FallingLemmas.{AreGreater, AreLess, greater_more}
-
-falling_tail : (p : Put) (ps : List Put) → AreFalling (p ∷ ps) → AreFalling ps
-falling_tail p ps f i j d h l = f (suc i) (suc j) d (omega arith) (omega arith)
+use Rattle.imp_check.proofs.FallingLemmas.{AreGreater, AreLess, greater_more, falling_tail}
 
 falling_cons : (p : Put) (ps : List Put) → All (λ (q : Put). q.number < p.number) ps → AreFalling ps → AreFalling (p ∷ ps)
 falling_cons p ps a f zero zero d h l = absurd (omega arith)

@@ -6,7 +6,7 @@ use Rattle.imp_check.specs.Entries.{inside, inside_loop, entry_at, entries_of, e
 use Rattle.imp_check.specs.Parts.{first_or}
 use Rattle.imp_check.specs.Programs.{block_count, program_count}
 use Rattle.imp_check.specs.Rebuilt.{next_in}
-use Rattle.imp_check.specs.Slots.{Frame}
+use Rattle.imp_check.specs.Slots.{Resolver}
 use Rattle.imp_check.specs.Walks.{walk}
 use Rattle.imp_check.specs.declared.entry.Context.{Context}
 use Rattle.imp_check.specs.declared.entry.Entry.{Entry}
@@ -19,10 +19,6 @@ use Rattle.imp_edit.specs.declared.gap.Gap.{Gap}
 use Rattle.imp_edit.specs.Quiet.{is_call, quiet_on, quiet_from, part_numbers, part_quiet}
 
 -- Steps.
-pub quiet_some : (at : ℕ → Option Entry) (left : ℕ) (o : Option ℕ) (e : Entry) → next_in at left o ≡ Some e → 0 < left
-quiet_some at zero o e h = cc
-quiet_some at (suc left) o e h = omega arith
-
 pub quiet_step : (at : ℕ → Option Entry) (left : ℕ) (o : Option ℕ) (e : Entry) → next_in at left o ≡ Some e →
     quiet_from at left o ≡ (not (is_call e.part) && (quiet_from at (left - 1) e.inner.first && (quiet_from at (left - 1) e.other.first && quiet_from at (left - 1) e.next)))
 quiet_step at zero o e h = cc
@@ -45,7 +41,7 @@ and_true : (a : Bool) → a ≡ (a && true)
 and_true true = refl
 and_true false = refl
 
-module _ (at : ℕ → Option Entry) (f : Frame) where
+module _ (at : ℕ → Option Entry) (f : Resolver) where
   -- a statement whose entry is found, those of its blocks, and those behind it
   step : (m : ℕ) (x : Entry) (p q r : Bool) → at x.number ≡ Some x → quiet_from at m x.inner.first ≡ p → quiet_from at m x.other.first ≡ q → quiet_from at m x.next ≡ r →
       quiet_from at (suc m) (Some x.number) ≡ (not (is_call x.part) && (p && (q && r)))

@@ -15,7 +15,7 @@ use std::alloc::Global;
 /// Adds the breaks that leave the loop around the block whose first statement has this number. `most` is more than there
 /// are statements.
 #[cycle(leaving)]
-#[tactic(auto, using(crate::proofs::BreakLemmas::leaving_some, crate::proofs::BreakLemmas::leaving_step, crate::proofs::BreakLemmas::leaving_none))]
+#[tactic(auto, using(imp_check::proofs::StepLemmas::step_some, crate::proofs::BreakLemmas::leaving_step, crate::proofs::BreakLemmas::leaving_none))]
 fn add_leaving_from(
     table: &Table,
     most: u32,

@@ -37,7 +37,7 @@ pub(crate) fn next_in(table: &Table, most: u32, at: Option<StmtId>) -> Option<&E
 
 /// Whether no call stands in the block whose first statement has this number. It adds the numbers of the block, each
 /// followed by those inside it, up to the first call. `most` is more than there are statements.
-#[tactic(auto, using(crate::proofs::QuietLemmas::quiet_some, crate::proofs::QuietLemmas::quiet_step, crate::proofs::QuietLemmas::quiet_none, imp_check::proofs::WalkLemmas::walk_step, imp_check::proofs::WalkLemmas::walk_none))]
+#[tactic(auto, using(imp_check::proofs::StepLemmas::step_some, crate::proofs::QuietLemmas::quiet_step, crate::proofs::QuietLemmas::quiet_none, imp_check::proofs::WalkLemmas::walk_step, imp_check::proofs::WalkLemmas::walk_none))]
 pub(crate) fn add_quiet(
     table: &Table,
     most: u32,

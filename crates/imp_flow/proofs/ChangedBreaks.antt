@@ -1,5 +1,5 @@
 -- Of two loops that differ in their breaks, one has a row that the other has not.
-use Rattle.std.proofs.lemmas.Option.{slice_get_past, slice_get_within}
+use Rattle.std.proofs.lemmas.Option.{slice_get_past, slice_get_within, same_Some}
 use Rattle.std.proofs.Common.{◌≡◌, ◌≢◌, ℕ, zero, suc, ◌<◌, ◌≤◌, ◌==◌, ◌&&◌, if◌then◌else◌, nat_lt, List, [], ◌∷◌, ◌++◌, length, Option, Some, None, Bool, true, false, MatchBool, slice_get, refl, sym, ap, ap₂, subst, ◌∙◌, arith}
 use Rattle.std.proofs.lemmas.Bool.{and_parts}
 use Rattle.std.proofs.lemmas.Bool.Decides.{nat_tests}
@@ -8,7 +8,7 @@ use Rattle.std.specs.Cmp.Lexicographic.{pointwise}
 use Rattle.imp_slots.specs.Plain.{Guard}
 use Rattle.imp_slots.specs.Fits.{Distinct}
 use Rattle.batch_meaning.specs.Places.{if_some}
-use Rattle.plain_values.proofs.Cases.{by_test, some_inj}
+use Rattle.plain_values.proofs.Cases.{by_test}
 use Rattle.cell_names.specs.declared.frame.Frame.{Frame}
 use Rattle.cell_names.specs.declared.frame.Point.{Point}
 use Rattle.cell_names.specs.declared.frame.Point.TheVariants.{Fix}
@@ -38,7 +38,7 @@ abbrev Differ : List Leave → List Leave → ℕ → Type 0
 Differ xs ys i = ((k : ℕ) → k < i → slice_get xs k ≡ slice_get ys k) × (i ≤ length xs) × (slice_get xs i ≢ slice_get ys i)
 
 differ_now : (x y : Leave) (xs ys : List Leave) → x ≢ y → Differ (x ∷ xs) (y ∷ ys) 0
-differ_now x y xs ys n = (λ k h. absurd (omega arith), omega arith, λ e. n (some_inj x y e))
+differ_now x y xs ys n = (λ k h. absurd (omega arith), omega arith, λ e. n (same_Some x y e))
 
 differ_later : (x y : Leave) (xs ys : List Leave) (i : ℕ) → x ≡ y → Differ xs ys i → Differ (x ∷ xs) (y ∷ ys) (suc i)
 differ_later x y xs ys i e d = (agree, omega (arith, d.1), d.2)
@@ -67,7 +67,7 @@ all_same (x ∷ xs) (y ∷ ys) h =
 
 -- Breaks that stand once.
 item_once : (bs : List ℕ) → Distinct bs → (i j : ℕ) → i < length bs → j < length bs → item bs i ≡ item bs j → i ≡ j
-item_once bs d i j h k e = some_inj i j (sym (place_is bs i d h) ∙ ap (λ b. place_of b bs) e ∙ place_is bs j d k)
+item_once bs d i j h k e = same_Some i j (sym (place_is bs i d h) ∙ ap (λ b. place_of b bs) e ∙ place_is bs j d k)
 
 abbrev IsItem : List ℕ → ℕ → ℕ → Type 0
 IsItem bs b i = (item bs i ≡ b) × (i < length bs)
@@ -81,15 +81,15 @@ found_item (x ∷ bs) b zero e =
   where
     first : (o : Option ℕ) → next_place o ≡ Some 0 → x ≡ b
     first None f = absurd cc
-    first (Some j) f = absurd (let g : suc j ≡ 0 = some_inj (suc j) 0 f in omega arith)
+    first (Some j) f = absurd (let g : suc j ≡ 0 = same_Some (suc j) 0 f in omega arith)
 found_item (x ∷ bs) b (suc i) e =
     (by_test b x (λ t. (if t then Some 0 else next_place (place_of b bs)) ≡ Some (suc i) → item bs i ≡ b)
-    (λ q f. absurd (let g : 0 ≡ suc i = some_inj 0 (suc i) f in omega arith))
+    (λ q f. absurd (let g : 0 ≡ suc i = same_Some 0 (suc i) f in omega arith))
     (λ q f. found_item bs b i (more (place_of b bs) f))) e
   where
     more : (o : Option ℕ) → next_place o ≡ Some (suc i) → o ≡ Some i
     more None f = absurd cc
-    more (Some j) f = let g : suc j ≡ suc i = some_inj (suc j) (suc i) f in let k : j ≡ i = omega arith in ap Some k
+    more (Some j) f = let g : suc j ≡ suc i = same_Some (suc j) (suc i) f in let k : j ≡ i = omega arith in ap Some k
 
 abbrev Agree : List Leave → List Leave → ℕ → Type 0
 Agree ls ks i = (k : ℕ) → k < i → slice_get ls k ≡ slice_get ks k
@@ -119,7 +119,7 @@ module _ (w : List Frame) (n : ℕ) where
   both_joined : (stays : Bool) (ls ks : List Leave) (i j : ℕ) (l m : Leave) → slice_get ks j ≡ Some m → joins_at w stays n ks j ≡ Some (joined_row stays ls i l.front) →
       (joined_at n (breaks_of ks) j ≡ joined_at n (breaks_of ls) i) × (m.front ≡ l.front)
   both_joined stays ls ks i j l m e f =
-      same_parts stays (joined_at n (breaks_of ks) j) (joined_at n (breaks_of ls) i) m.front l.front (some_inj (joined_row stays ks j m.front) (joined_row stays ls i l.front) (sym (joins_there stays ks j m e) ∙ f))
+      same_parts stays (joined_at n (breaks_of ks) j) (joined_at n (breaks_of ls) i) m.front l.front (same_Some (joined_row stays ks j m.front) (joined_row stays ls i l.front) (sym (joins_there stays ks j m e) ∙ f))
 
   lost_leap : (ls ks : List Leave) → Distinct (breaks_of ks) → (i : ℕ) (l : Leave) → suc i < length ls → slice_get ls i ≡ Some l → Agree ls ks i → (suc i < length ks → slice_get ls i ≢ slice_get ks i) →
       leaping w n ks l.stmt ≡ Some (joined_row true ls i l.front) → ⊥

@@ -1,11 +1,11 @@
 -- The breaks of two loops that give different rows.
 use Rattle.std.proofs.lemmas.Bool.Decides.{nat_tests}
-use Rattle.std.proofs.lemmas.Option.{slice_get-map}
+use Rattle.std.proofs.lemmas.Option.{slice_get-map, same_Some}
 use Rattle.std.proofs.Common.{◌≡◌, ◌≢◌, ℕ, zero, suc, ◌<◌, if◌then◌else◌, nat_lt, List, [], ◌∷◌, ◌++◌, length, Option, Some, None, Bool, true, false, slice_get, refl, sym, ap, subst, ◌∙◌, arith}
 use Rattle.std.specs.Option.{option_map}
 use Rattle.imp_slots.specs.Plain.{Guard}
 use Rattle.batch_meaning.specs.Places.{if_some}
-use Rattle.plain_values.proofs.Cases.{by_test, some_inj}
+use Rattle.plain_values.proofs.Cases.{by_test}
 use Rattle.cell_names.specs.declared.frame.Frame.{Frame}
 use Rattle.cell_names.specs.declared.frame.Point.TheVariants.{Leap}
 use Rattle.cell_rows.specs.Names.{next_place, place_of, item}
@@ -41,7 +41,7 @@ front_at ls i l e = slice_get-map (λ (x : Leave). x.front) ls i ∙ ap (option_
 
 pub break_at : (ls : List Leave) (i : ℕ) (l : Leave) → slice_get ls i ≡ Some l → item (breaks_of ls) i ≡ l.stmt
 break_at [] i l e = absurd cc
-break_at (x ∷ ls) zero l e = ap (λ (x : Leave). x.stmt) (some_inj x l e)
+break_at (x ∷ ls) zero l e = ap (λ (x : Leave). x.stmt) (same_Some x l e)
 break_at (x ∷ ls) (suc i) l e = break_at ls i l e
 
 pub there : (ls : List Leave) (i : ℕ) → i < length ls → (l : Leave) × (slice_get ls i ≡ Some l)
@@ -72,7 +72,7 @@ same_but_last (x ∷ xs) l m e =
 place_next : (x y : ℕ) (bs cs : List ℕ) (b i : ℕ) → ((j : ℕ) → suc j ≡ i → place_of b bs ≡ Some j → place_of b cs ≡ Some j) → x ≡ y → b ≢ x → (o : Option ℕ) → place_of b bs ≡ o → next_place o ≡ Some i → place_of b (y ∷ cs) ≡ Some i
 place_next x y bs cs b i more h q None f g = absurd cc
 place_next x y bs cs b i more h q (Some j) f g =
-    let s : suc j ≡ i = some_inj (suc j) i g in
+    let s : suc j ≡ i = same_Some (suc j) i g in
     by_test b y (λ t. (if t then Some 0 else next_place (place_of b cs)) ≡ Some i)
     (λ k. absurd (q (k ∙ sym h)))
     (λ k. ap next_place (more j s f) ∙ ap Some s)

@@ -5,7 +5,7 @@ use Rattle.std.specs.Prelude.{if◌then◌else◌}
 use Rattle.std.specs.Option.{option_map}
 use Rattle.std.specs.BTreeSet.{contains, IsOrdered}
 use Rattle.std.specs.Ordering.{nat_cmp}
-use Rattle.plain_values.proofs.Cases.{by_test, some_inj}
+use Rattle.plain_values.proofs.Cases.{by_test}
 use Rattle.imp_syntax.specs.Plain.{Procedure, Statement}
 use Rattle.imp_syntax.specs.Plain as tree
 use Rattle.imp_slots.specs.Plain.{Guard, Invoke}
@@ -41,6 +41,7 @@ use Rattle.imp_flow.proofs.EnteredLemmas.{node_found, node_gone}
 use Rattle.imp_flow.proofs.ChangedStays.{none_stays}
 use Rattle.imp_flow.proofs.ChangedSet.{are_changed, puts_looked_more, callers_looked_more}
 use Rattle.imp_flow.proofs.Alike.{unlooped, AreMarksAlike, alike_stays}
+use Rattle.std.proofs.lemmas.Option.{same_Some}
 
 -- Whether something of a change has a number, and whether a break of it leaves a loop.
 record Put_at (puts : List Put) (P : Put → Type 0) : Type 0 where
@@ -60,7 +61,7 @@ find_number (p ∷ ps) n = by_test p.number n (λ b. Put_at (p ∷ ps) (λ p. p.
 
 is_it : (o : Option ℕ) (n : ℕ) → (o ≡ Some n) ⊎ (o ≡ Some n → ⊥)
 is_it None n = inr (λ e. cc)
-is_it (Some m) n = by_test m n (λ b. (Some m ≡ Some n) ⊎ (Some m ≡ Some n → ⊥)) (λ e. inl (ap Some e)) (λ e. inr (λ k. e (some_inj m n k)))
+is_it (Some m) n = by_test m n (λ b. (Some m ≡ Some n) ⊎ (Some m ≡ Some n → ⊥)) (λ e. inl (ap Some e)) (λ e. inr (λ k. e (same_Some m n k)))
 
 find_left : (puts : List Put) (n : ℕ) → Put_at puts (λ p. left_by p.entry ≡ Some n) ⊎ ((i : ℕ) (p : Put) → slice_get puts i ≡ Some p → left_by p.entry ≡ Some n → ⊥)
 find_left [] n = inr (λ i p e. absurd cc)
@@ -73,7 +74,7 @@ find_left (q ∷ ps) n = elim (is_it (left_by q.entry) n) [
 ]
   where
     none : (left_by q.entry ≡ Some n → ⊥) → ((i : ℕ) (p : Put) → slice_get ps i ≡ Some p → left_by p.entry ≡ Some n → ⊥) → (i : ℕ) (p : Put) → slice_get (q ∷ ps) i ≡ Some p → left_by p.entry ≡ Some n → ⊥
-    none e a zero p s = subst (λ (z : Put). left_by z.entry ≡ Some n → ⊥) (some_inj q p s) e
+    none e a zero p s = subst (λ (z : Put). left_by z.entry ≡ Some n → ⊥) (same_Some q p s) e
     none e a (suc i) p s = a i p s
 
 -- Shapes that are told alike.

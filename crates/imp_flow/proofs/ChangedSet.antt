@@ -10,7 +10,7 @@ use Rattle.std.specs.Ordering.{nat_cmp}
 use Rattle.plain_values.specs.Equal.{same, same_equal, same_Decides}
 use Rattle.imp_slots.specs.PartCodes.{layout_code}
 use Rattle.batch_meaning.specs.Places.{main_layout}
-use Rattle.plain_values.proofs.Cases.{by_test, some_inj}
+use Rattle.plain_values.proofs.Cases.{by_test}
 use Rattle.cell_names.specs.declared.frame.Frame.{Frame}
 use Rattle.cell_names.specs.declared.frame.Point.{Point}
 use Rattle.cell_names.specs.declared.frame.Point.TheVariants.{Entry, Then, Else, Body, Post, Iterate, Fix, Exit, Leap}
@@ -25,6 +25,7 @@ use Rattle.imp_check.specs.Entries.{entries_of, sites_in}
 use Rattle.imp_check.specs.declared.change.Put.{Put}
 use Rattle.imp_flow.specs.declared.search.Search.{Search}
 use Rattle.imp_flow.specs.Searches.{left_by, IsSearch, GoesOn, IsLooked, AllLooked, ArePutsLooked, AreCallersLooked, AreLoopsLooked}
+use Rattle.std.proofs.lemmas.Option.{same_Some}
 
 -- the second set has what the first has, and m, unless it is kept
 abbrev pub Adds : (has more : ℕ → Bool) → (m : ℕ) → (kept : Bool) → Type 0
@@ -207,7 +208,7 @@ module _ (old new : Plan) where
 pub one_more : {A : Type 0} (xs : List A) (P : A → Type 0) (i : ℕ) (x : A) → ((k : ℕ) (y : A) → k < i → slice_get xs k ≡ Some y → P y) → slice_get xs i ≡ Some x → P x → (k : ℕ) (y : A) → k < i + 1 → slice_get xs k ≡ Some y → P y
 one_more xs P i x all at p k y l e =
     (by_test k i (λ b. slice_get xs k ≡ Some y → P y)
-    (λ q f. subst P (some_inj x y (sym at ∙ ap (slice_get xs) (sym q) ∙ f)) p)
+    (λ q f. subst P (same_Some x y (sym at ∙ ap (slice_get xs) (sym q) ∙ f)) p)
     (λ q f. all k y (omega arith) f)) e
 
 pub one_further : (P : ℕ → Type 0) (i : ℕ) → ((k : ℕ) → k < i → P k) → P i → (k : ℕ) → k < i + 1 → P k

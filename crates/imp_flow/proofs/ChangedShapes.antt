@@ -14,7 +14,6 @@ use Rattle.imp_slots.specs.EnumCodes.{stmt_coded}
 use Rattle.imp_slots.specs.declared.actions.SlotStmt.{SlotStmt}
 use Rattle.batch_meaning.specs.Batch.{Engine}
 use Rattle.batch_meaning.specs.Places.{if_some}
-use Rattle.plain_values.proofs.Cases.{some_inj}
 use Rattle.cell_names.specs.declared.frame.Frame.{Frame}
 use Rattle.cell_names.specs.declared.frame.Frame.TheVariants.{InCall, InLoop}
 use Rattle.cell_names.specs.declared.frame.Point.{Point}
@@ -31,6 +30,7 @@ use Rattle.imp_flow.specs.Changed.{is_bare, same_leaves, same_rounds, same_shape
 use Rattle.imp_flow.proofs.ChangedRows.{part, Kept, Lost, Keeps, kept_by, Verdict, no, verdict, and_then, or_else, told, mapped, mapped_no}
 use Rattle.imp_flow.proofs.ChangedLeaves.{SameLeaves, behind_kept, leap_kept}
 use Rattle.imp_flow.proofs.ChangedBreaks.{LostLeaves, post, exit, leap, told_leaves}
+use Rattle.std.proofs.lemmas.Option.{same_Some}
 
 -- The breaks of a loop stand once.
 abbrev pub AreOnce : Shape → Type 0
@@ -96,7 +96,7 @@ module _ (n : ℕ) where
   call_only i p q (Call j c (Some u)) e = (point_of [] p q cc, cc)
 
 where_same : (t : Bool) (x y : Row) → where_so t x ≡ Some y → x ≡ y
-where_same true x y e = some_inj x y e
+where_same true x y e = same_Some x y e
 where_same false x y e = absurd cc
 
 module _ (engine : Engine) (ms os : List ℤ) (n a b : ℕ) (us vs : List ℕ) where

@@ -4,7 +4,7 @@ use Rattle.imp_slots.specs.Plain.{Code, Stop, Simple, If, While, Call, Break, Ro
 use Rattle.imp_slots.specs.Fits.{Distinct, IsChecked, routine_numbers}
 use Rattle.batch_meaning.specs.Batch.{Engine}
 use Rattle.batch_meaning.specs.Places.{if_some}
-use Rattle.plain_values.proofs.Cases.{by_test, some_inj}
+use Rattle.plain_values.proofs.Cases.{by_test}
 use Rattle.plain_values.proofs.Members.{Member, here, there, Each, none_there, each_more, each_both}
 use Rattle.cell_names.specs.declared.frame.Frame.{Frame}
 use Rattle.cell_names.specs.declared.frame.Frame.TheVariants.{InCall, InLoop}
@@ -26,6 +26,7 @@ use Rattle.imp_flow.specs.Changed.{is_start, IsChanged, Stays, is_bare, same_sha
 use Rattle.imp_flow.proofs.Ties.{breaks_are, rows_tie}
 use Rattle.imp_flow.proofs.ChangedRows.{part, Kept, Lost, Verdict, mapped, mapped_no}
 use Rattle.imp_flow.proofs.ChangedShapes.{AreOnce, lone_lost, told_nodes}
+use Rattle.std.proofs.lemmas.Option.{same_Some}
 
 -- The breaks of each loop of a checked program stand once.
 abbrev Fine : Node → Type 0
@@ -55,7 +56,7 @@ pub found_node : (xs : List Node) (n : ℕ) (x : Node) → node_of xs n ≡ Some
 found_node [] n x e = absurd cc
 found_node (y ∷ xs) n x e =
     (by_test y.stmt n (λ t. cond t (Some y) (node_of xs n) ≡ Some x → Member x (y ∷ xs) × (x.stmt ≡ n))
-    (λ k f. let q : y ≡ x = some_inj y x f in (subst (λ (z : Node). Member z (y ∷ xs)) q here, ap (λ (z : Node). z.stmt) (sym q) ∙ k))
+    (λ k f. let q : y ≡ x = same_Some y x f in (subst (λ (z : Node). Member z (y ∷ xs)) q here, ap (λ (z : Node). z.stmt) (sym q) ∙ k))
     (λ k f. let m = found_node xs n x f in (there m.0, m.1))) e
 
 pub found_fine : (plan : Plan) (n : ℕ) (x : Node) → IsChecked plan.program → node_of (plan_nodes plan) n ≡ Some x → AreOnce x.shape

@@ -1,7 +1,7 @@
 -- The node of each statement of a program is told by what is known of it, of its breaks, and of its callee.
 use Rattle.std.proofs.lemmas.List.{length-reverse, map-append, reverse-append, reverse-reverse}
 use Rattle.std.proofs.lemmas.Bool.{ltb-true, lt-ltb}
-use Rattle.std.proofs.lemmas.Option.{slice_get_past}
+use Rattle.std.proofs.lemmas.Option.{slice_get_past, same_Some}
 use Rattle.std.proofs.Common.{◌≡◌, ◌≢◌, ℕ, zero, suc, ◌+◌, ◌-◌, ◌<◌, ◌≤◌, ◌⊎◌, inl, inr, cond, nat_lt, List, [], ◌∷◌, ◌++◌, length, map, reverse, slice_get, Option, Some, None, Bool, true, false, refl, sym, ap, ◌∙◌, subst, arith, append_assoc, append-nil}
 use Rattle.std.specs.Prelude.{if◌then◌else◌}
 use Rattle.std.specs.Option.{option_map}
@@ -12,7 +12,7 @@ use Rattle.imp_slots.specs.Plain.{Routine, Layout}
 use Rattle.imp_slots.specs.Fits.{Distinct, IsChecked}
 use Rattle.imp_check.specs.Parts.{first_or, last_or, leaving}
 use Rattle.imp_check.specs.Programs.{AreNumbered}
-use Rattle.imp_check.specs.Slots.{Frame, layout_in, code_in, guard_in, callee_in, invoke_in, routine_of, routines_from, routines_of}
+use Rattle.imp_check.specs.Slots.{Resolver, layout_in, code_in, guard_in, callee_in, invoke_in, routine_of, routines_from, routines_of}
 use Rattle.imp_check.specs.Entries.{inside, inside_loop, entry_at, block_entries, procedure_entries, entries_from, entries_of, entry_of, frame_at, context_at, heads_of, head_of}
 use Rattle.imp_check.specs.declared.entry.Context.{Context}
 use Rattle.imp_check.specs.declared.entry.Entry as known
@@ -21,7 +21,7 @@ use Rattle.imp_check.specs.declared.entry.Which.TheVariants as which
 use Rattle.imp_check.proofs.RebuildLemmas.{In, in_left, in_right, Known, known_left, known_right, found, all_numbers}
 use Rattle.batch_meaning.specs.Places.{from, if_some, main_layout}
 use Rattle.batch_meaning.proofs.Procedures.{look, look_get}
-use Rattle.plain_values.proofs.Cases.{by_test, some_inj}
+use Rattle.plain_values.proofs.Cases.{by_test}
 use Rattle.plain_values.proofs.Members.{Member, here, there}
 use Rattle.plain_values.proofs.Members as members
 use Rattle.cell_names.specs.declared.frame.Point.{Point}
@@ -36,9 +36,10 @@ use Rattle.imp_flow.specs.Nodes.{leaving as leaves, body_end, callee_end, node_i
 use Rattle.imp_flow.specs.Entered.{Table, start_of, behind_or, front_in, leave_at, end_of, end_in, head_of as outer_of, loops_up, node_from, known_in, node_by}
 use Rattle.imp_flow.specs.Reached.{into_loops}
 use Rattle.imp_flow.proofs.NumberLemmas.{all_numbers as all_nodes, found_there}
+use Rattle.imp_check.proofs.SlotLemmas.{routines_push}
 
 -- The last point of a block is told by its last statement.
-pub last_is : (f : Frame) (b : Statements) (p : Point) (o : Option ℕ) → last_point (code_in f b) (behind_or p o) ≡ behind_or p (last_or b o)
+pub last_is : (f : Resolver) (b : Statements) (p : Point) (o : Option ℕ) → last_point (code_in f b) (behind_or p o) ≡ behind_or p (last_or b o)
 last_is f Ends p o = refl
 last_is f (Starts (tree.Simple n a) ss) p o = last_is f ss p (Some n)
 last_is f (Starts (tree.Break n) ss) p o = last_is f ss p (Some n)
@@ -46,7 +47,7 @@ last_is f (Starts (tree.Call n x g es) ss) p o = last_is f ss p (Some n)
 last_is f (Starts (tree.If n c t e) ss) p o = last_is f ss p (Some n)
 last_is f (Starts (tree.While n c b) ss) p o = last_is f ss p (Some n)
 
-module _ (at : Table) (f : Frame) where
+module _ (at : Table) (f : Resolver) where
   both : (xs ys : List ℕ) → map (leave_at at) xs ++ map (leave_at at) ys ≡ map (leave_at at) (xs ++ ys)
   both xs ys = sym (map-append (leave_at at) xs ys)
 
@@ -80,7 +81,7 @@ abbrev AreAround : Table → Context → List ℕ → Type 0
 AreAround at c loops = (m : ℕ) → c.depth ≤ m → loops_up at m c.head ≡ loops
 
 -- The nodes of a block are told by its entries.
-module _ (at : Table) (ends : ℕ → ℕ → Option Point) (f : Frame) (earlier : List Routine) (callees : (q : ℕ) → callee_end earlier q ≡ ends (length earlier) q) where
+module _ (at : Table) (ends : ℕ → ℕ → Option Point) (f : Resolver) (earlier : List Routine) (callees : (q : ℕ) → callee_end earlier q ≡ ends (length earlier) q) where
   abbrev T : known.Entry → Node
   T x = node_from at (ends x.context.proc) x
 
@@ -207,9 +208,6 @@ split : (es xs ys : List Procedure) → routines_from es (xs ++ ys) ≡ routines
 split es [] ys = ap (λ (z : List Procedure). routines_from z ys) (sym (append-nil es))
 split es (x ∷ xs) ys = ap (λ (z : List Routine). routine_of es x ∷ z) (split (es ++ x ∷ []) xs ys ∙ ap (λ (z : List Procedure). routines_from (es ++ x ∷ []) xs ++ routines_from z ys) (append_assoc es (x ∷ []) xs))
 
-one_behind : (es : List Procedure) (p : Procedure) → reverse (routines_of (es ++ p ∷ [])) ≡ routine_of es p ∷ reverse (routines_of es)
-one_behind es p = ap reverse (split [] es (p ∷ [])) ∙ reverse-append (routines_of es) (routine_of es p ∷ [])
-
 abbrev all_back : (es ps : List Procedure) → List Routine
 all_back es ps = reverse (routines_from es ps) ++ reverse (routines_of es)
 
@@ -218,7 +216,7 @@ one_more es ps p =
     let rs = routines_from (es ++ p ∷ []) ps in
     ap (λ xs. xs ++ reverse (routines_of es)) (reverse-append (routine_of es p ∷ []) rs)
     ∙ append_assoc (reverse rs) (routine_of es p ∷ []) (reverse (routines_of es))
-    ∙ ap (λ xs. reverse rs ++ xs) (sym (one_behind es p))
+    ∙ ap (λ xs. reverse rs ++ xs) (sym (routines_push es p))
 
 nodes_behind : (xs rs : List Routine) (y : Node) → Member y (nodes_of rs) → Member y (nodes_of (xs ++ rs))
 nodes_behind [] rs y m = m
@@ -256,7 +254,7 @@ module _ (P : List Procedure) (at : Table) where
       go ih (inl i) =
           let m = subst (Member (N e)) (sym (own es ps p s (known_left at (procedure_entries es p) (entries_from (es ++ p ∷ []) ps) k))) (mapped N e (procedure_entries es p) i) in
           let b = nodes_behind (reverse (routines_from (es ++ p ∷ []) ps)) (routine_of es p ∷ reverse (routines_of es)) (N e) (members.in_left (nodes_of (reverse (routines_of es))) m) in
-          subst (λ rs. Member (N e) (nodes_of rs)) (ap (λ xs. reverse (routines_from (es ++ p ∷ []) ps) ++ xs) (sym (one_behind es p)) ∙ sym (one_more es ps p)) b
+          subst (λ rs. Member (N e) (nodes_of rs)) (ap (λ xs. reverse (routines_from (es ++ p ∷ []) ps) ++ xs) (sym (routines_push es p)) ∙ sym (one_more es ps p)) b
       go ih (inr i) = subst (λ rs. Member (N e) (nodes_of rs)) (sym (one_more es ps p)) (ih i)
 
   -- what is not known is no node
@@ -283,13 +281,13 @@ module _ (P : List Procedure) (at : Table) where
       let a = gone_mapped (procedure_entries es p) n (gone_first (procedure_entries es p) (entries_from (es ++ p ∷ []) ps) n h) in
       let b = gone_both (block_nodes (reverse (routines_of es)) [] Entry (routine_of es p).code) (nodes_of (reverse (routines_of es))) n (ap (λ xs. node_of xs n) o ∙ a) g in
       ap (λ rs. node_of (nodes_of rs) n) (one_more es ps p)
-      ∙ gone_all (es ++ p ∷ []) ps n (s ∙ sym (append_assoc es (p ∷ []) ps)) (known_right at (procedure_entries es p) (entries_from (es ++ p ∷ []) ps) k) (gone_second (procedure_entries es p) (entries_from (es ++ p ∷ []) ps) n h) (ap (λ rs. node_of (nodes_of rs) n) (one_behind es p) ∙ b)
+      ∙ gone_all (es ++ p ∷ []) ps n (s ∙ sym (append_assoc es (p ∷ []) ps)) (known_right at (procedure_entries es p) (entries_from (es ++ p ∷ []) ps) k) (gone_second (procedure_entries es p) (entries_from (es ++ p ∷ []) ps) n h) (ap (λ rs. node_of (nodes_of rs) n) (routines_push es p) ∙ b)
 
 found_entry : (xs : List known.Entry) (n : ℕ) (e : known.Entry) → entry_of xs n ≡ Some e → In e xs × (e.number ≡ n)
 found_entry [] n e h = absurd cc
 found_entry (x ∷ xs) n e h =
     (by_test x.number n (λ t. cond t (Some x) (entry_of xs n) ≡ Some e → In e (x ∷ xs) × (e.number ≡ n))
-    (λ k f. let q : x ≡ e = some_inj x e f in (inl (sym q), ap (λ (z : known.Entry). z.number) (sym q) ∙ k))
+    (λ k f. let q : x ≡ e = same_Some x e f in (inl (sym q), ap (λ (z : known.Entry). z.number) (sym q) ∙ k))
     (λ k f. let m = found_entry xs n e f in (inr m.0, m.1))) h
 
 all_known : (ps : List Procedure) → AreNumbered ps → Known (known_in ps) (entries_of ps)
@@ -309,7 +307,7 @@ node_gone ps n h k = ap (λ rs. node_of (nodes_of rs) n) (sym (append-nil (rever
 -- Main, the last procedure.
 last_layout : (es ps : List Procedure) (k : ℕ) (l : Layout) → k + 1 ≡ length ps → option_map layout_in (slice_get ps k) ≡ Some l → main_layout (all_back es ps) ≡ l
 last_layout es [] k l h e = absurd cc
-last_layout es (p ∷ []) zero l h e = ap (λ rs. main_layout rs) (one_more es [] p ∙ one_behind es p) ∙ some_inj (layout_in p) l e
+last_layout es (p ∷ []) zero l h e = ap (λ rs. main_layout rs) (one_more es [] p ∙ routines_push es p) ∙ same_Some (layout_in p) l e
 last_layout es (p ∷ []) (suc k) l h e = absurd cc
 last_layout es (p ∷ q ∷ ps) zero l h e = absurd (omega arith)
 last_layout es (p ∷ q ∷ ps) (suc k) l h e = ap main_layout (one_more es (q ∷ ps) p) ∙ last_layout (es ++ p ∷ []) (q ∷ ps) k l (omega arith) e
@@ -340,7 +338,7 @@ end_at : (es ps : List Procedure) (k : ℕ) (h : Head) (x : List ℕ) → slice_
 end_at es [] k h x e = absurd cc
 end_at es (p ∷ ps) zero h x e =
     ap (λ q. if bytes_eq x p.name then Some ([], q) else None) (last_is (frame_at es p) p.body Entry None)
-    ∙ ap (λ (z : Head). if bytes_eq x z.bare.name then Some ([], behind_or Entry z.body.last) else None) (some_inj (head_of p) h e)
+    ∙ ap (λ (z : Head). if bytes_eq x z.bare.name then Some ([], behind_or Entry z.body.last) else None) (same_Some (head_of p) h e)
 end_at es (p ∷ ps) (suc k) h x e = end_at (es ++ p ∷ []) ps k h x e
 
 pub end_there : (ps : List Procedure) (k : ℕ) (h : Head) (x : List ℕ) → slice_get (heads_of ps) k ≡ Some h → ending x (slice_get (routines_of ps) k) ≡ (if bytes_eq x h.bare.name then Some ([], behind_or Entry h.body.last) else None)

@@ -1,7 +1,6 @@
 -- The row of an iterate by its statement's node.
 use Rattle.std.proofs.Common.{◌≡◌, ◌≢◌, ℕ, zero, suc, ◌-◌, List, [], ◌∷◌, reverse, Option, Some, None, refl, sym, ap, subst, arith}
 use Rattle.batch_meaning.specs.Places.{if_some, main_layout}
-use Rattle.plain_values.proofs.Cases.{some_inj}
 use Rattle.std.specs.Option.{option_map}
 use Rattle.cell_names.specs.declared.frame.Frame.{Frame}
 use Rattle.cell_names.specs.declared.frame.Frame.TheVariants.{InCall, InLoop}
@@ -14,6 +13,7 @@ use Rattle.imp_flow.specs.NodeRows.{enter_at, turn_at, next_at}
 use Rattle.imp_flow.specs.declared.row.Row as declared
 use Rattle.imp_flow.specs.Near.{last_frame, row_in}
 use Rattle.imp_flow.specs.Plans.{Plan, marks_at, plan_nodes, next_of, node_row}
+use Rattle.std.proofs.lemmas.Option.{same_Some}
 
 one_less : (k : ℕ) → suc k - 1 ≡ k
 one_less k = omega arith
@@ -42,4 +42,4 @@ first_none plan (f ∷ w) r e h = absurd cc
 
 pub first_some : (plan : Plan) (w : List Frame) (p : Point) (f : Frame) (r : Option declared.Row) → last_frame w ≡ Some f → ((w : List Frame) → option_map (row_in (f ∷ w)) r ≡ node_row plan (f ∷ w) p) → option_map (row_in w) r ≡ node_row plan w p
 first_some plan [] p f r e h = absurd cc
-first_some plan (g ∷ w) p f r e h = subst (λ (k : Frame). option_map (row_in (k ∷ w)) r ≡ node_row plan (k ∷ w) p) (sym (some_inj g f e)) (h w)
+first_some plan (g ∷ w) p f r e h = subst (λ (k : Frame). option_map (row_in (k ∷ w)) r ≡ node_row plan (k ∷ w) p) (sym (same_Some g f e)) (h w)

@@ -3,7 +3,7 @@ use Rattle.std.proofs.Common.{◌≡◌, ◌≢◌, ℕ, zero, suc, ◌+◌, ◌
 use Rattle.std.specs.Option.{option_map}
 use Rattle.batch_meaning.specs.Places.{if_some}
 use Rattle.cell_names.specs.declared.frame.Frame.{Frame}
-use Rattle.plain_values.proofs.Cases.{by_test, some_inj}
+use Rattle.plain_values.proofs.Cases.{by_test}
 use Rattle.cell_names.specs.declared.frame.Point.TheVariants.{Leap}
 use Rattle.cell_rows.specs.Names.{name, next_place, place_of}
 use Rattle.cell_rows.specs.Rows.{Joins}
@@ -11,6 +11,7 @@ use Rattle.imp_flow.specs.declared.node.Leave.{Leave}
 use Rattle.imp_flow.specs.Entered.{Table, leave_at}
 use Rattle.imp_flow.specs.NodeRows.{breaks_of, fronts_of, joined_at, joins_at}
 use Rattle.imp_flow.proofs.ChangedLeaves.{break_at, front_at}
+use Rattle.std.proofs.lemmas.Option.{same_Some}
 
 -- Breaks by their numbers.
 pub leaves_long : (at : Table) (bs : List ℕ) → length (map (leave_at at) bs) ≡ length bs
@@ -44,7 +45,7 @@ joined_last n ls (suc k) x z e =
 -- The search for a break.
 drop_next : (xs : List Leave) (i : ℕ) (x : Leave) → slice_get xs i ≡ Some x → drop i xs ≡ x ∷ drop (suc i) xs
 drop_next [] i x e = absurd cc
-drop_next (y ∷ ys) zero x e = ap (λ z. z ∷ ys) (some_inj y x e)
+drop_next (y ∷ ys) zero x e = ap (λ z. z ∷ ys) (same_Some y x e)
 drop_next (y ∷ ys) (suc i) x e = drop_next ys i x e
 
 pub drop_item : (xs : List Leave) (i : ℕ) (x : Leave) → slice_get xs i ≡ Some x → drop i xs ≡ x ∷ drop (i + 1) xs

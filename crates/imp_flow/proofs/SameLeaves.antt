@@ -7,10 +7,7 @@ use Rattle.imp_flow.specs.contracts.node.LeavePartialEq.TheImpl as leaves
 use Rattle.imp_flow.specs.Changed.{last_of, same_leaves}
 use Rattle.imp_flow.proofs.ChangedLeaves.{there}
 use Rattle.imp_flow.proofs.LeaveLemmas.{drop_item, drop_none}
-
-and_false : (a : Bool) → (a && false) ≡ false
-and_false true = refl
-and_false false = refl
+use Rattle.plain_values.proofs.Cases.{and_false}
 
 and_swap : (a b c : Bool) → (a && (b && c)) ≡ (b && (a && c))
 and_swap true b c = refl

@@ -8,18 +8,15 @@ use Rattle.imp_syntax.specs.Plain as tree
 use Rattle.imp_slots.specs.Plain.{Layout, Invoke, Code, Simple, If, While, Call, Break, Routine}
 use Rattle.imp_slots.specs.Fits.{Absent, Distinct, FitsCall, FitsCode, FitInTurn, IsChecked}
 use Rattle.imp_check.specs.Names.{place_named}
-use Rattle.imp_check.specs.Slots.{Frame, layout_in, guard_in, effect_in, invoke_of, invoke_in, callee_in, statement_in, code_in, routine_of, routines_from, routines_of}
+use Rattle.imp_check.specs.Slots.{Resolver, layout_in, guard_in, effect_in, invoke_of, invoke_in, callee_in, statement_in, code_in, routine_of, routines_from, routines_of}
 use Rattle.imp_flow.specs.Shifts.{shift, shift_code, shift_routine, put_in}
 use Rattle.imp_flow.proofs.ShiftCode.{by_less}
 use Rattle.call_contexts.proofs.Few.{as_many}
+use Rattle.imp_slots.proofs.Distinct.{absent_end}
 
 -- the names of procedures
 abbrev names : List Procedure → List (List ℕ)
 names ps = map (λ (p : Procedure). p.name) ps
-
-absent_last : (x y : List ℕ) (xs : List (List ℕ)) → Absent x xs → x ≢ y → Absent x (xs ++ y ∷ [])
-absent_last x y [] a e = (e, tt)
-absent_last x y (z ∷ xs) a e = (a.0, absent_last x y xs a.1 e)
 
 names_last : (xs : List Procedure) (p : Procedure) → names (xs ++ p ∷ []) ≡ names xs ++ p.name ∷ []
 names_last [] p = refl
@@ -67,10 +64,10 @@ module _ (ps : List Procedure) (p : Procedure) (done : List Procedure) (away : A
   abbrev K : ℕ
   K = length ps
 
-  abbrev old : Frame
+  abbrev old : Resolver
   old = record { layout = l; earlier = ps ++ done }
 
-  abbrev new : Frame
+  abbrev new : Resolver
   new = record { layout = l; earlier = ps ++ p ∷ done }
 
   callee_shift : (i : Invoke) (g : List ℕ) → FitsCall l i (slice_get before (callee_in old g)) → callee_in new g ≡ shift K (callee_in old g)
@@ -106,7 +103,7 @@ routines_shift ps p done (q ∷ qs) away absent before as_long f =
     let t : (ps ++ p ∷ done) ++ q ∷ [] ≡ ps ++ p ∷ (done ++ q ∷ []) = append_assoc ps (p ∷ done) (q ∷ []) in
     let c : Routine = routine_of (ps ++ done) q in
     let n : length (before ++ c ∷ []) ≡ length (ps ++ (done ++ q ∷ [])) = omega (arith, length-append before (c ∷ []), length-append (ps ++ done) (q ∷ []), ap length s) in
-    let a : Absent p.name (names (ps ++ (done ++ q ∷ []))) = subst (λ (xs : List Procedure). Absent p.name (names xs)) s (subst (Absent p.name) (sym (names_last (ps ++ done) q)) (absent_last p.name q.name (names (ps ++ done)) away absent.0)) in
+    let a : Absent p.name (names (ps ++ (done ++ q ∷ []))) = subst (λ (xs : List Procedure). Absent p.name (names xs)) s (subst (Absent p.name) (sym (names_last (ps ++ done) q)) (absent_end p.name q.name (names (ps ++ done)) away absent.0)) in
     let rest = routines_shift ps p (done ++ q ∷ []) qs a absent.1 (before ++ c ∷ []) n (subst (λ (xs : List Procedure). FitInTurn (before ++ c ∷ []) (routines_from xs qs)) s f.1) in
     ap (λ (x : Routine). x ∷ routines_from ((ps ++ p ∷ done) ++ q ∷ []) qs) (routine_shift ps p done away before as_long q f.0.code)
     ∙ ap (λ (xs : List Routine). shift_routine (length ps) c ∷ xs)

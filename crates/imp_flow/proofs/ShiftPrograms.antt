@@ -9,7 +9,7 @@ use Rattle.cell_names.specs.declared.frame.Frame.{Frame}
 use Rattle.cell_names.specs.declared.frame.Frame.TheVariants.{InCall, InLoop}
 use Rattle.cell_names.specs.declared.frame.Point.{Point}
 use Rattle.cell_names.specs.declared.frame.Point.TheVariants.{Entry, Then, Else, Body, Post, Iterate, Fix, Exit, Leap}
-use Rattle.plain_values.proofs.Cases.{by_test, some_inj}
+use Rattle.plain_values.proofs.Cases.{by_test}
 use Rattle.plain_values.proofs.Members.{Member, here, there, in_left, in_right, key_member, either}
 use Rattle.batch_meaning.proofs.Places.{found_member}
 use Rattle.cell_rows.specs.Names.{Mark, mark, Place, bare}
@@ -21,6 +21,7 @@ use Rattle.imp_flow.specs.Shifts.{shift_routine, put_in, KeepRows}
 use Rattle.imp_flow.specs.Owners.{owner}
 use Rattle.imp_flow.proofs.ShiftCode.{numbers_shift}
 use Rattle.imp_flow.proofs.ShiftRows.{found_alike, same_row}
+use Rattle.std.proofs.lemmas.Option.{same_Some}
 
 -- The program with the last procedure first.
 reverse_map : {A B : Type 0} (f : A → B) (xs : List A) → reverse (map f xs) ≡ map f (reverse xs)
@@ -165,6 +166,6 @@ module _ (engine : Engine) (program : List Routine) (k : ℕ) (r : Routine) (wit
   pub rows_keep : IsChecked New → KeepRows engine program New r
   rows_keep h = record {
     kept = kept h;
-    agree = λ w p row other e f. some_inj row other (sym (kept h w p row e) ∙ f);
+    agree = λ w p row other e f. same_Some row other (sym (kept h w p row e) ∙ f);
     others = others;
   }

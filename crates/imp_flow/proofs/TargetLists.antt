@@ -1,5 +1,5 @@
 -- Targets of chains, one after another.
-use Rattle.std.proofs.lemmas.List.{reverse-append, reverse-reverse, take-append-drop}
+use Rattle.std.proofs.lemmas.List.{reverse-append, take-append-drop}
 use Rattle.std.proofs.Common.{◌≡◌, ℕ, zero, suc, ◌+◌, ◌<◌, List, [], ◌∷◌, ◌++◌, length, map, reverse, take, drop, get_or, Option, Some, None, Result, Ok, Err, IfOk, refl, sym, ap, ◌∙◌, arith, add-one}
 use Rattle.imp_syntax.specs.declared.edit.Location.{Location}
 use Rattle.imp_slots.specs.Plain.{Routine}
@@ -15,6 +15,7 @@ use Rattle.imp_flow.specs.declared.steps.Target.{Target}
 use Rattle.imp_flow.specs.declared.ways.Reached.{Reached}
 use Rattle.imp_flow.specs.Plans.{Plan}
 use Rattle.imp_flow.specs.Reached.{target_of, with_one, those_there, way_into, way_along}
+use Rattle.plain_values.proofs.Lists.{all_back}
 
 -- the next item of a list, behind those so far and in front of those to come
 back : (xs : List ℕ) (i x : ℕ) → i < length xs → x ≡ get_or xs i x → reverse (take (i + 1) xs) ≡ x ∷ reverse (take i xs)
@@ -48,10 +49,6 @@ module _ (f : List ℕ → Option plain.Target) where
       first (Some t) None ih e = absurd cc
       first (Some t) (Some us) ih e = let i : t ∷ us ≡ ts = cc in ap (λ k. t ∷ k) (ih us refl) ∙ i
 
-twice : (zs : List (List ℕ)) → map reverse (map reverse zs) ≡ zs
-twice [] = refl
-twice (z ∷ zs) = rw (reverse-reverse z, twice zs) refl
-
 -- The targets of the chains that are selected.
 pub targets_are : {E : Type 0} (program : List Routine) (l : Location) (string : List ℕ) (chains : List (List ℕ)) (y : Result (List Target) E) → IsChecked program → chains ≡ map reverse (targets_of program l string) →
     IfOk y (λ ts. map target_of ts ≡ those_there (target program l) (map reverse chains)) → IfOk y (λ ts. (p : ℕ) → procedure_of program l ≡ In p → targets program p l string ≡ Some (map target_of ts))
@@ -59,6 +56,6 @@ targets_are program l string chains (Err e) checked c u = tt
 targets_are program l string chains (Ok us) checked c u = λ p e.
     let zs : List (List ℕ) = selected program p string in
     let s = targets_some program checked l p string e in
-    let all : map reverse chains ≡ zs = ap (map reverse) (c ∙ ap (λ x. map reverse (selected_at program string x)) e) ∙ twice zs in
+    let all : map reverse chains ≡ zs = ap (map reverse) (c ∙ ap (λ x. map reverse (selected_at program string x)) e) ∙ all_back zs in
     let same : map target_of us ≡ s.0 = u ∙ ap (those_there (target program l)) all ∙ those_all (target program l) zs s.0 s.1 in
     s.1 ∙ ap Some (sym same)

@@ -10,10 +10,10 @@ use Rattle.imp_slots.specs.Fits.{Distinct, IsChecked}
 use Rattle.batch_meaning.specs.Places.{find, if_some, from}
 use Rattle.cell_names.specs.declared.frame.Point.{Point}
 use Rattle.cell_names.specs.declared.frame.Point.TheVariants.{Entry, Post, Fix}
-use Rattle.plain_values.proofs.Cases.{by_test, some_inj}
+use Rattle.plain_values.proofs.Cases.{by_test}
 use Rattle.batch_meaning.proofs.Procedures.{look_get, look_from, look_below, from_behind, from_from, from_place, from_self}
 use Rattle.plain_values.proofs.Members.{Member, in_left, in_right, keys, keys_both}
-use Rattle.batch_meaning.proofs.Places.{found, found_member}
+use Rattle.batch_meaning.proofs.Places.{found, found_member, find_both, or_else}
 use Rattle.cell_rows.specs.Names.{number}
 use Rattle.cell_rows.specs.Rows.{last_point}
 use Rattle.cell_rows.specs.Flat.{Flat, flat_of, flat}
@@ -32,6 +32,7 @@ use Rattle.imp_flow.specs.Plans.{Plan}
 use Rattle.imp_flow.specs.Reached.{step_of, target_of, into_loops, if_in, callee_at, is_while, reached, node_in_place, way_into, way_along, ending_at, target_from, target_along}
 use Rattle.imp_flow.proofs.Ties.{flat_node, nodes_are, Stands, all_stand, find_node}
 use Rattle.cell_rows.proofs.Ways.{flat_behind, in_flat}
+use Rattle.std.proofs.lemmas.Option.{same_Some}
 
 -- The steps of a list, as they are defined.
 map_both : {A B : Type 0} (f : A → B) (xs ys : List A) → map f (xs ++ ys) ≡ map f xs ++ map f ys
@@ -50,15 +51,6 @@ call_is ss ns n =
     map_both step_of (ss ++ into_loops ns) (Go n ∷ [])
     ∙ ap (λ k. k ++ plain.Go n ∷ []) (into_is ss ns)
     ∙ append_assoc (map step_of ss) (takes ns) (plain.Go n ∷ [])
-
--- What is found in two lists, and in a procedure's part of the table.
-abbrev or_else : {A : Type 0} → Option A → Option A → Option A
-or_else None o = o
-or_else (Some a) o = Some a
-
-find_both : {A : Type 0} (n : ℕ) (xs ys : List (ℕ × A)) → find n (xs ++ ys) ≡ or_else (find n xs) (find n ys)
-find_both n [] ys = refl
-find_both n (x ∷ xs) ys = by_test n x.0 (λ c. (if c then Some x.1 else find n (xs ++ ys)) ≡ or_else (if c then Some x.1 else find n xs) (find n ys)) (λ e. refl) (λ e. find_both n xs ys)
 
 abbrev in_table : Routine → List Routine → Text → Flat
 in_table r earlier t = record { routine = r; earlier = earlier; text = t }
@@ -107,7 +99,7 @@ once_only b ps k n r earlier t d h f e (Some s) i =
     let m : Member (n, in_table r earlier s) (flat (r ∷ earlier)) = in_left (flat earlier) (in_flat r earlier (n, s) (texts r.code Entry) (found_member n s (texts r.code Entry) i)) in
     let j : Member (n, in_table r earlier s) (flat ps) = flat_behind ps k (n, in_table r earlier s) (subst (λ rs. Member (n, in_table r earlier s) (flat rs)) (sym f) m) in
     let second : find n (flat (b ∷ ps)) ≡ Some (in_table r earlier s) = found (n, in_table r earlier s) (flat (b ∷ ps)) d (in_right (map (flat_of b ps) (texts b.code Entry)) j) in
-    let same : ps ≡ earlier = ap (λ (u : Flat). u.earlier) (some_inj (in_table b ps t) (in_table r earlier s) (sym first ∙ second)) in
+    let same : ps ≡ earlier = ap (λ (u : Flat). u.earlier) (same_Some (in_table b ps t) (in_table r earlier s) (sym first ∙ second)) in
     absurd (h (from_place ps k r earlier f ∙ ap length (sym same)))
 
 once_right : (b : Routine) (ps : List Routine) → Distinct (keys (flat (b ∷ ps))) → Distinct (keys (flat ps))

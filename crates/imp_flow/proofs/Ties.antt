@@ -10,7 +10,7 @@ use Rattle.cell_names.specs.declared.frame.Frame.{Frame}
 use Rattle.cell_names.specs.declared.frame.Frame.TheVariants.{InCall, InLoop}
 use Rattle.cell_names.specs.declared.frame.Point.{Point}
 use Rattle.cell_names.specs.declared.frame.Point.TheVariants.{Entry, Then, Else, Body, Post, Iterate, Fix, Exit, Leap}
-use Rattle.plain_values.proofs.Cases.{by_test, some_inj}
+use Rattle.plain_values.proofs.Cases.{by_test}
 use Rattle.batch_meaning.proofs.Procedures.{look, look_get}
 use Rattle.plain_values.proofs.Members.{here, there, Each, none_there, each_more, each_both, each_as}
 use Rattle.batch_meaning.proofs.Places.{found_member}
@@ -25,6 +25,7 @@ use Rattle.imp_flow.specs.Shapes.{Node}
 use Rattle.imp_flow.specs.Nodes.{leaving, body_end, shape_of, node_in, block_nodes, nodes_of, node_of}
 use Rattle.imp_flow.specs.NodeRows.{breaks_of, fronts_of, iterate_at, joined_at, where_so, joins_at, behind_loop, post_at, enter_at, branch_at, turn_at, next_at, fix_at, exit_at, leap_at}
 use Rattle.imp_flow.specs.Plans.{Plan, marks_at, by_node, next_of, node_row}
+use Rattle.std.proofs.lemmas.Option.{same_Some}
 
 map_both : {A B : Type 0} (f : A → B) (xs ys : List A) → map f (xs ++ ys) ≡ map f xs ++ map f ys
 map_both f [] ys = refl
@@ -290,7 +291,7 @@ module _ (engine : Engine) (w : List Frame) where
 
 get_marks : (f : Routine → List ℤ) (ps : List Routine) (k : ℕ) (r : Routine) → slice_get ps k ≡ Some r → slice_get (map f ps) k ≡ Some (f r)
 get_marks f [] k r e = absurd cc
-get_marks f (x ∷ ps) zero r e = ap (λ c. Some (f c)) (some_inj x r e)
+get_marks f (x ∷ ps) zero r e = ap (λ c. Some (f c)) (same_Some x r e)
 get_marks f (x ∷ ps) (suc k) r e = get_marks f ps k r e
 
 module _ (plan : Plan) where

@@ -22,11 +22,12 @@ use Rattle.imp_parse.proofs.Exact.{Free, Exact, Both, both}
 use Rattle.imp_parse.proofs.Pack as packs
 use Rattle.imp_parse.proofs.Pack.{Layer, strictly, loosely, Pack, Strict, Loose, loose, Nothing, nothing, done, Follows, then, never, until, Arm, Dead, Live, Other, is_other, arm_reader, arm_lang, IsOther, live, other, choose, Made, give, made_of, made, nothing_is}
 use Rattle.imp_parse.proofs.Layers.{Turn, layer_exact}
-use Rattle.imp_parse.proofs.Chains.{or_first, or_second, free_less}
+use Rattle.imp_parse.proofs.Chains.{free_less}
 use Rattle.imp_parse.proofs.ListLayers.{IsList, ends, more, Listing, layer, is_live, turn, goes_on, stops_by, is_done}
 use Rattle.imp_parse.proofs.Singles.{IsMark, mark, a_mark, mark_follows}
 use Rattle.imp_parse.proofs.Conditions.{a_condition, junction_on}
 use Rattle.imp_parse.proofs.Simples.{simple_arm, arm_to, arm_from, simple_is}
+use Rattle.plain_values.proofs.Cases.{or_first, or_second}
 
 -- ---- the languages
 

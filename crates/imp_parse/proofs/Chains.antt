@@ -9,6 +9,7 @@ use Rattle.imp_parse.proofs.Exact.{Reader, Free, Both, both}
 use Rattle.imp_parse.proofs.Pack.{Layer, strictly, loosely, Pack, Strict, loose, Nothing, nothing, done, call, Follows, then, Arm, Live, Other, is_other, arm_reader, arm_lang, IsOther, live, other, choose}
 use Rattle.imp_parse.proofs.Layers.{Turn, layer_eq}
 use std.Path.{fun_ext}
+use Rattle.plain_values.proofs.Cases.{or_second}
 
 -- behind what spells a: no more, or an operator, one more part, and the rest
 pub data Tail {A Op : Type 0} (ops : Kind → Option Op) (made : Op → A → A → A) (G : Language A) (Rest : A → Language A) (a : A) : List Kind → A → Type 0 where
@@ -41,14 +42,6 @@ high_on {high = high} {unit_on = unit_on} c t = is_some (high t) || unit_on t
 
 abbrev pub low_on : {A Op : Type 0} {high low : Kind → Option Op} {made_high made_low : Op → A → A → A} {unit_on : Kind → Bool} → Chains A Op high low made_high made_low unit_on → Kind → Bool
 low_on {low = low} c t = is_some (low t) || high_on c t
-
-pub or_first : (a b : Bool) → (a || b) ≡ false → a ≡ false
-or_first true b e = absurd cc
-or_first false b e = refl
-
-pub or_second : (a b : Bool) → (a || b) ≡ false → b ≡ false
-or_second true b e = absurd cc
-or_second false b e = e
 
 pub free_less : (on on' : Kind → Bool) → ((t : Kind) → on t ≡ false → on' t ≡ false) → (rest : List Kind) → Free on rest → Free on' rest
 free_less on on' le [] free = tt

@@ -14,9 +14,10 @@ use Rattle.imp_parse.specs.Judged.{Fails}
 use Rattle.imp_parse.proofs.Exact.{Reader, Free, Exact, both}
 use Rattle.imp_parse.proofs.Pack.{Layer, Strict, Loose, loose, nothing, done, read, read_some, Follows, then, never, Arm, Dead, Live, Other, arm_reader, arm_lang, IsOther, live, other, choose, strict_stops, give, made_of, made}
 use Rattle.imp_parse.proofs.Layers.{Turn, layer_exact, alone, no_calls, alone_exact}
-use Rattle.imp_parse.proofs.Chains.{or_first, or_second, free_less}
+use Rattle.imp_parse.proofs.Chains.{free_less}
 use Rattle.imp_parse.proofs.ListLayers.{IsList, ends, more, Listing, layer, is_live, turn, goes_on, stops_by, is_done}
 use Rattle.imp_parse.proofs.Singles.{mark, mark_follows, ended}
+use Rattle.plain_values.proofs.Cases.{or_first, or_second}
 
 -- items, each behind a comma
 pub data IsCommas {X : Type 0} (G : Language X) (Many : Language (List X)) : List Kind → List X → Type 0 where

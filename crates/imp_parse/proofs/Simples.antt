@@ -18,11 +18,12 @@ use Rattle.imp_parse.proofs.Exact.{Free, Exact, both}
 use Rattle.imp_parse.proofs.Pack as packs
 use Rattle.imp_parse.proofs.Pack.{Layer, Calls, Strict, Loose, loose, nothing, done, read, read_some, Follows, then, never, until, Arm, Dead, Live, Other, is_other, arm_lang, IsOther, live, other, choose, strict_stops, Made, give, made_of, made, made_follows}
 use Rattle.imp_parse.proofs.Layers.{alone, no_calls, alone_exact}
-use Rattle.imp_parse.proofs.Chains.{high_on, low_follows, or_second}
+use Rattle.imp_parse.proofs.Chains.{high_on, low_follows}
 use Rattle.imp_parse.proofs.Singles.{mark, a_mark, named, a_name, mark_follows, ended, refused}
 use Rattle.imp_parse.proofs.Expressions.{chains, operator_on, product_exact, sum_exact}
 use Rattle.imp_parse.proofs.Conditions.{an_expression, a_condition, junction_on}
 use Rattle.imp_parse.proofs.Calls.{a_call}
+use Rattle.plain_values.proofs.Cases.{or_second}
 
 -- ---- what is assigned: behind a name
 

@@ -1,7 +1,6 @@
 -- Runs that end, and runs that go on.
 use Rattle.std.specs.Prelude.{◌≡◌, ℕ, zero, suc, ◌+◌, List, Bool, true, false, Some, None}
 use Rattle.std.proofs.Common.{refl, sym, ap, arith}
-use Rattle.plain_values.proofs.Cases.{some_inj}
 use Rattle.imp_slots.specs.Plain.{Routine}
 use Rattle.concrete_sem.specs.Steps.{Config}
 use Rattle.concrete_sem.specs.Steps as steps
@@ -12,6 +11,7 @@ use Rattle.analysis_words.specs.declared.run_end.RunEnd.{RunEnd}
 use Rattle.analysis_words.specs.declared.run_end.RunEnd.TheVariants as e
 use Rattle.imp_run.specs.Machine.{step_of}
 use Rattle.imp_run.specs.Outcome.{IsEndAfter, after_more, bit}
+use Rattle.std.proofs.lemmas.Option.{same_Some}
 
 pub count-zero : (n : ℕ) → n ≡ n + 0
 count-zero n = omega arith
@@ -27,14 +27,14 @@ module _ (program : List Routine) (here : Config → Bool) where
 
   -- a step that is the last one of a run
   pub run-ends : (s : Stepped) (left : ℕ) (end : RunEnd) (c c2 : Config) → IsEndAfter s left (Some end) → steps.step program c ≡ step_of s c2 → run_from program here left c ≡ counted (here c) (ends end)
-  run-ends Ended zero end c c2 h is = rw is (ap (ended_by c) (sym (some_inj end e.Ended h)))
-  run-ends Ended (suc n) end c c2 h is = rw is (ap (ended_by c) (sym (some_inj end e.Ended h)))
-  run-ends Next zero end c c2 h is = rw is (ap (ended_by c) (sym (some_inj end e.FuelUsedUp h)))
+  run-ends Ended zero end c c2 h is = rw is (ap (ended_by c) (sym (same_Some end e.Ended h)))
+  run-ends Ended (suc n) end c c2 h is = rw is (ap (ended_by c) (sym (same_Some end e.Ended h)))
+  run-ends Next zero end c c2 h is = rw is (ap (ended_by c) (sym (same_Some end e.FuelUsedUp h)))
   run-ends Next (suc n) end c c2 h is = absurd (cc)
-  run-ends (Fault n k) zero end c c2 h is = rw is (ap (ended_by c) (sym (some_inj end e.FuelUsedUp h)))
-  run-ends (Fault n k) (suc m) end c c2 h is = rw is (ap (ended_by c) (sym (some_inj end (e.Fault n k) h)))
-  run-ends (NoInput n) zero end c c2 h is = rw is (ap (ended_by c) (sym (some_inj end e.FuelUsedUp h)))
-  run-ends (NoInput n) (suc k) end c c2 h is = rw is (ap (ended_by c) (sym (some_inj end (e.InputsUsedUp n) h)))
+  run-ends (Fault n k) zero end c c2 h is = rw is (ap (ended_by c) (sym (same_Some end e.FuelUsedUp h)))
+  run-ends (Fault n k) (suc m) end c c2 h is = rw is (ap (ended_by c) (sym (same_Some end (e.Fault n k) h)))
+  run-ends (NoInput n) zero end c c2 h is = rw is (ap (ended_by c) (sym (same_Some end e.FuelUsedUp h)))
+  run-ends (NoInput n) (suc k) end c c2 h is = rw is (ap (ended_by c) (sym (same_Some end (e.InputsUsedUp n) h)))
 
   -- a step after which the run goes on
   pub run-goes-on : (s : Stepped) (left : ℕ) (c c2 : Config) → IsEndAfter s left None → steps.step program c ≡ step_of s c2 → (k : ℕ) × (left ≡ suc k) × (run_from program here left c ≡ counted (here c) (run_from program here k c2))

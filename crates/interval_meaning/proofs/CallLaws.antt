@@ -1,7 +1,7 @@
 -- Calls: what a state describes stays described over entering and leaving, and states that fit stay so.
-use Rattle.std.proofs.Common.{◌≡◌, refl, sym, ap, ◌∙◌, subst, ℕ, nat_lt, ℤ, pos, Bool, true, false, ◌&&◌, ◌||◌, List, [], ◌∷◌, map, drop, length, slice_get, Option, Some, None, IfSome, arith, if◌then◌else◌, ◌⊎◌, inl, inr}
+use Rattle.std.proofs.Common.{◌≡◌, refl, sym, ap, ◌∙◌, subst, ℕ, nat_lt, ℤ, pos, Bool, true, false, ◌&&◌, List, [], ◌∷◌, map, drop, length, slice_get, Option, Some, None, IfSome, arith, if◌then◌else◌, inl, inr}
 use Rattle.std.proofs.lemmas.Int.{ints}
-use Rattle.std.proofs.lemmas.Bool.{and_parts}
+use Rattle.std.proofs.lemmas.Bool.{and_parts, or_cases}
 use Rattle.std.specs.List.{AllZip}
 use Rattle.imp_slots.specs.Plain.{Numeric, Layout, Argument, IntArgument, ArrayArgument, LinkArgument, Returning, NumericResult, LinkResult, Invoke}
 use Rattle.imp_slots.specs.Fits.{is_kind, is_int, is_array, is_side, fits_term, fits_arguments, fits_returning, fits_invoke}
@@ -16,7 +16,6 @@ use Rattle.num_bounds.specs.Meaning.{Covers}
 use Rattle.numeric_slots.specs.Measures.{measure}
 use Rattle.numeric_slots.specs.Ranges.{if_range}
 use Rattle.numeric_slots.proofs.Slots.{array-at, kind-is}
-use Rattle.numeric_slots.proofs.Words.{gives-same}
 use Rattle.interval_meaning.specs.State.{Intervals, Empty, Within}
 use Rattle.interval_meaning.specs.Ranges.{range_at, with_range, range_of}
 use Rattle.interval_meaning.specs.Operations.{filled, init, in_front, argument_ranges, entered, enter, returned, leave}
@@ -25,6 +24,7 @@ use Rattle.interval_meaning.proofs.SlotLaws.{FitsSlot, FitsRange, range-fits, at
 use Rattle.interval_meaning.proofs.RangeLaws.{range_of-covers, range_of-range}
 use Rattle.interval_meaning.proofs.CompareLaws.{FitsState, Describes}
 use Rattle.interval_meaning.specs.declared.slot_range.SlotRange.{SlotRange}
+use Rattle.concrete_sem.proofs.Forms.{gives_same}
 
 -- ranges that fit the first slots of a layout
 abbrev FitFirst : List Numeric → List Bounds → Type 0
@@ -121,7 +121,7 @@ if_range-lies None z f ns h g = absurd h
 if_range-lies (Some r) z f ns h g = g r h
 
 passed-numbers : (p u : Variables) → Gives p ≡ Gives u → (o : Option (List Bounds)) → ArgumentsLie o p.numbers → ArgumentsLie o u.numbers
-passed-numbers p u e o h = let w : p ≡ u = gives-same e in subst (λ (y : Variables). ArgumentsLie o y.numbers) w h
+passed-numbers p u e o h = let w : p ≡ u = gives_same e in subst (λ (y : Variables). ArgumentsLie o y.numbers) w h
 
 arguments-lie : (l : Layout) (rs : List SlotRange) (v : Variables) (args : List Argument) (ks : List Numeric) (links : List (List ℕ)) (u : Variables) → fits_arguments l args ks links ≡ true → AllZip IsNumber l.numbers v.numbers → AllZip Holds rs v.numbers → passed v args ≡ Gives u → ArgumentsLie (argument_ranges rs args) u.numbers
 arguments-lie l rs v [] ks links u f w h g = passed-numbers (record { numbers = []; links = [] }) u g (Some []) tt
@@ -169,13 +169,9 @@ enter-describes l i Empty v u f w g h = absurd h
 enter-describes l i (Within rs) v u f w g h =
     let p = and_parts (fits_arguments l i.entering.arguments i.entering.layout.numbers i.entering.layout.links) (fits_returning i.entering.layout l i.returning) f in
     let m = andthen-gives (passed v i.entering.arguments) (λ (p : Variables). Gives (record { numbers = over p.numbers (map first_number i.entering.layout.numbers); links = over p.links (map first_link i.entering.layout.links) })) u g in
-    let e : u.numbers ≡ over m.0.numbers (map first_number i.entering.layout.numbers) = sym (ap (λ (y : Variables). y.numbers) (gives-same m.2)) in
+    let e : u.numbers ≡ over m.0.numbers (map first_number i.entering.layout.numbers) = sym (ap (λ (y : Variables). y.numbers) (gives_same m.2)) in
     entered-holds i.entering.layout.numbers (argument_ranges rs i.entering.arguments) m.0.numbers u e
     (arguments-lie l rs v i.entering.arguments i.entering.layout.numbers i.entering.layout.links m.0 p.0 w h m.1)
-
-or_parts : (a b : Bool) → (a || b) ≡ true → (a ≡ true) ⊎ (b ≡ true)
-or_parts true b h = inl refl
-or_parts false b h = inr h
 
 -- the callee's slot and the caller's have one kind
 result-fits : (b : Bool) (c l : Layout) (rs ds : List SlotRange) (to from : ℕ) → is_kind b (slice_get c.numbers from) ≡ true → is_kind b (slice_get l.numbers to) ≡ true → AllZip FitsSlot l.numbers rs → AllZip FitsSlot c.numbers ds → AllZip FitsSlot l.numbers (with_range rs to (range_at ds from))
@@ -186,7 +182,7 @@ result-fits b c l rs ds to from f g h k =
 returned-fits : (c l : Layout) (o : Option Returning) (rs ds : List SlotRange) → fits_returning c l o ≡ true → AllZip FitsSlot l.numbers rs → AllZip FitsSlot c.numbers ds → FitsState l (returned o rs ds)
 returned-fits c l None rs ds f h k = h
 returned-fits c l (Some (NumericResult to from)) rs ds f h k =
-    elim (or_parts (is_int c from && is_int l to) (is_array c from && is_array l to) f) [
+    elim (or_cases (is_int c from && is_int l to) (is_array c from && is_array l to) f) [
       | inl e ↦ let p = and_parts (is_int c from) (is_int l to) e in result-fits false c l rs ds to from p.0 p.1 h k
       | inr e ↦ let p = and_parts (is_array c from) (is_array l to) e in result-fits true c l rs ds to from p.0 p.1 h k
     ]

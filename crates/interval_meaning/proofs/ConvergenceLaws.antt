@@ -1,7 +1,7 @@
 -- A state changes under widening so often and no more.
 use Rattle.std.proofs.Common.{◌≡◌, refl, sym, ap, ◌∙◌, subst, ℕ, suc, ◌+◌, ◌*◌, ◌<◌, ◌≤◌, ℤ, ◌≤ℤ◌, ◌<ℤ◌, int_le, int_lt, Bool, true, false, ◌&&◌, List, [], ◌∷◌, length, map, arith, if◌then◌else◌, ◌⊎◌, inl, inr}
 use Rattle.std.proofs.lemmas.Int.{ints, clamps}
-use Rattle.std.proofs.lemmas.Bool.{and_parts}
+use Rattle.std.proofs.lemmas.Bool.{and_parts, and_from}
 use Rattle.std.specs.Int.{int_max, int_min}
 use Rattle.std.specs.List.{AllZip, zip}
 use Rattle.imp_slots.specs.Plain.{Numeric, Layout}
@@ -34,11 +34,6 @@ one_if-le true true f = omega arith
 one_if-le true false f = let h : false ≡ true = f refl in cc
 one_if-le false c f = omega arith
 
-both : (a b : Bool) → a ≡ true → b ≡ true → (a && b) ≡ true
-both true true p q = refl
-both true false p q = cc
-both false b p q = cc
-
 -- one of the marks
 abbrev Member : ℤ → List ℤ → Type 0
 Member w [] = ⊥
@@ -57,7 +52,7 @@ low_falls-mono (m ∷ ms) e w z h =
     let p = and_parts (int_lt e.lo m) (int_lt m w) t in
     let a : m <ℤ w = lt-true m w p.1 in
     let b : m <ℤ z = omega (arith, ints) in
-    both (int_lt e.lo m) (int_lt m z) p.0 (true-lt m z b)) in
+    and_from (int_lt e.lo m) (int_lt m z) p.0 (true-lt m z b)) in
     omega arith
 
 low_falls-positive : (ms : List ℤ) (e : Bounds) (z : ℤ) → e.lo <ℤ z → 0 < low_falls ms e z
@@ -82,7 +77,7 @@ low_falls-strict (m ∷ ms) e w z k h j =
     let p = and_parts (int_lt e.lo m) (int_lt m w) t in
     let a : m <ℤ w = lt-true m w p.1 in
     let b : m <ℤ z = omega (arith, ints) in
-    both (int_lt e.lo m) (int_lt m z) p.0 (true-lt m z b)) in
+    and_from (int_lt e.lo m) (int_lt m z) p.0 (true-lt m z b)) in
     elim k [
       | inl s ↦
           let a : int_lt e.lo m ≡ true = let q : e.lo <ℤ m = omega (arith, ints) in true-lt e.lo m q in
@@ -146,7 +141,7 @@ high_rises-mono (m ∷ ms) e w z h =
     let p = and_parts (int_lt m e.hi) (int_lt w m) t in
     let a : w <ℤ m = lt-true w m p.1 in
     let b : z <ℤ m = omega (arith, ints) in
-    both (int_lt m e.hi) (int_lt z m) p.0 (true-lt z m b)) in
+    and_from (int_lt m e.hi) (int_lt z m) p.0 (true-lt z m b)) in
     omega arith
 
 high_rises-positive : (ms : List ℤ) (e : Bounds) (z : ℤ) → z <ℤ e.hi → 0 < high_rises ms e z
@@ -171,7 +166,7 @@ high_rises-strict (m ∷ ms) e w z k h j =
     let p = and_parts (int_lt m e.hi) (int_lt w m) t in
     let a : w <ℤ m = lt-true w m p.1 in
     let b : z <ℤ m = omega (arith, ints) in
-    both (int_lt m e.hi) (int_lt z m) p.0 (true-lt z m b)) in
+    and_from (int_lt m e.hi) (int_lt z m) p.0 (true-lt z m b)) in
     elim k [
       | inl s ↦
           let a : int_lt m e.hi ≡ true = let q : m <ℤ e.hi = omega (arith, ints) in true-lt m e.hi q in

@@ -1,12 +1,12 @@
 -- Simple statements: what a state describes stays described, and states that fit stay so.
-use Rattle.std.proofs.Common.{◌≡◌, refl, sym, ap, ◌∙◌, subst, ℕ, zero, suc, ℤ, pos, negsuc, Bool, true, false, ◌&&◌, List, [], ◌∷◌, length, slice_get, slice_index_or, slice_set, All, Option, Some, None, IfSome, arith, if◌then◌else◌}
+use Rattle.std.proofs.Common.{◌≡◌, refl, sym, ap, ◌∙◌, subst, ℕ, zero, suc, ℤ, pos, Bool, true, false, ◌&&◌, List, [], ◌∷◌, length, slice_get, slice_index_or, slice_set, All, Option, Some, None, IfSome, arith, if◌then◌else◌}
 use Rattle.std.proofs.lemmas.Int.{ints, clamps}
 use Rattle.std.proofs.lemmas.Bool.{and_parts}
 use Rattle.std.specs.Int.{int_max, int_min}
 use Rattle.std.specs.List.{AllZip}
 use Rattle.imp_slots.specs.Plain.{Numeric, Layout, Effect, Skip, Assert, SetInt, Input, ReadElement, ReadItem, MakeArray, CopyArray, WriteElement, SetNull, MakeCell, CopyLink, ReadNext, WriteNext, WriteItem, Act, DoBreak, Does}
 use Rattle.imp_slots.specs.Fits.{fits_term, fits_effect, is_int, is_array, is_link, is_kind}
-use Rattle.analysis_words.specs.declared.fault.FaultKind.TheVariants.{Index, Null, Assert as Failed}
+use Rattle.analysis_words.specs.declared.fault.FaultKind.TheVariants.{Null, Assert as Failed}
 use Rattle.concrete_sem.specs.Values.{Number, Int, Array, Variables, Cell, Heap, Gives, Faults, andthen, given_or, as_array, number_at, array_at, link_at, with_number, with_link, IsWord}
 use Rattle.concrete_sem.specs.Evaluation.{value_of, truth_of}
 use Rattle.concrete_sem.specs.Effects.{effect_of, new_array, element, with_element, cell_of, take_input, with_cell}
@@ -22,7 +22,6 @@ use Rattle.num_bounds.proofs.Ends.{cut-covers, between-left}
 use Rattle.numeric_slots.specs.Measures.{measure, longest}
 use Rattle.numeric_slots.proofs.Changes.{held, new_array-length, with_element-length}
 use Rattle.numeric_slots.proofs.Slots.{array-at}
-use Rattle.numeric_slots.proofs.Words.{gives-same}
 use Rattle.interval_meaning.specs.State.{Intervals, Empty, Within}
 use Rattle.interval_meaning.specs.Ranges.{full, range_at, with_range, range_of}
 use Rattle.interval_meaning.specs.Operations.{after, assume, does, post}
@@ -31,6 +30,8 @@ use Rattle.interval_meaning.proofs.SlotLaws.{FitsSlot, FitsRange, range-fits, at
 use Rattle.interval_meaning.proofs.RangeLaws.{range_of-covers, range_of-range}
 use Rattle.interval_meaning.proofs.CompareLaws.{FitsState, Describes, after-fits, needs-fits, needs-describes, assume-fits, assume-describes}
 use Rattle.interval_meaning.specs.declared.slot_range.SlotRange.{SlotRange}
+use Rattle.concrete_sem.proofs.Keeps.{element_is}
+use Rattle.concrete_sem.proofs.Forms.{gives_same}
 
 -- A slot of this kind gets a range that fits the kind.
 kind-set : (b : Bool) (l : Layout) (rs : List SlotRange) (x : ℕ) (r : Bounds) → is_kind b (slice_get l.numbers x) ≡ true → FitsRange b r → AllZip FitsSlot l.numbers rs → AllZip FitsSlot l.numbers (with_range rs x r)
@@ -94,21 +95,13 @@ get-cell P [] k z h e = cc
 get-cell P (y ∷ ys) zero z h e = let w : y ≡ z = cc in subst P w (h 0 y (omega arith))
 get-cell P (y ∷ ys) (suc k) z h e = get-cell P ys k z (λ j d lt. h (suc j) d (omega arith)) e
 
-element-word : (zs : List ℤ) (i z : ℤ) → All IsWord zs → element zs i ≡ Gives z → IsWord z
-element-word zs (pos k) z h e = by (slice_get zs k) refl e
-  where
-    by : (o : Option ℤ) → slice_get zs k ≡ o → given_or Index o ≡ Gives z → IsWord z
-    by None p q = cc
-    by (Some y) p q = subst IsWord (gives-same q) (get-all IsWord zs k y h p)
-element-word zs (negsuc k) z h e = cc
-
 cell-word : (cells : List Cell) (n : ℕ) (l : Option ℕ) (c : ℕ × Cell) → All (IsCell n) cells → cell_of cells l ≡ Gives c → IsWord c.1.item
 cell-word cells n None c h e = cc
 cell-word cells n (Some k) c h e = by (slice_get cells k) refl e
   where
     by : (o : Option Cell) → slice_get cells k ≡ o → andthen (given_or Null o) (λ d. Gives (k, d)) ≡ Gives c → IsWord c.1.item
     by None p q = cc
-    by (Some d) p q = let w : (k, d) ≡ c = gives-same q in subst (λ (y : ℕ × Cell). IsWord y.1.item) w (get-cell (IsCell n) cells k d h p).0
+    by (Some d) p q = let w : (k, d) ≡ c = gives_same q in subst (λ (y : ℕ × Cell). IsWord y.1.item) w (get-cell (IsCell n) cells k d h p).0
 
 array-words : (ks : List Numeric) (ns : List Number) (a : ℕ) → AllZip IsNumber ks ns → All IsWord (as_array (slice_index_or ns a (Int (pos 0))))
 array-words [] [] a h = λ k d lt. absurd (omega arith)
@@ -129,7 +122,7 @@ same-holds (s ∷ rs) (n ∷ ns) (suc x) m e h = (h.0, same-holds rs ns x m e h.
 module _ (l : Layout) (h : Heap) (v : Variables) (x : Heap × Variables) (numbers : AllZip IsNumber l.numbers v.numbers) (inputs : All IsWord h.inputs) (cells : All (IsCell (length h.cells)) h.cells) where
   -- the variables behind a step
   moved : (k : Heap) (u : Variables) (s : Intervals) → Gives (k, u) ≡ Gives x → Describes u s → Describes x.1 s
-  moved k u s e d = let w : (k, u) ≡ x = gives-same e in subst (λ (y : Heap × Variables). Describes y.1 s) w d
+  moved k u s e d = let w : (k, u) ≡ x = gives_same e in subst (λ (y : Heap × Variables). Describes y.1 s) w d
 
   does-describes : (e : Effect) (rs : List SlotRange) → fits_effect l e ≡ true → AllZip FitsSlot l.numbers rs → effect_of e h v ≡ Gives x → AllZip Holds rs v.numbers → Describes x.1 (does e rs)
   unfolding does fits_effect effect_of
@@ -149,7 +142,7 @@ module _ (l : Layout) (h : Heap) (v : Variables) (x : Heap × Variables) (number
   does-describes (ReadElement y a e) rs f k g d =
       let i = andthen-gives (value_of v e) (λ i. andthen (element (array_at v a) i) (λ z. Gives (h, with_number v y (Int z)))) x g in
       let z = andthen-gives (element (array_at v a) i.0) (λ z. Gives (h, with_number v y (Int z))) x i.2 in
-      moved h (with_number v y (Int z.0)) (Within (with_range rs y full)) z.2 (set-holds rs v.numbers y full (Int z.0) d (word-lies z.0 (element-word (array_at v a) i.0 z.0 (array-words l.numbers v.numbers a numbers) z.1)))
+      moved h (with_number v y (Int z.0)) (Within (with_range rs y full)) z.2 (set-holds rs v.numbers y full (Int z.0) d (word-lies z.0 (element_is (array_at v a) i.0 z.0 (array-words l.numbers v.numbers a numbers) z.1)))
   does-describes (ReadItem y q) rs f k g d =
       let c = andthen-gives (cell_of h.cells (link_at v q)) (λ c. Gives (h, with_number v y (Int c.1.item))) x g in
       moved h (with_number v y (Int c.0.1.item)) (Within (with_range rs y full)) c.2 (set-holds rs v.numbers y full (Int c.0.1.item) d (word-lies c.0.1.item (cell-word h.cells (length h.cells) (link_at v q) c.0 cells c.1)))

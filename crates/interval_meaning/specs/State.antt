@@ -45,7 +45,7 @@ bool_equal true false h = cc
 bool_equal false true h = cc
 bool_equal false false h = refl
 
-bool_self : (a : Bool) → bool_same a a ≡ true
+pub bool_self : (a : Bool) → bool_same a a ≡ true
 bool_self true = refl
 bool_self false = refl
 

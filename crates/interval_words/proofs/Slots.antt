@@ -5,7 +5,7 @@ use Rattle.imp_slots.specs.Plain.{Numeric}
 use Rattle.num_bounds.specs.Bounds.{Bounds, least, greatest}
 use Rattle.interval_words.specs.Words.{before, slot_if, slot_with}
 use Rattle.interval_words.specs.Slots.{within_extremes}
-use Rattle.interval_meaning.specs.State.{bool_same}
+use Rattle.interval_meaning.specs.State.{bool_self}
 use Rattle.interval_meaning.specs.Ranges.{extremes}
 use Rattle.std.proofs.lemmas.Bool.{and_parts}
 use Rattle.std.proofs.lemmas.Int.{ints}
@@ -21,18 +21,14 @@ more_behind done s o first e = by o ∙ ap (λ (first : Option SlotRange). optio
     by None = refl
     by (Some more) = ap Some (append_assoc done (s ∷ []) more)
 
-same_kind : (b : Bool) → bool_same b b ≡ true
-same_kind true = refl
-same_kind false = refl
-
 -- a slot of its own kind fits exactly where its ends are within the extremes
 pub slot_within : (k : Numeric) (lo hi : ℤ) → within_extremes (extremes k.is_array) lo hi ≡ true → slot_if k (slot_with k lo hi) ≡ Some (slot_with k lo hi)
 slot_within k lo hi e =
-    ap (λ c. if c && within_extremes (extremes k.is_array) lo hi then Some (slot_with k lo hi) else None) (same_kind k.is_array) ∙ ap (λ c. if c then Some (slot_with k lo hi) else None) e
+    ap (λ c. if c && within_extremes (extremes k.is_array) lo hi then Some (slot_with k lo hi) else None) (bool_self k.is_array) ∙ ap (λ c. if c then Some (slot_with k lo hi) else None) e
 
 pub slot_without : (k : Numeric) (lo hi : ℤ) → within_extremes (extremes k.is_array) lo hi ≡ false → slot_if k (slot_with k lo hi) ≡ None
 slot_without k lo hi e =
-    ap (λ c. if c && within_extremes (extremes k.is_array) lo hi then Some (slot_with k lo hi) else None) (same_kind k.is_array) ∙ ap (λ c. if c then Some (slot_with k lo hi) else None) e
+    ap (λ c. if c && within_extremes (extremes k.is_array) lo hi then Some (slot_with k lo hi) else None) (bool_self k.is_array) ∙ ap (λ c. if c then Some (slot_with k lo hi) else None) e
 
 pub ordered_within : (b : Bool) (lo hi : ℤ) → within_extremes (extremes b) lo hi ≡ true → ((extremes b).lo ≤ℤ lo) × (lo ≤ℤ hi) × (hi ≤ℤ (extremes b).hi)
 ordered_within b lo hi e =

@@ -5,7 +5,7 @@ use Rattle.std.proofs.lemmas.Int.{ints}
 use Rattle.std.proofs.lemmas.Bool.{and_parts, and_from}
 use Rattle.imp_slots.specs.Plain.{Numeric, Layout}
 use Rattle.num_bounds.specs.Bounds.{least, greatest}
-use Rattle.plain_values.proofs.Cases.{by_bool, some_inj}
+use Rattle.plain_values.proofs.Cases.{by_bool}
 use Rattle.cert_words.proofs.Numbers.{word_is}
 use Rattle.cert_words.specs.Claims.{IsSmall, AreSmall}
 use Rattle.cert_words.specs.States.{AreWords}
@@ -16,6 +16,7 @@ use Rattle.interval_meaning.specs.Domain.{intervals}
 use Rattle.interval_meaning.specs.declared.slot_range.SlotRange.{SlotRange}
 use Rattle.interval_meaning.proofs.SlotLaws.{fits_slots-true, fits-range}
 use Rattle.interval_words.specs.Words.{slots_told, told, slot_with, slot_if, before, slots_of, empty_of, within_of, state_of}
+use Rattle.std.proofs.lemmas.Option.{same_Some}
 
 told_some : (s : Intervals) → told s ≡ [] → ⊥
 told_some Empty e = cc
@@ -67,7 +68,7 @@ record Changed {A B : Type 0} (f : A → B) (o : Option A) (b : B) : Type 0 wher
 
 changed : {A B : Type 0} (f : A → B) (o : Option A) (b : B) → option_map f o ≡ Some b → Changed f o b
 changed f None b e = absurd cc
-changed f (Some a) b e = record { from = a; was = refl; is = some_inj (f a) b e }
+changed f (Some a) b e = record { from = a; was = refl; is = same_Some (f a) b e }
 
 abbrev SlotsAre : List Numeric → List (Option ℤ) → List SlotRange → Type 0
 SlotsAre ks ws rs = (fits_slots ks rs ≡ true) × (slots_told rs ≡ ws)
@@ -83,7 +84,7 @@ before_exact k ks s o ws rs rest e =
     (λ f. let i : None ≡ Some rs = sym (ap (λ c. before (if c then Some s else None) o) f) ∙ e in absurd cc)
 
 slots_exact : (ks : List Numeric) (ws : List (Option ℤ)) (rs : List SlotRange) → slots_of ks ws ≡ Some rs → SlotsAre ks ws rs
-slots_exact [] [] rs e = subst (SlotsAre [] []) (some_inj [] rs e) (refl, refl)
+slots_exact [] [] rs e = subst (SlotsAre [] []) (same_Some [] rs e) (refl, refl)
 slots_exact [] (w ∷ ws) rs e = absurd cc
 slots_exact (k ∷ ks) [] rs e = absurd cc
 slots_exact (k ∷ ks) (None ∷ ws) rs e = absurd cc
@@ -97,7 +98,7 @@ IsTold ls ws s = (fits s ls ≡ true) × (told s ≡ ws)
 
 empty_exact : (ls : List Layout) (ws : List (Option ℤ)) (s : Intervals) → empty_of ws ≡ Some s → IsTold ls (Some (pos 0) ∷ ws) s
 unfolding fits
-empty_exact ls [] s e = subst (IsTold ls (Some (pos 0) ∷ [])) (some_inj Empty s e) (refl, refl)
+empty_exact ls [] s e = subst (IsTold ls (Some (pos 0) ∷ [])) (same_Some Empty s e) (refl, refl)
 empty_exact ls (w ∷ ws) s e = absurd cc
 
 within_exact : (ls : List Layout) (ws : List (Option ℤ)) (s : Intervals) → within_of ls ws ≡ Some s → IsTold ls (Some (pos 1) ∷ ws) s

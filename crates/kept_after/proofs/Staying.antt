@@ -1,8 +1,7 @@
 -- Going down the inputs finds what leads to no name that is not sound.
 use Rattle.std.proofs.Common.{◌≡◌, ℕ, zero, suc, ◌≤◌, Bool, true, ◌&&◌, List, [], ◌∷◌, refl, sym, subst, inl, inr, arith}
-use Rattle.std.proofs.lemmas.Bool.{and_parts, and_from, or_left, or_right}
+use Rattle.std.proofs.lemmas.Bool.{and_parts, and_from, or_left, or_right, or_cases}
 use Rattle.std.specs.Bool.{Decides}
-use Rattle.plain_values.proofs.Cases.{or_either}
 use Rattle.demand_order.specs.Order.{System, IsAcyclic, member}
 use Rattle.demand_order.specs.OrderLaws.{IsClosed}
 use Rattle.demand_order.specs.Leading.{LeadsTo, itself, through, Stays}
@@ -15,7 +14,7 @@ module _ {T : Type 0} (s : System T) (law : IsAcyclic s) where
   each_member f [] h y m = absurd cc
   each_member f (x ∷ xs) h y m =
       let p = and_parts (f x) (each f xs) h in
-      elim (or_either (s.same y x) (member s.same xs y) m) [
+      elim (or_cases (s.same y x) (member s.same xs y) m) [
         | inl e ↦ subst (λ z. f z ≡ true) (sym (law.same_true y x e)) p.0
         | inr k ↦ each_member f xs p.1 y k
       ]

@@ -8,7 +8,6 @@ use Rattle.cell_names.specs.declared.frame.Frame.{Frame}
 use Rattle.cell_names.specs.declared.frame.Frame.TheVariants.{InCall, InLoop}
 use Rattle.cell_names.specs.declared.frame.Point.{Point}
 use Rattle.cell_names.specs.declared.frame.Point.TheVariants.{Entry, Body}
-use Rattle.plain_values.proofs.Cases.{some_inj}
 use Rattle.plain_values.proofs.Members.{Member, keys}
 use Rattle.batch_meaning.proofs.Places.{found, found_member}
 use Rattle.cell_rows.specs.Names.{start_point, Scope, At, mark, Place, bare, number, level_of, scope_of, start_of, in_call, in_loop, round_place, follow}
@@ -20,6 +19,7 @@ use Rattle.cell_rows.proofs.Listed.{numbered}
 use Rattle.cell_rows.proofs.Shown.{U, shows}
 use Rattle.kept_set.proofs.Tails.{Tail, whole, tail_trans, tail_rest, from_tail, tail_in, all_listed, names_of, tail_same}
 use Rattle.kept_set.proofs.Seats.{sits}
+use Rattle.std.proofs.lemmas.Option.{same_Some}
 
 -- The procedure and the loops of the block at a path's end, by the number in its last frame.
 abbrev pub IsHome : List Routine → List Frame → List ℕ → List ℕ → Type 0
@@ -64,7 +64,7 @@ module _ (engine : Engine) (ps : List Routine) (once : Distinct (keys (flat ps))
   block_start : (qs : List Routine) (z : List ℕ) (x : U) (w : List Frame) (b : Q) → x.point ≡ Entry → start_point w ≡ Entry → ((r : Routine) (e : List Routine) → qs ≡ r ∷ e → Tail (r ∷ e) ps × IsHome ps w r.name []) → start_of engine bare qs z x ≡ Some b → Block w b
   block_start [] z x w b i j f e = absurd cc
   block_start (r ∷ earlier) z x w b i j f e =
-      subst (Block w) (some_inj _ _ e)
+      subst (Block w) (same_Some _ _ e)
       (let t = f r earlier refl in
       record {
         routine = r;
@@ -175,7 +175,7 @@ module _ (engine : Engine) (ps : List Routine) (once : Distinct (keys (flat ps))
 -- In two programs whose statements keep their places a path leads to the same procedure and loops.
 pub same_home : (old new : List Routine) → first_name old ≡ first_name new → ((n : ℕ) (u v : Flat) → find n (flat old) ≡ Some u → find n (flat new) ≡ Some v → SamePlace u v) →
     (w : List Frame) (m j : List ℕ) (ls ks : List ℕ) → IsHome old w m ls → IsHome new w j ks → (m ≡ j) × (ls ≡ ks)
-same_home old new main places [] m j ls ks h k = (some_inj _ _ (sym h.0 ∙ main ∙ k.0), h.1 ∙ sym k.1)
+same_home old new main places [] m j ls ks h k = (same_Some _ _ (sym h.0 ∙ main ∙ k.0), h.1 ∙ sym k.1)
 same_home old new main places (InCall n ∷ w) m j ls ks h k = ((places n h.0 k.0 h.1 k.1).callee m j h.2 k.2, h.3 ∙ sym k.3)
 same_home old new main places (InLoop n i ∷ w) m j ls ks h k =
     let p = places n h.0 k.0 h.1 k.1 in

@@ -9,14 +9,14 @@ use Rattle.cell_rows.specs.Names.{IsSame}
 use Rattle.cell_rows.specs.Cells.{Cell}
 use Rattle.cell_rows.specs.Flat.{flat_row}
 use Rattle.cell_rows.specs.Claims.{HasName, IsUntouched}
-use Rattle.cell_rows.proofs.Unique.{gather-agree}
+use Rattle.cell_rows.proofs.Unique.{gather-agree, all_of}
 use Rattle.cell_rows.proofs.Edits.{kept}
 use Rattle.demand_order.specs.Leading.{itself}
 use Rattle.demand_order.proofs.WithinLemmas.{stays-closed}
 use Rattle.kept_set.specs.Touched.{Edit, old_rows, new_rows, old_system, asked, KeepsRow, IsTouched, IsTouchedByNew, AreCells, IsKept, IsKeptByNew}
 use Rattle.kept_set.specs.Claims.{IsRight}
 use Rattle.kept_set.proofs.Decided.{Decided, both, has_name, AreSame, are_same, untouched}
-use Rattle.kept_set.proofs.Right.{all_of, old_law, new_law, row_result, same_inputs, same_value, batch_same}
+use Rattle.kept_set.proofs.Right.{old_law, new_law, row_result, same_inputs, same_value, batch_same}
 use Rattle.kept_set.proofs.Local.{transfer, sure}
 
 module _ {S : Type 0} (dom : Operations S) (e : Edit) (co : IsChecked e.old) (cn : IsChecked e.new) (same : CellName → CellName → Bool) (is : IsSame same) (cells : CellName → Bool) (are : AreCells dom e.engine e.old same cells) where

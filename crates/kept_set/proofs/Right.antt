@@ -1,28 +1,22 @@
 -- What is kept is right: the new program has it, with the same operation, inputs and value, and its inputs are kept.
-use Rattle.std.proofs.Common.{reverse, ◌≡◌, Bool, true, List, [], ◌∷◌, map, Some, sym, ap, ◌∙◌, subst}
+use Rattle.std.proofs.Common.{reverse, ◌≡◌, Bool, true, List, map, Some, sym, ap, ◌∙◌, subst}
 use Rattle.imp_slots.specs.Fits.{IsChecked}
 use Rattle.domain_laws.specs.Operations.{Operations}
 use Rattle.cell_names.specs.Paths.{CellName}
 use Rattle.demand_order.specs.Order.{member}
 use Rattle.demand_order.specs.Asking.{Rows, AreRows, value_of, inputs_of}
-use Rattle.std.proofs.lemmas.Bool.{or_left, or_right}
 use Rattle.demand_order.proofs.AskingProofs.{value-is}
 use Rattle.cell_rows.specs.Names.{IsSame}
 use Rattle.cell_rows.specs.Rows.{Row, op_of}
 use Rattle.cell_rows.specs.Cells.{Cell, by_row, nothing, operation_row, value_of_name}
 use Rattle.cell_rows.specs.Flat.{flat_row}
 use Rattle.cell_rows.specs.Claims.{HasName}
-use Rattle.cell_rows.proofs.Unique.{All, Solves, unique}
+use Rattle.cell_rows.proofs.Unique.{All, Solves, unique, all_of}
 use Rattle.cell_rows.proofs.Answered.{valued}
 use Rattle.cell_rows.proofs.FlatOnce.{flat_once, all_fine}
 use Rattle.cell_rows.proofs.TotalRows.{is_total, total_values}
 use Rattle.kept_set.specs.Touched.{Edit, old_rows, new_rows, asked, KeepsRow}
 use Rattle.cell_rows.proofs.FlatShapes.{same_operation}
-
--- what holds of each name of a list
-pub all_of : {T : Type 0} (same : T → T → Bool) → ((x : T) → same x x ≡ true) → (P : T → Type 0) (xs : List T) → ((y : T) → member same xs y ≡ true → P y) → All P xs
-all_of same re P [] h = tt
-all_of same re P (x ∷ xs) h = (h x (or_left (same x x) (member same xs x) (re x)), all_of same re P xs (λ y m. h y (or_right (same y x) (member same xs y) m)))
 
 module _ {S : Type 0} (dom : Operations S) (e : Edit) (co : IsChecked e.old) (cn : IsChecked e.new) (same : CellName → CellName → Bool) (is : IsSame same) where
   abbrev TO : Rows CellName (Cell S)

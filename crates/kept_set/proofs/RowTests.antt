@@ -4,7 +4,6 @@ use Rattle.std.specs.Bool.{Decides}
 use Rattle.domain_laws.specs.Operations.{Operations}
 use Rattle.batch_meaning.specs.Values.{Value, State, Over}
 use Rattle.batch_meaning.specs.Batch.{Engine}
-use Rattle.plain_values.proofs.Cases.{some_inj}
 use Rattle.cell_names.specs.declared.frame.Frame.{Frame}
 use Rattle.cell_names.specs.declared.frame.Frame.TheVariants.{InLoop}
 use Rattle.cell_names.specs.declared.frame.Point.{Point}
@@ -18,6 +17,7 @@ use Rattle.kept_set.specs.Touched.{Edit, old_rows, asked, KeepsRow}
 use Rattle.kept_set.specs.RowTest.{OnlyLeft, SameAsked}
 use Rattle.cell_rows.proofs.FlatShapes.{fix_number, Shape, Shaped, flat_shaped}
 use Rattle.kept_set.proofs.Plans.{same_rows_stay}
+use Rattle.std.proofs.lemmas.Option.{same_Some}
 
 module _ {S : Type 0} (dom : Operations S) (engine : Engine) (f : CellName → Cell S) where
   -- what a row asks for, by these values
@@ -65,7 +65,7 @@ module _ {S : Type 0} (dom : Operations S) (engine : Engine) (f : CellName → C
   same_right (State s) k n m w u p q y e h = go (nat_lt k engine.budget) e h
     where
       go : (b : Bool) → (if b then Some (name (InLoop n k ∷ w) p) else None) ≡ Some y → (if b then Some (name (InLoop m k ∷ u) q) else None) ≡ Some y → p ≡ q
-      go true e h = ap (λ (c : CellName). c.point) (some_inj _ _ e ∙ sym (some_inj _ _ h))
+      go true e h = ap (λ (c : CellName). c.point) (same_Some _ _ e ∙ sym (same_Some _ _ h))
       go false e h = absurd cc
 
   listed_none : (o : Option CellName) → listed o ≡ [] → o ≡ None
@@ -156,8 +156,8 @@ module _ {S : Type 0} (dom : Operations S) (e : Edit) (same : CellName → CellN
 
   keeps : KeepsRow dom e same x → SameAsked r q (inputs_of (old_rows dom e same) x)
   keeps s =
-      let i : s.row ≡ r = some_inj _ _ (sym s.had ∙ h) in
-      let j : s.other ≡ q = some_inj _ _ (sym s.has ∙ k) in
+      let i : s.row ≡ r = same_Some _ _ (sym s.had ∙ h) in
+      let j : s.other ≡ q = same_Some _ _ (sym s.has ∙ k) in
       subst (SameAsked r q) (sym old_inputs)
       (told dom e.engine f x.path x.point r q (subst (Shaped x.path x.point) h (flat_shaped e.engine (reverse e.old) x.path x.point)) (subst (Shaped x.path x.point) k (flat_shaped e.engine (reverse e.new) x.path x.point))
       (sym (ap op_of i) ∙ s.operation ∙ ap op_of j) (sym old_inputs ∙ s.inputs ∙ new_asked))

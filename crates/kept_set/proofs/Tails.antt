@@ -6,10 +6,11 @@ use Rattle.imp_slots.specs.Fits.{Absent, Distinct, IsChecked}
 use Rattle.batch_meaning.specs.Places.{from}
 use Rattle.cell_names.specs.declared.frame.Point.TheVariants.{Entry}
 use Rattle.plain_values.proofs.Cases.{by_test}
-use Rattle.plain_values.proofs.Members.{Member, here, there, in_left, in_right, Each, each_both, none_there, each_as}
+use Rattle.plain_values.proofs.Members.{Member, in_left, in_right, Each, each_both, none_there, each_as, in_map}
 use Rattle.cell_rows.specs.Targets.{Text, texts}
 use Rattle.cell_rows.specs.Flat.{Flat, flat_of, flat}
 use Rattle.cell_rows.proofs.Listed.{each_map}
+use Rattle.imp_slots.proofs.Distinct.{absent_end}
 
 -- the first list is the end of the second
 pub data Tail : List Routine → List Routine → Type 0 where
@@ -29,11 +30,6 @@ from_tail (p ∷ ps) q r e h =
     (by_test q (length ps) (λ c. (if c then p ∷ ps else from ps q) ≡ r ∷ e → Tail (r ∷ e) (p ∷ ps))
     (λ k h. subst (λ xs. Tail xs (p ∷ ps)) h whole)
     (λ k h. behind p (from_tail ps q r e h))) h
-
-in_map : {A B : Type 0} (f : A → B) (x : A) (xs : List A) → Member x xs → Member (f x) (map f xs)
-in_map f x [] m = elim m [ ]
-in_map f x (y ∷ xs) here = here
-in_map f x (y ∷ xs) (there m) = there (in_map f x xs m)
 
 pub tail_in : (r : Routine) (e : List Routine) {ps : List Routine} → Tail (r ∷ e) ps → (x : ℕ × Text) → Member x (texts r.code Entry) → Member (flat_of r e x) (flat ps)
 tail_in r e whole x m = in_left (flat e) (in_map (flat_of r e) x (texts r.code Entry) m)
@@ -66,10 +62,6 @@ tail_same r s e d ps once whole whole h = (refl, refl)
 tail_same r s e d ps once whole (behind p t) h = absurd (other_name r.name s d t once.0 h)
 tail_same r s e d ps once (behind p t) whole h = absurd (other_name s.name r e t once.0 (sym h))
 tail_same r s e d ps once (behind p t) (behind q u) h = tail_same r s e d _ once.1 t u h
-
-absent_end : (n m : List ℕ) (xs : List (List ℕ)) → Absent n xs → n ≢ m → Absent n (xs ++ m ∷ [])
-absent_end n m [] a h = (h, tt)
-absent_end n m (x ∷ xs) a h = (a.0, absent_end n m xs a.1 h)
 
 distinct_end : (m : List ℕ) (xs : List (List ℕ)) → Distinct xs → Absent m xs → Distinct (xs ++ m ∷ [])
 distinct_end m [] d a = (tt, tt)

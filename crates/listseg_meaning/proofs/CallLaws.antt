@@ -1,5 +1,5 @@
 -- Entering and leaving calls, main's first state, and the last frame alone.
-use Rattle.std.proofs.Common.{◌≡◌, ℕ, suc, ◌<◌, ◌-◌, List, [], ◌∷◌, ◌++◌, inl, inr, map, length, Option, None, Some, refl, sym, ◌∙◌, ap, subst, arith}
+use Rattle.std.proofs.Common.{◌≡◌, ℕ, ◌<◌, ◌-◌, List, [], ◌∷◌, ◌++◌, inl, inr, map, length, Option, None, Some, refl, sym, ◌∙◌, ap, subst, arith}
 use Rattle.std.specs.List.{remove}
 use Rattle.std.proofs.lemmas.List.{length-map}
 use Rattle.imp_slots.specs.Plain.{Layout, Argument, IntArgument, ArrayArgument, LinkArgument, Entering, Returning, NumericResult, LinkResult}
@@ -20,6 +20,8 @@ use Rattle.listseg_meaning.proofs.Frames.{set_last-push, last_of-push, slot_of-p
 use Rattle.listseg_meaning.proofs.Fitting.{Framed, FitsGraph, FitsState, each-fits}
 use Rattle.listseg_meaning.proofs.Covering.{Describes, each-describes}
 use Rattle.listseg_meaning.proofs.Links.{side-is}
+use Rattle.concrete_sem.proofs.Keeps.{over_length}
+use Rattle.concrete_sem.proofs.Forms.{gives_same}
 
 -- one graph for each
 only : (ns : List ℕ) (f : Shape → Shape) (g x : Shape) → Framed ns (f g) → In x (f g ∷ []) → Framed ns x
@@ -35,12 +37,6 @@ pub single-describes : (ns ms : List ℕ) (f : Shape → Shape) (variables next 
 single-describes ns ms f variables next heap s h k c d =
     each-describes ns (λ g. f g ∷ []) variables next heap heap s h (λ g m w. record { one = f g; among = inl refl; graph = (k g m).graph; covers = c g m w }) d
 
--- the slots of a frame entered
-over-length : {A : Type 0} (xs ys : List A) → length (over xs ys) ≡ length ys
-over-length [] ys = refl
-over-length (x ∷ xs) [] = refl
-over-length (x ∷ xs) (y ∷ ys) = ap suc (over-length xs ys)
-
 map-over : {A B : Type 0} (f : A → B) (xs ys : List A) → map f (over xs ys) ≡ over (map f xs) (map f ys)
 map-over f [] ys = refl
 map-over f (x ∷ xs) [] = refl
@@ -52,7 +48,7 @@ nils frames (n ∷ names) = ap (λ v. None ∷ v) (nils frames names)
 
 entered-length : (e : Entering) (frames : List (List (Option ℕ))) → length (map (argument_of frames) (entered e)) ≡ length e.layout.links
 entered-length e frames =
-    length-map (entered e) (argument_of frames) ∙ over-length (link_arguments e.arguments) (map first_link e.layout.links) ∙ length-map e.layout.links first_link
+    length-map (entered e) (argument_of frames) ∙ over_length (link_arguments e.arguments) (map first_link e.layout.links) ∙ length-map e.layout.links first_link
 
 pub argument-node : (g : Shape) (sides : List (Option ℕ)) (k : ℕ) → IsGraph g → In (Some k) (map (argument_of g.frames) sides) → k < nodes g
 argument-node g [] k ok i = absurd i
@@ -73,21 +69,18 @@ pub enter-fits : (ns : List ℕ) (e : Entering) (s : Segments) → FitsState ns 
 unfolding enter
 enter-fits ns e s h = single-fits ns (ns ++ length e.layout.links ∷ []) (framed_in e) s (enter-framed ns e) h
 
-given-same : {A : Type 0} {a b : A} → Gives a ≡ Gives b → a ≡ b
-given-same h = cc
-
 passed-links : (v : Variables) (args : List Argument) (p : Variables) → passed v args ≡ Gives p → p.links ≡ map (side_at v) (link_arguments args)
-passed-links v [] p g = ap (λ (y : Variables). y.links) (sym (given-same g))
+passed-links v [] p g = ap (λ (y : Variables). y.links) (sym (gives_same g))
 passed-links v (IntArgument e ∷ more) p g =
     let z = andthen-gives (value_of v e) (λ z. andthen (passed v more) (λ (p : Variables). Gives (record p { numbers = Int z ∷ p.numbers }))) p g in
     let m = andthen-gives (passed v more) (λ (p : Variables). Gives (record p { numbers = Int z.0 ∷ p.numbers })) p z.2 in
-    ap (λ (y : Variables). y.links) (sym (given-same m.2)) ∙ passed-links v more m.0 m.1
+    ap (λ (y : Variables). y.links) (sym (gives_same m.2)) ∙ passed-links v more m.0 m.1
 passed-links v (ArrayArgument a ∷ more) p g =
     let m = andthen-gives (passed v more) (λ (p : Variables). Gives (record p { numbers = Array (array_at v a) ∷ p.numbers })) p g in
-    ap (λ (y : Variables). y.links) (sym (given-same m.2)) ∙ passed-links v more m.0 m.1
+    ap (λ (y : Variables). y.links) (sym (gives_same m.2)) ∙ passed-links v more m.0 m.1
 passed-links v (LinkArgument s ∷ more) p g =
     let m = andthen-gives (passed v more) (λ (p : Variables). Gives (record p { links = side_at v s ∷ p.links })) p g in
-    ap (λ (y : Variables). y.links) (sym (given-same m.2)) ∙ ap (λ w. side_at v s ∷ w) (passed-links v more m.0 m.1)
+    ap (λ (y : Variables). y.links) (sym (gives_same m.2)) ∙ ap (λ w. side_at v s ∷ w) (passed-links v more m.0 m.1)
 
 sides-are : (vs : List Variables) (v : Variables) (sides : List (Option ℕ)) → map (argument_of (main_first (v ∷ vs))) sides ≡ map (side_at v) sides
 sides-are vs v [] = refl
@@ -100,7 +93,7 @@ pass-links e vs v u g =
     map-over (argument_of (main_first (v ∷ vs))) (link_arguments e.arguments) (map first_link e.layout.links)
     ∙ (λ i. over (sides-are vs v (link_arguments e.arguments) i) (nils (main_first (v ∷ vs)) e.layout.links i))
     ∙ ap (λ w. over w (map first_link e.layout.links)) (sym (passed-links v e.arguments m.0 m.1))
-    ∙ ap (λ (y : Variables). y.links) (given-same m.2)
+    ∙ ap (λ (y : Variables). y.links) (gives_same m.2)
 
 pub enter-describes : (ns : List ℕ) (e : Entering) (vs : List Variables) (v u : Variables) (heap : List (Option ℕ)) (s : Segments) → FitsState ns s → pass e v ≡ Gives u
     → Describes (main_first (v ∷ vs)) heap s → Describes (main_first (u ∷ v ∷ vs)) heap (enter e s)

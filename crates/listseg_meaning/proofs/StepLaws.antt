@@ -24,9 +24,7 @@ use Rattle.listseg_meaning.proofs.Fitting.{FitsState}
 use Rattle.listseg_meaning.proofs.Covering.{Describes, each-describes}
 use Rattle.listseg_meaning.proofs.Links.{assume-describes}
 use Rattle.listseg_meaning.proofs.StepFits.{stepped-framed, past_check-fits}
-
-given-same : {A : Type 0} {a b : A} → Gives a ≡ Gives b → a ≡ b
-given-same h = cc
+use Rattle.concrete_sem.proofs.Forms.{gives_same}
 
 next_of : Cell → Option ℕ
 next_of c = c.next
@@ -38,7 +36,7 @@ cell-is cells (Some k) c h = by (slice_get cells k) refl h
     by : (o : Option Cell) → slice_get cells k ≡ o → andthen {B = ℕ × Cell} (given_or Null o) (λ d. Gives (k, d)) ≡ Gives c → (Some k ≡ Some c.0) × (slice_get cells c.0 ≡ Some c.1)
     by None e g = cc
     by (Some d) e g =
-        let w : (k, d) ≡ c = given-same g in
+        let w : (k, d) ≡ c = gives_same g in
         (ap (λ (y : ℕ × Cell). Some y.0) w, subst (λ (y : ℕ × Cell). slice_get cells y.0 ≡ Some y.1) w e)
 
 get-next : (cells : List Cell) (k : ℕ) (c : Cell) → slice_get cells k ≡ Some c → slice_get (map (λ (d : Cell). d.next) cells) k ≡ Some c.next
@@ -65,7 +63,7 @@ module _ (ns : List ℕ) (h : Heap) (v : Variables) (vs : List Variables) (x : H
 
   -- a statement that gives another heap and other variables describes those
   behind : (k : Heap) (w : Variables) (s : Segments) → Gives (k, w) ≡ Gives x → Describes (main_first (w ∷ vs)) (nexts k) s → Describes (main_first (x.1 ∷ vs)) (nexts x.0) s
-  behind k w s g d = let e : (k, w) ≡ x = given-same g in subst (λ (y : Heap × Variables). Describes (main_first (y.1 ∷ vs)) (nexts y.0) s) e d
+  behind k w s g d = let e : (k, w) ≡ x = gives_same g in subst (λ (y : Heap × Variables). Describes (main_first (y.1 ∷ vs)) (nexts y.0) s) e d
 
   -- each graph's step covers
   moved : (e : Effect) (s : Segments) (next : List (List (Option ℕ))) (after : List (Option ℕ)) → FitsState ns s

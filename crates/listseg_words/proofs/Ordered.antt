@@ -2,8 +2,7 @@
 use Rattle.std.specs.Prelude.{◌≡◌, ℕ, List, [], ◌∷◌, Option, true}
 use Rattle.std.specs.Ordering.{eq_by_cmp}
 use Rattle.std.proofs.Common.{inl, inr, subst, sym}
-use Rattle.std.proofs.lemmas.Bool.{and_parts}
-use Rattle.plain_values.proofs.Cases.{or_either}
+use Rattle.std.proofs.lemmas.Bool.{and_parts, or_cases}
 use Rattle.shape_graph.specs.Order.{shape_cmp, shape_eq-same}
 use Rattle.shape_graph.specs.Shape.{Shape, In}
 use Rattle.shape_steps.specs.Steps.{AnyCovers}
@@ -15,7 +14,7 @@ use Rattle.listseg_words.specs.Words.{has, have_all, leq}
 
 has-in : (hs : List Shape) (g : Shape) → has hs g ≡ true → In g hs
 has-in [] g e = absurd cc
-has-in (h ∷ hs) g e = elim (or_either (eq_by_cmp shape_cmp g h) (has hs g) e) [
+has-in (h ∷ hs) g e = elim (or_cases (eq_by_cmp shape_cmp g h) (has hs g) e) [
   | inl p ↦ inl (shape_eq-same g h p)
   | inr p ↦ inr (has-in hs g p)
 ]

@@ -1,8 +1,8 @@
 -- Joins and widenings are above both sides.
-use Rattle.std.specs.Prelude.{◌≡◌, nat_le, List, [], ◌∷◌, ◌||◌, length, Bool, true, false, if◌then◌else◌}
+use Rattle.std.specs.Prelude.{◌≡◌, nat_le, List, [], ◌∷◌, length, Bool, true, false, if◌then◌else◌}
 use Rattle.std.specs.Ordering.{eq_by_cmp}
 use Rattle.std.proofs.Common.{refl, inl, inr, subst}
-use Rattle.std.proofs.lemmas.Bool.{and_from}
+use Rattle.std.proofs.lemmas.Bool.{and_from, or_right, or_left}
 use Rattle.shape_graph.specs.Order.{shape_cmp, shape_equiv}
 use Rattle.shape_graph.specs.Shape.{Shape, In}
 use Rattle.cert_meaning.specs.Portable.{HasUpperBounds}
@@ -14,18 +14,10 @@ use Rattle.listseg_meaning.specs.State.{Segments, Top, Graphs}
 use Rattle.listseg_words.specs.Words.{has, have_all, leq}
 use Rattle.listseg_words.proofs.Ordered.{all-in}
 
-first-of : (a b : Bool) → a ≡ true → (a || b) ≡ true
-first-of true b e = refl
-first-of false b e = cc
-
-second-of : (a b : Bool) → b ≡ true → (a || b) ≡ true
-second-of true b e = refl
-second-of false b e = e
-
 in-has : (hs : List Shape) (g : Shape) → In g hs → has hs g ≡ true
 in-has [] g i = absurd i
-in-has (h ∷ hs) g (inl e) = first-of (eq_by_cmp shape_cmp g h) (has hs g) (subst (λ (h : Shape). eq_by_cmp shape_cmp g h ≡ true) e (shape_equiv.refl g))
-in-has (h ∷ hs) g (inr i) = second-of (eq_by_cmp shape_cmp g h) (has hs g) (in-has hs g i)
+in-has (h ∷ hs) g (inl e) = or_left (eq_by_cmp shape_cmp g h) (has hs g) (subst (λ (h : Shape). eq_by_cmp shape_cmp g h ≡ true) e (shape_equiv.refl g))
+in-has (h ∷ hs) g (inr i) = or_right (eq_by_cmp shape_cmp g h) (has hs g) (in-has hs g i)
 
 in-all : (hs gs : List Shape) → ((g : Shape) → In g gs → In g hs) → have_all hs gs ≡ true
 in-all hs [] f = refl

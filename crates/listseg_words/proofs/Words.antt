@@ -7,7 +7,7 @@ use Rattle.std.proofs.Common.{refl, sym, ap, ◌∙◌, arith, subst, suc, zero,
 use Rattle.std.proofs.lemmas.Bool.{and_parts, and_from}
 use Rattle.std.proofs.lemmas.Bool.Decides.{nat_tests}
 use lib.Pointwise.{pointwise, pointwise_decides}
-use Rattle.plain_values.proofs.Cases.{by_bool, some_inj}
+use Rattle.plain_values.proofs.Cases.{by_bool}
 use Rattle.imp_slots.specs.Plain.{Layout}
 use Rattle.shape_graph.specs.Shape.{Shape, In}
 use Rattle.cert_words.proofs.Numbers.{word_Decides}
@@ -22,6 +22,7 @@ use Rattle.listseg_meaning.proofs.Fitting.{FitGraphs, FitsGraph, fits-state}
 use Rattle.listseg_words.specs.Words.{graph_told, told, number_of, word_at, after_frames, after_atoms, graph_of, fits_counts, graph_if, before, graphs_of, if_told, if_rises, state_of}
 use Rattle.listseg_words.proofs.Back.{All-fit, graphs-back, number-back}
 use Rattle.listseg_words.proofs.Small.{small-graphs, text-long}
+use Rattle.std.proofs.lemmas.Option.{same_Some}
 
 abbrev same_words : List (Option ℤ) → List (Option ℤ) → Bool
 same_words = pointwise (option_eq int_eq)
@@ -76,7 +77,7 @@ IsTold ls ws s = (fits s ls ≡ true) × (told s ≡ ws)
 told_exact_if : (ls : List Layout) (ws : List (Option ℤ)) (r s : Segments) → fits r ls ≡ true → if_told ws r ≡ Some s → IsTold ls ws s
 told_exact_if ls ws r s f e =
     by_bool (same_words (told r) ws)
-    (λ k. subst (IsTold ls ws) (some_inj r s (sym (ap (λ b. if b then Some r else None) k) ∙ e)) (f, (pointwise_decides word_Decides (told r) ws).0 k))
+    (λ k. subst (IsTold ls ws) (same_Some r s (sym (ap (λ b. if b then Some r else None) k) ∙ e)) (f, (pointwise_decides word_Decides (told r) ws).0 k))
     (λ k. let i : None ≡ Some s = sym (ap (λ b. if b then Some r else None) k) ∙ e in absurd cc)
 
 number-small : (bound : ℕ) (w : Option ℤ) → number_of bound w ≤ bound
@@ -104,10 +105,10 @@ before-exact ls k g o gs rest e =
     by f None rest e = absurd cc
     by f (Some hs) rest e =
         let r = rest hs refl in
-        subst (AreGraphs ls (suc k)) (some_inj (g ∷ hs) gs e) (record { many = ap suc r.many; fit = and_from (fits_graph ls g) (fit_graphs ls hs) f r.fit })
+        subst (AreGraphs ls (suc k)) (same_Some (g ∷ hs) gs e) (record { many = ap suc r.many; fit = and_from (fits_graph ls g) (fit_graphs ls hs) f r.fit })
 
 graphs-exact : (ls : List Layout) (k : ℕ) (ws : List (Option ℤ)) (gs : List Shape) → graphs_of (counts ls) k ws ≡ Some gs → AreGraphs ls k gs
-graphs-exact ls zero ws gs e = subst (AreGraphs ls 0) (some_inj [] gs e) (record { many = refl; fit = refl })
+graphs-exact ls zero ws gs e = subst (AreGraphs ls 0) (same_Some [] gs e) (record { many = refl; fit = refl })
 graphs-exact ls (suc k) ws gs e =
     let rest : List (Option ℤ) = after_atoms (after_frames (counts ls) ws) in
     before-exact ls k (graph_of (counts ls) ws) (graphs_of (counts ls) k rest) gs (λ hs i. graphs-exact ls k rest hs i) e

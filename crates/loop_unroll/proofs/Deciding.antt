@@ -12,7 +12,7 @@ use Rattle.std.specs.FinMap.{FinMap, get}
 use Rattle.daig_graph.specs.Cells.{Filled, AreCells}
 use Rattle.loop_unroll.specs.Iterates.{iterate_of, value_at, state_in, IsOver, IsOverValue, IsEqual, IsSpent, Stops, GoesOnTo, OverrunsWithin}
 use Rattle.loop_unroll.specs.Stages.{IsStage, spent_or_open}
-use Rattle.daig_graph.proofs.UseLemmas.{at_index}
+use Rattle.std.proofs.lemmas.Option.{slice_get-get_or}
 
 no : {A : Type 0} → false ≡ true → A
 no e = absurd (cc)
@@ -162,11 +162,11 @@ counted budget iterate count last result e earlier make =
     subst Q (sym e) (make (subst P e earlier))
 
 pub last-value : {V : Type 0} (graph : FinMap nat_cmp (Filled V)) (cells : List ℕ) (last : ℕ) → last < length cells → iterate_of graph cells last ≡ value_at graph (get_or cells last 0)
-last-value graph cells last l = ap (option_and_then (value_at graph)) (at_index cells last 0 l)
+last-value graph cells last l = ap (option_and_then (value_at graph)) (slice_get-get_or cells last 0 l)
 
 has-value : {V P : Type 0} (o : Option (Filled V)) → is_some o ≡ true → None ≡ option_map (λ f. f.value) o → P
 has-value None h e = no h
 has-value (Some f) h e = none-some e
 
 pub cell-has : {V P : Type 0} (graph : FinMap nat_cmp (Filled V)) (cells : List ℕ) (last : ℕ) → last < length cells → AreCells graph cells → None ≡ value_at graph (get_or cells last 0) → P
-cell-has graph cells last l are none = has-value (get graph (get_or cells last 0)) (are last (get_or cells last 0) (at_index cells last 0 l)) none
+cell-has graph cells last l are none = has-value (get graph (get_or cells last 0)) (are last (get_or cells last 0) (slice_get-get_or cells last 0 l)) none

@@ -1,11 +1,10 @@
 -- Numbers of names.
 use Rattle.std.proofs.Common.{◌≡◌, ℕ, zero, suc, ◌<◌, ◌⊎◌, List, [], ◌∷◌, ◌++◌, length, Option, Some, None, Bool, true, false, if◌then◌else◌, option_map, slice_get, refl, sym, ap, subst, ◌∙◌, inl, inr, arith}
-use Rattle.std.proofs.lemmas.Bool.{or_left, or_right}
-use Rattle.std.proofs.lemmas.Option.{slice_get_within}
+use Rattle.std.proofs.lemmas.Bool.{or_left, or_right, or_cases}
+use Rattle.std.proofs.lemmas.Option.{slice_get_within, same_Some}
 use Rattle.std.specs.Option.{option_and_then}
 use Rattle.std.specs.Ordering.{nat_cmp}
 use Rattle.std.specs.FinMap.{FinMap, get}
-use Rattle.plain_values.proofs.Cases.{or_either, some_inj}
 use Rattle.plain_values.proofs.Lists.{get_last, get_other}
 use Rattle.cell_names.specs.Known.{KeepsNumbers, IsOnce, Adds}
 use Rattle.cell_names.specs.Paths.{CellName}
@@ -41,7 +40,7 @@ pub number_found : (names : List CellName) (x : CellName) (n : ℕ) → slice_ge
 unfolding number_of
 number_found [] x n e = absurd cc
 number_found (y ∷ ys) x zero e =
-    let h : same_name x y ≡ true = subst (λ z. same_name x z ≡ true) (sym (some_inj y x e)) (same_is.same_refl x) in
+    let h : same_name x y ≡ true = subst (λ z. same_name x z ≡ true) (sym (same_Some y x e)) (same_is.same_refl x) in
     (0, ap (λ b. if b then Some 0 else option_map suc (number_of ys x)) h)
 number_found (y ∷ ys) x (suc n) e = go (number_found ys x n e) (same_name x y) refl
   where
@@ -77,7 +76,7 @@ adds_keeps old new x n (inr h) = λ m y e.
     rw h.2 (get_other old x m (λ q. absurd (omega arith)) ∙ e)
 
 pub within_more : {A : Type 0} (old : List A) (x y : A) (m : ℕ) → slice_get (old ++ x ∷ []) m ≡ Some y → ((m ≡ length old) × (y ≡ x)) ⊎ (slice_get old m ≡ Some y)
-within_more [] x y zero e = inl (refl, sym (some_inj x y e))
+within_more [] x y zero e = inl (refl, sym (same_Some x y e))
 within_more [] x y (suc m) e = absurd cc
 within_more (z ∷ zs) x y zero e = inr e
 within_more (z ∷ zs) x y (suc m) e = elim (within_more zs x y m e) [ inl p ↦ inl (ap suc p.0, p.1) | inr q ↦ inr q ]
@@ -150,12 +149,12 @@ numbers_push names (m ∷ ns) (y ∷ ys) n x e h =
 pub member_at : (xs : List CellName) (x : CellName) → member same_name xs x ≡ true → (i : ℕ) × (slice_get xs i ≡ Some x)
 member_at [] x m = absurd cc
 member_at (y ∷ xs) x m =
-    elim (or_either (same_name x y) (member same_name xs x) m) [
+    elim (or_cases (same_name x y) (member same_name xs x) m) [
       | inl e ↦ (0, ap Some (sym (same_is.same_true x y e)))
       | inr k ↦ (let p = member_at xs x k in (suc p.0, p.1))
     ]
 
 pub at_member : (xs : List CellName) (i : ℕ) (x : CellName) → slice_get xs i ≡ Some x → member same_name xs x ≡ true
 at_member [] i x e = absurd cc
-at_member (y ∷ xs) zero x e = or_left (same_name x y) (member same_name xs x) (subst (λ z. same_name x z ≡ true) (sym (some_inj y x e)) (same_is.same_refl x))
+at_member (y ∷ xs) zero x e = or_left (same_name x y) (member same_name xs x) (subst (λ z. same_name x z ≡ true) (sym (same_Some y x e)) (same_is.same_refl x))
 at_member (y ∷ xs) (suc i) x e = or_right (same_name x y) (member same_name xs x) (at_member xs i x e)

@@ -1,6 +1,6 @@
 -- Names are told apart.
-use Rattle.std.proofs.Common.{◌≡◌, Bool, true, ◌&&◌, List, refl, ap₂}
-use Rattle.std.proofs.lemmas.Bool.{and_parts}
+use Rattle.std.proofs.Common.{◌≡◌, true, List, refl, ap₂}
+use Rattle.std.proofs.lemmas.Bool.{and_parts, and_from}
 use Rattle.std.specs.Cmp.Lexicographic.{pointwise, pointwise_decides}
 use Rattle.cell_names.specs.declared.frame.Frame.{Frame}
 use Rattle.cell_names.specs.declared.frame.Point.{Point}
@@ -11,9 +11,6 @@ use Rattle.cell_names.proofs.Telling.{frame_decides, point_decides}
 use Rattle.cell_rows.specs.Names.{IsSame, name}
 use Rattle.named_cells.specs.Same.{same_name}
 
-both_true : (a b : Bool) → a ≡ true → b ≡ true → (a && b) ≡ true
-both_true a b h k = rw (h, k) refl
-
 tells : (x y : CellName) → same_name x y ≡ true → x ≡ y
 unfolding same_name
 tells x y h =
@@ -23,7 +20,7 @@ tells x y h =
 
 itself : (x : CellName) → same_name x x ≡ true
 unfolding same_name
-itself x = both_true (pointwise frames.ghosts.eq x.path x.path) (points.ghosts.eq x.point x.point) ((pointwise_decides frame_decides x.path x.path).1 refl) ((point_decides x.point x.point).1 refl)
+itself x = and_from (pointwise frames.ghosts.eq x.path x.path) (points.ghosts.eq x.point x.point) ((pointwise_decides frame_decides x.path x.path).1 refl) ((point_decides x.point x.point).1 refl)
 
 pub same_is : IsSame same_name
 same_is = record { same_true = tells; same_refl = itself }

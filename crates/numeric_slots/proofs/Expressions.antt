@@ -23,7 +23,8 @@ use Rattle.num_bounds.proofs.Remainders.{remainders-sound}
 use Rattle.numeric_slots.specs.Measures.{measure}
 use Rattle.numeric_slots.specs.Ranges.{if_range, operation, range_by}
 use Rattle.numeric_slots.proofs.Slots.{slot-measure, length-measure}
-use Rattle.numeric_slots.proofs.Words.{gives-same, word-gives, quotient-gives}
+use Rattle.numeric_slots.proofs.Words.{word-gives, quotient-gives}
+use Rattle.concrete_sem.proofs.Forms.{gives_same}
 
 covers-same : (r : Option Bounds) (w z : ℤ) → w ≡ z → Covers r z → Covers r w
 covers-same r w z e h = subst (λ x. Covers r x) (sym e) h
@@ -36,7 +37,7 @@ operation-covers Divide a b x y z p q h = let w = quotient-gives x y z h in cove
 operation-covers Remainder a b x y z p q h =
     let g = andthen-gives (quotient x y) (λ k. Gives (int_rem x y)) z h in
     let w = quotient-gives x y g.0 g.1 in
-    covers-same (remainders a b) z (int_rem x y) (sym (gives-same g.2)) (remainders-sound a b x y p q w.2)
+    covers-same (remainders a b) z (int_rem x y) (sym (gives_same g.2)) (remainders-sound a b x y p q w.2)
 
 if_range-covers : (r : Option Bounds) (f : Bounds → Option Bounds) (x z : ℤ) → Covers r x → ((a : Bounds) → Lies x a → Covers (f a) z) → Covers (if_range r f) z
 if_range-covers None f x z h g = absurd h
@@ -45,7 +46,7 @@ if_range-covers (Some a) f x z h g = g a h
 -- where each slot's range holds what the slot measures, the range of an expression holds its value
 pub range_by-covers : (l : Layout) (at : ℕ → Bounds) (v : Variables) (t : Term) (z : ℤ) → fits_term l t ≡ true → AllZip IsNumber l.numbers v.numbers → ((x : ℕ) → Lies (measure (number_at v x)) (at x)) → value_of v t ≡ Gives z → Covers (range_by at t) z
 unfolding range_by value_of fits_term
-range_by-covers l at v (Literal n) z f k h g = let e : pos n ≡ z = gives-same g in (omega (arith, ints), omega (arith, ints))
+range_by-covers l at v (Literal n) z f k h g = let e : pos n ≡ z = gives_same g in (omega (arith, ints), omega (arith, ints))
 range_by-covers l at v (Slot x) z f k h g = subst (λ y. Lies y (at x)) (slot-measure l v x z k f g) (h x)
 range_by-covers l at v (Length a) z f k h g = subst (λ y. Lies y (at a)) (length-measure l v a z k f g) (h a)
 range_by-covers l at v (Negative t) z f k h g =

@@ -2,4 +2,3 @@ pub mod Words
 pub mod Slots
 pub mod Changes
 pub mod Expressions
-pub mod Written

@@ -6,7 +6,7 @@ use Rattle.imp_slots.specs.Fits.{is_kind}
 use Rattle.concrete_sem.specs.Values.{Number, Int, Array, Variables, Gives, as_int, as_array, number_at, IsWord}
 use Rattle.concrete_sem.specs.Proper.{IsNumber}
 use Rattle.numeric_slots.specs.Measures.{measure}
-use Rattle.numeric_slots.proofs.Words.{gives-same}
+use Rattle.concrete_sem.proofs.Forms.{gives_same}
 
 pub kind-is : (b : Bool) (k : Numeric) → is_kind b (Some k) ≡ true → k.is_array ≡ b
 kind-is true k h = h
@@ -33,7 +33,7 @@ array-at (k ∷ ks) (n ∷ ns) (suc x) h e = array-at ks ns x h.1 e
 
 -- the value of an int slot, and of the length of an array slot, is what the slot measures
 pub slot-measure : (l : Layout) (v : Variables) (x : ℕ) (z : ℤ) → AllZip IsNumber l.numbers v.numbers → is_kind false (slice_get l.numbers x) ≡ true → Gives (as_int (number_at v x)) ≡ Gives z → measure (number_at v x) ≡ z
-slot-measure l v x z k f g = let i = int-at l.numbers v.numbers x k f in ap measure i.1 ∙ sym (ap as_int i.1) ∙ gives-same g
+slot-measure l v x z k f g = let i = int-at l.numbers v.numbers x k f in ap measure i.1 ∙ sym (ap as_int i.1) ∙ gives_same g
 
 pub length-measure : (l : Layout) (v : Variables) (a : ℕ) (z : ℤ) → AllZip IsNumber l.numbers v.numbers → is_kind true (slice_get l.numbers a) ≡ true → Gives (pos (length (as_array (number_at v a)))) ≡ Gives z → measure (number_at v a) ≡ z
-length-measure l v a z k f g = let i = array-at l.numbers v.numbers a k f in ap measure i.1 ∙ sym (ap (λ n. pos (length (as_array n))) i.1) ∙ gives-same g
+length-measure l v a z k f g = let i = array-at l.numbers v.numbers a k f in ap measure i.1 ∙ sym (ap (λ n. pos (length (as_array n))) i.1) ∙ gives_same g

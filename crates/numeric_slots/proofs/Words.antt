@@ -1,26 +1,19 @@
 -- What gives a word is one.
-use Rattle.std.proofs.Common.{◌≡◌, ◌≢◌, refl, sym, ◌∙◌, ◌<◌, ◌^◌, ℤ, pos, negsuc, int_div, Bool, true, false, arith, if◌then◌else◌}
-use Rattle.std.proofs.lemmas.Int.{ints}
+use Rattle.std.proofs.Common.{◌≡◌, ◌≢◌, refl, sym, ◌∙◌, ℤ, pos, int_div, Bool, true, false, if◌then◌else◌}
 use Rattle.std.proofs.lemmas.Bool.Decides.{Decides-int_eq}
 use Rattle.std.specs.Ordering.{int_eq}
-use borrow.Author.Tests.{ltb-true}
 use Rattle.analysis_words.specs.declared.fault.FaultKind.TheVariants.{Overflow, Zero}
 use Rattle.concrete_sem.specs.Values.{Gives, Faults, is_word, IsWord}
 use Rattle.concrete_sem.specs.Evaluation.{word as word_of, quotient}
-
-pub gives-same : {A : Type 0} {a b : A} → Gives a ≡ Gives b → a ≡ b
-gives-same h = cc
-
-word-fits : (z : ℤ) → is_word z ≡ true → IsWord z
-word-fits (pos n) h = let lt : n < 2 ^ 63 = ltb-true n (2 ^ 63) h in omega (arith, ints)
-word-fits (negsuc n) h = let lt : n < 2 ^ 63 = ltb-true n (2 ^ 63) h in omega (arith, ints)
+use Rattle.concrete_sem.proofs.Numbers.{word_of as word-fits}
+use Rattle.concrete_sem.proofs.Forms.{gives_same}
 
 -- what gives a word gives the number itself, which is one
 pub word-gives : (z w : ℤ) → word_of z ≡ Gives w → (w ≡ z) × IsWord z
 word-gives z w h = by (is_word z) refl h
   where
     by : (b : Bool) → is_word z ≡ b → (if b then Gives z else Faults Overflow) ≡ Gives w → (w ≡ z) × IsWord z
-    by true e f = (sym (gives-same f), word-fits z e)
+    by true e f = (sym (gives_same f), word-fits z e)
     by false e f = cc
 
 pub quotient-gives : (x y w : ℤ) → quotient x y ≡ Gives w → (w ≡ int_div x y) × IsWord (int_div x y) × (y ≢ pos 0)

@@ -43,7 +43,7 @@ fn put_end(text: &mut Text, end: i64) -> Result<(), Memory>
 
 /// Writes `x=[lo,hi]`, where `max` and `min` stand for the greatest and the least number. It fails for want of memory
 /// alone.
-#[tactic(auto, unfolding(crate::specs::Texts::range_text), using(crate::proofs::Written::range_joined))]
+#[tactic(auto, unfolding(crate::specs::Texts::range_text), using(plain_values::proofs::Joined::joined_6))]
 pub fn put_range(text: &mut Text, number: &NumericSlot, range: Range) -> Result<(), Memory>
     ensures value { OnOk result (text.new ≡ text.old ++ range_text number.now range) }
 {

@@ -1,7 +1,7 @@
 -- Layouts and calls: what a state describes stays described over entering and leaving, and states that fit stay so.
 use Rattle.std.proofs.Common.{◌≡◌, refl, sym, ap, ◌∙◌, subst, ℕ, zero, suc, ◌<◌, ◌≤◌, ◌+◌, ◌*◌, ◌/◌, ◌%◌, nat_lt, ℤ, pos, neg_ℤ, ◌-ℤ◌, Bool, true, false, ◌&&◌, ◌||◌, List, [], ◌∷◌, map, drop, length, slice_get, slice_index_or, Option, Some, None, arith, if◌then◌else◌, ◌⊎◌, inl, inr, eqb, cond}
 use Rattle.std.proofs.lemmas.Int.{ints}
-use Rattle.std.proofs.lemmas.Bool.{and_parts, cases_eq, cases_lt, eq-eqb, ne_eqb}
+use Rattle.std.proofs.lemmas.Bool.{and_parts, cases_eq, cases_lt, eq-eqb, ne_eqb, or_cases}
 use Rattle.std.proofs.lemmas.Bool.Decides.{nat_tests}
 use Rattle.std.specs.List.{AllZip}
 use Rattle.imp_slots.specs.Plain.{Numeric, Layout, Term, Literal, Slot, Length, Negative, Binary, Argument, IntArgument, ArrayArgument, LinkArgument, Returning, NumericResult, LinkResult, Invoke}
@@ -15,7 +15,7 @@ use Rattle.num_bounds.specs.Bounds.{Bounds, Within as Lies}
 use Rattle.num_bounds.specs.Meaning.{Covers}
 use Rattle.dbm_core.proofs.HalfLemmas.{entry-coherent, entry-outside}
 use Rattle.dbm_core.proofs.NodeLemmas.{flip-half, flip-same, parity}
-use Rattle.dbm_core.proofs.ValuationLemmas.{node_value-even, node_value-odd, node-plain, node-negative}
+use Rattle.dbm_core.proofs.ValuationLemmas.{node_value-even, node_value-odd, node-plain, node-negative, zero_apart}
 use Rattle.dbm_core.proofs.WeightLemmas.{AtMost-refl}
 use Rattle.dbm_core.specs.Half.{HalfMatrix, IsMatrix, entry, nodes}
 use Rattle.dbm_core.specs.Limits.{IsZeroAtMost}
@@ -28,7 +28,6 @@ use Rattle.dbm_close.specs.declared.closed.Closed.{Closed}
 use Rattle.numeric_slots.specs.Measures.{measure}
 use Rattle.numeric_slots.specs.Ranges.{if_range}
 use Rattle.numeric_slots.proofs.Slots.{slot-measure, length-measure}
-use Rattle.numeric_slots.proofs.Words.{gives-same}
 use Rattle.octagon_meaning.specs.declared.source.Source.{Source}
 use Rattle.octagon_meaning.specs.declared.source.Source.TheVariants.{FromSlot, InRange}
 use Rattle.octagon_meaning.specs.Covers.{values}
@@ -40,6 +39,7 @@ use Rattle.octagon_meaning.proofs.Fitting.{Ready, FitsMatrix, FitsState, Describ
 use Rattle.octagon_meaning.proofs.Matrices.{table-ready, table-satisfied, range-ready, range-satisfied, without-ready, without-satisfied}
 use Rattle.octagon_meaning.proofs.Ranges.{AreProper, proper, range_at-covers, range_of-covers}
 use Rattle.octagon_meaning.proofs.Steps.{others-agree, set-value}
+use Rattle.concrete_sem.proofs.Forms.{gives_same}
 
 -- ---- all slots 0
 
@@ -130,7 +130,7 @@ module _ (l : Layout) (m : HalfMatrix) (v : Variables) (numbers : AllZip IsNumbe
   source_of-is (Binary o a b) z f g = ranged (values v) (range_of m (Binary o a b)) z (range_of-covers l m v (Binary o a b) z f numbers ranges g)
 
   passed-numbers : (p u : Variables) → Gives p ≡ Gives u → (o : Option (List Source)) (ks : List Numeric) → ArgumentsFrom (values v) o ks p.numbers → ArgumentsFrom (values v) o ks u.numbers
-  passed-numbers p u e o ks h = let w : p ≡ u = gives-same e in subst (λ (y : Variables). ArgumentsFrom (values v) o ks y.numbers) w h
+  passed-numbers p u e o ks h = let w : p ≡ u = gives_same e in subst (λ (y : Variables). ArgumentsFrom (values v) o ks y.numbers) w h
 
   kind-none : (b : Bool) → is_kind b None ≡ true → ⊥
   kind-none true h = cc
@@ -259,12 +259,9 @@ copied-meets m x y h d i j (Some (InRange r)) t e f = tt
 copied-meets m x y h d i j None (Some t) e f = tt
 copied-meets m x y h d i j None None e f = no_difference (node_value y i) (node_value y j) (node-zero y i e) (node-zero y j f)
 
-still : (a : ℤ) → AtMost (Some (a -ℤ a)) (Some (pos 0))
-still a = omega (arith, ints)
-
 entered-meets : (m : HalfMatrix) (x y : ℕ → ℤ) (ss : List Source) (n : ℕ) → IsMatrix m → IsSatisfiedBy m x → ((j : ℕ) → HasSource x (slice_get ss j) (y j)) → Meets n (entered m ss) y
 entered-meets m x y ss n h s f i j hi hj = elim (cases_eq i j) [
-  | inl e ↦ rw (eq-eqb i j e) (subst (λ k. AtMost (Some (node_value y k -ℤ node_value y i)) (Some (pos 0))) e (still (node_value y i)))
+  | inl e ↦ rw (eq-eqb i j e) (subst (λ k. AtMost (Some (node_value y k -ℤ node_value y i)) (Some (pos 0))) e (zero_apart (node_value y i)))
   | inr e ↦ rw (ne_eqb i j e) (copied-meets m x y h s i j (slice_get ss (i / 2)) (slice_get ss (j / 2)) (f (i / 2)) (f (j / 2)))
 ]
 
@@ -296,7 +293,7 @@ unfolding enter fits_invoke pass
 enter-describes l i s v u f w a h g d =
     let p = and_parts (fits_arguments l i.entering.arguments i.entering.layout.numbers i.entering.layout.links) (fits_returning i.entering.layout l i.returning) f in
     let c = andthen-gives (passed v i.entering.arguments) (λ (p : Variables). Gives (record { numbers = over p.numbers (map first_number i.entering.layout.numbers); links = over p.links (map first_link i.entering.layout.links) })) u g in
-    let e : u.numbers ≡ over c.0.numbers (map first_number i.entering.layout.numbers) = sym (ap (λ (y : Variables). y.numbers) (gives-same c.2)) in
+    let e : u.numbers ≡ over c.0.numbers (map first_number i.entering.layout.numbers) = sym (ap (λ (y : Variables). y.numbers) (gives_same c.2)) in
     let r : AreProper (kinds_of l.numbers) (values v) = proper l v w in
     after-describes (kinds_of l.numbers) (values v) (values u) (closed s) (λ m. entered_by m i.entering.layout.numbers (sources m i.entering.arguments)) (closed-fits (kinds_of l.numbers) s h) (closed-describes (kinds_of l.numbers) s (values v) h r.slots d) (λ m k t.
     entered_by-describes i.entering.layout.numbers m (values v) u (sources m i.entering.arguments) c.0.numbers k.matrix t a e
@@ -313,12 +310,8 @@ pub leave-fits : (kinds ks : List Bool) (o : Option Returning) (s t : Closed) �
 unfolding leave
 leave-fits kinds ks o s t h k = after-fits kinds kinds (closed s) _ (closed-fits kinds s h) (λ m p. after-fits ks kinds (closed t) (returned o m) (closed-fits ks t k) (λ d q. returned-fits kinds o m d p))
 
-or_parts : (a b : Bool) → (a || b) ≡ true → (a ≡ true) ⊎ (b ≡ true)
-or_parts true b h = inl refl
-or_parts false b h = inr h
-
 result-kind : (c l : Layout) (to from : ℕ) → ((is_int c from && is_int l to) || (is_array c from && is_array l to)) ≡ true → (b : Bool) × (is_kind b (slice_get l.numbers to) ≡ true)
-result-kind c l to from f = elim (or_parts (is_int c from && is_int l to) (is_array c from && is_array l to) f) [
+result-kind c l to from f = elim (or_cases (is_int c from && is_int l to) (is_array c from && is_array l to) f) [
   | inl e ↦ (false, (and_parts (is_int c from) (is_int l to) e).1)
   | inr e ↦ (true, (and_parts (is_array c from) (is_array l to) e).1)
 ]

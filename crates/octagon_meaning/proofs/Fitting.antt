@@ -2,7 +2,7 @@
 use Rattle.std.specs.Prelude.{◌≡◌, ℕ, ◌<◌, ◌≤◌, ◌+◌, ◌*◌, ◌^◌, nat_eq, ℤ, pos, neg_ℤ, int_lt, ◌≤ℤ◌, ◌<ℤ◌, Option, Some, None, Bool, true, false, not, List, length, map, refl, cond}
 use Rattle.std.proofs.Common.{arith, ap, sym, ◌∙◌, suc, zero, subst}
 use Rattle.std.proofs.lemmas.Int.{ints}
-use Rattle.std.proofs.lemmas.Bool.{and_parts, and_from}
+use Rattle.std.proofs.lemmas.Bool.{and_parts, and_from, not-true, not-false, not_from_true, not_from_false}
 use Rattle.std.proofs.lemmas.Bool.Decides.{Decides-int_eq, nat_tests}
 use Rattle.std.proofs.lemmas.List.{length-take}
 use Rattle.std.specs.Bool.{beq}
@@ -107,20 +107,6 @@ pub some_below-none : (n : ℕ) (p : ℕ → Bool) → ((i : ℕ) → i < n → 
 some_below-none zero p h = refl
 some_below-none (suc n) p h = rw (h n (omega arith)) (some_below-none n p (λ i l. h i (omega arith)))
 
-not-true : (b : Bool) → not b ≡ true → b ≡ false
-not-true true h = cc
-not-true false h = refl
-
-not-false : (b : Bool) → not b ≡ false → b ≡ true
-not-false true h = refl
-not-false false h = cc
-
-true-not : (b : Bool) → b ≡ true → not b ≡ false
-true-not b e = rw e refl
-
-false-not : (b : Bool) → b ≡ false → not b ≡ true
-false-not b e = rw e refl
-
 zero-true : (a : Option ℤ) → option_eq int_eq a (Some (pos 0)) ≡ true → a ≡ Some (pos 0)
 zero-true None h = cc
 zero-true (Some x) h = ap Some ((Decides-int_eq x (pos 0)).0 h)
@@ -160,5 +146,5 @@ true-fits_matrix l m h =
     and_from (pointwise beq m.kinds (kinds_of l.numbers)) _ ((bools_Decide m.kinds (kinds_of l.numbers)).1 h.same_kinds)
     (and_from (nat_eq (length m.kept) (2 * (length m.kinds * (length m.kinds + 1)))) _ (true-eq (length m.kept) (2 * (length m.kinds * (length m.kinds + 1))) h.matrix.fits)
     (and_from (not (some_below (nodes m) (λ i. not (option_eq int_eq (entry m i i) (Some (pos 0)))))) _
-    (false-not _ (some_below-none (nodes m) (λ i. not (option_eq int_eq (entry m i i) (Some (pos 0)))) (λ i l. true-not _ (true-zero (entry m i i) (h.diagonal i l)))))
-    (false-not _ (some_below-none (nodes m) (λ i. some_below (nodes m) (λ j. not (in_limits (entry m i j)))) (λ i hi. some_below-none (nodes m) (λ j. not (in_limits (entry m i j))) (λ j hj. true-not _ (h.limits i j hi hj)))))))
+    (not_from_false _ (some_below-none (nodes m) (λ i. not (option_eq int_eq (entry m i i) (Some (pos 0)))) (λ i l. not_from_true _ (true-zero (entry m i i) (h.diagonal i l)))))
+    (not_from_false _ (some_below-none (nodes m) (λ i. some_below (nodes m) (λ j. not (in_limits (entry m i j)))) (λ i hi. some_below-none (nodes m) (λ j. not (in_limits (entry m i j))) (λ j hj. not_from_true _ (h.limits i j hi hj)))))))

@@ -24,7 +24,7 @@ use Rattle.dbm_close.specs.Steps.{extreme_high, extreme_low}
 use Rattle.numeric_slots.specs.Measures.{measure}
 use Rattle.numeric_slots.proofs.Expressions.{range_by-covers}
 use Rattle.numeric_slots.proofs.Slots.{slot-measure, length-measure}
-use Rattle.numeric_slots.proofs.Words.{gives-same, word-gives}
+use Rattle.numeric_slots.proofs.Words.{word-gives}
 use Rattle.octagon_meaning.specs.declared.form.Form.{Form}
 use Rattle.octagon_meaning.specs.declared.form.Form.TheVariants.{Constant, Node}
 use Rattle.octagon_meaning.specs.Covers.{values}
@@ -33,6 +33,7 @@ use Rattle.octagon_meaning.specs.Operations.{kinds_of}
 use Rattle.octagon_meaning.specs.Ranges.{range_at, range_of}
 use Rattle.octagon_meaning.proofs.Fitting.{FitsMatrix}
 use Rattle.octagon_meaning.proofs.Matrices.{HasValue, form_value, slot-value}
+use Rattle.concrete_sem.proofs.Forms.{gives_same}
 
 -- ---- the values of slots
 
@@ -126,7 +127,7 @@ if_form-value x (Some a) f y z h g = g a h
 
 pub form_of-value : (l : Layout) (v : Variables) (t : Term) (z : ℤ) → fits_term l t ≡ true → AllZip IsNumber l.numbers v.numbers → value_of v t ≡ Gives z → HasValue (values v) (form_of t) z
 unfolding form_of value_of fits_term
-form_of-value l v (Literal n) z f k g = gives-same g
+form_of-value l v (Literal n) z f k g = gives_same g
 form_of-value l v (Slot x) z f k g = slot-value (values v) x ∙ slot-measure l v x z k f g
 form_of-value l v (Length a) z f k g = slot-value (values v) a ∙ length-measure l v a z k f g
 form_of-value l v (Negative t) z f k g =

@@ -25,7 +25,6 @@ use Rattle.dbm_close.specs.declared.closed.Closed.{Closed}
 use Rattle.numeric_slots.specs.Measures.{measure, longest}
 use Rattle.numeric_slots.proofs.Changes.{held, new_array-length, with_element-length}
 use Rattle.numeric_slots.proofs.Slots.{array-at}
-use Rattle.numeric_slots.proofs.Words.{gives-same}
 use Rattle.octagon_meaning.specs.Covers.{values}
 use Rattle.octagon_meaning.specs.Forms.{form_of, slot_form}
 use Rattle.octagon_meaning.specs.Matrices.{assigned, meets_range, without}
@@ -36,6 +35,7 @@ use Rattle.octagon_meaning.proofs.Fitting.{Ready, FitsMatrix, FitsState, Describ
 use Rattle.octagon_meaning.proofs.Guards.{assume-fits, assume-describes, needs-fits, needs-describes}
 use Rattle.octagon_meaning.proofs.Matrices.{assigned-ready, assigned-satisfied, range-ready, range-satisfied, without-ready, without-satisfied, slot-value}
 use Rattle.octagon_meaning.proofs.Ranges.{proper, range_at-covers, range_of-covers, form_of-value}
+use Rattle.concrete_sem.proofs.Forms.{gives_same}
 
 -- ---- states that fit
 
@@ -105,7 +105,7 @@ same-satisfied m x y e s = subst (IsSatisfiedBy m) (λ t k. e k t) s
 module _ (l : Layout) (h : Heap) (v : Variables) (x : Heap × Variables) (numbers : AllZip IsNumber l.numbers v.numbers) (slots : AreInSlots (kinds_of l.numbers) (values x.1)) where
   -- the variables behind a step
   moved : (k : Heap) (u : Variables) → Gives (k, u) ≡ Gives x → u ≡ x.1
-  moved k u e = let w : (k, u) ≡ x = gives-same e in ap (λ (y : Heap × Variables). y.1) w
+  moved k u e = let w : (k, u) ≡ x = gives_same e in ap (λ (y : Heap × Variables). y.1) w
 
   -- a matrix that the variables u satisfy
   kept : (k : Heap) (u : Variables) (m : HalfMatrix) → Gives (k, u) ≡ Gives x → ((n : ℕ) → values v n ≡ values u n) → IsSatisfiedBy m (values v) → IsSatisfiedBy m (values x.1)

@@ -1,7 +1,7 @@
 -- The words of octagons.
 use Rattle.std.specs.Prelude.{◌≡◌, ℕ, ◌*◌, ◌<◌, ◌≤◌, ◌/◌, ◌%◌, ℤ, pos, List, [], ◌∷◌, length, Option, Some, None, option_map, Bool, true, if◌then◌else◌}
 use Rattle.std.proofs.Common.{refl, sym, ap, ◌∙◌, arith, subst}
-use Rattle.plain_values.proofs.Cases.{by_bool, some_inj}
+use Rattle.plain_values.proofs.Cases.{by_bool}
 use Rattle.dbm_core.proofs.HalfLemmas.{entry-coherent}
 use Rattle.dbm_core.proofs.NodeLemmas.{flip-below}
 use Rattle.dbm_core.proofs.TableLemmas.{tables-have_entries, tables-determine}
@@ -23,6 +23,7 @@ use Rattle.octagon_words.specs.Words.{at_place, table_told, told, word_at, are_e
 use Rattle.octagon_words.proofs.Below.{place_within}
 use Rattle.octagon_words.proofs.Entries.{AreEntries, entries-true, true-entries, limits-small, small-words}
 use Rattle.octagon_words.proofs.Tables.{table-length, table-word, table-back, table-same}
+use Rattle.std.proofs.lemmas.Option.{same_Some}
 
 told_some : (s : Closed) → told s ≡ [] → ⊥
 told_some Empty e = cc
@@ -94,12 +95,12 @@ pub matrix_exact : (kinds : List Bool) (ws : List (Option ℤ)) (m : HalfMatrix)
 matrix_exact kinds ws m few e =
     let n : ℕ = 2 * length kinds in
     by_bool (are_entries ws n)
-    (λ k. subst (MatrixIsTold kinds ws) (some_inj (matrix_of kinds (word_at ws n)) m (sym (ap (λ b. if b then Some (matrix_of kinds (word_at ws n)) else None) k) ∙ e)) (table_exact kinds ws few (entries-true ws n k)))
+    (λ k. subst (MatrixIsTold kinds ws) (same_Some (matrix_of kinds (word_at ws n)) m (sym (ap (λ b. if b then Some (matrix_of kinds (word_at ws n)) else None) k) ∙ e)) (table_exact kinds ws few (entries-true ws n k)))
     (λ k. let i : None ≡ Some m = sym (ap (λ b. if b then Some (matrix_of kinds (word_at ws n)) else None) k) ∙ e in absurd cc)
 
 empty_exact : (ls : List Layout) (ws : List (Option ℤ)) (o : Option HalfMatrix) → empty_of ws ≡ Some o → IsTold ls (Some (pos 0) ∷ ws) (state_in o)
 unfolding fits
-empty_exact ls [] o e = subst (λ o. IsTold ls (Some (pos 0) ∷ []) (state_in o)) (some_inj None o e) (refl, refl)
+empty_exact ls [] o e = subst (λ o. IsTold ls (Some (pos 0) ∷ []) (state_in o)) (same_Some None o e) (refl, refl)
 empty_exact ls (w ∷ ws) o e = absurd cc
 
 bounded_exact : (ls : List Layout) (ws : List (Option ℤ)) (o : Option HalfMatrix) → bounded_of (last_kinds ls) ws ≡ Some o → IsTold ls (Some (pos 1) ∷ ws) (state_in o)
@@ -111,7 +112,7 @@ bounded_exact (l ∷ ls) ws o e = by (matrix_with (kinds_of l.numbers) ws) refl 
     by None k e = absurd cc
     by (Some m) k e =
         let x = matrix_exact (kinds_of l.numbers) ws m (kinds_few l.numbers) k in
-        subst (λ o. IsTold (l ∷ ls) (Some (pos 1) ∷ ws) (state_in o)) (some_inj (Some m) o e) (true-fits_matrix l m x.0, ap (λ ws. Some (pos 1) ∷ ws) x.1)
+        subst (λ o. IsTold (l ∷ ls) (Some (pos 1) ∷ ws) (state_in o)) (same_Some (Some m) o e) (true-fits_matrix l m x.0, ap (λ ws. Some (pos 1) ∷ ws) x.1)
 
 kept_exact : (ls : List Layout) (ws : List (Option ℤ)) (o : Option HalfMatrix) → kept_of (last_kinds ls) ws ≡ Some o → IsTold ls ws (state_in o)
 kept_exact ls [] o e = absurd cc
@@ -130,7 +131,7 @@ told_exact ls ws s e = by (kept_of (last_kinds ls) ws) refl e
   where
     by : (found : Option (Option HalfMatrix)) → kept_of (last_kinds ls) ws ≡ found → option_map state_in found ≡ Some s → IsTold ls ws s
     by None k e = absurd cc
-    by (Some o) k e = subst (IsTold ls ws) (some_inj (state_in o) s e) (kept_exact ls ws o k)
+    by (Some o) k e = subst (IsTold ls ws) (same_Some (state_in o) s e) (kept_exact ls ws o k)
 
 pub octagon_words_are : AreWords octagons told state_of
 octagon_words_are = record { some = told_some; small = λ ls s f h. told_small ls s f; back = λ ls s f h. told_back ls s f; exact = told_exact }

@@ -1,12 +1,13 @@
 -- A ticket less.
 use Rattle.std.proofs.Common.{◌≡◌, ◌≢◌, ℕ, zero, suc, ◌+◌, ◌≤◌, List, [], ◌∷◌, ◌++◌, map, length, take, drop, Option, Some, None, if◌then◌else◌, slice_get, refl, sym, ap, subst, ◌∙◌, arith}
 use Rattle.std.specs.Prelude.{MatchOption}
-use Rattle.plain_values.proofs.Cases.{by_test, some_inj}
+use Rattle.plain_values.proofs.Cases.{by_test}
 use Rattle.imp_slots.specs.Fits.{Absent, Distinct}
 use Rattle.session_machine.specs.Machine.{ticket_of, without_ticket}
 use Rattle.open_tickets.specs.declared.tickets.Open.{Open}
 use Rattle.open_tickets.specs.declared.tickets.Tickets.{Tickets}
 use Rattle.open_tickets.specs.Tickets.{number, ticket, AreBelow, tickets, AreOpen, IsAt, IsPlaced}
+use Rattle.std.proofs.lemmas.Option.{same_Some}
 
 module _ {G : Type 0} where
   abbrev Without : ℕ → List (Open G) → List (Open G)
@@ -53,13 +54,13 @@ module _ {G : Type 0} where
 
   absent_at : (n k : ℕ) (os : List (Open G)) (o : Open G) → Absent n (map number os) → slice_get os k ≡ Some o → o.number ≢ n
   absent_at n k [] o a e = absurd cc
-  absent_at n zero (x ∷ xs) o a e = λ h. a.0 (sym h ∙ ap (λ (y : Open G). y.number) (sym (some_inj x o e)))
+  absent_at n zero (x ∷ xs) o a e = λ h. a.0 (sym h ∙ ap (λ (y : Open G). y.number) (sym (same_Some x o e)))
   absent_at n (suc k) (x ∷ xs) o a e = absent_at n k xs o a.1 e
 
   pub without_is : (n k : ℕ) (os : List (Open G)) (o : Open G) → Distinct (map number os) → slice_get os k ≡ Some o → o.number ≡ n → map ticket (take k os ++ drop (suc k) os) ≡ without_ticket n (map ticket os)
   without_is n k [] o d e h = absurd cc
   without_is n zero (x ∷ xs) o d e h =
-      let q : x.number ≡ n = ap (λ (y : Open G). y.number) (some_inj x o e) ∙ h in
+      let q : x.number ≡ n = ap (λ (y : Open G). y.number) (same_Some x o e) ∙ h in
       by_test x.number n (λ b. map ticket xs ≡ (if b then without_ticket n (map ticket xs) else ticket x ∷ without_ticket n (map ticket xs))) (λ i. sym (without_absent n xs (subst (λ m. Absent m (map number xs)) q d.0))) (λ i. absurd (i q))
   without_is n (suc k) (x ∷ xs) o d e h =
       by_test x.number n (λ b. ticket x ∷ map ticket (take k xs ++ drop (suc k) xs) ≡ (if b then without_ticket n (map ticket xs) else ticket x ∷ without_ticket n (map ticket xs)))

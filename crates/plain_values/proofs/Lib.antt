@@ -1,3 +1,4 @@
 pub mod Cases
 pub mod Members
 pub mod Lists
+pub mod Joined

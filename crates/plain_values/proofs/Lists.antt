@@ -1,5 +1,6 @@
 -- Places in lists.
-use Rattle.std.proofs.Common.{ℕ, zero, suc, ◌≡◌, ◌≢◌, ◌+◌, ◌<◌, List, [], ◌∷◌, ◌++◌, length, take, drop, get_or, slice_get, Some, arith, refl, sym, ap, add-one, drop-cons}
+use Rattle.std.proofs.Common.{ℕ, zero, suc, ◌≡◌, ◌≢◌, ◌+◌, ◌<◌, List, [], ◌∷◌, ◌++◌, length, take, drop, get_or, slice_get, Some, arith, refl, sym, ap, add-one, drop-cons, None, map, reverse, ◌≤◌}
+use Rattle.std.proofs.lemmas.List.{drop_all, reverse-reverse}
 
 pub drop_item : {A : Type 0} (xs : List A) (i : ℕ) (x : A) → i < length xs → x ≡ get_or xs i x → drop i xs ≡ x ∷ drop (i + 1) xs
 drop_item xs i x h e = rw (drop-cons xs i x, add-one, ← e) refl
@@ -34,3 +35,21 @@ take_take xs zero q x e = absurd cc
 take_take [] (suc k) q x e = absurd cc
 take_take (y ∷ ys) (suc k) zero x e = refl
 take_take (y ∷ ys) (suc k) (suc q) x e = ap (λ zs. y ∷ zs) (take_take ys k q x e)
+
+-- a place is either inside or past the end
+pub get_some : {A : Type 0} (xs : List A) (n : ℕ) → n < length xs → (x : A) × (slice_get xs n ≡ Some x)
+get_some [] n h = absurd (omega arith)
+get_some (x ∷ xs) zero h = (x, refl)
+get_some (x ∷ xs) (suc n) h = get_some xs n (omega arith)
+
+pub none_past : {A : Type 0} (xs : List A) (q : ℕ) → slice_get xs q ≡ None → length xs ≤ q
+none_past [] q e = omega arith
+none_past (x ∷ xs) zero e = absurd cc
+none_past (x ∷ xs) (suc q) e = omega (arith, none_past xs q e)
+
+pub drop_none : {A : Type 0} (xs : List A) (i : ℕ) → length xs ≤ i → drop i xs ≡ []
+drop_none xs i h = drop_all i xs h
+
+pub all_back : (zs : List (List ℕ)) → map reverse (map reverse zs) ≡ zs
+all_back [] = refl
+all_back (z ∷ zs) = λ i. reverse-reverse z i ∷ all_back zs i

@@ -1,5 +1,5 @@
 -- Members of lists, what holds of each, and the keys of entries.
-use Rattle.std.specs.Prelude.{ℕ, ◌≡◌, ◌⊎◌, List, [], ◌∷◌, ◌++◌}
+use Rattle.std.specs.Prelude.{ℕ, ◌≡◌, ◌⊎◌, List, [], ◌∷◌, ◌++◌, map}
 use Rattle.std.proofs.Common.{refl, ap, inl, inr}
 
 pub data Member {A : Type 0} : A → List A → Type 0 where
@@ -53,3 +53,8 @@ pub key_member : {A : Type 0} (x : ℕ × A) (xs : List (ℕ × A)) → Member x
 key_member x [] m = elim m [ ]
 key_member x (y ∷ xs) here = here
 key_member x (y ∷ xs) (there m) = there (key_member x xs m)
+
+pub in_map : {A B : Type 0} (f : A → B) (x : A) (xs : List A) → Member x xs → Member (f x) (map f xs)
+in_map f x [] m = elim m [ ]
+in_map f x (y ∷ xs) here = here
+in_map f x (y ∷ xs) (there m) = there (in_map f x xs m)

@@ -15,6 +15,7 @@ use Rattle.imp_print.specs.Expressions.{operator_rank, expression_rank, conditio
 use Rattle.print_round_trip.proofs.Tokens.{grouped, expression_tokens, side_tokens, condition_tokens}
 use Rattle.print_round_trip.proofs.SpelledExpressions.{opens, opens_side, IsUngrouped}
 use Rattle.print_round_trip.proofs.Weights.{IsCounted, Weighs, empty, plain, counted, weighs_both, number_plain, name_plain, len_plain, null_plain, close_plain, open_counted, not_counted, and_counted, or_counted, operator_counted, relation_counted}
+use Rattle.plain_values.proofs.Cases.{or_second}
 
 -- ---- the operators of what is printed
 
@@ -145,10 +146,6 @@ enclosing_one : (v : Bool) (n : ℕ) → enclosing v n ≤ suc n
 enclosing_one true n = omega arith
 enclosing_one false n = omega arith
 
-either_false : (u v : Bool) → (u || v) ≡ false → v ≡ false
-either_false true v e = absurd cc
-either_false false v e = e
-
 factor_more : (e : Expression) → operators_of 2 e ≤ operators_of 3 e
 factor_more (Literal n) = omega arith
 factor_more (Variable x) = omega arith
@@ -201,7 +198,7 @@ mutual
         number = front.number + back.number;
         weighs = weighs_both front.weighs back.weighs;
         enough = omega (arith, front.enough, back.enough, enclosing_more (nat_lt (expression_rank a) 2) (operators a));
-        begins = λ q. back.begins (either_false (nat_lt (expression_rank a) 2) (opens a) (front.begins (begins_before v x q)));
+        begins = λ q. back.begins (or_second (nat_lt (expression_rank a) 2) (opens a) (front.begins (begins_before v x q)));
       }
 
   sum_holds : (a : Expression) (w : List Kind) (e : Expression) → IsSum a w e → HoldsBehind w (operators a) (operators e) (opens a) (opens e)

@@ -89,7 +89,7 @@ places_are_found program c p r e =
     }
 
 -- A procedure's callers stand behind it.
-callee_before : (before : List Routine) (l : Layout) (i : Invoke) (q : ℕ) (o : Option Routine) → slice_get before q ≡ o → FitsCall l i o → q < length before
+pub callee_before : (before : List Routine) (l : Layout) (i : Invoke) (q : ℕ) (o : Option Routine) → slice_get before q ≡ o → FitsCall l i o → q < length before
 callee_before before l i q None e f = absurd f
 callee_before before l i q (Some c) e f = slice_get_within before q c e
 
@@ -150,3 +150,8 @@ module _ (program : List Routine) (checked : IsChecked program) where
 
 pub chains_through_callers : ChainsAreThroughCallers
 chains_through_callers program checked p h = go_through program checked (length program) p refl h
+
+-- a number that is not among them
+pub lacks : (n : ℕ) (ns : List ℕ) → has n ns ≡ false → Absent n ns
+lacks n [] h = tt
+lacks n (m ∷ ns) h = (by_test n m (λ b. (if b then true else has n ns) ≡ false → Absent n (m ∷ ns)) (λ e h. absurd cc) (λ e h. (e, lacks n ns h))) h

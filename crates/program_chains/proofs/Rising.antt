@@ -108,7 +108,7 @@ behind x z (y ∷ ys) w h r k = go (int_lt z y) (int_lt y z) k
     go false true k = (r.0, r.1, k)
     go false false k = (r.0, r.1, k)
 
-rest_rises : (x : ℤ) (xs : List ℤ) → IsRising (x ∷ xs) → IsRising xs
+pub rest_rises : (x : ℤ) (xs : List ℤ) → IsRising (x ∷ xs) → IsRising xs
 rest_rises x [] r = tt
 rest_rises x (y ∷ ys) r = r.2
 

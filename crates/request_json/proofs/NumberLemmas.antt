@@ -1,5 +1,5 @@
 -- When digits are a number.
-use Rattle.std.proofs.Common.{◌≡◌, ℕ, ◌+◌, ◌-◌, ◌*◌, ◌<◌, ◌≤◌, ◌^◌, ◌&&◌, ◌⊎◌, nat_le, nat_lt, List, [], ◌∷◌, length, drop, slice_index_or, Bool, true, false, Some, None, if◌then◌else◌, inl, inr, add-one, sym, ◌∙◌, ap, refl, arith}
+use Rattle.std.proofs.Common.{◌≡◌, ℕ, ◌+◌, ◌-◌, ◌*◌, ◌<◌, ◌≤◌, ◌^◌, ◌&&◌, ◌⊎◌, nat_le, nat_lt, List, [], length, drop, slice_index_or, Bool, true, false, Some, None, if◌then◌else◌, inl, inr, add-one, sym, ◌∙◌, ap, refl, arith}
 use Rattle.std.proofs.Math.Seq.{drop-cons}
 use Rattle.std.proofs.lemmas.List.{drop_all}
 use Rattle.std.proofs.lemmas.Bool.Decides.{nat_tests}
@@ -7,6 +7,7 @@ use Rattle.std.specs.List.{list_all}
 use Rattle.imp_lex.specs.Front.{is_digit}
 use Rattle.imp_lex.specs.Numbers.{value_on}
 use Rattle.request_json.specs.Places.{number_of}
+use Rattle.imp_lex.proofs.Digits.{value_grows}
 
 no_third : (a b d : Bool) (n : ℕ) → (if a && b && false && d then Some n else None) ≡ None
 no_third a b d n = elim a as (λ a. (if a && b && false && d then Some n else None) ≡ None)
@@ -35,13 +36,6 @@ unfolding number_of
 too_large digits large =
     let bad : nat_lt (value_on 0 digits) (2 ^ 32) ≡ false = grind (arith, nat_tests) in
     rw bad (no_fourth (nat_le 1 (length digits) && nat_le (length digits) 10 && list_all is_digit digits) (value_on 0 digits))
-
--- what is written so far is no more than the whole
-value_grows : (so_far : ℕ) (digits : List ℕ) → so_far ≤ value_on so_far digits
-value_grows so_far [] = omega arith
-value_grows so_far (digit ∷ digits) =
-    let more : so_far * 10 + (digit - 48) ≤ value_on (so_far * 10 + (digit - 48)) digits = value_grows (so_far * 10 + (digit - 48)) digits in
-    omega arith
 
 -- the digits from a place on: the first, and those behind it
 value_at : (digits : List ℕ) (i value : ℕ) → i < length digits →

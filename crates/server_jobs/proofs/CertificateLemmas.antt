@@ -1,7 +1,6 @@
 -- From the line that is written where a certificate is checked to what a yes says.
 use Rattle.std.proofs.Common.{◌≡◌, ◌∙◌, ℕ, nat_le, ◌++◌, List, [], length, Bool, true, false, Option, Some, None, if◌then◌else◌, ap, sym, refl, arith}
 use Rattle.std.proofs.lemmas.List.{append_cancel_left}
-use Rattle.plain_values.proofs.Cases.{some_inj}
 use Rattle.imp_syntax.specs.Plain.{Procedure}
 use Rattle.imp_slots.specs.Fits.{IsChecked}
 use Rattle.imp_check.specs.Slots.{routines_of}
@@ -17,6 +16,7 @@ use Rattle.server_jobs.specs.Ends.{WroteAll}
 use Rattle.server_jobs.specs.Output.{Output, certified, done, of_file, program_output, verify_bytes, most_certificate, IsProgram}
 use Rattle.server_jobs.specs.Sound.{AreRunsCovered}
 use Rattle.server_jobs.proofs.OutputLemmas.{of_program}
+use Rattle.std.proofs.lemmas.Option.{same_Some}
 
 -- a file that is there, where what it gives succeeds
 if_gives : (text : List ℕ) (give : List ℕ → Output) (test : Bool) → (if test then give text else record { status = 9; bytes = [] }).status ≡ 0 →
@@ -26,7 +26,7 @@ if_gives text give false is = absurd (omega (arith, is))
 
 file_gives : (most : ℕ) (file : Option (List ℕ)) (text : List ℕ) (give : List ℕ → Output) → file ≡ Some text → (of_file most file give).status ≡ 0 → of_file most file give ≡ give text
 file_gives most (Some bytes) text give there is =
-    let same : bytes ≡ text = some_inj bytes text there in
+    let same : bytes ≡ text = same_Some bytes text there in
     if_gives bytes give (nat_le (length bytes) most) is ∙ ap give same
 file_gives most None text give there is = absurd (omega (arith, is))
 
@@ -50,7 +50,7 @@ pub yes_covers : (readings : Readings) (domain : SingleDomain) (folder : List �
     written ≡ Some (taken ++ verified_line Yes) → AreRunsCovered domain program text
 yes_covers readings domain folder file cert text taken program written sound checked accepted there wrote is =
     let line = checked_line readings domain folder file cert text program accepted there wrote.same in
-    let same : taken ++ verify_bytes domain program text ≡ taken ++ verified_line Yes = some_inj _ _ (ap (λ xs. Some (taken ++ xs)) (sym line) ∙ sym wrote.all ∙ is) in
+    let same : taken ++ verify_bytes domain program text ≡ taken ++ verified_line Yes = same_Some _ _ (ap (λ xs. Some (taken ++ xs)) (sym line) ∙ sym wrote.all ∙ is) in
     let found = yes_found domain program text (append_cancel_left taken (verify_bytes domain program text) (verified_line Yes) same) in
     λ n c reach. sound (routines_of program) text n c checked found reach
 

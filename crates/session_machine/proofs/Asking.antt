@@ -1,6 +1,5 @@
 -- What questions and reports fill are cells of the program.
 use Rattle.std.proofs.Common.{◌≡◌, ℕ, true, List, [], ◌∷◌, ◌++◌, map, take, Option, Some, None, refl, sym, subst, ◌∙◌, inl, inr}
-use Rattle.plain_values.proofs.Cases.{or_either}
 use Rattle.imp_syntax.specs.declared.edit.Location.{Location}
 use Rattle.imp_syntax.specs.declared.edit.Location.TheVariants.{Before}
 use Rattle.imp_slots.specs.Fits.{IsChecked}
@@ -27,12 +26,13 @@ use Rattle.named_cells.specs.Same.{same_name}
 use Rattle.named_cells.proofs.Same.{same_is}
 use Rattle.session_machine.specs.Claims.{AreKept}
 use Rattle.session_machine.proofs.Filling.{fill_keeps}
+use Rattle.std.proofs.lemmas.Bool.{or_cases}
 
 -- a member of all demands is one of some demand
 member_all : {A : Type 0} (g : A → List CellName) (cs : List A) (y : CellName) → member same_name (all_demanded (map g cs)) y ≡ true → (c : A) × (member same_name (g c) y ≡ true)
 member_all g [] y m = absurd cc
 member_all g (c ∷ cs) y m =
-    elim (or_either (member same_name (g c) y) (member same_name (all_demanded (map g cs)) y) (sym (member-append same_name (g c) (all_demanded (map g cs)) y) ∙ m)) [
+    elim (or_cases (member same_name (g c) y) (member same_name (all_demanded (map g cs)) y) (sym (member-append same_name (g c) (all_demanded (map g cs)) y) ∙ m)) [
       | inl h ↦ (c, h)
       | inr h ↦ member_all g cs y h
     ]

@@ -1,8 +1,7 @@
 -- Filling what is missing keeps cells.
 use Rattle.std.proofs.Common.{◌≡◌, ℕ, Bool, true, false, List, [], ◌++◌, take, filter, sym, subst, ◌∙◌, inl, inr}
 use Rattle.std.specs.Prelude.{not}
-use Rattle.std.proofs.lemmas.Bool.{or_right, false_from_ne_true}
-use Rattle.plain_values.proofs.Cases.{or_either}
+use Rattle.std.proofs.lemmas.Bool.{or_right, false_from_ne_true, or_cases}
 use Rattle.imp_slots.specs.Fits.{IsChecked}
 use Rattle.imp_slots.specs.Plain.{Routine}
 use Rattle.domain_laws.specs.Operations.{Operations}
@@ -44,7 +43,7 @@ module _ {S : Type 0} (dom : Operations S) (engine : Engine) (program : List Rou
 
     named : (x : CellName) → member same_name (kept ++ take n xs) x ≡ true → HasName engine program x
     named x m =
-        elim (or_either (k x) (member same_name (take n xs) x) (sym (seen_is x) ∙ m)) [
+        elim (or_cases (k x) (member same_name (take n xs) x) (sym (seen_is x) ∙ m)) [
           | inl h ↦ are.cells.named x h
           | inr h ↦ elim ((kept_or_needed s acyclic k are.cells.closed names x).0 (or_right (k x) (member same_name xs x) (take_member same_name n xs x h))) [
             | inl j ↦ are.cells.named x j

@@ -1,7 +1,6 @@
 -- Lists of names, each once.
 use Rattle.std.proofs.Common.{◌≡◌, ℕ, zero, suc, Bool, true, false, ◌||◌, ◌⊎◌, List, [], ◌∷◌, ◌++◌, take, filter, if◌then◌else◌, refl, sym, subst, inl, inr}
-use Rattle.std.proofs.lemmas.Bool.{or_left, or_right, false_from_ne_true}
-use Rattle.plain_values.proofs.Cases.{or_either}
+use Rattle.std.proofs.lemmas.Bool.{or_left, or_right, false_from_ne_true, or_cases}
 use Rattle.demand_order.specs.Order.{member}
 use Rattle.demand_order.specs.OrderLaws.{IsDistinct}
 
@@ -11,7 +10,7 @@ module _ {T : Type 0} (same : T → T → Bool) where
   take_member zero xs x m = absurd cc
   take_member (suc n) [] x m = absurd cc
   take_member (suc n) (y ∷ ys) x m =
-      elim (or_either (same x y) (member same (take n ys) x) m) [
+      elim (or_cases (same x y) (member same (take n ys) x) m) [
         | inl e ↦ or_left (same x y) (member same ys x) e
         | inr k ↦ or_right (same x y) (member same ys x) (take_member n ys x k)
       ]
@@ -31,7 +30,7 @@ module _ {T : Type 0} (same : T → T → Bool) where
     where
       go : (member same (filter f ys) x ≡ true → member same ys x ≡ true) → (b : Bool) → f y ≡ b → member same (if b then y ∷ filter f ys else filter f ys) x ≡ true → (same x y || member same ys x) ≡ true
       go rest true e k =
-          elim (or_either (same x y) (member same (filter f ys) x) k) [
+          elim (or_cases (same x y) (member same (filter f ys) x) k) [
             | inl h ↦ or_left (same x y) (member same ys x) h
             | inr h ↦ or_right (same x y) (member same ys x) (rest h)
           ]
@@ -43,7 +42,7 @@ module _ {T : Type 0} (same : T → T → Bool) where
     where
       go : (member same (filter f ys) x ≡ true → f x ≡ true) → (b : Bool) → f y ≡ b → member same (if b then y ∷ filter f ys else filter f ys) x ≡ true → f x ≡ true
       go rest true e k =
-          elim (or_either (same x y) (member same (filter f ys) x) k) [
+          elim (or_cases (same x y) (member same (filter f ys) x) k) [
             | inl h ↦ subst (λ z. f z ≡ true) (sym (is x y h)) e
             | inr h ↦ rest h
           ]
@@ -51,7 +50,7 @@ module _ {T : Type 0} (same : T → T → Bool) where
 
   pub filter_there : ((x y : T) → same x y ≡ true → x ≡ y) → (f : T → Bool) (xs : List T) (x : T) → member same xs x ≡ true → f x ≡ true → member same (filter f xs) x ≡ true
   filter_there is f [] x m h = absurd cc
-  filter_there is f (y ∷ ys) x m h = go (λ k. filter_there is f ys x k h) (f y) refl (or_either (same x y) (member same ys x) m)
+  filter_there is f (y ∷ ys) x m h = go (λ k. filter_there is f ys x k h) (f y) refl (or_cases (same x y) (member same ys x) m)
     where
       go : (member same ys x ≡ true → member same (filter f ys) x ≡ true) → (b : Bool) → f y ≡ b → (same x y ≡ true) ⊎ (member same ys x ≡ true) → member same (if b then y ∷ filter f ys else filter f ys) x ≡ true
       go rest true e (inl k) = or_left (same x y) (member same (filter f ys) x) k
@@ -70,7 +69,7 @@ module _ {T : Type 0} (same : T → T → Bool) where
   -- two lists with no item in common
   either : (xs ys : List T) (x : T) → member same xs x ≡ false → member same ys x ≡ false → member same (xs ++ ys) x ≡ false
   either [] ys x h k = k
-  either (z ∷ zs) ys x h k = false_from_ne_true (same x z || member same (zs ++ ys) x) (λ m. elim (or_either (same x z) (member same (zs ++ ys) x) m) [
+  either (z ∷ zs) ys x h k = false_from_ne_true (same x z || member same (zs ++ ys) x) (λ m. elim (or_cases (same x z) (member same (zs ++ ys) x) m) [
     | inl e ↦ let q = or_left (same x z) (member same zs x) e in cc
     | inr n ↦ let r : member same zs x ≡ false = false_from_ne_true (member same zs x) (λ j. let q = or_right (same x z) (member same zs x) j in cc) in let q = either zs ys x r k in cc
   ])

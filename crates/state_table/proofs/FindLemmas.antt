@@ -3,8 +3,9 @@ use Rattle.std.proofs.Common.{◌≡◌, ℕ, zero, suc, ◌+◌, Bool, true, co
 use Rattle.std.specs.Cmp.{IsEquivalence}
 use Rattle.std.specs.List.{position_from}
 use Rattle.std.proofs.lemmas.Iterator.Adapters.{position_from-zero}
-use Rattle.plain_values.proofs.Cases.{by_bool, some_inj}
+use Rattle.plain_values.proofs.Cases.{by_bool}
 use Rattle.state_table.specs.Numbers.{AreOnce, TellsApart}
+use Rattle.std.proofs.lemmas.Option.{same_Some}
 
 -- a place of a list whose element passes, counted from i
 abbrev pub PassesAt : {T : Type 0} → (T → Bool) → ℕ → List T → ℕ → Type 0
@@ -15,7 +16,7 @@ from_passes test i [] n e = cc
 from_passes test i (x ∷ xs) n e =
     by_bool (test x)
     (λ t. let h : Some i ≡ Some n = ap (λ b. cond b (Some i) (position_from test (i + 1) xs)) (sym t) ∙ e in
-    let k : i ≡ n = some_inj i n h in
+    let k : i ≡ n = same_Some i n h in
     (0, omega (arith, k), x, refl, t))
     (λ f. let h : position_from test (i + 1) xs ≡ Some n = ap (λ b. cond b (Some i) (position_from test (i + 1) xs)) (sym f) ∙ e in
     let r : PassesAt test (i + 1) xs n = from_passes test (i + 1) xs n h in
@@ -24,7 +25,7 @@ from_passes test i (x ∷ xs) n e =
 passes_from : {T : Type 0} (test : T → Bool) (i : ℕ) (xs : List T) (k : ℕ) (s : T) → slice_get xs k ≡ Some s → test s ≡ true → (n : ℕ) × (position_from test i xs ≡ Some n)
 passes_from test i [] k s e h = cc
 passes_from test i (x ∷ xs) zero s e h =
-    let is : x ≡ s = some_inj x s e in
+    let is : x ≡ s = same_Some x s e in
     let t : test x ≡ true = ap test is ∙ h in
     (i, ap (λ b. cond b (Some i) (position_from test (i + 1) xs)) t)
 passes_from test i (x ∷ xs) (suc k) s e h =

@@ -1,11 +1,11 @@
 -- Cells that are gathered along inputs.
-use Rattle.std.proofs.Common.{◌≡◌, ◌⊎◌, ℕ, zero, suc, ◌<◌, ◌≤◌, ◌+◌, ◌-◌, List, [], ◌∷◌, ◌++◌, take, length, get_or, Option, Some, None, IsSome, slice_get, Bool, true, false, if◌then◌else◌, nat_eq, nat_lt, refl, sym, ap, subst, ◌∙◌, inl, inr, arith}
+use Rattle.std.proofs.Common.{◌≡◌, ◌⊎◌, ℕ, ◌<◌, ◌≤◌, ◌+◌, ◌-◌, List, [], ◌∷◌, ◌++◌, take, length, get_or, Option, Some, None, IsSome, slice_get, Bool, true, false, if◌then◌else◌, nat_eq, nat_lt, refl, sym, ap, subst, ◌∙◌, inl, inr, arith}
 use Rattle.std.specs.List.{list_any}
 use Rattle.std.specs.FinMap.{get, len}
-use Rattle.std.proofs.lemmas.Option.{slice_get-get_or, slice_get_within}
+use Rattle.std.proofs.lemmas.Option.{slice_get-get_or, slice_get_within, same_Some}
 use Rattle.indexmap.specs.IndexSet.{insert_key}
 use Rattle.std.proofs.lemmas.Bool.Decides.{nat_tests}
-use Rattle.plain_values.proofs.Cases.{by_bool, some_inj}
+use Rattle.plain_values.proofs.Cases.{by_bool}
 use Rattle.plain_values.proofs.Lists.{take_item}
 use Rattle.daig_graph.specs.Cells.{AreCells, Filled}
 use Rattle.daig_graph.specs.Held.{IsIn, IsOnce}
@@ -13,6 +13,7 @@ use Rattle.cell_removal.specs.Removal.{Cells}
 use Rattle.cell_removal.proofs.Ins.{in_none, in_any, not_any, in_left, in_last, in_pushed, get_left, get_pushed}
 use Rattle.cell_removal.proofs.Pigeons.{differ_once, no_more_than}
 use Rattle.why_cells.specs.Reached.{Reached, seed, input, AreReached, Joins}
+use Rattle.why_slice.proofs.Putting.{same_get}
 
 -- what an insertion makes of a list
 data Inserted (old : List ℕ) (n : ℕ) (new : List ℕ) : Type 0 where
@@ -82,11 +83,6 @@ adding_next first more now new i n l at h e = go (inserted now n new e)
       };
     }
 
-same_get : (ns : List ℕ) (i d : ℕ) → i < length ns → get_or ns i d ≡ get_or ns i (get_or ns i d)
-same_get [] i d h = absurd (omega arith)
-same_get (n ∷ ns) zero d h = refl
-same_get (n ∷ ns) (suc i) d h = same_get ns i d (omega arith)
-
 pub adding_at : (first more now new : List ℕ) (i d : ℕ) → i < length more → Adding first more i now → new ≡ insert_key nat_eq now (get_or more i d) → Adding first more (i + 1) new
 adding_at first more now new i d l h e = adding_next first more now new i (get_or more i d) l (same_get more i d l) h e
 
@@ -148,7 +144,7 @@ gathers_next cells seeds out new inputs next m f g at is same there once j = rec
           where
             beyond : (xs : List ℕ) (i : ℕ) → i < length xs → slice_get xs i ≡ None → ⊥
             beyond xs i l e = let s = slice_get-get_or xs i 0 l in let q = sym e ∙ s in cc
-        go (Some c) e = e ∙ ap Some (some_inj c a (sym (j.keeps i c e) ∙ b))
+        go (Some c) e = e ∙ ap Some (same_Some c a (sym (j.keeps i c e) ∙ b))
 
     done_of : (i a n : ℕ) (h : Filled _) → i < next + 1 → slice_get new i ≡ Some a → get cells a ≡ Some h → IsIn h.inputs n → (IsIn out a → IsSome (get cells a)) → IsIn new n
     done_of i a n h l b c k t =
@@ -157,8 +153,8 @@ gathers_next cells seeds out new inputs next m f g at is same there once j = rec
         last_or i next (omega arith)
         (λ q. on n (g.done i a n h q o c k))
         (λ q.
-        let same_cell : m ≡ a = some_inj m a (sym at ∙ ap (slice_get out) (sym q) ∙ o) in
-        let same_filled : f ≡ h = some_inj f h (sym is ∙ ap (get cells) same_cell ∙ c) in
+        let same_cell : m ≡ a = same_Some m a (sym at ∙ ap (slice_get out) (sym q) ∙ o) in
+        let same_filled : f ≡ h = same_Some f h (sym is ∙ ap (get cells) same_cell ∙ c) in
         j.each n (subst (λ xs. IsIn xs n) same (subst (λ (z : Filled _). IsIn z.inputs n) (sym same_filled) k)))
       where
         last_or : {P : Type 0} (i n : ℕ) → i ≤ n → (i < n → P) → (i ≡ n → P) → P

@@ -1,9 +1,8 @@
 -- What cells tell of the statements that their names hang on.
 use Rattle.std.proofs.Common.{◌≡◌, ℕ, ◌≤◌, ◌+◌, List, [], ◌∷◌, ◌++◌, take, length, reverse, Option, Some, None, IsSome, Bool, true, false, not, if◌then◌else◌, slice_get, refl, sym, ap, subst, ◌∙◌, append_assoc, append-nil, arith}
 use Rattle.std.specs.FinMap.{get}
-use Rattle.std.proofs.lemmas.Option.{slice_get-get_or, slice_get_within}
+use Rattle.std.proofs.lemmas.Option.{slice_get-get_or, slice_get_within, same_Some}
 use Rattle.imp_slots.specs.Plain.{Effect, DoBreak, Does}
-use Rattle.plain_values.proofs.Cases.{some_inj}
 use Rattle.plain_values.proofs.Lists.{take_item}
 use Rattle.domain_laws.specs.Operations.{Operations}
 use Rattle.batch_meaning.specs.Values as plain
@@ -36,7 +35,7 @@ listed_none (Some n) now new f e = absurd (f n refl)
 
 module _ {S : Type 0} (dom : Operations S) where
   pub live_some : (v : plain.Value S) (s : S) → state_of v ≡ Some s → is_live dom v ≡ not (dom.dead s)
-  live_some (plain.State t) s e = ap (λ s. not (dom.dead s)) (some_inj t s e)
+  live_some (plain.State t) s e = ap (λ s. not (dom.dead s)) (same_Some t s e)
   live_some (plain.Over n z) s e = absurd cc
 
   pub live_none : (v : plain.Value S) → state_of v ≡ None → is_live dom v ≡ false
@@ -82,7 +81,7 @@ module _ {S : Type 0} (dom : Operations S) where
         let i = inputs_are x e.1 e.0 (row ∙ ap Some e.2) in
         let are : AreNumbers store.names.names c.cell.inputs (e.1 ∷ []) = subst (AreNumbers store.names.names c.cell.inputs) i (stored dom plan store right cell x c.cell c.named c.there).inputs in
         let p = numbers_of store.names.names c.cell.inputs (e.1 ∷ []) are 0 e.1 refl in
-        let same : p.0 ≡ n = some_inj p.0 n (sym p.1 ∙ first) in
+        let same : p.0 ≡ n = same_Some p.0 n (sym p.1 ∙ first) in
         let f = is_there dom plan store right n there in
         let named : slice_get store.names.names n ≡ Some e.1 = subst (λ m. slice_get store.names.names m ≡ Some e.1) same p.2 in (
           (found dom plan e.1).value,
@@ -114,7 +113,7 @@ module _ {S : Type 0} (dom : Operations S) where
         ((z : CellName) → IsCellAt store n z → flat_row plan.engine (reverse plan.program) z.path z.point ≡ Some (r z.path) → b ≡ matters dom (found dom plan) (r z.path)) → o ≡ pointed y.path y.point →
         listed (if b then o else None) ≡ hung_on dom plan.engine plan.program same_name x (flat_row plan.engine (reverse plan.program) x.path x.point)
     hung_by n x y r b o s at named row told e =
-        let same : y ≡ x = some_inj y x (sym named ∙ at) in
+        let same : y ≡ x = same_Some y x (sym named ∙ at) in
         let row_x = subst (λ (z : CellName). flat_row plan.engine (reverse plan.program) z.path z.point ≡ Some (r z.path)) same row in
         hung_here x (r x.path) b o (told x (named_cell n x at s) row_x) (e ∙ ap (λ (z : CellName). pointed z.path z.point) same)
         ∙ sym (ap (hung_on dom plan.engine plan.program same_name x) row_x)
@@ -138,7 +137,7 @@ module _ {S : Type 0} (dom : Operations S) where
     are = λ xs a.
         let p = numbers_get names cells xs a i n at in
         let l = slice_get_within xs i p.0 p.1 in
-        let t : take (i + 1) xs ≡ take i xs ++ p.0 ∷ [] = take_item xs i p.0 l (some_inj _ _ (sym p.1 ∙ slice_get-get_or xs i p.0 l)) in
+        let t : take (i + 1) xs ≡ take i xs ++ p.0 ∷ [] = take_item xs i p.0 l (same_Some _ _ (sym p.1 ∙ slice_get-get_or xs i p.0 l)) in
         e ∙ ap (λ ns. ns ++ listed o) (h.are xs a)
         ∙ ap (λ ns. all_hung dom plan.engine plan.program same_name (take i xs) ++ ns) (told p.0 p.2 ∙ sym (append-nil _))
         ∙ sym (ap (all_hung dom plan.engine plan.program same_name) t ∙ all_hung_both plan (take i xs) (p.0 ∷ []));

@@ -3,7 +3,6 @@ use Rattle.std.proofs.Common.{◌≡◌, ◌↔◌, ℕ, List, [], ◌∷◌, �
 use Rattle.std.specs.FinMap.{get}
 use Rattle.std.proofs.lemmas.List.{reverse-append}
 use Rattle.imp_syntax.specs.declared.edit.Location.{Location}
-use Rattle.plain_values.proofs.Cases.{some_inj}
 use Rattle.plain_values.proofs.Members.{Member, here, there, in_left, in_right, either}
 use Rattle.program_chains.specs.Chains.{selected}
 use Rattle.domain_laws.specs.Operations.{Operations}
@@ -35,6 +34,7 @@ use Rattle.why_slice.specs.Upstream.{all_hung, all_of, listed, located, needed_b
 use Rattle.why_slice.proofs.Rising.{rising_same}
 use Rattle.why_slice.proofs.Told.{all_hung_only, all_hung_there, as_member, is_member, needs}
 use Rattle.why_cells.specs.Reached.{Reached, seed, input as leads, AllNamed, AreReached}
+use Rattle.std.proofs.lemmas.Option.{same_Some}
 
 -- nothing is left where nothing is asked for
 none_left : (w : law.Walk) → asks w ≡ None → w.left ≡ []
@@ -208,14 +208,14 @@ module _ {S : Type 0} (dom : Operations S) (plan : Plan) (ts : List Target) (sto
             let q = member_at xs x (as_member same_name same_is.same_refl xs x m) in
             let p = numbers_of store.names.names keys xs named q.0 x q.1 in
             let z = reached_needed p.0 ((reached p.0).0 (q.0, p.1)) in
-            subst Need (some_inj z.0 x (sym z.1 ∙ p.2)) z.2
+            subst Need (same_Some z.0 x (sym z.1 ∙ p.2)) z.2
 
         in_keys : (x : CellName) → Need x → Member x xs
         in_keys x k =
             let z = needed_reached x k in
             let m = (reached z.0).1 z.2 in
             let p = numbers_get store.names.names keys xs named m.0 z.0 m.1 in
-            is_member same_name same_is.same_true xs x (at_member xs m.0 x (p.1 ∙ ap Some (some_inj p.0 x (sym p.2 ∙ z.1))))
+            is_member same_name same_is.same_true xs x (at_member xs m.0 x (p.1 ∙ ap Some (same_Some p.0 x (sym p.2 ∙ z.1))))
 
         abbrev hung : List CellName → List ℕ
         hung = all_hung dom plan.engine plan.program same_name

@@ -1,8 +1,7 @@
 -- The cells of names and of the fixed points on their ways.
 use Rattle.std.proofs.Common.{◌≡◌, ℕ, zero, suc, ◌+◌, List, [], ◌∷◌, ◌++◌, map, take, Some, slice_get, refl, sym, ap, subst, ◌∙◌, append_assoc, append-nil}
 use Rattle.std.proofs.lemmas.List.{map-append}
-use Rattle.std.proofs.lemmas.Option.{slice_get-get_or, slice_get_within}
-use Rattle.plain_values.proofs.Cases.{some_inj}
+use Rattle.std.proofs.lemmas.Option.{slice_get-get_or, slice_get_within, same_Some}
 use Rattle.plain_values.proofs.Lists.{take_item}
 use Rattle.cell_names.specs.declared.frame.Frame.{Frame}
 use Rattle.cell_names.specs.declared.frame.Frame.TheVariants.{InCall, InLoop}
@@ -57,14 +56,14 @@ pub record Collects (names : List CellName) (found : List ℕ) (i : ℕ) (out : 
   pub are : (xs : List CellName) → AreNumbers names found xs → AllNamed names (with_fixes xs) → AreNumbers names out (with_fixes (take i xs))
 
 take_next : (xs : List CellName) (i : ℕ) (x : CellName) → slice_get xs i ≡ Some x → take (i + 1) xs ≡ take i xs ++ x ∷ []
-take_next xs i x e = take_item xs i x (slice_get_within xs i x e) (some_inj _ _ (sym e ∙ slice_get-get_or xs i x (slice_get_within xs i x e)))
+take_next xs i x e = take_item xs i x (slice_get_within xs i x e) (same_Some _ _ (sym e ∙ slice_get-get_or xs i x (slice_get_within xs i x e)))
 
 fixes_in : (xs : List CellName) (i : ℕ) (x y : CellName) → slice_get xs i ≡ Some x → IsIn (fixes x.path) y → IsIn (with_fixes xs) y
 fixes_in [] i x y e m = absurd cc
 fixes_in (z ∷ xs) i x y e m = go i e (λ j q. fixes_in xs j x y q m)
   where
     go : (i : ℕ) → slice_get (z ∷ xs) i ≡ Some x → ((j : ℕ) → slice_get xs j ≡ Some x → IsIn (with_fixes xs) y) → IsIn (with_fixes (z ∷ xs)) y
-    go zero e f = in_more y z (fixes z.path ++ with_fixes xs) (in_left y (fixes z.path) (with_fixes xs) (subst (λ (u : CellName). IsIn (fixes u.path) y) (sym (some_inj z x e)) m))
+    go zero e f = in_more y z (fixes z.path ++ with_fixes xs) (in_left y (fixes z.path) (with_fixes xs) (subst (λ (u : CellName). IsIn (fixes u.path) y) (sym (same_Some z x e)) m))
     go (suc j) e f = in_more y z (fixes z.path ++ with_fixes xs) (in_right y (fixes z.path) (with_fixes xs) (f j e))
 
 pub collects_next : (names : List CellName) (found now more new : List ℕ) (i n : ℕ) (x : CellName) → slice_get found i ≡ Some n → slice_get names n ≡ Some x → Collects names found i now → more ≡ now ++ n ∷ [] →
@@ -72,7 +71,7 @@ pub collects_next : (names : List CellName) (found now more new : List ℕ) (i n
 collects_next names found now more new i n x at named h e adds = record {
   are = λ xs a all.
       let p = numbers_get names found xs a i n at in
-      let same : p.0 ≡ x = some_inj _ _ (sym p.2 ∙ named) in
+      let same : p.0 ≡ x = same_Some _ _ (sym p.2 ∙ named) in
       let get : slice_get xs i ≡ Some x = p.1 ∙ ap Some same in
       let more_of = adds (λ y m. all y (fixes_in xs i x y get m)) in
       let one : AreNumbers names (n ∷ more_of.0) (x ∷ fixes x.path) = numbers_both names (n ∷ []) more_of.0 (x ∷ []) (fixes x.path) (ap (λ o. o ∷ []) named) more_of.2 in

@@ -1,14 +1,14 @@
 -- What an edit that replaces a simple statement makes of a program over slots.
 use Rattle.std.specs.Str.{bytes_eq}
-use Rattle.std.proofs.Common.{◌≡◌, ◌≢◌, ◌⊎◌, inl, inr, ℕ, zero, suc, List, [], ◌∷◌, ◌++◌, reverse, map, Option, true, false, cond, if◌then◌else◌, ◌==◌, slice_get, refl, sym, ap, ◌∙◌, subst}
+use Rattle.std.proofs.Common.{◌≡◌, ◌≢◌, ◌⊎◌, inl, inr, ℕ, zero, suc, List, [], ◌∷◌, ◌++◌, reverse, map, Option, true, cond, if◌then◌else◌, ◌==◌, slice_get, refl, sym, ap, ◌∙◌, subst}
 use Rattle.std.proofs.lemmas.List.{reverse-append}
 use Rattle.imp_syntax.specs.Plain.{Action, Operand, Statement, Statements, Procedure, number_of}
 use Rattle.imp_syntax.specs.Plain as tree
 use Rattle.imp_slots.specs.Plain.{Layout, Effect, Skip, Code, Stop, Simple, If, While, Call, Break, Routine, code_numbers}
 use Rattle.imp_slots.specs.Fits.{Absent, Distinct, routine_numbers}
-use Rattle.imp_slots.proofs.Distinct.{left_once, right_once}
+use Rattle.imp_slots.proofs.Distinct.{left_once, right_once, absent_left, absent_right}
 use Rattle.imp_check.specs.Names.{place_named}
-use Rattle.imp_check.specs.Slots.{Frame, layout_in, guard_in, effect_in, invoke_of, invoke_in, callee_in, statement_in, code_in, routine_of, routines_from, routines_of}
+use Rattle.imp_check.specs.Slots.{Resolver, layout_in, guard_in, effect_in, invoke_of, invoke_in, callee_in, statement_in, code_in, routine_of, routines_from, routines_of}
 use Rattle.edit_entries.specs.Holes.{append, with_body}
 use Rattle.imp_edit.specs.Changes.{in_statement, in_block, in_program, exchanged}
 use Rattle.program_chains.specs.Chains.{has}
@@ -18,12 +18,7 @@ use Rattle.plain_values.proofs.Cases.{by_bool, by_test}
 use Rattle.why_slice.specs.Exchanged.{OnlySimple, IsSimple}
 use Rattle.why_slice.proofs.Shifted.{shift_other, shift_it, pick, pick_other, pick_it, swap}
 use Rattle.why_slice.proofs.ShiftedRows.{swap_routine, swap_all, SameMarks}
-use Rattle.why_slice.proofs.ShiftedTargets.{absent_left, absent_right}
-
--- a number that is not found is absent, and one that is found in a list stands nowhere behind it
-lacks : (n : ℕ) (xs : List ℕ) → has n xs ≡ false → Absent n xs
-lacks n [] h = tt
-lacks n (x ∷ xs) h = (by_test n x (λ c. (if c then true else has n xs) ≡ false → Absent n (x ∷ xs)) (λ e h. absurd cc) (λ e h. (e, lacks n xs h))) h
+use Rattle.program_chains.proofs.Found.{lacks}
 
 once : (n : ℕ) (xs ys : List ℕ) → Distinct (xs ++ ys) → has n xs ≡ true → Absent n ys
 once n [] ys d h = absurd cc
@@ -75,10 +70,10 @@ module _ (s t : ℕ) (a : Action) where
   called_same l x vs (e ∷ es) (suc i) = called_same l x vs es i
 
   module _ (l : Layout) (es : List Procedure) where
-    abbrev F : Frame
+    abbrev F : Resolver
     F = record { layout = l; earlier = es }
 
-    abbrev F' : Frame
+    abbrev F' : Resolver
     F' = record { layout = l; earlier = edit es }
 
     abbrev e : Effect

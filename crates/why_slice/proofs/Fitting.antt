@@ -15,7 +15,7 @@ use Rattle.batch_sound.proofs.Values.{Fit, fit_assume, fit_enter}
 use Rattle.batch_sound.proofs.Fitting.{FitPassed, block_fit, procedure_fit, callee}
 use Rattle.cell_names.specs.declared.frame.Frame.{Frame}
 use Rattle.cell_names.specs.declared.frame.Frame.TheVariants.{InCall, InLoop}
-use Rattle.plain_values.proofs.Cases.{by_test, some_inj}
+use Rattle.plain_values.proofs.Cases.{by_test}
 use Rattle.plain_values.proofs.Members.{Each, each_more, each_both, none_there}
 use Rattle.cell_rows.specs.Blocks.{iterate_at}
 use Rattle.cell_rows.specs.Names.{Scope, Mark, At, Algebra, Place, entry, inside, behind_it, level, start_of, in_call, in_loop, round_place, follow}
@@ -23,6 +23,7 @@ use Rattle.cell_rows.specs.Cells.{Cell, values, calls, block, after_value, itera
 use Rattle.cell_rows.proofs.Lookup.{Stands, unstated}
 use Rattle.why_slice.proofs.Shifted.{swap, pick_it}
 use Rattle.why_slice.proofs.ShiftedRows.{swap_all}
+use Rattle.std.proofs.lemmas.Option.{same_Some}
 
 -- the other statement fits where the exchanged one stands
 abbrev pub Suits : (s : ℕ) → Effect → Layout → Code → Type 0
@@ -139,7 +140,7 @@ module _ {S : Type 0} (dom : Operations S) (engine : Engine) (covers : S → Hea
 
     start_fits : (ps : List Routine) (z : List ℕ) (x : M) (b : P) (ls : List Layout) → FitBack ps → AllSuit s f ps → ((r : Routine) (e : List Routine) → ps ≡ r ∷ e → G x.value.value (r.layout ∷ ls)) → start_of engine A ps z x ≡ Some b → PlaceFits b
     start_fits [] z x b ls h u g e = absurd cc
-    start_fits (r ∷ ps) z x b ls h u g e = subst PlaceFits (some_inj _ _ e) (record {
+    start_fits (r ∷ ps) z x b ls h u g e = subst PlaceFits (same_Some _ _ e) (record {
       frame = r.layout;
       below = ls;
       rising = rises engine.widening (reverse ps) r h.0;
@@ -161,12 +162,12 @@ module _ {S : Type 0} (dom : Operations S) (engine : Engine) (covers : S → Hea
         let v = fit_enter dom engine covers laws i p.frame p.below y.value.value k.fits a.front in
         start_fits (from b.scope.earlier q) (n ∷ b.sites) _ c (p.frame ∷ p.below) (fit_back_from b.scope.earlier q p.procs) (suit_from s f b.scope.earlier q p.suit)
         (λ r e j.
-        let same : k.routine ≡ r = some_inj _ _ (sym k.at ∙ sym (look_get b.scope.earlier q) ∙ look_from b.scope.earlier q r e j) in
+        let same : k.routine ≡ r = same_Some _ _ (sym k.at ∙ sym (look_get b.scope.earlier q) ∙ look_from b.scope.earlier q r e j) in
         subst (λ m. G (lift (dom.enter i.entering) y.value.value) (m ∷ p.frame ∷ p.below)) (sym k.layout ∙ ap (λ (r : Routine). r.layout) same) v) e
     call_fits b n y (Break m r) c p h e = absurd cc
 
     by_limit : {X : Type 0} (t : Bool) (a r : X) → (if t then Some a else None) ≡ Some r → a ≡ r
-    by_limit true a r e = some_inj a r e
+    by_limit true a r e = same_Some a r e
     by_limit false a r e = absurd cc
 
     loop_fits : (b : P) (n k : ℕ) (y : M) (d : Code) (c : P) → PlaceFits b → Stands engine A b y d → in_loop engine A b n k y d ≡ Some c → PlaceFits c

@@ -16,7 +16,6 @@ use Rattle.cell_names.specs.declared.frame.Frame.TheVariants.{InCall}
 use Rattle.cell_names.specs.declared.frame.Point.{Point}
 use Rattle.cell_names.specs.declared.frame.Point.TheVariants.{Entry, Body, Post}
 use Rattle.cell_names.specs.Paths.{CellName}
-use Rattle.plain_values.proofs.Cases.{some_inj}
 use Rattle.cell_rows.specs.Names.{IsSame, name, Mark, Place, Algebra, number, breaks, in_call, statement, follow, post_mark}
 use Rattle.cell_rows.specs.Rows.{Posts, Assumes, Enters, Exits, Leaves, Row, Init, One, Two, Fixed, Joins, joined_point, last_point, leave_points, loop_row, post_row}
 use Rattle.cell_rows.specs.Cells.{Cell, values, plain, unary, row_of_name, value_of_mark}
@@ -32,6 +31,7 @@ use Rattle.cell_rows.proofs.Tied.{Led, led_to, front_found}
 use Rattle.demand_laws.specs.Claims.{found_by}
 use Rattle.why_slice.specs.Upstream.{is_live}
 use Rattle.why_slice.proofs.Fitting.{AllSuit, follow_fits, at_fits}
+use Rattle.std.proofs.lemmas.Option.{same_Some}
 
 module _ {S : Type 0} (dom : Operations S) (engine : Engine) (covers : S → Heap → List Variables → Type 0) (laws : Laws dom covers) (rises : MarksRise) (dead : KeepsDead dom) where
   -- on a value that fits
@@ -107,8 +107,8 @@ module _ {S : Type 0} (dom : Operations S) (engine : Engine) (covers : S → Hea
         unary dom engine (Posts (Does e)) (found (name w p)) ≡ unary dom engine (Posts (Does f)) (found (name w p))
     idle_at w b y Stop e p l k r h = absurd cc
     idle_at w b y (Simple n x q) e p l k r h =
-        let i : p ≡ y.point = sym (ap input_of (some_inj _ _ r)) in
-        let j : x ≡ e = some_inj x e (ap effects r) in
+        let i : p ≡ y.point = sym (ap input_of (same_Some _ _ r)) in
+        let j : x ≡ e = same_Some x e (ap effects r) in
         let c = found_front w b y (Simple n x q) l in
         let v : is_live dom y.value.value ≡ false = subst (λ (a : Cell S). is_live dom a.value ≡ false) c (subst (λ (p : Point). is_live dom (found (name w p)).value ≡ false) i h) in
         let t = follow_fits dom engine covers laws rises s f back (fit_back program checked) suit w b l.leads in
@@ -133,7 +133,7 @@ module _ {S : Type 0} (dom : Operations S) (engine : Engine) (covers : S → Hea
         by_tie dom engine back (all_fine program checked) (row_of_name dom engine back (name w (Post s))) (mark_at_name dom engine back (all_fine program checked) (name w (Post s))) (tie dom engine back (all_fine program checked) (name w (Post s)))
         (λ a b. let e = sym b ∙ v.1 in absurd cc)
         (λ r m a b k.
-        let i : r ≡ One (Posts (Does e)) (name w p) = some_inj _ _ (sym (flat_row_is engine back (flat_once program checked) w (Post s) r a) ∙ row) in
+        let i : r ≡ One (Posts (Does e)) (name w p) = same_Some _ _ (sym (flat_row_is engine back (flat_once program checked) w (Post s) r a) ∙ row) in
         let j : post_row engine A w u.place u.before u.code ≡ Some r =
         sym (led_to dom engine back (all_fine program checked) w u.place u.before u.code l (post_row engine A w))
         ∙ ap (λ n. statement engine A (follow engine A back w) n (post_row engine A w)) (sym u.numbered)

@@ -10,4 +10,4 @@ mod Edited
 mod Whole
 pub mod Rising
 pub mod Told
-mod Putting
+pub mod Putting

@@ -21,7 +21,7 @@ put_list old now new nss i ns h e k j =
     j ∙ ap (λ ks. fold (insert_key nat_cmp) ks ns) k
     ∙ sym (ap (λ xs. fold (insert_key nat_cmp) old (all_of xs)) (take_item nss i ns h e) ∙ ap (fold (insert_key nat_cmp) old) (all_both (take i nss) (ns ∷ []) ∙ ap (λ k. all_of (take i nss) ++ k) (append-nil ns)) ∙ fold_both old (all_of (take i nss)) ns)
 
-same_get : (ns : List ℕ) (i d : ℕ) → i < length ns → get_or ns i d ≡ get_or ns i (get_or ns i d)
+pub same_get : (ns : List ℕ) (i d : ℕ) → i < length ns → get_or ns i d ≡ get_or ns i (get_or ns i d)
 same_get [] i d h = absurd (omega arith)
 same_get (n ∷ ns) zero d h = refl
 same_get (n ∷ ns) (suc i) d h = same_get ns i d (omega arith)

@@ -8,12 +8,13 @@ use Rattle.batch_meaning.proofs.Places.{found_member}
 use Rattle.cell_names.specs.declared.frame.Point.{Point}
 use Rattle.cell_names.specs.declared.frame.Point.TheVariants.{Entry, Then, Else, Body, Post, Iterate, Fix, Exit, Leap}
 use Rattle.cell_names.specs.Paths.{CellName}
-use Rattle.plain_values.proofs.Cases.{by_test, some_inj}
+use Rattle.plain_values.proofs.Cases.{by_test}
 use Rattle.plain_values.proofs.Members.{Member, here, there, keys}
 use Rattle.cell_rows.specs.Names.{name, breaks, break_numbers}
 use Rattle.cell_rows.specs.Rows.{Row, Init, One, Two, Fixed, Joins, last_point, leave_points}
 use Rattle.cell_rows.specs.Targets.{Text, text, deeper, texts}
 use Rattle.why_slice.specs.Exchanged.{OnlySimple}
+use Rattle.std.proofs.lemmas.Option.{same_Some}
 
 module _ (s t : ℕ) where
   abbrev pub shift_number : ℕ → ℕ
@@ -65,7 +66,7 @@ module _ (s t : ℕ) where
   find_shifted g n x [] a e = absurd cc
   find_shifted {A} {B} g n x (y ∷ xs) a e =
       (by_test n y.0 (λ c. (if c then Some y.1 else find n xs) ≡ Some x → (if shift_number n == shift_number y.0 then Some (g y.1) else find (shift_number n) (map (shift_entry g) xs)) ≡ Some (g x))
-      (λ k e. by_test (shift_number n) (shift_number y.0) (λ c. (if c then Some (g y.1) else find (shift_number n) (map (shift_entry g) xs)) ≡ Some (g x)) (λ i. ap (λ z. Some (g z)) (some_inj _ _ e)) (λ i. absurd (i (ap shift_number k))))
+      (λ k e. by_test (shift_number n) (shift_number y.0) (λ c. (if c then Some (g y.1) else find (shift_number n) (map (shift_entry g) xs)) ≡ Some (g x)) (λ i. ap (λ z. Some (g z)) (same_Some _ _ e)) (λ i. absurd (i (ap shift_number k))))
       (λ k e. by_test (shift_number n) (shift_number y.0) (λ c. (if c then Some (g y.1) else find (shift_number n) (map (shift_entry g) xs)) ≡ Some (g x))
       (λ i. absurd (shift_apart n y.0 (not_there n xs x a.1 (found_member n x xs e)) (λ j. a.0 (sym j)) k i))
       (λ i. find_shifted g n x xs a.1 e))) e

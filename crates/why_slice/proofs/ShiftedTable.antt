@@ -10,7 +10,6 @@ use Rattle.cell_names.specs.declared.frame.Frame.{Frame}
 use Rattle.cell_names.specs.declared.frame.Frame.TheVariants.{InCall, InLoop}
 use Rattle.cell_names.specs.declared.frame.Point.{Point}
 use Rattle.cell_names.specs.declared.frame.Point.TheVariants.{Entry, Then, Else, Body, Post, Iterate, Fix, Exit, Leap}
-use Rattle.plain_values.proofs.Cases.{some_inj}
 use Rattle.plain_values.proofs.Members.{keys}
 use Rattle.cell_rows.specs.Names.{name, Mark, mark, Place, bare, number}
 use Rattle.cell_rows.specs.Rows.{Row, Init, One, Posts, sites_of, branch_row, post_row, next_row, fix_row, exit_row, leap_row, enter_row, turn_row}
@@ -19,6 +18,7 @@ use Rattle.cell_rows.proofs.Lookup.{then_some}
 use Rattle.why_slice.specs.Exchanged.{OnlySimple, IsSimple}
 use Rattle.why_slice.proofs.Shifted.{shift_number, shift_point, shift, shift_row, shift_other, shift_it, find_shifted, pick_it, swap}
 use Rattle.why_slice.proofs.ShiftedRows.{swap_all, swap_flat, flat_shifted, SameMarks, Known, known, branch_shifts, turn_shifts, next_shifts, fix_shifts, exit_shifts, leap_shifts, enter_shifts, post_shifts}
+use Rattle.std.proofs.lemmas.Option.{same_Some}
 
 abbrev Compound : Code → Type 0
 Compound Stop = ⊥
@@ -135,7 +135,7 @@ module _ (s t : ℕ) (f : Effect) (engine : Engine) (ps : List Routine) (simple 
   exchanged_by w r u (Simple n x q) c a k o e = record {
     effect = x;
     front = u.text.front;
-    old = sym (some_inj _ _ e);
+    old = sym (same_Some _ _ e);
     new =
         subst (λ j. flat_row engine others w (Post j) ≡ Some (One (Posts (Does f)) (shift s t (name w u.text.front)))) (shift_it s t s refl)
         (text_at w s (post_row engine bare w) (One (Posts (Does f)) (shift s t (name w u.text.front))) u a
@@ -159,7 +159,7 @@ module _ (s t : ℕ) (f : Effect) (engine : Engine) (ps : List Routine) (simple 
 
   -- All other rows shift.
   pub row_shifts : (w : List Frame) (p : Point) (r : Row) → (p ≡ Post s → ⊥) → flat_row engine ps w p ≡ Some r → flat_row engine others w (shift_point s t p) ≡ Some (shift_row s t r)
-  row_shifts [] Entry r h e = ap (λ l. Some (Init l)) (main_same ps) ∙ ap (λ r. Some (shift_row s t r)) (some_inj _ _ e)
+  row_shifts [] Entry r h e = ap (λ l. Some (Init l)) (main_same ps) ∙ ap (λ r. Some (shift_row s t r)) (same_Some _ _ e)
   row_shifts (InCall n ∷ w) Entry r h e =
       text_shifts w n (λ b. enter_row engine bare w b n) r
       (λ u k i. (apart s u.text.code k.only (enter_compound engine w (stand_in engine ps w u) (mark u.text.front 0 tt) r n u.text.code i), enter_shifts s t f engine w u.routine u.earlier (sites_of w) k.marked k.earlier u.text.front n u.text.code)) e

@@ -12,7 +12,7 @@ use Rattle.batch_meaning.specs.Answers.{Found, In, Misses, found_or, found_loop,
 use Rattle.batch_meaning.proofs.Places.{found_member}
 use Rattle.analysis_words.specs.declared.refusal.Refusal.TheVariants.{NoStatement, NoProcedure}
 use Rattle.cell_names.specs.declared.frame.Point.TheVariants.{Entry, Post, Fix}
-use Rattle.plain_values.proofs.Cases.{by_test, some_inj}
+use Rattle.plain_values.proofs.Cases.{by_test}
 use Rattle.cell_rows.specs.Names.{number}
 use Rattle.cell_rows.specs.Rows.{last_point}
 use Rattle.cell_rows.specs.Targets.{Text, texts, Step, Go, takes, Target, to_point, callee_of, Way, way_of, way_in, way, is_loop, target_in, target, all_targets, targets}
@@ -23,19 +23,8 @@ use Rattle.why_slice.specs.Exchanged.{OnlySimple, IsSimple}
 use Rattle.why_slice.proofs.Shifted.{shift_number, shift_point, shift_other, find_shifted, swap, swap_text, last_shifted, texts_shifted}
 use Rattle.why_slice.proofs.ShiftedRows.{swap_routine, swap_all, length_swapped, from_swapped, known_texts, simple_from}
 use Rattle.cell_rows.proofs.FlatOnce.{numbers_both}
-
--- Numbers that a list of procedures lacks.
-pub absent_left : (n : ℕ) (xs ys : List ℕ) → Absent n (xs ++ ys) → Absent n xs
-absent_left n [] ys a = tt
-absent_left n (x ∷ xs) ys a = (a.0, absent_left n xs ys a.1)
-
-pub absent_right : (n : ℕ) (xs ys : List ℕ) → Absent n (xs ++ ys) → Absent n ys
-absent_right n [] ys a = a
-absent_right n (x ∷ xs) ys a = absent_right n xs ys a.1
-
-absent_both : (n : ℕ) (xs ys : List ℕ) → Absent n xs → Absent n ys → Absent n (xs ++ ys)
-absent_both n [] ys a b = b
-absent_both n (x ∷ xs) ys a b = (a.0, absent_both n xs ys a.1 b)
+use Rattle.std.proofs.lemmas.Option.{same_Some}
+use Rattle.imp_slots.proofs.Distinct.{absent_both, absent_left, absent_right}
 
 absent_has : (n : ℕ) (xs : List ℕ) → Absent n xs → has n xs ≡ false
 absent_has n [] a = refl
@@ -205,7 +194,7 @@ module _ (s t : ℕ) (f : Effect) where
       let y = then_some (callee_of u.code) (λ q. Some (way_of (ss ++ (takes u.loops ++ Go n ∷ [])) (from earlier q.1))) w x.2 in
       let k = (known_texts s t f r.code Entry h.0).at (n, u) (found_member n u (texts r.code Entry) x.1) in
       let c = called_other u.code y.0 k.1 y.1 in
-      let i : way_of (ss ++ (takes u.loops ++ Go n ∷ [])) (from earlier y.0.1) ≡ w = some_inj _ _ y.2 in
+      let i : way_of (ss ++ (takes u.loops ++ Go n ∷ [])) (from earlier y.0.1) ≡ w = same_Some _ _ y.2 in
       let later = absent_right t (code_numbers r.code) (routine_numbers earlier) a in
       subst (Leads (way_in n ss (all (r ∷ earlier)))) i (record {
         leads = ap (λ o. if_some o (λ t. if_some (callee_of t.code) (λ q. Some (way_of (ss ++ (takes t.loops ++ Go n ∷ [])) (from (all earlier) q.1))))) (text_shifted r.code n u h.0 (absent_left t (code_numbers r.code) (routine_numbers earlier) a) (λ j. c.0 (sym k.0 ∙ j)) x.1)
@@ -216,7 +205,7 @@ module _ (s t : ℕ) (f : Effect) where
       })
 
   way_shifted : (ps : List Routine) (z : List ℕ) (w : Way) → IsSimple s ps → Absent t (routine_numbers ps) → way ps z ≡ Some w → Leads (way (all ps) z) w
-  way_shifted ps [] w h a e = subst (Leads (way (all ps) [])) (some_inj _ _ e) (record { leads = refl; simple = h; fresh = a })
+  way_shifted ps [] w h a e = subst (Leads (way (all ps) [])) (same_Some _ _ e) (record { leads = refl; simple = h; fresh = a })
   way_shifted ps (n ∷ z) w h a e =
       let x = then_some (way ps z) (λ x. way_in n x.steps x.procs) w e in
       let l = way_shifted ps z x.0 h a x.1 in
@@ -239,13 +228,13 @@ module _ (s t : ℕ) (f : Effect) where
   target_in_shifted (Before n) ss (r ∷ earlier) g o h a e =
       let x = then_some (find n (texts r.code Entry)) (λ t. Some (to_point (ss ++ takes t.loops) t.front)) g e in
       ap (λ o. if_some o (λ t. Some (to_point (ss ++ takes t.loops) t.front))) (text_shifted r.code n x.0 h.0 (absent_left t (code_numbers r.code) (routine_numbers earlier) a) (λ i. o (ap (λ n. Some n) i)) x.1)
-      ∙ ap (λ g. Some (shift_target g)) (some_inj _ _ x.2)
+      ∙ ap (λ g. Some (shift_target g)) (same_Some _ _ x.2)
   target_in_shifted (After n) ss (r ∷ earlier) g o h a e =
       let x = then_some (find n (texts r.code Entry)) (λ t. Some (to_point (ss ++ takes t.loops) (Post n))) g e in
       let i : n ≢ s = λ i. o (ap (λ n. Some n) i) in
       ap (λ o. if_some o (λ t. Some (to_point (ss ++ takes t.loops) (Post n)))) (text_shifted r.code n x.0 h.0 (absent_left t (code_numbers r.code) (routine_numbers earlier) a) i x.1)
       ∙ ap (λ k. Some (to_point (ss ++ takes x.0.loops) (Post k))) (sym (shift_other s t n i))
-      ∙ ap (λ g. Some (shift_target g)) (some_inj _ _ x.2)
+      ∙ ap (λ g. Some (shift_target g)) (same_Some _ _ x.2)
   target_in_shifted (Head n) ss (r ∷ earlier) g o h a e =
       let x = then_some (find n (texts r.code Entry)) (λ t. if is_loop t.code then Some (to_point (ss ++ takes t.loops) (Fix n)) else None) g e in
       ap (λ o. if_some o (λ t. if is_loop t.code then Some (to_point (ss ++ takes t.loops) (Fix n)) else None)) (text_shifted r.code n x.0 h.0 (absent_left t (code_numbers r.code) (routine_numbers earlier) a) (λ i. o (ap (λ n. Some n) i)) x.1)
@@ -253,13 +242,13 @@ module _ (s t : ℕ) (f : Effect) where
       ∙ by (is_loop x.0.code) (to_point (ss ++ takes x.0.loops) (Fix n)) x.2 refl
     where
       by : (b : Bool) (d : Target) → (if b then Some d else None) ≡ Some g → shift_target d ≡ d → (if b then Some d else None) ≡ Some (shift_target g)
-      by true d e i = ap (λ d. Some d) (sym i) ∙ ap (λ g. Some (shift_target g)) (some_inj _ _ e)
+      by true d e i = ap (λ d. Some d) (sym i) ∙ ap (λ g. Some (shift_target g)) (same_Some _ _ e)
       by false d e i = absurd cc
   target_in_shifted (End x) ss (r ∷ earlier) g o h a e =
       ap (λ q. if bytes_eq x r.name then Some (to_point ss q) else None) (last_shifted s t f r.code Entry h.0) ∙ by (bytes_eq x r.name) e
     where
       by : (b : Bool) → (if b then Some (to_point ss (last_point r.code Entry)) else None) ≡ Some g → (if b then Some (to_point ss (shift_point s t (last_point r.code Entry))) else None) ≡ Some (shift_target g)
-      by true e = ap (λ g. Some (shift_target g)) (some_inj _ _ e)
+      by true e = ap (λ g. Some (shift_target g)) (same_Some _ _ e)
       by false e = absurd cc
 
   module _ (program : List Routine) (simple : IsSimple s program) (fresh : Absent t (routine_numbers program)) (l : Location) (elsewhere : Elsewhere l) where
@@ -272,13 +261,13 @@ module _ (s t : ℕ) (f : Effect) where
         ∙ target_in_shifted l x.0.steps x.0.procs g elsewhere w.simple w.fresh x.2
 
     all_shifted : (zs : List (List ℕ)) (ts : List Target) → all_targets (target program l) zs ≡ Some ts → all_targets (target (all program) l) zs ≡ Some (map shift_target ts)
-    all_shifted [] ts e = ap (λ ts. Some (map shift_target ts)) (some_inj _ _ e)
+    all_shifted [] ts e = ap (λ ts. Some (map shift_target ts)) (same_Some _ _ e)
     all_shifted (z ∷ zs) ts e =
         let x = then_some (target program l z) (λ t. if_some (all_targets (target program l) zs) (λ ts. Some (t ∷ ts))) ts e in
         let y = then_some (all_targets (target program l) zs) (λ ts. Some (x.0 ∷ ts)) ts x.2 in
         ap (λ o. if_some o (λ t. if_some (all_targets (target (all program) l) zs) (λ ts. Some (t ∷ ts)))) (target_shifted z x.0 x.1)
         ∙ ap (λ o. if_some o (λ ts. Some (shift_target x.0 ∷ ts))) (all_shifted zs y.0 y.1)
-        ∙ ap (λ ts. Some (map shift_target ts)) (some_inj _ _ y.2)
+        ∙ ap (λ ts. Some (map shift_target ts)) (same_Some _ _ y.2)
 
     pub targets_shifted : (p : ℕ) (string : List ℕ) (ts : List Target) → targets program p l string ≡ Some ts → targets (all program) p l string ≡ Some (map shift_target ts)
     targets_shifted p string ts e = ap (all_targets (target (all program) l)) (selected_same program p string) ∙ all_shifted (selected program p string) ts e

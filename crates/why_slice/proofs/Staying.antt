@@ -1,6 +1,5 @@
 -- Where a statement that an answer does not depend on is exchanged, the answer stays.
 use Rattle.std.specs.Option.{option_map}
-use Rattle.std.proofs.lemmas.Bool.{or_left, or_right}
 use Rattle.std.proofs.Common.{◌≡◌, ℕ, zero, suc, List, [], ◌∷◌, ◌++◌, length, map, reverse, Some, None, Bool, true, false, nat_lt, if◌then◌else◌, refl, sym, ap, ◌∙◌, subst}
 use Rattle.imp_syntax.specs.declared.edit.Location.{Location}
 use Rattle.imp_slots.specs.Plain.{Effect, Does, Routine}
@@ -14,7 +13,6 @@ use Rattle.batch_meaning.specs.Batch.{Engine}
 use Rattle.batch_meaning.specs.Answers.{In, procedure_of, answer_in, answer, summed, Refuses}
 use Rattle.analysis_words.specs.declared.refusal.Refusal.TheVariants.{LongString}
 use Rattle.batch_meaning.proofs.Procedures.{FitBack, fit_back}
-use Rattle.demand_order.specs.Order.{member}
 use Rattle.demand_order.specs.OrderLaws.{input, under}
 use Rattle.demand_order.specs.Asking.{Rows, gather, inputs_of, value_of}
 use Rattle.demand_order.proofs.AskingProofs.{gather-none, gather-some}
@@ -33,7 +31,7 @@ use Rattle.cell_rows.specs.Targets.{Step, Take, Go, Target, unless_over, demande
 use Rattle.cell_rows.specs.Claims.{HasName, rows_of, InputsAreNames}
 use Rattle.cell_rows.proofs.FlatOnce.{keys_flat}
 use Rattle.cell_rows.proofs.Rowed.{has_row}
-use Rattle.cell_rows.proofs.Unique.{All}
+use Rattle.cell_rows.proofs.Unique.{All, all_of}
 use Rattle.demand_laws.proofs.Demanded.{needed_named, answer_at}
 use Rattle.demand_laws.proofs.Machine.{law}
 use Rattle.why_slice.specs.Upstream.{is_live, NeededBy, IsUpstream, at_location, by_name}
@@ -76,10 +74,6 @@ all_left P (x ∷ xs) ys h = (h.0, all_left P xs ys h.1)
 all_right : {A : Type 0} (P : A → Type 0) (xs ys : List A) → All P (xs ++ ys) → All P ys
 all_right P [] ys h = h
 all_right P (x ∷ xs) ys h = all_right P xs ys h.1
-
-all_members : {A : Type 0} (same : A → A → Bool) → ((x : A) → same x x ≡ true) → (P : A → Type 0) (xs : List A) → ((x : A) → member same xs x ≡ true → P x) → All P xs
-all_members same re P [] h = tt
-all_members same re P (x ∷ xs) h = (h x (or_left (same x x) (member same xs x) (re x)), all_members same re P xs (λ y m. h y (or_right (same y x) (member same xs y) m)))
 
 module _ {S : Type 0} (dom : Operations S) (engine : Engine) (s t : ℕ) where
   -- a shifted row asks for the shifted names, and makes the same of their values
@@ -245,7 +239,7 @@ module _ {S : Type 0} (dom : Operations S) (covers : S → Heap → List Variabl
 
   pub answer_stays : procedure_of program l ≡ In p → answer dom engine others l string ≡ answer dom engine program l string
   answer_stays e =
-      let h = all_members same is.same_refl (λ x. value_of new (shift s t x) ≡ value_of old x) (demanded (value_of old) ts) (λ x m. value_stays x (input x m)) in
+      let h = all_of same is.same_refl (λ x. value_of new (shift s t x) ≡ value_of old x) (demanded (value_of old) ts) (λ x m. value_stays x (input x m)) in
       let k : answer_in dom engine others l string (In p) ≡ answer_in dom engine program l string (In p) =
       answer_at dom engine others same is after l string p (map (shift_target s t f) ts) (targets_shifted s t f program simple fresh l elsewhere p string ts there)
       ∙ ap (summed dom engine) (values_same dom engine s t (value_of old) (value_of new) f ts h)

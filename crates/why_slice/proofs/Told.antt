@@ -3,7 +3,7 @@ use Rattle.std.specs.Ordering.{nat_cmp}
 use Rattle.std.specs.Cmp.{nat_cmp_is}
 use Rattle.std.specs.List.{AllByRecursion, slice_index_or}
 use Rattle.std.specs.List.Sorted.{IsStrictlySortedBy}
-use Rattle.std.proofs.lemmas.Bool.{or_left, or_right}
+use Rattle.std.proofs.lemmas.Bool.{or_left, or_right, or_cases}
 use Rattle.std.proofs.Common.{◌≡◌, ◌↔◌, ℕ, zero, suc, ◌<◌, List, [], ◌∷◌, ◌++◌, length, reverse, Option, Some, None, Bool, true, false, if◌then◌else◌, Contains, Less, refl, sym, subst, inl, inr, arith}
 use Rattle.imp_syntax.specs.declared.edit.Location.{Location}
 use Rattle.imp_slots.specs.Plain.{Routine}
@@ -13,7 +13,6 @@ use Rattle.domain_laws.specs.Operations.{Operations}
 use Rattle.batch_meaning.specs.Batch.{Engine}
 use Rattle.demand_order.specs.Order.{member}
 use Rattle.demand_order.proofs.AskingProofs.{system-acyclic}
-use Rattle.demand_order.proofs.OrderLemmas.{or_cases}
 use Rattle.demand_order.proofs.TheoremProofs.{needed}
 use Rattle.cell_names.specs.Paths.{CellName}
 use Rattle.plain_values.proofs.Members.{Member, here, there, in_left, in_right, either}

@@ -15,10 +15,10 @@ use Rattle.daig_query.specs.declared.opening.Open.{Open}
 use Rattle.daig_query.specs.declared.store.Store.{Store}
 use Rattle.daig_query.specs.Right.{found}
 use Rattle.daig_query.specs.Walked.{IsAsked}
-use Rattle.daig_query.proofs.Looking.{none_of}
 use Rattle.daig_query.proofs.Stepping.{place_end, fewer_left, placed_left}
 use Rattle.daig_query.proofs.Taking.{target_here, asking, step_fails, step_leaves, none_yet}
 use Rattle.daig_query.proofs.walk.last.Goals as goal
+use Rattle.plain_values.proofs.Cases.{none_of}
 
 pub returns-in_err-cell : goal.returns-in_err-cell
 returns-in_err-cell g c =

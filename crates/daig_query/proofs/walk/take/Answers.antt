@@ -13,10 +13,11 @@ use Rattle.imp_flow.specs.declared.steps.Step.TheVariants.{Take}
 use Rattle.daig_query.specs.declared.opening.Open.{Open}
 use Rattle.daig_query.specs.declared.store.Store.{Store}
 use Rattle.daig_query.specs.Walked.{IsAsked}
-use Rattle.daig_query.proofs.Looking.{none_of, held_read, over_read}
+use Rattle.daig_query.proofs.Looking.{held_read, over_read}
 use Rattle.daig_query.proofs.Stepping.{place_step, fewer_left, fewer_steps, placed_held, placed_over}
 use Rattle.daig_query.proofs.Taking.{target_here, step_here, asking, step_fails, entered, entered_right, step_enters, step_leaves, none_yet}
 use Rattle.daig_query.proofs.walk.take.Goals as goal
+use Rattle.plain_values.proofs.Cases.{none_of}
 
 pub returns-in_err-cell : goal.returns-in_err-cell
 returns-in_err-cell g c =

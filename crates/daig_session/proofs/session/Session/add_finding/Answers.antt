@@ -7,9 +7,9 @@ use Rattle.imp_check.specs.Slots.{routines_of}
 use Rattle.daig_query.specs.Filled.{added}
 use Rattle.session_machine.specs.Turns.{answer_at}
 use Rattle.daig_session.specs.Reports.{chain_count, checked_at, work_on, HasCheck, HoldsAll, HoldsPart}
-use Rattle.daig_session.proofs.Reporting.{at_is, checked_is, found_none, found_one, none_all, none_part, ok_all}
+use Rattle.daig_session.proofs.Reporting.{at_is, checked_is, found_none, found_one, none_all, none_part}
 use Rattle.daig_session.proofs.session.Session.add_finding.Goals as goal
-use Rattle.daig_query.proofs.Filling.{on_ok}
+use Rattle.daig_query.proofs.Filling.{on_ok, ok_always}
 
 pub returns-then-not-has_check-clause-part : goal.returns-then-not-has_check-clause-part
 returns-then-not-has_check-clause-part g c = λ m h.
@@ -87,7 +87,7 @@ returns-clause-all g c =
     let n = c.args.id in
     let new = c.known_before.new.self in
     let there = c.if-not-has_check.ensures.there refl in
-    ok_all c.push.result (λ m h. subst (HoldsAll dom m new.engine.store new.book) (sym (checked_is dom s.engine.store s.book m n h there)) (c.in_ok-known.ensures.all m there.0 there.1 h))
+    ok_always c.push.result (λ m h. subst (HoldsAll dom m new.engine.store new.book) (sym (checked_is dom s.engine.store s.book m n h there)) (c.in_ok-known.ensures.all m there.0 there.1 h))
 
 pub returns-clause-found : goal.returns-clause-found
 returns-clause-found g c =
@@ -111,7 +111,7 @@ returns-clause-ticked g c =
     let n = c.args.id in
     let new = c.known_before.new.self in
     let there = c.if-not-has_check.ensures.there refl in
-    ok_all c.push.result (λ m h. subst (λ (cs : List Checked). c.known_before.new.steps ≤ c.args.steps.now + g.D.Domain.counted s.engine.domain * work_on dom m cs) (sym (checked_is dom s.engine.store s.book m n h there)) (c.in_ok-known.ensures.ticked m there.0 there.1 h))
+    ok_always c.push.result (λ m h. subst (λ (cs : List Checked). c.known_before.new.steps ≤ c.args.steps.now + g.D.Domain.counted s.engine.domain * work_on dom m cs) (sym (checked_is dom s.engine.store s.book m n h there)) (c.in_ok-known.ensures.ticked m there.0 there.1 h))
 
 pub returns-then-not-has_check-clause-most : goal.returns-then-not-has_check-clause-most
 returns-then-not-has_check-clause-most g c = λ m h. omega arith

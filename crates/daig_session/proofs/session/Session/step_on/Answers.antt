@@ -1,6 +1,5 @@
 use Rattle.std.proofs.Common.{◌≡◌, ◌*◌, ◌+◌, ◌<◌, ◌≤◌, true, false, length, map, Some, refl, sym, ap, subst, ◌∙◌, arith}
 use Rattle.std.proofs.lemmas.Result.{err_from_is_err_and}
-use Rattle.plain_values.proofs.Cases.{some_inj}
 use Rattle.imp_check.specs.Slots.{routines_of}
 use Rattle.imp_flow.specs.Reached.{target_of}
 use Rattle.batch_meaning.specs.Answers.{answer}
@@ -20,6 +19,7 @@ use Rattle.daig_session.proofs.TicketLemmas.{numbers_set, still_open, there_with
 use Rattle.daig_session.proofs.Ticketed.{closed_ready, done_holds, pending_holds, ticketed_ready}
 use Rattle.daig_session.proofs.Waiting.{waiting_get, waiting_set}
 use Rattle.daig_session.proofs.session.Session.step_on.Goals as goal
+use Rattle.std.proofs.lemmas.Option.{same_Some}
 
 pub fill_some-requires-clause-going : goal.fill_some-requires-clause-going
 fill_some-requires-clause-going g c = (c.requires.there.one.at, c.requires.there.one.string, c.requires.there.going)
@@ -39,7 +39,7 @@ returns-in_err-progress-clause-steps g c = λ m o h e.
     let dom = ops s.engine.domain in
     let new = c.fill_some.new.engine.store in
     let ts = map target_of c.args.going.targets in
-    let a = subst (λ (x : Open Going). IsAsked (flow_in s.book).program x.at x.string ts) (some_inj c.requires.there.one o (sym c.requires.there.there ∙ e)) c.requires.there.going.asked in
+    let a = subst (λ (x : Open Going). IsAsked (flow_in s.book).program x.at x.string ts) (same_Some c.requires.there.one o (sym c.requires.there.there ∙ e)) c.requires.there.going.asked in
     let p = err_from_is_err_and c.from_residual.result c.from_residual.ensures.1 in
     rw (p.1, p.2) (subst (λ d. IsBetween (missing_at dom o.at o.string m) m (Holds (ops d) new s.book)) (sym c.fill_some.ensures.domain) (
     between_some dom s.book s.engine.store new o.at o.string ts (added s.engine.store new) c.requires.ready.right.checked a c.fill_some.ensures.fills (c.questions_keep_cells.ensures.question s.engine.domain) m h))
@@ -78,7 +78,7 @@ returns-then-not-progress-clause-steps g c = λ m o h e.
     let more : Open Going = record o { going = Some c.fill_some.new.going } in
     let items = c.put_going.ensures.put o e in
     let t = record s.book.tickets { open_ones = c.put_going.new.open_ones } in
-    let a = subst (λ (x : Open Going). IsAsked (flow_in s.book).program x.at x.string ts) (some_inj c.requires.there.one o (sym c.requires.there.there ∙ e)) c.requires.there.going.asked in
+    let a = subst (λ (x : Open Going). IsAsked (flow_in s.book).program x.at x.string ts) (same_Some c.requires.there.one o (sym c.requires.there.there ∙ e)) c.requires.there.going.asked in
     let missing = missing_here dom s.book s.engine.store new m o.at o.string ts h a in
     let undone : c.in_ok-progress.progress.done ≡ false = grind (arith, c.if-not-progress.true) in
     let left = subst (λ xs. c.args.most < length xs) missing (is_more c.in_ok-progress.progress.done _ c.args.most c.in_ok-progress.ensures.all undone) in
@@ -116,7 +116,7 @@ returns-in_err-value-clause-steps g c = λ m o h e.
     let dom = ops s.engine.domain in
     let new = c.fill_some.new.engine.store in
     let ts = map target_of c.args.going.targets in
-    let a = subst (λ (x : Open Going). IsAsked (flow_in s.book).program x.at x.string ts) (some_inj c.requires.there.one o (sym c.requires.there.there ∙ e)) c.requires.there.going.asked in
+    let a = subst (λ (x : Open Going). IsAsked (flow_in s.book).program x.at x.string ts) (same_Some c.requires.there.one o (sym c.requires.there.there ∙ e)) c.requires.there.going.asked in
     let p = err_from_is_err_and c.from_residual-in_err-value.result c.from_residual-in_err-value.ensures.1 in
     rw (p.1, p.2) (subst (λ d. IsBetween (missing_at dom o.at o.string m) m (Holds (ops d) new s.book)) (sym c.fill_some.ensures.domain) (
     between_some dom s.book s.engine.store new o.at o.string ts (added s.engine.store new) c.requires.ready.right.checked a c.fill_some.ensures.fills (c.questions_keep_cells.ensures.question s.engine.domain) m h))
@@ -148,7 +148,7 @@ returns-clause-steps g c = λ m o h e.
     let n = c.in_ok-progress.progress.filled in
     let v = c.in_ok-value.value in
     let done : c.in_ok-progress.progress.done ≡ true = grind (arith, c.if-not-progress.false) in
-    let a = subst (λ (x : Open Going). IsAsked (flow_in s.book).program x.at x.string ts) (some_inj c.requires.there.one o (sym c.requires.there.there ∙ e)) c.requires.there.going.asked in
+    let a = subst (λ (x : Open Going). IsAsked (flow_in s.book).program x.at x.string ts) (same_Some c.requires.there.one o (sym c.requires.there.there ∙ e)) c.requires.there.going.asked in
     let filled = subst (λ d. AreFilled (ops d) new c.fill_some.new.going.walk (flow_in s.book) ts) (sym c.fill_some.ensures.domain) (c.in_ok-progress.ensures.filled done) in
     let missing = missing_here dom s.book s.engine.store new m o.at o.string ts h a in
     let few = c.in_ok-progress.ensures.all.0 done in
@@ -169,7 +169,7 @@ returns-clause-sound g c = λ o e.
     let new = c.fill_some.new.engine.store in
     let ts = map target_of c.args.going.targets in
     let done : c.in_ok-progress.progress.done ≡ true = grind (arith, c.if-not-progress.false) in
-    let a = subst (λ (x : Open Going). IsAsked (flow_in s.book).program x.at x.string ts) (some_inj c.requires.there.one o (sym c.requires.there.there ∙ e)) c.requires.there.going.asked in
+    let a = subst (λ (x : Open Going). IsAsked (flow_in s.book).program x.at x.string ts) (same_Some c.requires.there.one o (sym c.requires.there.there ∙ e)) c.requires.there.going.asked in
     let filled = subst (λ d. AreFilled (ops d) new c.fill_some.new.going.walk (flow_in s.book) ts) (sym c.fill_some.ensures.domain) (c.in_ok-progress.ensures.filled done) in
     subst (λ d. Covers (g.D.Domain.covers d) (routines_of s.book.history.now) o.at o.string (Some c.in_ok-value.value)) c.fill_some.ensures.domain (c.in_ok-value.ensures.sound (flow_in s.book) o.at o.string ts a filled)
 
@@ -183,7 +183,7 @@ returns-clause-ticked g c = λ m o h e.
     let ts = map target_of c.args.going.targets in
     let n = c.in_ok-progress.progress.filled in
     let done : c.in_ok-progress.progress.done ≡ true = grind (arith, c.if-not-progress.false) in
-    let a = subst (λ (x : Open Going). IsAsked (flow_in s.book).program x.at x.string ts) (some_inj c.requires.there.one o (sym c.requires.there.there ∙ e)) c.requires.there.going.asked in
+    let a = subst (λ (x : Open Going). IsAsked (flow_in s.book).program x.at x.string ts) (same_Some c.requires.there.one o (sym c.requires.there.there ∙ e)) c.requires.there.going.asked in
     let filled = subst (λ d. AreFilled (ops d) new c.fill_some.new.going.walk (flow_in s.book) ts) (sym c.fill_some.ensures.domain) (c.in_ok-progress.ensures.filled done) in
     let missing = missing_here dom s.book s.engine.store new m o.at o.string ts h a in
     let read = subst (λ d. c.read_answer.new.steps ≤ c.fill_some.new.steps + g.D.Domain.counted d * (2 * length ts)) c.fill_some.ensures.domain (c.read_answer.ensures.ticked (flow_in s.book) ts filled) in
@@ -209,7 +209,7 @@ returns-in_err-value-clause-most g c = λ m o h e.
     let ts = map target_of c.args.going.targets in
     let n = c.in_ok-progress.progress.filled in
     let done : c.in_ok-progress.progress.done ≡ true = grind (arith, c.if-not-progress.false) in
-    let a = subst (λ (x : Open Going). IsAsked (flow_in s.book).program x.at x.string ts) (some_inj c.requires.there.one o (sym c.requires.there.there ∙ e)) c.requires.there.going.asked in
+    let a = subst (λ (x : Open Going). IsAsked (flow_in s.book).program x.at x.string ts) (same_Some c.requires.there.one o (sym c.requires.there.there ∙ e)) c.requires.there.going.asked in
     let filled = subst (λ d. AreFilled (ops d) new c.fill_some.new.going.walk (flow_in s.book) ts) (sym c.fill_some.ensures.domain) (c.in_ok-progress.ensures.filled done) in
     let read = subst (λ d. c.read_answer.new.steps ≤ c.fill_some.new.steps + g.D.Domain.counted d * (2 * length ts)) c.fill_some.ensures.domain (c.read_answer.ensures.ticked (flow_in s.book) ts filled) in
     most_here dom s.book s.engine.store m o.at o.string ts c.args.steps.now c.fill_some.new.steps c.read_answer.new.steps each n (added s.engine.store new) h a c.in_ok-progress.ensures.counted c.in_ok-progress.ensures.ticked read
@@ -224,7 +224,7 @@ returns-clause-most g c = λ m o h e.
     let ts = map target_of c.args.going.targets in
     let n = c.in_ok-progress.progress.filled in
     let done : c.in_ok-progress.progress.done ≡ true = grind (arith, c.if-not-progress.false) in
-    let a = subst (λ (x : Open Going). IsAsked (flow_in s.book).program x.at x.string ts) (some_inj c.requires.there.one o (sym c.requires.there.there ∙ e)) c.requires.there.going.asked in
+    let a = subst (λ (x : Open Going). IsAsked (flow_in s.book).program x.at x.string ts) (same_Some c.requires.there.one o (sym c.requires.there.there ∙ e)) c.requires.there.going.asked in
     let filled = subst (λ d. AreFilled (ops d) new c.fill_some.new.going.walk (flow_in s.book) ts) (sym c.fill_some.ensures.domain) (c.in_ok-progress.ensures.filled done) in
     let read = subst (λ d. c.read_answer.new.steps ≤ c.fill_some.new.steps + g.D.Domain.counted d * (2 * length ts)) c.fill_some.ensures.domain (c.read_answer.ensures.ticked (flow_in s.book) ts filled) in
     most_here dom s.book s.engine.store m o.at o.string ts c.args.steps.now c.fill_some.new.steps c.read_answer.new.steps each n (added s.engine.store new) h a c.in_ok-progress.ensures.counted c.in_ok-progress.ensures.ticked read

@@ -2,7 +2,7 @@
 use Rattle.std.proofs.Common.{◌≡◌, ℕ, List, ◌++◌, append_assoc}
 
 pub joined_2 : (t a b : List ℕ) → (t ++ a) ++ b ≡ t ++ (a ++ b)
-joined_2 t a b = simp append_assoc
+joined_2 t a b = append_assoc t a b
 
 pub joined_3 : (t a b c : List ℕ) → ((t ++ a) ++ b) ++ c ≡ t ++ ((a ++ b) ++ c)
 joined_3 t a b c = simp append_assoc

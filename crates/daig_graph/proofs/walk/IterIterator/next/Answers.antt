@@ -2,7 +2,7 @@ use Rattle.std.proofs.Common.{◌≡◌, ℕ, map, length, Option, Some, sym, ap
 use Rattle.slab.specs.Slab.{get}
 use Rattle.daig_graph.specs.Walks.{IsWalk, walk}
 use Rattle.daig_graph.proofs.Walking.{walk-step}
-use Rattle.daig_graph.proofs.walk.WalkIterator.next.Goals as goal
+use Rattle.daig_graph.proofs.walk.IterIterator.next.Goals as goal
 
 next-is : (g : _) (c : goal.After-result-1 g) → c.self.inside.next ≡ Some c.in_ok-key.field-0
 next-is g c = sym c.key.ensures.key ∙ c.in_ok-key.was
