@@ -8,7 +8,7 @@ use Rattle.imp_slots.specs.Fits.{Absent, Distinct}
 use Rattle.imp_check.specs.Slots.{Resolver, code_in, routine_of, effect_in, guard_in}
 use Rattle.imp_check.specs.Parts.{first_or}
 use Rattle.imp_check.specs.Programs.{block_count, program_count}
-use Rattle.imp_check.specs.Entries.{inside, inside_loop, entry_at, block_entries, procedure_entries, entries_from, entries_of, entry_of, frame_at, context_at}
+use Rattle.imp_check.specs.Entries.{inside, inside_loop, entry_at, block_entries, procedure_entries, entries_from, entries_of, entry_of, resolver_at, context_at}
 use Rattle.imp_check.specs.Changes.{overlay}
 use Rattle.imp_check.specs.declared.change.Put.{Put}
 use Rattle.imp_check.specs.declared.entry.Context.{Context}
@@ -203,7 +203,7 @@ module _ (k n : ℕ) where
   none_here : (es ps : List Procedure) → k < length es → counted (entries_from es ps) ≡ 0
   none_here es [] h = refl
   none_here es (q ∷ ps) h =
-      let first = counted_block (frame_at es q) false (context_at (length es)) None None q.body (other (length es) k (λ i. omega (arith, i, h))) in
+      let first = counted_block (resolver_at es q) false (context_at (length es)) None None q.body (other (length es) k (λ i. omega (arith, i, h))) in
       let rest = none_here (es ++ q ∷ []) ps (omega (arith, h, longer es q)) in
       omega (arith, counted_both (procedure_entries es q) (entries_from (es ++ q ∷ []) ps), first, rest)
 
@@ -212,7 +212,7 @@ module _ (k n : ℕ) where
   own_here es (q ∷ ps) zero p h e =
       let s : q ≡ p = some q p h in
       let z : length es ≡ k = omega (arith, e) in
-      let first = counted_block (frame_at es q) true (context_at (length es)) None None q.body (ap (λ m. m == k) z ∙ same k) in
+      let first = counted_block (resolver_at es q) true (context_at (length es)) None None q.body (ap (λ m. m == k) z ∙ same k) in
       let rest = none_here (es ++ q ∷ []) ps (omega (arith, z, longer es q)) in
       let all : counted (entries_from es (q ∷ ps)) ≡ times n (literal_lists (routine_of es q).code) = omega (arith, counted_both (procedure_entries es q) (entries_from (es ++ q ∷ []) ps), first, rest) in
       all ∙ (λ i. times n (literal_lists (routine_of (sym (append-nil es) i) (s i)).code))
@@ -220,7 +220,7 @@ module _ (k n : ℕ) where
       some : (a b : Procedure) → Some a ≡ Some b → a ≡ b
       some a b e = cc
   own_here es (q ∷ ps) (suc j) p h e =
-      let first = counted_block (frame_at es q) false (context_at (length es)) None None q.body (other (length es) k (λ i. omega (arith, i, e))) in
+      let first = counted_block (resolver_at es q) false (context_at (length es)) None None q.body (other (length es) k (λ i. omega (arith, i, e))) in
       let rest = own_here (es ++ q ∷ []) ps j p h (omega (arith, e, longer es q)) in
       let all : counted (entries_from es (q ∷ ps)) ≡ times n (literal_lists (routine_of ((es ++ q ∷ []) ++ take j ps) p).code) = omega (arith, counted_both (procedure_entries es q) (entries_from (es ++ q ∷ []) ps), first, rest) in
       all ∙ ap (λ (z : List Procedure). times n (literal_lists (routine_of z p).code)) (append_assoc es (q ∷ []) (take j ps))
@@ -276,5 +276,5 @@ count_there (q ∷ ps) (suc k) p h = omega (arith, count_there ps k p h)
 
 pub times_below : (ps : List Procedure) (k n : ℕ) (p : Procedure) → slice_get ps k ≡ Some p → times n (literal_lists (routine_of (take k ps) p).code) ≤ program_count ps
 times_below ps k n p h =
-    let f = frame_at (take k ps) p in
+    let f = resolver_at (take k ps) p in
     omega (arith, times_few n (literal_lists (code_in f p.body)), lists_length f p.body, count_there ps k p h)

@@ -11,7 +11,7 @@ use Rattle.imp_slots.specs.ActionViews.{effect_of, action_of}
 use Rattle.imp_check.specs.Slots.{Resolver, code_in, routine_of, routines_from, routines_of, effect_in, guard_in}
 use Rattle.imp_check.specs.Parts.{first_or}
 use Rattle.imp_check.specs.Programs.{AreNumbered}
-use Rattle.imp_check.specs.Entries.{inside, inside_loop, entry_at, block_entries, procedure_entries, entries_of, entry_of, frame_at, context_at}
+use Rattle.imp_check.specs.Entries.{inside, inside_loop, entry_at, block_entries, procedure_entries, entries_of, entry_of, resolver_at, context_at}
 use Rattle.imp_check.specs.Walks.{body_numbers, numbers_at}
 use Rattle.imp_check.specs.declared.entry.Context.{Context}
 use Rattle.imp_check.specs.declared.entry.Entry.{Entry}
@@ -105,7 +105,7 @@ there (p ∷ ps) (suc k) h = there ps k (omega arith)
 
 -- the numbers of a procedure, where its entries are known
 pub own_literals : (at : ℕ → Option Entry) (ps : List Procedure) (k : ℕ) (p : Procedure) → Known at (procedure_entries (take k ps) p) → literals_by at (numbers p.body) ≡ literals (routine_of (take k ps) p).code
-own_literals at ps k p known = literals_are at (frame_at (take k ps) p) p.body (context_at (length (take k ps))) None None known
+own_literals at ps k p known = literals_are at (resolver_at (take k ps) p) p.body (context_at (length (take k ps))) None None known
 
 -- Without thresholds there are no marks.
 pub no_marks : (w : Widening) (ps : List Procedure) (k : ℕ) → k < length ps → w.thresholds ≡ false → slice_get (all_marks w (routines_of ps)) k ≡ Some []

@@ -14,7 +14,7 @@ use Rattle.imp_slots.specs.Plain.{Code, Stop, Simple, If, While, Call, Break}
 use Rattle.imp_check.specs.Slots.{routine_of, routines_of}
 use Rattle.imp_check.specs.Programs.{AreNumbered}
 use Rattle.imp_check.specs.Changes.{overlay}
-use Rattle.imp_check.specs.Entries.{procedure_entries, entries_of, entry_of, frame_at, context_at}
+use Rattle.imp_check.specs.Entries.{procedure_entries, entries_of, entry_of, resolver_at, context_at}
 use Rattle.imp_check.specs.Walks.{numbers_at}
 use Rattle.imp_check.specs.declared.change.Put.{Put}
 use Rattle.imp_check.specs.declared.entry.Entry.{Entry}
@@ -122,7 +122,7 @@ module _ (ps : List Procedure) (k : ℕ) (p : Procedure) (numbered : AreNumbered
       let f = any_found n own_entries a in
       let x = f.entry in
       let known : entry_of (entries_of ps) n ≡ Some x = ap (entry_of (entries_of ps)) (sym f.number) ∙ all_known ps numbered x (own ps k p h x f.among) in
-      let place : x.context.proc ≡ k = procedure_is (frame_at (take k ps) p) p.body (context_at (length (take k ps))) None None x f.among ∙ taken ps k (slice_get_within ps k p h) in
+      let place : x.context.proc ≡ k = procedure_is (resolver_at (take k ps) p) p.body (context_at (length (take k ps))) None None x f.among ∙ taken ps k (slice_get_within ps k p h) in
       loop_whole k (entry_of (entries_of ps) n) x known place f.loop
 
   loop_known : (n : ℕ) → loop_in k (entry_of (entries_of ps) n) ≡ true → any_loop n own_entries ≡ true
@@ -139,7 +139,7 @@ module _ (ps : List Procedure) (k : ℕ) (p : Procedure) (numbered : AreNumbered
   own_loops n =
       rising_has n (whiles own_code)
       ∙ whiles_are n own_code
-      ∙ sym (any_block n (frame_at (take k ps) p) (context_at (length (take k ps))) None None p.body)
+      ∙ sym (any_block n (resolver_at (take k ps) p) (context_at (length (take k ps))) None None p.body)
       ∙ both_ways (any_loop n own_entries) (loop_in k (entry_of (entries_of ps) n)) (known_loop n) (loop_known n)
 
 loops_there : (ps : List Procedure) (k : ℕ) (p : Procedure) → slice_get ps k ≡ Some p → slice_get (all_loops (routines_of ps)) k ≡ Some (loops (routine_of (take k ps) p))

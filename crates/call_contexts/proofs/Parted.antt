@@ -11,7 +11,7 @@ use Rattle.imp_slots.specs.Plain.{Routine}
 use Rattle.imp_slots.specs.Fits.{Distinct}
 use Rattle.imp_check.specs.Slots.{routine_of, routines_of}
 use Rattle.imp_check.specs.Programs.{AreNumbered, check_fault}
-use Rattle.imp_check.specs.Entries.{procedure_entries, entries_of, entry_of, frame_at, context_at}
+use Rattle.imp_check.specs.Entries.{procedure_entries, entries_of, entry_of, resolver_at, context_at}
 use Rattle.imp_check.specs.Walks.{body_numbers, numbers_at}
 use Rattle.imp_check.specs.declared.change.Put.{Put}
 use Rattle.imp_check.specs.declared.entry.Entry.{Entry}
@@ -196,10 +196,10 @@ tally_made w ps k t l numbered faultless e told =
     let at = entry_of (entries_of ps) in
     let R = routine_of (take k ps) p.0 in
     let es = procedure_entries (take k ps) p.0 in
-    let ns : numbers_at ps k ≡ entry_numbers es = ap body_numbers p.1 ∙ sym (block_numbers (frame_at (take k ps) p.0) (context_at (length (take k ps))) None None p.0.body) in
+    let ns : numbers_at ps k ≡ entry_numbers es = ap body_numbers p.1 ∙ sym (block_numbers (resolver_at (take k ps) p.0) (context_at (length (take k ps))) None None p.0.body) in
     let place : length (take k ps) ≡ k = taken ps k l in
     let known : Known at es = λ x i. all_known ps numbered x (own ps k p.0 p.1 x i) in
-    let owned : (x : Entry) → In x es → x.context.proc ≡ k = λ x i. procedure_is (frame_at (take k ps) p.0) p.0.body (context_at (length (take k ps))) None None x i ∙ place in
+    let owned : (x : Entry) → In x es → x.context.proc ≡ k = λ x i. procedure_is (resolver_at (take k ps) p.0) p.0.body (context_at (length (take k ps))) None None x i ∙ place in
     let same_times : (n : ℕ) → times n (literal_lists R.code) ≡ capped (0 + times n (lists_by at (numbers_at ps k))) =
     λ n.
     omega (
@@ -207,7 +207,7 @@ tally_made w ps k t l numbered faultless e told =
       few ps k p.0 faultless p.1 n,
       ap (λ zs. times n (lists_by at zs)) ns,
       by_list at k n es known owned,
-      counted_block k n (frame_at (take k ps) p.0) true (context_at (length (take k ps))) None None p.0.body (ap (λ m. m == k) place ∙ same k),
+      counted_block k n (resolver_at (take k ps) p.0) true (context_at (length (take k ps))) None None p.0.body (ap (λ m. m == k) place ∙ same k),
     ) in
     tally_there w ps k p.0 p.1 ∙ ap Some (by_thresholds w R e ∙ told_once (tally R.code) t (λ n. times n (literal_lists R.code)) (λ n. capped (0 + times n (lists_by at (numbers_at ps k)))) (tally_tells R.code) told same_times)
   where

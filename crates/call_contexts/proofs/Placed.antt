@@ -13,7 +13,7 @@ use Rattle.imp_check.specs.Names.{is_named, place_named, named_in}
 use Rattle.imp_check.specs.Parts.{first_or}
 use Rattle.imp_check.specs.Programs.{AreNumbered}
 use Rattle.imp_check.specs.Slots.{Resolver, code_in, routines_from, routines_of}
-use Rattle.imp_check.specs.Entries.{inside, inside_loop, entry_at, block_entries, procedure_entries, entries_from, entries_of, entry_of, frame_at, context_at}
+use Rattle.imp_check.specs.Entries.{inside, inside_loop, entry_at, block_entries, procedure_entries, entries_from, entries_of, entry_of, resolver_at, context_at}
 use Rattle.imp_check.specs.declared.entry.Context.{Context}
 use Rattle.imp_check.specs.declared.entry.Entry.{Entry}
 use Rattle.imp_check.specs.declared.entry.Which.TheVariants as which
@@ -94,9 +94,9 @@ module _ (n : ℕ) where
   held_from es [] = refl
   held_from es (p ∷ ps) =
       proc_both (procedure_entries es p) (entries_from (es ++ p ∷ []) ps)
-      ∙ ap (λ o. first o (proc_of (entry_of (entries_from (es ++ p ∷ []) ps) n))) (held_block (length es) (frame_at es p) (context_at (length es)) None None p.body refl)
-      ∙ ap (first (here (length es) (has n (code_numbers (code_in (frame_at es p) p.body))))) (held_from (es ++ p ∷ []) ps ∙ ap (λ k. holder_from n k (routines_from (es ++ p ∷ []) ps)) (one_more es p))
-      ∙ go (has n (code_numbers (code_in (frame_at es p) p.body))) (holder_from n (suc (length es)) (routines_from (es ++ p ∷ []) ps))
+      ∙ ap (λ o. first o (proc_of (entry_of (entries_from (es ++ p ∷ []) ps) n))) (held_block (length es) (resolver_at es p) (context_at (length es)) None None p.body refl)
+      ∙ ap (first (here (length es) (has n (code_numbers (code_in (resolver_at es p) p.body))))) (held_from (es ++ p ∷ []) ps ∙ ap (λ k. holder_from n k (routines_from (es ++ p ∷ []) ps)) (one_more es p))
+      ∙ go (has n (code_numbers (code_in (resolver_at es p) p.body))) (holder_from n (suc (length es)) (routines_from (es ++ p ∷ []) ps))
     where
       go : (b : Bool) (o : Option ℕ) → first (here (length es) b) o ≡ (if b then Some (length es) else o)
       go true o = refl
@@ -166,8 +166,8 @@ module _ (n : ℕ) where
   any_from es [] = refl
   any_from es (p ∷ ps) =
       any_both (procedure_entries es p) (entries_from (es ++ p ∷ []) ps)
-      ∙ (λ i. any_block (frame_at es p) (context_at (length es)) None None p.body i || any_from (es ++ p ∷ []) ps i)
-      ∙ go (has_while n (code_in (frame_at es p) p.body)) (is_while n (routines_from (es ++ p ∷ []) ps))
+      ∙ (λ i. any_block (resolver_at es p) (context_at (length es)) None None p.body i || any_from (es ++ p ∷ []) ps i)
+      ∙ go (has_while n (code_in (resolver_at es p) p.body)) (is_while n (routines_from (es ++ p ∷ []) ps))
     where
       go : (a r : Bool) → (a || r) ≡ (if a then true else r)
       go true r = refl

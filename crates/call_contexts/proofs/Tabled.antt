@@ -10,7 +10,7 @@ use Rattle.program_chains.specs.Chains.{calls_to, extended, through, chains_with
 use Rattle.program_chains.specs.Claims.{ChainsAreThroughCallers}
 use Rattle.imp_check.specs.Programs.{AreNumbered}
 use Rattle.imp_check.specs.Slots.{Resolver, callee_in, code_in, routines_from, routines_of}
-use Rattle.imp_check.specs.Entries.{inside, inside_loop, calls_here, sites_in, block_entries, procedure_entries, entries_from, entries_of, entry_of, frame_at, context_at}
+use Rattle.imp_check.specs.Entries.{inside, inside_loop, calls_here, sites_in, block_entries, procedure_entries, entries_from, entries_of, entry_of, resolver_at, context_at}
 use Rattle.imp_check.specs.declared.entry.Context.{Context}
 use Rattle.imp_check.specs.declared.entry.Entry.{Entry}
 use Rattle.imp_check.specs.declared.entry.Which.TheVariants as which
@@ -132,8 +132,8 @@ module _ (f : ℕ → List (List ℕ)) (p : ℕ) where
   through_from es [] = refl
   through_from es (q ∷ ps) =
       entries_both (procedure_entries es q) (entries_from (es ++ q ∷ []) ps)
-      ∙ ap (λ zs. zs ++ through_entries f (entries_from (es ++ q ∷ []) ps) p) (through_block (frame_at es q) (length es) (context_at (length es)) None None q.body refl)
-      ∙ ap (λ zs. extended (f (length es)) (calls_to p (code_in (frame_at es q) q.body)) ++ zs) (through_from (es ++ q ∷ []) ps ∙ ap (λ k. through f k (routines_from (es ++ q ∷ []) ps) p) (one_more es q))
+      ∙ ap (λ zs. zs ++ through_entries f (entries_from (es ++ q ∷ []) ps) p) (through_block (resolver_at es q) (length es) (context_at (length es)) None None q.body refl)
+      ∙ ap (λ zs. extended (f (length es)) (calls_to p (code_in (resolver_at es q) q.body)) ++ zs) (through_from (es ++ q ∷ []) ps ∙ ap (λ k. through f k (routines_from (es ++ q ∷ []) ps) p) (one_more es q))
 
   -- call statements that are known stand for what is known of them
   sites_are : (at : ℕ → Option Entry) (xs : List Entry) → Known at xs → through_sites f at (sites_in xs p) ≡ through_entries f xs p

@@ -7,7 +7,7 @@ use Rattle.imp_syntax.specs.Plain as tree
 use Rattle.imp_slots.specs.ActionViews.{act_of}
 use Rattle.imp_slots.specs.Plain.{Act, Code, DoBreak, Does, Effect}
 use Rattle.imp_slots.specs.declared.actions.SlotStmt.{SlotStmt}
-use Rattle.imp_check.specs.Entries.{block_entries, entries_from, entries_of, entry_at, entry_of, frame_at, context_at, inside, inside_loop, procedure_entries, statement_entries}
+use Rattle.imp_check.specs.Entries.{block_entries, entries_from, entries_of, entry_at, entry_of, resolver_at, context_at, inside, inside_loop, procedure_entries, statement_entries}
 use Rattle.imp_check.specs.Parts.{first_or}
 use Rattle.imp_check.specs.Programs.{AreNumbered}
 use Rattle.imp_check.specs.Slots.{Resolver, code_in, effect_in, routines_from, routines_of, statement_in}
@@ -62,7 +62,7 @@ module _ (f : Resolver) where
 from_checks : (es ps : List Procedure) → checked_statements (routines_from es ps) ≡ checked_entries (entries_from es ps)
 from_checks es [] = refl
 from_checks es (p ∷ ps) =
-    ap (λ cs. cs ++ checked_statements (routines_from (es ++ p ∷ []) ps)) (block_checks (frame_at es p) (context_at (length es)) None None p.body)
+    ap (λ cs. cs ++ checked_statements (routines_from (es ++ p ∷ []) ps)) (block_checks (resolver_at es p) (context_at (length es)) None None p.body)
     ∙ ap (λ cs. checked_entries (procedure_entries es p) ++ cs) (from_checks (es ++ p ∷ []) ps)
     ∙ sym (checked_both (procedure_entries es p) (entries_from (es ++ p ∷ []) ps))
 

@@ -6,7 +6,7 @@ use Rattle.imp_slots.specs.Fits.{Absent, Distinct}
 use Rattle.imp_check.specs.Programs.{has}
 use Rattle.imp_check.specs.Slots.{Resolver}
 use Rattle.imp_check.specs.Parts.{ends_of, first_or, last_or, leaving_in, leaving}
-use Rattle.imp_check.specs.Entries.{entry_at, entries_of, entry_of, frame_at, context_at}
+use Rattle.imp_check.specs.Entries.{entry_at, entries_of, entry_of, resolver_at, context_at}
 use Rattle.imp_check.specs.declared.entry.Context.{Context}
 use Rattle.imp_check.specs.declared.entry.Entry.{Entry}
 use Rattle.edit_entries.specs.Spliced.{left_of, among, breaking}
@@ -316,7 +316,7 @@ module _ (ps qs : List Procedure) (p : Procedure) (hs : List Hole) (m : ℕ) (l 
 
   -- what is known of it, where its body has this block
   abbrev pub loop_with : Statements → Entry
-  loop_with x = entry_at (frame_at ps p) (context_of (context_at (length ps)) l.outer) (last_or l.before None) (first_or l.behind None) (While m l.condition (plug l.inner x))
+  loop_with x = entry_at (resolver_at ps p) (context_of (context_at (length ps)) l.outer) (last_or l.before None) (first_or l.behind None) (While m l.condition (plug l.inner x))
 
   pub plugged : (x : Statements) → plug hs x ≡ plug l.outer (fill (Body l.before m l.condition l.behind) (plug l.inner x))
   plugged x = ap (λ gs. plug gs x) l.is ∙ plug_parts l.outer (Body l.before m l.condition l.behind ∷ l.inner) x

@@ -9,7 +9,7 @@ use Rattle.imp_slots.specs.Fits.{FitsCode, FitsCall, FitsRoutine, FitInTurn, IsC
 use Rattle.imp_check.specs.Slots.{Resolver, layout_in, guard_in, invoke_of, invoke_in, callee_in, statement_in, code_in, routine_of, routines_from, routines_of}
 use Rattle.imp_check.specs.Names.{place_named}
 use Rattle.imp_check.specs.Parts.{leaving_in, leaving}
-use Rattle.imp_check.specs.Entries.{frame_at}
+use Rattle.imp_check.specs.Entries.{resolver_at}
 use Rattle.imp_check.specs.Programs.{AreNumbered}
 use Rattle.edit_entries.specs.Holes.{append, Hole, Then, Else, Body, fill, plug, between}
 use Rattle.edit_entries.proofs.Heads.{bare, bares, one_more, place_bare, get_bare, invoke_bare}
@@ -201,7 +201,7 @@ module _ (p : Procedure) (hs : List Hole) (front olds news behind : Statements) 
 
   -- what comes fits where what goes does
   abbrev pub FitsThere : Type 0
-  FitsThere = (before : List Routine) (es : List Procedure) → Fits before (layout_in p) (frame_at es p) olds → Fits before (layout_in p) (frame_at es p) news
+  FitsThere = (before : List Routine) (es : List Procedure) → Fits before (layout_in p) (resolver_at es p) olds → Fits before (layout_in p) (resolver_at es p) news
 
   -- where no break leaves the body, none leaves what is then there
   abbrev pub NoneLeaves : Type 0
@@ -210,9 +210,9 @@ module _ (p : Procedure) (hs : List Hole) (front olds news behind : Statements) 
   module _ (there : FitsThere) (none_leaves : NoneLeaves) where
     own_fits : (before : List Routine) (es : List Procedure) → FitsRoutine before (routine_of es O) → FitsRoutine before (routine_of es N)
     own_fits before es w = record {
-      code = part_fits before (layout_in p) (frame_at es p) hs front olds news behind w.code (there before es);
+      code = part_fits before (layout_in p) (resolver_at es p) hs front olds news behind w.code (there before es);
       no_break =
-          block_breaks (frame_at es p) N.body ∙ ap some (none_leaves (none_some (leaving O.body) (sym (block_breaks (frame_at es p) O.body) ∙ w.no_break)));
+          block_breaks (resolver_at es p) N.body ∙ ap some (none_leaves (none_some (leaving O.body) (sym (block_breaks (resolver_at es p) O.body) ∙ w.no_break)));
     }
 
     fits_along : (xs : List Routine) (es ps qs : List Procedure) → FitInTurn xs (routines_from es (ps ++ O ∷ qs)) → FitInTurn xs (routines_from es (ps ++ N ∷ qs))
@@ -237,7 +237,7 @@ some_there es (p ∷ ps) q qs = omega arith
 
 -- The breaks that leave a part stay.
 pub same_leave : (p : Procedure) (hs : List Hole) (front olds news behind : Statements) → leaving olds ≡ leaving news → NoneLeaves p hs front olds news behind
-same_leave p hs front olds news behind q z = sym (plug_leaving (frame_at [] p) 0 hs (between front behind olds) (between front behind news) (leaving_between front behind olds news q)) ∙ z
+same_leave p hs front olds news behind q z = sym (plug_leaving (resolver_at [] p) 0 hs (between front behind olds) (between front behind news) (leaving_between front behind olds news q)) ∙ z
 
 -- The new program fits where the old one does.
 pub program_fits : (p : Procedure) (hs : List Hole) (front olds news behind : Statements) (ps qs : List Procedure) → FitsThere p hs front olds news behind → NoneLeaves p hs front olds news behind →

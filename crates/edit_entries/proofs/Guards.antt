@@ -5,7 +5,7 @@ use Rattle.imp_syntax.specs.Changes.{with_condition}
 use Rattle.imp_slots.specs.Fits.{Distinct}
 use Rattle.imp_check.specs.Faults.{first}
 use Rattle.imp_check.specs.Slots.{Resolver}
-use Rattle.imp_check.specs.Entries.{form_in, entry_at, statement_entries, block_entries, procedure_entries, entries_from, entries_of, entry_of, frame_at, context_at}
+use Rattle.imp_check.specs.Entries.{form_in, entry_at, statement_entries, block_entries, procedure_entries, entries_from, entries_of, entry_of, resolver_at, context_at}
 use Rattle.imp_check.specs.declared.entry.Context.{Context}
 use Rattle.imp_check.specs.declared.entry.Entry.{Entry}
 use Rattle.imp_check.specs.Parts.{part_of, ends_of, first_or, last_or, leaving}
@@ -85,8 +85,8 @@ module _ (ps qs : List Procedure) (p : Procedure) (hs : List Hole) (before behin
     where
       own : (es : List Procedure) → entry_of (procedure_entries es (with_body p (plug hs (between before behind (one s))))) m ≡ entry_of (procedure_entries es (with_body p (plug hs (between before behind (one (with_condition s d)))))) m
       own es =
-          plug_same (frame_at es p) m hs (between before behind (one s)) (between before behind (one (with_condition s d))) (guard_ends before behind s d) (leaving_between before behind (one s) (one (with_condition s d)) (same_leaving s d))
-          (guard_alike (frame_at es p) m before behind s d h) (context_at _)
+          plug_same (resolver_at es p) m hs (between before behind (one s)) (between before behind (one (with_condition s d))) (guard_ends before behind s d) (leaving_between before behind (one s) (one (with_condition s d)) (same_leaving s d))
+          (guard_alike (resolver_at es p) m before behind s d h) (context_at _)
 
       along : (es os : List Procedure) → entry_of (entries_from es (os ++ with_body p (plug hs (between before behind (one s))) ∷ qs)) m ≡ entry_of (entries_from es (os ++ with_body p (plug hs (between before behind (one (with_condition s d)))) ∷ qs)) m
       along es [] =
@@ -101,7 +101,7 @@ module _ (ps qs : List Procedure) (p : Procedure) (hs : List Hole) (before behin
           ∙ ap (first (entry_of (procedure_entries es x) m)) (along (es ++ x ∷ []) os)
           ∙ sym (entry_append (procedure_entries es x) (entries_from (es ++ x ∷ []) (os ++ with_body p (plug hs (between before behind (one (with_condition s d)))) ∷ qs)) m)
 
-  guarded_entry : (a q : Option ℕ) (k : Context) (s : Statement) → entry_at (frame_at ps p) k a q (with_condition s d) ≡ record (entry_at (frame_at ps p) k a q s) { part = part_of (with_condition s d); form = form_in (frame_at ps p) (with_condition s d) }
+  guarded_entry : (a q : Option ℕ) (k : Context) (s : Statement) → entry_at (resolver_at ps p) k a q (with_condition s d) ≡ record (entry_at (resolver_at ps p) k a q s) { part = part_of (with_condition s d); form = form_in (resolver_at ps p) (with_condition s d) }
   guarded_entry a q k (Simple n x) = refl
   guarded_entry a q k (Break n) = refl
   guarded_entry a q k (Call n x g es) = refl
@@ -117,9 +117,9 @@ module _ (ps qs : List Procedure) (p : Procedure) (hs : List Hole) (before behin
 
   -- Of the statement itself the same is known but for its condition.
   pub guard_own : Distinct (program_numbers (at s)) → Distinct (program_numbers (at (with_condition s d))) → (x : Entry) → entry_of (entries_of (at s)) (number_of s) ≡ Some x →
-      entry_of (entries_of (at (with_condition s d))) (number_of s) ≡ Some (record x { part = part_of (with_condition s d); form = form_in (frame_at ps p) (with_condition s d) })
+      entry_of (entries_of (at (with_condition s d))) (number_of s) ≡ Some (record x { part = part_of (with_condition s d); form = form_in (resolver_at ps p) (with_condition s d) })
   guard_own old new x e =
-      let f = frame_at ps p in
+      let f = resolver_at ps p in
       let k = context_of (context_at (length ps)) hs in
       let a = last_or before None in
       let b = first_or behind None in

@@ -9,7 +9,7 @@ use Rattle.imp_check.specs.declared.entry.Context.{Context}
 use Rattle.imp_check.specs.declared.entry.Entry.{Entry}
 use Rattle.imp_check.specs.declared.entry.BlockEnds.{BlockEnds}
 use Rattle.imp_check.specs.Parts.{ends_of, first_or, last_or, leaving}
-use Rattle.imp_check.specs.Entries.{entry_at, entries_of, entry_of, frame_at, context_at}
+use Rattle.imp_check.specs.Entries.{entry_at, entries_of, entry_of, resolver_at, context_at}
 use Rattle.edit_entries.specs.Spliced.{is, rebroken, spliced, breaking}
 use Rattle.edit_entries.specs.Holes.{append, Hole, Then, Else, Body, fill, plug, holder, loop_of, between, with_body}
 use Rattle.edit_entries.proofs.Others.{first_append, last_append, leaving_append}
@@ -71,7 +71,7 @@ module _ (ps qs : List Procedure) (p : Procedure) (gs : List Hole) (h : Hole) (b
   whole x = ap (λ b. ps ++ with_body p b ∷ qs) (plug_last gs h x)
 
   pub shown : (x : Statements) → Distinct (program_numbers (ps ++ with_body p (plug hs x) ∷ qs)) →
-      entry_of (entries_of (ps ++ with_body p (plug hs x) ∷ qs)) (holder h) ≡ Some (entry_at (frame_at ps p) (context_of (context_at (length ps)) gs) (last_or (around_before h) None) (first_or (around_behind h) None) (holding h x))
+      entry_of (entries_of (ps ++ with_body p (plug hs x) ∷ qs)) (holder h) ≡ Some (entry_at (resolver_at ps p) (context_of (context_at (length ps)) gs) (last_or (around_before h) None) (first_or (around_behind h) None) (holding h x))
   shown x once =
       ap (λ os. entry_of (entries_of os) (holder h)) (whole x)
       ∙ ap (entry_of (entries_of (ps ++ with_body p (plug gs (fill h x)) ∷ qs))) (sym (holding_number h x))
@@ -92,7 +92,7 @@ module _ (ps qs : List Procedure) (p : Procedure) (gs : List Hole) (h : Hole) (b
         let x = between before behind olds in
         let a = loop_found ps qs p hs (holder h) l x old in
         let b = shown x old in
-        differ h i (loop_with ps qs p hs (holder h) l x) (frame_at ps p) (context_of (context_at (length ps)) gs) (last_or (around_before h) None) (first_or (around_behind h) None) x refl (sym a ∙ b)
+        differ h i (loop_with ps qs p hs (holder h) l x) (resolver_at ps p) (context_of (context_at (length ps)) gs) (last_or (around_before h) None) (first_or (around_behind h) None) x refl (sym a ∙ b)
       where
         some_from : (o : Option ℕ) (m : ℕ) → is o m ≡ true → o ≡ Some m
         some_from None m e = cc
@@ -119,7 +119,7 @@ module _ (ps qs : List Procedure) (p : Procedure) (gs : List Hole) (h : Hole) (b
       entry_of (entries_of N) m ≡ option_map (held h (ends_of (between before behind news))) (rebroken (loop_of None hs) breaks (entry_of (entries_of O)) m)
   holds old new told m e =
       let same : holder h ≡ m = some_is (holder h) m (ap (λ o. is o m) (sym (holder_last gs h)) ∙ e) in
-      let f = frame_at ps p in
+      let f = resolver_at ps p in
       let k = context_of (context_at (length ps)) gs in
       let a = last_or (around_before h) None in
       let b = first_or (around_behind h) None in

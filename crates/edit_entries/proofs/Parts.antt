@@ -10,7 +10,7 @@ use Rattle.imp_check.specs.Programs.{AreNumbered, block_count, program_count, ne
 use Rattle.imp_check.specs.Slots.{layout_in, code_in, routines_of}
 use Rattle.imp_check.specs.Statements.{block_fault}
 use Rattle.imp_check.specs.Parts.{ends_of, first_or, last_or, leaving}
-use Rattle.imp_check.specs.Entries.{block_entries, entry_at, entries_of, entry_of, frame_at, context_at, head_of, heads_of, sites_of}
+use Rattle.imp_check.specs.Entries.{block_entries, entry_at, entries_of, entry_of, resolver_at, context_at, head_of, heads_of, sites_of}
 use Rattle.imp_check.specs.declared.entry.Around.{Around}
 use Rattle.imp_check.specs.declared.entry.BlockEnds.{BlockEnds}
 use Rattle.imp_check.specs.declared.entry.Context.{Context}
@@ -155,14 +155,14 @@ module _ (ps qs : List Procedure) (p : Procedure) (before olds news behind : Sta
   module _ (breaks : List ℕ) (apart : Apart (numbers olds) (numbers news)) where
     abbrev Tabled : List Hole → Type 0
     Tabled hs = Distinct (program_numbers (O hs)) → Distinct (program_numbers (N hs)) → Told hs breaks → (m : ℕ) →
-        entry_of (entries_of (N hs)) m ≡ spliced (gap_splice (frame_at ps p) (k hs) a b (numbers olds) news breaks) (held_in (k hs).around E) (entry_of (entries_of (O hs))) m
+        entry_of (entries_of (N hs)) m ≡ spliced (gap_splice (resolver_at ps p) (k hs) a b (numbers olds) news breaks) (held_in (k hs).around E) (entry_of (entries_of (O hs))) m
 
     tabled_in : (gs : List Hole) (h : Hole) → Tabled (gs ++ h ∷ [])
     tabled_in gs h old new told m =
         let hs : List Hole = gs ++ h ∷ [] in
         let known = λ (n : ℕ) (x : Entry) (l : loop_of None hs ≡ Some n) (w : entry_of (entries_of (N hs)) n ≡ Some x). told n x (context_head (context_at (length ps)) hs ∙ l) w in
         let at = entry_of (entries_of (O hs)) in
-        let c = block_entries (frame_at ps p) (k hs) a b news in
+        let c = block_entries (resolver_at ps p) (k hs) a b news in
         table_is ps qs p hs before olds news behind breaks old new apart known (held_in (around_of h) E) (holding_is known) m
         ∙ ap (λ o. spliced (record { gone = numbers olds; come = c; come_numbers = numbers news; front = a; next = b; holder = o; loop = loop_of None hs; breaks = breaks; first = first_or news b; last = last_or news a }) (held_in (around_of h) E) at m) (holder_last gs h)
         ∙ ap (λ o. spliced (record { gone = numbers olds; come = c; come_numbers = numbers news; front = a; next = b; holder = holder_of o; loop = loop_of None hs; breaks = breaks; first = first_or news b; last = last_or news a }) (held_in o E) at m) (sym (around_last (context_at (length ps)) gs h))
@@ -170,13 +170,13 @@ module _ (ps qs : List Procedure) (p : Procedure) (before olds news behind : Sta
       where
         holding_is : ((n : ℕ) (x : Entry) → loop_of None (gs ++ h ∷ []) ≡ Some n → entry_of (entries_of (N (gs ++ h ∷ []))) n ≡ Some x → x.breaks ≡ breaks) → (n : ℕ) → is (last_holder (gs ++ h ∷ [])) n ≡ true → entry_of (entries_of (N (gs ++ h ∷ []))) n ≡ option_map (held_in (around_of h) E) (rebroken (loop_of None (gs ++ h ∷ [])) breaks (entry_of (entries_of (O (gs ++ h ∷ [])))) n)
         holding_is known n e =
-            let x = entry_at (frame_at ps p) (context_of (context_at (length ps)) gs) (last_or (around_before h) None) (first_or (around_behind h) None) (holding h (between before behind olds)) in
+            let x = entry_at (resolver_at ps p) (context_of (context_at (length ps)) gs) (last_or (around_before h) None) (first_or (around_behind h) None) (holding h (between before behind olds)) in
             let s : holder h ≡ n = some_is (holder h) n (ap (λ o. is o n) (sym (holder_last gs h)) ∙ e) in
             let w : entry_of (entries_of (O (gs ++ h ∷ []))) n ≡ Some x = ap (entry_of (entries_of (O (gs ++ h ∷ [])))) (sym s) ∙ shown ps qs p gs h before olds news behind breaks (between before behind olds) old in
             let t = is (loop_of None (gs ++ h ∷ [])) n in
             holds ps qs p gs h before olds news behind breaks old new known n e
             ∙ ap (λ o. option_map (held h (ends_of (between before behind news))) (cond t (option_map (breaking breaks) o) o)) w
-            ∙ held_rebroken breaks h t x (had_ends h (frame_at ps p) (context_of (context_at (length ps)) gs) (last_or (around_before h) None) (first_or (around_behind h) None) (between before behind olds))
+            ∙ held_rebroken breaks h t x (had_ends h (resolver_at ps p) (context_of (context_at (length ps)) gs) (last_or (around_before h) None) (first_or (around_behind h) None) (between before behind olds))
             ∙ ap (λ o. option_map (held_in (around_of h) E) (cond t (option_map (breaking breaks) o) o)) (sym w)
 
     -- Entries.
@@ -226,7 +226,7 @@ module _ (ps qs : List Procedure) (p : Procedure) (before olds news behind : Sta
         (quiet_fault sc (in_loop false hs) news silent ∙ closed_fault (lone (variables p)) (in_loop false hs) news closed)
 
     pub gap_sites : sites_of (N hs) ≡ sites_of (O hs)
-    gap_sites = sites_stay p hs before olds news behind (λ es n. quiet_sites (frame_at es p) n (context_at 0) None None olds quiet ∙ sym (quiet_sites (frame_at es p) n (context_at 0) None None news silent)) ps qs
+    gap_sites = sites_stay p hs before olds news behind (λ es n. quiet_sites (resolver_at es p) n (context_at 0) None None olds quiet ∙ sym (quiet_sites (resolver_at es p) n (context_at 0) None None news silent)) ps qs
 
     none_out : NoneLeaves p hs before olds news behind
     none_out z = go (in_loop false hs) refl closed
@@ -235,7 +235,7 @@ module _ (ps qs : List Procedure) (p : Procedure) (before olds news behind : Sta
         go true i w = cut hs (between before behind news) (between before behind olds) (looping hs i) ∙ z
         go false i w = none_leaves hs before olds news behind (closed_leaving news w) z
 
-    pub gap_fits : FitsCode [] (layout_in p) (code_in (frame_at [] p) news) → IsChecked (routines_of (O hs)) → AreNumbered (N hs) → IsChecked (routines_of (N hs))
+    pub gap_fits : FitsCode [] (layout_in p) (code_in (resolver_at [] p) news) → IsChecked (routines_of (O hs)) → AreNumbered (N hs) → IsChecked (routines_of (N hs))
     gap_fits w c d = program_fits p hs before olds news behind ps qs (λ rs es v. quiet_fits (layout_in p) [] es [] rs news silent w) none_out c d
 
   -- The statements around the place are statements of the program.

@@ -4,7 +4,7 @@ use Rattle.imp_syntax.specs.Plain.{Statement, Statements, Ends, Starts, Procedur
 use Rattle.imp_syntax.specs.Plain as tree
 use Rattle.imp_check.specs.Slots.{Resolver}
 use Rattle.imp_check.specs.Parts.{first_or, last_or, ends_of}
-use Rattle.imp_check.specs.Entries.{inside, inside_loop, statement_entries, block_entries, procedure_entries, entries_from, entries_of, frame_at, context_at, calls_here, sites_in, sites_below, sites_of, head_of, heads_of}
+use Rattle.imp_check.specs.Entries.{inside, inside_loop, statement_entries, block_entries, procedure_entries, entries_from, entries_of, resolver_at, context_at, calls_here, sites_in, sites_below, sites_of, head_of, heads_of}
 use Rattle.imp_check.specs.declared.entry.Context.{Context}
 use Rattle.imp_check.specs.declared.entry.Entry.{Entry}
 use Rattle.imp_check.specs.declared.entry.Head.{Head}
@@ -101,7 +101,7 @@ module _ (f : Resolver) (k : ℕ) where
       ∙ sites_plug hs (between before behind olds) (between before behind news) (sites_between before behind olds news q)
       ∙ block_sites (context_at 0) c None None None None (plug hs (between before behind news))
 
-module _ (p : Procedure) (hs : List Hole) (before olds news behind : Statements) (same : (es : List Procedure) (k : ℕ) → sites (frame_at es p) k olds ≡ sites (frame_at es p) k news) where
+module _ (p : Procedure) (hs : List Hole) (before olds news behind : Statements) (same : (es : List Procedure) (k : ℕ) → sites (resolver_at es p) k olds ≡ sites (resolver_at es p) k news) where
   abbrev O : Procedure
   O = old_one p hs before olds news behind
 
@@ -111,7 +111,7 @@ module _ (p : Procedure) (hs : List Hole) (before olds news behind : Statements)
   along : (k : ℕ) (es ps qs : List Procedure) → sites_in (entries_from es (ps ++ O ∷ qs)) k ≡ sites_in (entries_from es (ps ++ N ∷ qs)) k
   along k es [] qs =
       sites_both (procedure_entries es O) (entries_from (es ++ O ∷ []) qs) k
-      ∙ ap (λ ns. ns ++ sites_in (entries_from (es ++ O ∷ []) qs) k) (sites_edited (frame_at es p) k hs before olds news behind (same es k) (context_at (length es)))
+      ∙ ap (λ ns. ns ++ sites_in (entries_from (es ++ O ∷ []) qs) k) (sites_edited (resolver_at es p) k hs before olds news behind (same es k) (context_at (length es)))
       ∙ ap (λ xs. sites_in (procedure_entries es N) k ++ sites_in xs k) (entries_alike (es ++ O ∷ []) (es ++ N ∷ []) qs (bares_at p hs before olds news behind es []))
       ∙ sym (sites_both (procedure_entries es N) (entries_from (es ++ N ∷ []) qs) k)
   along k es (x ∷ ps) qs =

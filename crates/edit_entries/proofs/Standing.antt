@@ -6,7 +6,7 @@ use Rattle.imp_syntax.specs.Plain.{Statement, Statements, Ends, Starts, Procedur
 use Rattle.imp_syntax.specs.Plain as tree
 use Rattle.imp_slots.specs.Fits.{Distinct}
 use Rattle.imp_check.specs.Parts.{first_or, last_or}
-use Rattle.imp_check.specs.Entries.{entry_at, statement_entries, entries_of, entry_of, frame_at, context_at, head_of, heads_of}
+use Rattle.imp_check.specs.Entries.{entry_at, statement_entries, entries_of, entry_of, resolver_at, context_at, head_of, heads_of}
 use Rattle.imp_check.specs.declared.entry.Context.{Context}
 use Rattle.imp_check.specs.declared.entry.Entry.{Entry}
 use Rattle.imp_check.specs.declared.entry.Head.{Head}
@@ -90,10 +90,10 @@ old_is n ps s = s.is ∙ ap (λ b. s.front ++ with_body s.own b ∷ s.back) s.pl
 
 -- What is known of the statement is where it stands.
 pub known_is : (n : ℕ) (ps : List Procedure) → Distinct (program_numbers ps) → (s : Stands n ps) →
-    entry_of (entries_of ps) n ≡ Some (entry_at (frame_at s.front s.own) (context_of (context_at (length s.front)) s.place.holes) (last_or s.place.before None) (first_or s.place.behind None) s.place.stmt)
+    entry_of (entries_of ps) n ≡ Some (entry_at (resolver_at s.front s.own) (context_of (context_at (length s.front)) s.place.holes) (last_or s.place.before None) (first_or s.place.behind None) s.place.stmt)
 known_is n ps d s =
     let l = s.place in
-    let f = frame_at s.front s.own in
+    let f = resolver_at s.front s.own in
     let k = context_of (context_at (length s.front)) l.holes in
     let e = entry_at f k (last_or l.before None) (first_or l.behind None) l.stmt in
     ap (λ os. entry_of (entries_of os) n) (old_is n ps s)
@@ -123,13 +123,13 @@ own_head (x ∷ ps) p qs = own_head ps p qs
 -- Where a statement stands of which this is known, in a procedure of which that is known.
 pub record Site (n : ℕ) (ps : List Procedure) (e : Entry) (h : Head) : Type 0 where
   pub place : Stands n ps
-  pub entry : e ≡ entry_at (frame_at place.front place.own) (context_of (context_at (length place.front)) place.place.holes) (last_or place.place.before None) (first_or place.place.behind None) place.place.stmt
+  pub entry : e ≡ entry_at (resolver_at place.front place.own) (context_of (context_at (length place.front)) place.place.holes) (last_or place.place.before None) (first_or place.place.behind None) place.place.stmt
   pub head : h ≡ head_of place.own
 
 pub site : (n : ℕ) (ps : List Procedure) (e : Entry) (h : Head) → Distinct (program_numbers ps) → entry_of (entries_of ps) n ≡ Some e → slice_get (heads_of ps) e.context.proc ≡ Some h → Site n ps e h
 site n ps e h once k l =
     let s = stands n ps (subst (Has n) (all_numbers ps) (has_known n (entries_of ps) e k)) in
-    let f = frame_at s.front s.own in
+    let f = resolver_at s.front s.own in
     let x = entry_at f (context_of (context_at (length s.front)) s.place.holes) (last_or s.place.before None) (first_or s.place.behind None) s.place.stmt in
     let q : Some e ≡ Some x = sym k ∙ known_is n ps once s in
     let same : e ≡ x = cc in

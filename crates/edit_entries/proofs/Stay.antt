@@ -10,7 +10,7 @@ use Rattle.imp_check.specs.Slots.{Resolver}
 use Rattle.imp_check.specs.declared.entry.Which.TheVariants as which
 use Rattle.imp_check.specs.declared.entry.Context.{Context}
 use Rattle.imp_check.specs.Parts.{first_or, last_or}
-use Rattle.imp_check.specs.Entries.{inside, inside_loop, statement_entries, block_entries, procedure_entries, entries_from, entries_of, entry_of, frame_at, context_at}
+use Rattle.imp_check.specs.Entries.{inside, inside_loop, statement_entries, block_entries, procedure_entries, entries_from, entries_of, entry_of, resolver_at, context_at}
 use Rattle.edit_entries.specs.Spliced.{is}
 use Rattle.edit_entries.specs.Holes.{Hole, Then, Else, Body, fill, plug, holder, loop_of, between}
 use Rattle.edit_entries.proofs.Others.{entry_append, part_other, Alike}
@@ -84,7 +84,7 @@ module _ (p : Procedure) (hs : List Hole) (before olds news behind : Statements)
   part_stays f c = part_other f m c None None before olds news behind (λ a q. block_gone f m c a q olds away.not_gone) (λ a q. block_gone f m c a q news away.not_new) away.not_front away.not_next
 
   own_stays : (es : List Procedure) → is (loop_of None hs) m ≡ false → entry_of (procedure_entries es O) m ≡ entry_of (procedure_entries es N) m
-  own_stays es l = let f = frame_at es p in plug_keep f m hs (between before behind olds) (between before behind news) away.not_holder l (part_stays f) (context_at _)
+  own_stays es l = let f = resolver_at es p in plug_keep f m hs (between before behind olds) (between before behind news) away.not_holder l (part_stays f) (context_at _)
 
   along : ((es : List Procedure) → entry_of (procedure_entries es O) m ≡ entry_of (procedure_entries es N) m) → (es ps qs : List Procedure) → entry_of (entries_from es (ps ++ O ∷ qs)) m ≡ entry_of (entries_from es (ps ++ N ∷ qs)) m
   along own es [] qs =

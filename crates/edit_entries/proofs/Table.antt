@@ -9,7 +9,7 @@ use Rattle.imp_check.specs.Faults.{first}
 use Rattle.imp_check.specs.Programs.{has}
 use Rattle.imp_check.specs.declared.entry.Entry.{Entry}
 use Rattle.imp_check.specs.Parts.{ends_of, first_or, last_or}
-use Rattle.imp_check.specs.Entries.{block_entries, procedure_entries, entries_from, entries_of, entry_of, frame_at, context_at}
+use Rattle.imp_check.specs.Entries.{block_entries, procedure_entries, entries_from, entries_of, entry_of, resolver_at, context_at}
 use Rattle.edit_entries.specs.Spliced.{is, Splice, spliced, rebroken, breaking, with_next, with_front}
 use Rattle.edit_entries.specs.Holes.{append, Hole, Body, plug, loop_of, between}
 use Rattle.edit_entries.proofs.Others.{entry_append}
@@ -31,7 +31,7 @@ program_gone : (m : ℕ) (es ps : List Procedure) → Absent m (program_numbers 
 program_gone m es [] h = refl
 program_gone m es (p ∷ ps) h =
     entry_append (procedure_entries es p) (entries_from (es ++ p ∷ []) ps) m
-    ∙ ap (λ o. first o (entry_of (entries_from (es ++ p ∷ []) ps) m)) (block_gone (frame_at es p) m (context_at _) None None p.body (absent_left m (numbers p.body) (program_numbers ps) h))
+    ∙ ap (λ o. first o (entry_of (entries_from (es ++ p ∷ []) ps) m)) (block_gone (resolver_at es p) m (context_at _) None None p.body (absent_left m (numbers p.body) (program_numbers ps) h))
     ∙ program_gone m (es ++ p ∷ []) ps (absent_right m (numbers p.body) (program_numbers ps) h)
 
 -- One of the spots has a number of theirs.
@@ -86,7 +86,7 @@ module _ (ps qs : List Procedure) (p : Procedure) (hs : List Hole) (before olds 
   abbrev pub the_splice : Splice
   the_splice = record {
     gone = numbers olds;
-    come = block_entries (frame_at ps p) (context_of (context_at (length ps)) hs) (last_or before None) (first_or behind None) news;
+    come = block_entries (resolver_at ps p) (context_of (context_at (length ps)) hs) (last_or before None) (first_or behind None) news;
     come_numbers = numbers news;
     front = last_or before None;
     next = first_or behind None;
@@ -112,7 +112,7 @@ module _ (ps qs : List Procedure) (p : Procedure) (hs : List Hole) (before olds 
     come : (m : ℕ) → has (numbers news) m ≡ true → entry_of (entries_of N) m ≡ entry_of the_splice.come m
     come m h =
         let xs = the_splice.come in
-        let s = shown m xs (subst (Has m) (sym (block_numbers (frame_at ps p) (context_of (context_at (length ps)) hs) (last_or before None) (first_or behind None) news)) (has_true m (numbers news) h)) in
+        let s = shown m xs (subst (Has m) (sym (block_numbers (resolver_at ps p) (context_of (context_at (length ps)) hs) (last_or before None) (first_or behind None) news)) (has_true m (numbers news) h)) in
         ap (entry_of (entries_of N)) (sym s.number) ∙ part_found ps qs p hs before news behind new_once s.spot s.there ∙ sym s.found
 
     in_front : (m : ℕ) → is (last_or before None) m ≡ true → entry_of (entries_of N) m ≡ option_map (with_next the_splice.first) (entry_of (entries_of O) m)
@@ -148,7 +148,7 @@ module _ (ps qs : List Procedure) (p : Procedure) (hs : List Hole) (before olds 
         by_inner l (g ∷ gs) e =
             let x = between before behind olds in
             let y = between before behind news in
-            rebroken_loop (frame_at ps p) (context_of (context_at (length ps)) l.outer) (last_or l.before None) (first_or l.behind None) m l.condition breaks (plug l.inner x) (plug l.inner y)
+            rebroken_loop (resolver_at ps p) (context_of (context_at (length ps)) l.outer) (last_or l.before None) (first_or l.behind None) m l.condition breaks (plug l.inner x) (plug l.inner y)
             (ap (λ z. ends_of (plug z y)) e ∙ ends_plugged g gs x y ∙ ap (λ z. ends_of (plug z x)) (sym e))
             (told m (loop_with ps qs p hs m l y) (is_some (loop_of None hs) m i) (loop_found ps qs p hs m l y new_once))
 

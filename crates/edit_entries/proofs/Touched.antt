@@ -7,7 +7,7 @@ use Rattle.imp_check.specs.declared.entry.Which.TheVariants as which
 use Rattle.imp_check.specs.declared.entry.Context.{Context}
 use Rattle.imp_check.specs.declared.entry.Entry.{Entry}
 use Rattle.imp_check.specs.Parts.{first_or, last_or}
-use Rattle.imp_check.specs.Entries.{inside, entry_at, statement_entries, block_entries, procedure_entries, entries_from, entries_of, entry_of, frame_at, context_at}
+use Rattle.imp_check.specs.Entries.{inside, entry_at, statement_entries, block_entries, procedure_entries, entries_from, entries_of, entry_of, resolver_at, context_at}
 use Rattle.edit_entries.specs.Holes.{append, Hole, Then, Else, Body, fill, plug, between, with_body}
 use Rattle.edit_entries.proofs.Others.{first_append, entries_append}
 use Rattle.edit_entries.proofs.Filled.{before as around_before, behind as around_behind, holding, context_in, fill_is}
@@ -62,50 +62,50 @@ module _ (ps qs : List Procedure) (p : Procedure) (hs : List Hole) (before part 
   abbrev pub program : List Procedure
   program = ps ++ with_body p (plug hs (between before behind part)) ∷ qs
 
-  abbrev pub frame : Resolver
-  frame = frame_at ps p
+  abbrev pub resolver : Resolver
+  resolver = resolver_at ps p
 
   abbrev pub context : Context
   context = context_of (context_at (length ps)) hs
 
   module _ (once : Distinct (program_numbers program)) where
     -- what is found in the block is found in the program
-    pub in_block : (e : Entry) → In e (block_entries frame context None None (between before behind part)) → entry_of (entries_of program) e.number ≡ Some e
+    pub in_block : (e : Entry) → In e (block_entries resolver context None None (between before behind part)) → entry_of (entries_of program) e.number ≡ Some e
     in_block e i =
         found (entries_of program) (subst Distinct (sym (all_numbers program)) once) e
-        (in_program e [] ps (with_body p (plug hs (between before behind part))) qs (in_plug frame e (context_at (length ps)) hs (between before behind part) i))
+        (in_program e [] ps (with_body p (plug hs (between before behind part))) qs (in_plug resolver e (context_at (length ps)) hs (between before behind part) i))
 
     -- the statements of the part stand between their neighbours
-    pub part_found : (e : Entry) → In e (block_entries frame context (last_or before None) (first_or behind None) part) → entry_of (entries_of program) e.number ≡ Some e
-    part_found e i = in_block e (in_part frame e context None None before (append part behind) (inr (in_part frame e context (last_or before None) None part behind (inl i))))
+    pub part_found : (e : Entry) → In e (block_entries resolver context (last_or before None) (first_or behind None) part) → entry_of (entries_of program) e.number ≡ Some e
+    part_found e i = in_block e (in_part resolver e context None None before (append part behind) (inr (in_part resolver e context (last_or before None) None part behind (inl i))))
 
     -- the statement in front is in front of the first of the part, or of what is behind it
     pub front_found : (b : Statements) (s : Statement) → before ≡ append b (Starts s Ends) →
-        entry_of (entries_of program) (number_of s) ≡ Some (entry_at frame context (last_or b None) (first_or part (first_or behind None)) s)
+        entry_of (entries_of program) (number_of s) ≡ Some (entry_at resolver context (last_or b None) (first_or part (first_or behind None)) s)
     front_found b s e =
-        let x = entry_at frame context (last_or b None) (first_or part (first_or behind None)) s in
+        let x = entry_at resolver context (last_or b None) (first_or part (first_or behind None)) s in
         in_block x
-        (in_part frame x context None None before (append part behind)
-        (inl (subst (λ o. In x (block_entries frame context None o before)) (sym (first_append part behind None))
-        (subst (λ z. In x (block_entries frame context None (first_or part (first_or behind None)) z)) (sym e)
-        (in_part frame x context None (first_or part (first_or behind None)) b (Starts s Ends) (inr (in_left x (statement_entries frame context (last_or b None) (first_or part (first_or behind None)) s) [] (own_in frame context (last_or b None) (first_or part (first_or behind None)) s))))))))
+        (in_part resolver x context None None before (append part behind)
+        (inl (subst (λ o. In x (block_entries resolver context None o before)) (sym (first_append part behind None))
+        (subst (λ z. In x (block_entries resolver context None (first_or part (first_or behind None)) z)) (sym e)
+        (in_part resolver x context None (first_or part (first_or behind None)) b (Starts s Ends) (inr (in_left x (statement_entries resolver context (last_or b None) (first_or part (first_or behind None)) s) [] (own_in resolver context (last_or b None) (first_or part (first_or behind None)) s))))))))
 
     -- the statement behind is behind the last of the part, or what is in front of it
     pub next_found : (r : Statements) (s : Statement) → behind ≡ Starts s r →
-        entry_of (entries_of program) (number_of s) ≡ Some (entry_at frame context (last_or part (last_or before None)) (first_or r None) s)
+        entry_of (entries_of program) (number_of s) ≡ Some (entry_at resolver context (last_or part (last_or before None)) (first_or r None) s)
     next_found r s e =
-        let x = entry_at frame context (last_or part (last_or before None)) (first_or r None) s in
+        let x = entry_at resolver context (last_or part (last_or before None)) (first_or r None) s in
         in_block x
-        (in_part frame x context None None before (append part behind)
-        (inr (in_part frame x context (last_or before None) None part behind
-        (inr (subst (λ z. In x (block_entries frame context (last_or part (last_or before None)) None z)) (sym e)
-        (in_left x (statement_entries frame context (last_or part (last_or before None)) (first_or r None) s) (block_entries frame context (Some (number_of s)) None r) (own_in frame context (last_or part (last_or before None)) (first_or r None) s)))))))
+        (in_part resolver x context None None before (append part behind)
+        (inr (in_part resolver x context (last_or before None) None part behind
+        (inr (subst (λ z. In x (block_entries resolver context (last_or part (last_or before None)) None z)) (sym e)
+        (in_left x (statement_entries resolver context (last_or part (last_or before None)) (first_or r None) s) (block_entries resolver context (Some (number_of s)) None r) (own_in resolver context (last_or part (last_or before None)) (first_or r None) s)))))))
 
 -- The statement that has a block tells the block's ends, and a loop its breaks.
 pub holder_found : (ps qs : List Procedure) (p : Procedure) (hs : List Hole) (h : Hole) (x : Statements) → Distinct (program_numbers (ps ++ with_body p (plug hs (fill h x)) ∷ qs)) →
-    entry_of (entries_of (ps ++ with_body p (plug hs (fill h x)) ∷ qs)) (number_of (holding h x)) ≡ Some (entry_at (frame_at ps p) (context_of (context_at (length ps)) hs) (last_or (around_before h) None) (first_or (around_behind h) None) (holding h x))
+    entry_of (entries_of (ps ++ with_body p (plug hs (fill h x)) ∷ qs)) (number_of (holding h x)) ≡ Some (entry_at (resolver_at ps p) (context_of (context_at (length ps)) hs) (last_or (around_before h) None) (first_or (around_behind h) None) (holding h x))
 holder_found ps qs p hs h x once =
-    let f = frame_at ps p in
+    let f = resolver_at ps p in
     let k = context_of (context_at (length ps)) hs in
     let s = holding h x in
     let e = entry_at f k (last_or (around_before h) None) (first_or (around_behind h) None) s in

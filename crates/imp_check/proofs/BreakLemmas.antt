@@ -6,7 +6,7 @@ use Rattle.imp_slots.specs.declared.actions.SlotStmt.TheVariants as act
 use Rattle.imp_check.specs.Slots.{Resolver}
 use Rattle.imp_check.specs.Parts.{first_or, leaving}
 use Rattle.imp_check.specs.Programs.{AreNumbered}
-use Rattle.imp_check.specs.Entries.{inside, inside_loop, entry_at, block_entries, procedure_entries, entries_from, entries_of, entry_of, frame_at, context_at}
+use Rattle.imp_check.specs.Entries.{inside, inside_loop, entry_at, block_entries, procedure_entries, entries_from, entries_of, entry_of, resolver_at, context_at}
 use Rattle.imp_check.specs.declared.entry.Context.{Context}
 use Rattle.imp_check.specs.declared.entry.Entry.{Entry}
 use Rattle.imp_check.specs.declared.entry.SlotForm.TheVariants as form
@@ -112,7 +112,7 @@ leave_from es (p ∷ ps) x m i h =
     let P = procedure_entries es p in
     let R = entries_from (es ++ p ∷ []) ps in
     elim (either x P R i) [
-      | inl j ↦ leaves_left P R (Some x.number) m (leave_entry (frame_at es p) p.body (context_at _) None None x m j h)
+      | inl j ↦ leaves_left P R (Some x.number) m (leave_entry (resolver_at es p) p.body (context_at _) None None x m j h)
       | inr j ↦ leaves_right P R (Some x.number) m (leave_from (es ++ p ∷ []) ps x m j h)
     ]
 

@@ -10,7 +10,7 @@ use Rattle.imp_check.specs.declared.entry.Which.TheVariants as which
 use Rattle.imp_check.specs.declared.entry.Context.{Context}
 use Rattle.imp_check.specs.declared.entry.Entry.{Entry}
 use Rattle.imp_check.specs.Parts.{first_or}
-use Rattle.imp_check.specs.Entries.{inside, inside_loop, entry_at, statement_entries, block_entries, procedure_entries, entries_from, entries_of, entry_of, frame_at, context_at, heads_of}
+use Rattle.imp_check.specs.Entries.{inside, inside_loop, entry_at, statement_entries, block_entries, procedure_entries, entries_from, entries_of, entry_of, resolver_at, context_at, heads_of}
 use Rattle.imp_check.specs.Rebuilt.{statement_with, from_entry, block_from, program_from}
 
 abbrev pub In : Entry → List Entry → Type 0
@@ -73,7 +73,7 @@ program_from_is at m es [] h k = refl
 program_from_is at m es (p ∷ ps) h k =
     let P = procedure_entries es p in
     let R = entries_from (es ++ p ∷ []) ps in
-    ap (λ b. record { name = p.name; parameters = p.parameters; outcome = p.outcome; locals = p.locals; body = b } ∷ program_from at m (heads_of ps)) (block_is at (frame_at es p) m p.body (context_at _) None (omega arith) (known_left at P R k))
+    ap (λ b. record { name = p.name; parameters = p.parameters; outcome = p.outcome; locals = p.locals; body = b } ∷ program_from at m (heads_of ps)) (block_is at (resolver_at es p) m p.body (context_at _) None (omega arith) (known_left at P R k))
     ∙ ap (λ (os : List Procedure). p ∷ os) (program_from_is at m (es ++ p ∷ []) ps (omega arith) (known_right at P R k))
 
 -- Numbers of statements, as those of what is known of them.
@@ -108,7 +108,7 @@ from_numbers : (es ps : List Procedure) → entry_numbers (entries_from es ps) �
 from_numbers es [] = refl
 from_numbers es (p ∷ ps) =
     map_both (procedure_entries es p) (entries_from (es ++ p ∷ []) ps)
-    ∙ ap (λ ns. ns ++ entry_numbers (entries_from (es ++ p ∷ []) ps)) (block_numbers (frame_at es p) (context_at _) None None p.body)
+    ∙ ap (λ ns. ns ++ entry_numbers (entries_from (es ++ p ∷ []) ps)) (block_numbers (resolver_at es p) (context_at _) None None p.body)
     ∙ ap (λ ns. numbers p.body ++ ns) (from_numbers (es ++ p ∷ []) ps)
 
 pub all_numbers : (ps : List Procedure) → entry_numbers (entries_of ps) ≡ program_numbers ps

@@ -4,7 +4,7 @@ use Rattle.std.proofs.Common.{◌≡◌, ℕ, zero, suc, ◌+◌, ◌<◌, ◌==
 use Rattle.imp_syntax.specs.Plain.{Statements, Ends, Starts, Procedure}
 use Rattle.imp_syntax.specs.Plain as tree
 use Rattle.imp_check.specs.Slots.{Resolver}
-use Rattle.imp_check.specs.Entries.{inside, inside_loop, block_entries, procedure_entries, entries_from, entries_of, entry_of, frame_at, context_at, calls_here, sites_in}
+use Rattle.imp_check.specs.Entries.{inside, inside_loop, block_entries, procedure_entries, entries_from, entries_of, entry_of, resolver_at, context_at, calls_here, sites_in}
 use Rattle.imp_check.specs.Changes.{overlay}
 use Rattle.imp_check.specs.Walks.{body_numbers, numbers_at}
 use Rattle.imp_check.specs.declared.change.Put.{Put}
@@ -67,7 +67,7 @@ stands_from es (q ∷ ps) x h =
     ]
   where
     first : In x (procedure_entries es q) → x.context.proc ≡ length es + 0
-    first i = let e = procedure_is (frame_at es q) q.body (context_at (length es)) None None x i in let z : length es ≡ length es + 0 = omega arith in e ∙ z
+    first i = let e = procedure_is (resolver_at es q) q.body (context_at (length es)) None None x i in let z : length es ≡ length es + 0 = omega arith in e ∙ z
 
     longer : (zs : List Procedure) → length (zs ++ q ∷ []) ≡ suc (length zs)
     longer [] = refl
@@ -112,7 +112,7 @@ number_there ps n x h =
     let k = x.context.proc in
     let p = s.procedure in
     let r = number_in x (procedure_entries (take k ps) p) s.own in
-    (r.0, ap (λ (ns : List ℕ). slice_get ns r.0) (ap body_numbers s.there ∙ sym (block_numbers (frame_at (take k ps) p) (context_at (length (take k ps))) None None p.body)) ∙ r.1 ∙ ap Some (entry_found ps n x h).1)
+    (r.0, ap (λ (ns : List ℕ). slice_get ns r.0) (ap body_numbers s.there ∙ sym (block_numbers (resolver_at (take k ps) p) (context_at (length (take k ps))) None None p.body)) ∙ r.1 ∙ ap Some (entry_found ps n x h).1)
 
 pub within : (ps : List Procedure) (k : ℕ) (p : Procedure) → slice_get ps k ≡ Some p → k < length ps
 within [] k p h = absurd cc

@@ -6,7 +6,7 @@ use Rattle.imp_slots.specs.Fits.{Distinct}
 use Rattle.imp_check.specs.Slots.{Resolver}
 use Rattle.imp_check.specs.Programs.{AreNumbered, block_count, program_count}
 use Rattle.imp_check.specs.Parts.{first_or, ends_of}
-use Rattle.imp_check.specs.Entries.{inside, inside_loop, entry_at, block_entries, procedure_entries, entries_from, entries_of, entry_of, frame_at, context_at}
+use Rattle.imp_check.specs.Entries.{inside, inside_loop, entry_at, block_entries, procedure_entries, entries_from, entries_of, entry_of, resolver_at, context_at}
 use Rattle.imp_check.specs.Rebuilt.{next_in}
 use Rattle.imp_check.specs.Walks.{walk, walked, body_numbers, numbers_at}
 use Rattle.imp_check.specs.declared.entry.BlockEnds.{BlockEnds}
@@ -18,8 +18,7 @@ use Rattle.imp_check.proofs.RebuildLemmas.{In, in_left, in_right, Known, known_l
 abbrev pub option_ends : Option Procedure → Option BlockEnds
 option_ends o = option_map (λ (p : Procedure). ends_of p.body) o
 
--- Steps.
-
+-- What a walk does with the statement that is next.
 pub walk_step : (at : ℕ → Option Entry) (left : ℕ) (o : Option ℕ) (e : Entry) → next_in at left o ≡ Some e → walk at left o ≡ e.number ∷ (walk at (left - 1) e.inner.first ++ (walk at (left - 1) e.other.first ++ walk at (left - 1) e.next))
 walk_step at zero o e h = cc
 walk_step at (suc left) None e h = cc
@@ -99,7 +98,7 @@ count_at (q ∷ ps) (suc k) p h = omega (arith, count_at ps k p h)
 
 -- The statements that are found from the first one of a procedure are its own, where its entries are found.
 pub walk_own : (at : ℕ → Option Entry) (ps : List Procedure) (k m : ℕ) (p : Procedure) → slice_get ps k ≡ Some p → program_count ps < m → Known at (procedure_entries (take k ps) p) → walk at m (first_or p.body None) ≡ numbers p.body
-walk_own at ps k m p h l known = walk_is at (frame_at (take k ps) p) m p.body (context_at (length (take k ps))) None (omega (arith, l, count_at ps k p h)) known
+walk_own at ps k m p h l known = walk_is at (resolver_at (take k ps) p) m p.body (context_at (length (take k ps))) None (omega (arith, l, count_at ps k p h)) known
 
 pub walk_at : (ps : List Procedure) (k m : ℕ) (ends : BlockEnds) → AreNumbered ps → program_count ps < m → option_ends (slice_get ps k) ≡ Some ends → walk (entry_of (entries_of ps)) m ends.first ≡ numbers_at ps k
 walk_at ps k m ends n l h = go (slice_get ps k) refl h

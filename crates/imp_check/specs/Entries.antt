@@ -58,14 +58,14 @@ abbrev mutual
   block_entries f c front next (tree.Starts s ss) = statement_entries f c front (first_or ss next) s ++ block_entries f c (Some (number_of s)) next ss
 
 -- a procedure's own block, with those before it
-abbrev pub frame_at : (earlier : List Procedure) → Procedure → Resolver
-frame_at earlier p = record { layout = layout_in p; earlier = earlier }
+abbrev pub resolver_at : (earlier : List Procedure) → Procedure → Resolver
+resolver_at earlier p = record { layout = layout_in p; earlier = earlier }
 
 abbrev pub context_at : (place : ℕ) → Context
 context_at place = record { proc = place; around = None; head = None; depth = 0 }
 
 abbrev pub procedure_entries : (earlier : List Procedure) → Procedure → List Entry
-procedure_entries earlier p = block_entries (frame_at earlier p) (context_at (length earlier)) None None p.body
+procedure_entries earlier p = block_entries (resolver_at earlier p) (context_at (length earlier)) None None p.body
 
 abbrev pub entries_from : (earlier : List Procedure) → List Procedure → List Entry
 entries_from earlier [] = []

@@ -1,4 +1,4 @@
--- The code of frames.
+-- The code of resolvers.
 use Rattle.std.specs.Prelude.{List, refl}
 use Rattle.std.specs.Coded.{Coded, code_by, coded×}
 use Rattle.imp_syntax.specs.Plain.{Procedure}

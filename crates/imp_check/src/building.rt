@@ -46,14 +46,14 @@ fn add_procedure(
     ensures put { OnOk result (making.new.places.items ≡ put_all (procedure_entries earlier.now proc.now) making.old.places.items) }
     ensures sites { OnOk result (making.new.sites.items ≡ with_sites (procedure_entries earlier.now proc.now) making.old.sites.items) }
 {
-    let frame = Resolver::new(slots, earlier, known);
+    let resolver = Resolver::new(slots, earlier, known);
     let context = Context {
         proc: ProcId::new(earlier.len() as u32),
         around: None,
         head: None,
         depth: 0,
     };
-    block_entries(alloc, &frame, &context, proc.body(), making)
+    block_entries(alloc, &resolver, &context, proc.body(), making)
 }
 
 /// Adds the procedures, by the slots of each.

@@ -34,11 +34,11 @@ fn simple_form(alloc: Global, slots: &Slots, action: &Action) -> Result<SlotForm
 }
 
 /// A call, over slots.
-fn call_form(alloc: Global, frame: &Resolver, call: &Call) -> Result<SlotForm, Memory>
-    ensures is { IfOk result (λ f. f ≡ form.Call (invoke_in frame.now call.now.target call.now.callee (operands_of call.now.arguments)) (callee_in frame.now call.now.callee)) }
+fn call_form(alloc: Global, resolver: &Resolver, call: &Call) -> Result<SlotForm, Memory>
+    ensures is { IfOk result (λ f. f ≡ form.Call (invoke_in resolver.now call.now.target call.now.callee (operands_of call.now.arguments)) (callee_in resolver.now call.now.callee)) }
 {
-    let invoke = frame.invoke(alloc, call)?;
-    Ok(SlotForm::Call(invoke, ProcId::new(frame.callee(call))))
+    let invoke = resolver.invoke(alloc, call)?;
+    Ok(SlotForm::Call(invoke, ProcId::new(resolver.callee(call))))
 }
 
 /// A condition, over slots.
@@ -49,15 +49,15 @@ fn guard_form(alloc: Global, slots: &Slots, cond: &Cond) -> Result<SlotForm, Mem
 }
 
 /// What a statement does, over slots.
-fn form_in(alloc: Global, frame: &Resolver, stmt: &Stmt) -> Result<SlotForm, Memory>
-    ensures is { IfOk result (λ form. form ≡ form_in frame.now stmt.now) }
+fn form_in(alloc: Global, resolver: &Resolver, stmt: &Stmt) -> Result<SlotForm, Memory>
+    ensures is { IfOk result (λ form. form ≡ form_in resolver.now stmt.now) }
 {
     match stmt.node() {
-        StmtNode::Simple(action) => simple_form(alloc, frame.slots, action),
+        StmtNode::Simple(action) => simple_form(alloc, resolver.slots, action),
         StmtNode::Break => Ok(SlotForm::Stmt(SlotStmt::Break)),
-        StmtNode::Call(call) => call_form(alloc, frame, call),
-        StmtNode::If(cond, _, _) => guard_form(alloc, frame.slots, cond),
-        StmtNode::While(cond, _) => guard_form(alloc, frame.slots, cond),
+        StmtNode::Call(call) => call_form(alloc, resolver, call),
+        StmtNode::If(cond, _, _) => guard_form(alloc, resolver.slots, cond),
+        StmtNode::While(cond, _) => guard_form(alloc, resolver.slots, cond),
     }
 }
 
@@ -97,16 +97,16 @@ fn told_of(alloc: Global, stmt: &Stmt) -> Result<(Stmt, Items<StmtId>), Memory>
 /// A statement between these two of its block.
 fn entry_at(
     alloc: Global,
-    frame: &Resolver,
+    resolver: &Resolver,
     context: &Context,
     front: Option<StmtId>,
     next: Option<StmtId>,
     stmt: &Stmt,
 ) -> Result<Entry, Memory>
-    ensures is { IfOk result (λ entry. entry ≡ entry_at frame.now context.now front next stmt.now) }
+    ensures is { IfOk result (λ entry. entry ≡ entry_at resolver.now context.now front next stmt.now) }
 {
     let told = told_of(alloc, stmt)?;
-    let form = form_in(alloc, frame, stmt)?;
+    let form = form_in(alloc, resolver, stmt)?;
     Ok(entry_of(context, front, next, stmt, form, told))
 }
 
@@ -155,20 +155,20 @@ fn add_site(sites: &mut Vec<Items<StmtId>>, place: u32, site: StmtId) -> Result<
 #[tactic(auto, using(imp_syntax::specs::Blocks::member_smaller, imp_syntax::specs::Blocks::block_rest, crate::proofs::PartLemmas::member_nesting, crate::proofs::PartLemmas::next_is, crate::proofs::PutLemmas::all_both, crate::proofs::PutLemmas::sites_both))]
 pub(crate) fn block_entries(
     alloc: Global,
-    frame: &Resolver,
+    resolver: &Resolver,
     context: &Context,
     block: &Block,
     making: &mut Making,
 ) -> Result<(), Memory>
     requires shallow { context.now.depth + nesting block.now < 2 ^ 32 }
-    ensures put { OnOk result (making.new.places.items ≡ put_all (block_entries frame.now context.now None None block.now) making.old.places.items) }
-    ensures sites { OnOk result (making.new.sites.items ≡ with_sites (block_entries frame.now context.now None None block.now) making.old.sites.items) }
+    ensures put { OnOk result (making.new.places.items ≡ put_all (block_entries resolver.now context.now None None block.now) making.old.places.items) }
+    ensures sites { OnOk result (making.new.sites.items ≡ with_sites (block_entries resolver.now context.now None None block.now) making.old.sites.items) }
 {
     let mut front: Option<StmtId> = None;
     let stmts = block.as_slice();
     for (i, stmt) in stmts.iter().enumerate() {
         let next = number_at(stmts, i + 1);
-        statement_entries(alloc, frame, context, front, next, stmt, making)?;
+        statement_entries(alloc, resolver, context, front, next, stmt, making)?;
         front = Some(stmt.id());
     }
     Ok(())
@@ -179,7 +179,7 @@ pub(crate) fn block_entries(
 #[tactic(auto, using(crate::proofs::PartLemmas::below_max_left, crate::proofs::PartLemmas::below_max_right, crate::proofs::PutLemmas::all_both, crate::proofs::PutLemmas::sites_both))]
 fn statement_entries(
     alloc: Global,
-    frame: &Resolver,
+    resolver: &Resolver,
     context: &Context,
     front: Option<StmtId>,
     next: Option<StmtId>,
@@ -187,18 +187,33 @@ fn statement_entries(
     making: &mut Making,
 ) -> Result<(), Memory>
     requires shallow { context.now.depth + statement_nesting stmt.now < 2 ^ 32 }
-    ensures put { OnOk result (making.new.places.items ≡ put_all (statement_entries frame.now context.now front next stmt.now) making.old.places.items) }
-    ensures sites { OnOk result (making.new.sites.items ≡ with_sites (statement_entries frame.now context.now front next stmt.now) making.old.sites.items) }
+    ensures put { OnOk result (making.new.places.items ≡ put_all (statement_entries resolver.now context.now front next stmt.now) making.old.places.items) }
+    ensures sites { OnOk result (making.new.sites.items ≡ with_sites (statement_entries resolver.now context.now front next stmt.now) making.old.sites.items) }
 {
-    making.add(alloc, entry_at(alloc, frame, context, front, next, stmt)?)?;
+    making.add(
+        alloc,
+        entry_at(alloc, resolver, context, front, next, stmt)?,
+    )?;
     let id = stmt.id();
     match stmt.node() {
         StmtNode::If(_, then, els) => {
-            block_entries(alloc, frame, &context.inside(id, Which::Then), then, making)?;
-            block_entries(alloc, frame, &context.inside(id, Which::Else), els, making)
+            block_entries(
+                alloc,
+                resolver,
+                &context.inside(id, Which::Then),
+                then,
+                making,
+            )?;
+            block_entries(
+                alloc,
+                resolver,
+                &context.inside(id, Which::Else),
+                els,
+                making,
+            )
         }
         StmtNode::While(_, body) => {
-            block_entries(alloc, frame, &context.inside_loop(id), body, making)
+            block_entries(alloc, resolver, &context.inside_loop(id), body, making)
         }
         _ => Ok(()),
     }

@@ -140,41 +140,45 @@ fn returning_in(
 /// A block.
 #[cycle(blocks)]
 #[tactic(auto, using(imp_syntax::specs::Blocks::member_smaller, imp_syntax::specs::Blocks::block_rest, crate::proofs::CodeLemmas::then_added, crate::proofs::CodeLemmas::then_ends))]
-pub(crate) fn code_in(alloc: Global, frame: &Resolver, block: &Block) -> Result<SlotBlock, Memory>
-    ensures is { IfOk result (λ b. b ≡ code_in frame.now block.now) }
+pub(crate) fn code_in(
+    alloc: Global,
+    resolver: &Resolver,
+    block: &Block,
+) -> Result<SlotBlock, Memory>
+    ensures is { IfOk result (λ b. b ≡ code_in resolver.now block.now) }
 {
     let mut nodes = Vec::new(alloc);
     for stmt in block.as_slice() {
-        nodes.push(statement_in(alloc, frame, stmt)?)?;
+        nodes.push(statement_in(alloc, resolver, stmt)?)?;
     }
     SlotBlock::new(alloc, nodes)
 }
 
 /// A statement.
 #[cycle(blocks)]
-fn statement_in(alloc: Global, frame: &Resolver, stmt: &Stmt) -> Result<SlotNode, Memory>
-    ensures is { IfOk result (λ node. (r : Code) → before_code node r ≡ statement_in frame.now stmt.now r) }
+fn statement_in(alloc: Global, resolver: &Resolver, stmt: &Stmt) -> Result<SlotNode, Memory>
+    ensures is { IfOk result (λ node. (r : Code) → before_code node r ≡ statement_in resolver.now stmt.now r) }
 {
     let number = stmt.id().number();
     match stmt.node() {
         StmtNode::Simple(action) => {
-            let action = effect_in(alloc, frame.slots, action)?;
+            let action = effect_in(alloc, resolver.slots, action)?;
             Ok(SlotNode::Simple(number, action))
         }
         StmtNode::Break => Ok(SlotNode::Break(number)),
         StmtNode::Call(call) => {
-            let invoke = frame.invoke(alloc, call)?;
-            Ok(SlotNode::Call(number, invoke, frame.callee(call)))
+            let invoke = resolver.invoke(alloc, call)?;
+            Ok(SlotNode::Call(number, invoke, resolver.callee(call)))
         }
         StmtNode::If(cond, then, els) => {
-            let cond = guard_in(alloc, frame.slots, cond)?;
-            let then = code_in(alloc, frame, then)?;
-            let els = code_in(alloc, frame, els)?;
+            let cond = guard_in(alloc, resolver.slots, cond)?;
+            let then = code_in(alloc, resolver, then)?;
+            let els = code_in(alloc, resolver, els)?;
             Ok(SlotNode::If(number, cond, then, els))
         }
         StmtNode::While(cond, body) => {
-            let cond = guard_in(alloc, frame.slots, cond)?;
-            let body = code_in(alloc, frame, body)?;
+            let cond = guard_in(alloc, resolver.slots, cond)?;
+            let body = code_in(alloc, resolver, body)?;
             Ok(SlotNode::While(number, cond, body))
         }
     }

@@ -68,8 +68,8 @@ fn routine_of(
     requires slots { slots.now ≡ layout_in proc.now }
     ensures is { IfOk result (λ r. r ≡ routine_of earlier.now proc.now) }
 {
-    let frame = Resolver::new(slots, earlier, known);
-    let code = code_in(alloc, &frame, proc.body())?;
+    let resolver = Resolver::new(slots, earlier, known);
+    let code = code_in(alloc, &resolver, proc.body())?;
     let name = proc.name().clone()?;
     let layout = slots.layout().clone()?;
     Routine::new(alloc, name, layout, code)

@@ -8,7 +8,7 @@ use Rattle.imp_check.specs.Names.{variables}
 use Rattle.imp_check.specs.Slots.{routines_of}
 use Rattle.imp_check.specs.Statements.{action_fault, condition_fault}
 use Rattle.imp_check.specs.Programs.{AreNumbered, variables_fault, check_fault}
-use Rattle.imp_check.specs.Entries.{entry_at, entries_of, entry_of, form_in, frame_at, context_at}
+use Rattle.imp_check.specs.Entries.{entry_at, entries_of, entry_of, form_in, resolver_at, context_at}
 use Rattle.imp_check.specs.declared.fault.Fault.{Fault as AFault}
 use Rattle.imp_check.specs.declared.fault.Found.{Found}
 use Rattle.imp_check.specs.declared.entry.Entry.{Entry}
@@ -70,18 +70,18 @@ pub alone_refused : (p : Procedure) (s : Statement) (n : ℕ) (f : Found) → va
 alone_refused p s n f v i h = alone_some (alone_fault (variables p) s) p.name n f (sym (alone_check p s v i) ∙ h)
 
 -- What it does over slots is found at its number.
-pub alone_entry : (p : Procedure) (s : Statement) → IsAlone s → entry_of (entries_of (alone p s)) 1 ≡ Some (entry_at (frame_at [] p) (context_at 0) None None s)
-alone_entry p (Simple n a) i = subst (λ m. entry_of (entries_of (alone p (Simple m a))) 1 ≡ Some (entry_at (frame_at [] p) (context_at 0) None None (Simple m a))) (sym i) refl
+pub alone_entry : (p : Procedure) (s : Statement) → IsAlone s → entry_of (entries_of (alone p s)) 1 ≡ Some (entry_at (resolver_at [] p) (context_at 0) None None s)
+alone_entry p (Simple n a) i = subst (λ m. entry_of (entries_of (alone p (Simple m a))) 1 ≡ Some (entry_at (resolver_at [] p) (context_at 0) None None (Simple m a))) (sym i) refl
 alone_entry p (Break n) i = absurd i
 alone_entry p (Call n x g es) i = absurd i
-alone_entry p (If n c t e) i = subst (λ m. entry_of (entries_of (alone p (If m c t e))) 1 ≡ Some (entry_at (frame_at [] p) (context_at 0) None None (If m c t e))) (sym i.0) refl
+alone_entry p (If n c t e) i = subst (λ m. entry_of (entries_of (alone p (If m c t e))) 1 ≡ Some (entry_at (resolver_at [] p) (context_at 0) None None (If m c t e))) (sym i.0) refl
 alone_entry p (While n c b) i = absurd i
 
-pub alone_known : (p : Procedure) (s : Statement) (f : SlotForm) → IsAlone s → Some f ≡ option_map (λ (e : Entry). e.form) (entry_of (entries_of (alone p s)) 1) → f ≡ form_in (frame_at [] p) s
-alone_known p s f i h = let k : Some f ≡ Some (form_in (frame_at [] p) s) = h ∙ ap (option_map (λ (e : Entry). e.form)) (alone_entry p s i) in cc
+pub alone_known : (p : Procedure) (s : Statement) (f : SlotForm) → IsAlone s → Some f ≡ option_map (λ (e : Entry). e.form) (entry_of (entries_of (alone p s)) 1) → f ≡ form_in (resolver_at [] p) s
+alone_known p s f i h = let k : Some f ≡ Some (form_in (resolver_at [] p) s) = h ∙ ap (option_map (λ (e : Entry). e.form)) (alone_entry p s i) in cc
 
 pub alone_missing : (p : Procedure) (s : Statement) → IsAlone s → None ≡ option_map (λ (e : Entry). e.form) (entry_of (entries_of (alone p s)) 1) → ⊥
-alone_missing p s i h = let k : None ≡ Some (form_in (frame_at [] p) s) = h ∙ ap (option_map (λ (e : Entry). e.form)) (alone_entry p s i) in cc
+alone_missing p s i h = let k : None ≡ Some (form_in (resolver_at [] p) s) = h ∙ ap (option_map (λ (e : Entry). e.form)) (alone_entry p s i) in cc
 
 -- It fits.
 pub alone_fits : (p : Procedure) (s : Statement) → IsAlone s → IsChecked (routines_of (alone p s)) → FitsAlone p s

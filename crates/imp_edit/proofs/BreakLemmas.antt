@@ -4,7 +4,7 @@ use Rattle.std.proofs.Common.{◌≡◌, ℕ, zero, suc, ◌+◌, ◌-◌, ◌<�
 use Rattle.std.specs.Option.{option_map}
 use Rattle.imp_syntax.specs.Plain.{Condition, Statement, Simple, Break, Call, If, While, Statements, Ends, Starts, Procedure, number_of, numbers, program_numbers}
 use Rattle.imp_slots.specs.Fits.{Distinct}
-use Rattle.imp_check.specs.Entries.{inside, entry_at, entries_of, entry_of, frame_at, context_at, statement_entries, block_entries}
+use Rattle.imp_check.specs.Entries.{inside, entry_at, entries_of, entry_of, resolver_at, context_at, statement_entries, block_entries}
 use Rattle.imp_check.specs.Parts.{part_of, first_or, last_or, leaving_in, leaving}
 use Rattle.imp_check.specs.Programs.{block_count, program_count}
 use Rattle.imp_check.specs.Rebuilt.{next_in}
@@ -195,7 +195,7 @@ module _ (ps qs : List Procedure) (p : Procedure) (outer : List Hole) (loop : Ho
   at' = entry_of (entries_of P)
 
   abbrev f : Resolver
-  f = frame_at ps p
+  f = resolver_at ps p
 
   abbrev holes : List Hole → List Hole
   holes inner = outer ++ loop ∷ inner

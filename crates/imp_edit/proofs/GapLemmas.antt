@@ -7,7 +7,7 @@ use Rattle.imp_syntax.specs.declared.edit.Edit.{Edit}
 use Rattle.imp_syntax.specs.declared.edit.Edit.TheVariants as edit
 use Rattle.imp_syntax.specs.declared.edit.Place.TheVariants as place
 use Rattle.imp_slots.specs.Fits.{Distinct}
-use Rattle.imp_check.specs.Entries.{inside, inside_loop, entry_at, statement_entries, entries_of, entry_of, frame_at, context_at, head_of, heads_of}
+use Rattle.imp_check.specs.Entries.{inside, inside_loop, entry_at, statement_entries, entries_of, entry_of, resolver_at, context_at, head_of, heads_of}
 use Rattle.imp_check.specs.Names.{is_named, named_in, place_named}
 use Rattle.imp_check.specs.Parts.{part_of, first_ends, second_ends, first_or, last_or}
 use Rattle.imp_check.specs.Programs.{AreNumbered, block_count, program_count, check_fault}
@@ -56,7 +56,7 @@ pub record GapPart (e : Edit) (P : List Procedure) (g : Gap) : Type 0 where
 
 -- What is known of a statement where it stands.
 abbrev entry_there : {n : ℕ} {P : List Procedure} → Stands n P → Entry
-entry_there s = entry_at (frame_at s.front s.own) (context_of (context_at (length s.front)) s.place.holes) (last_or s.place.before None) (first_or s.place.behind None) s.place.stmt
+entry_there s = entry_at (resolver_at s.front s.own) (context_of (context_at (length s.front)) s.place.holes) (last_or s.place.before None) (first_or s.place.behind None) s.place.stmt
 
 record There (n : ℕ) (P : List Procedure) (e : Entry) : Type 0 where
   place : Stands n P
@@ -111,7 +111,7 @@ module _ (n : ℕ) (P : List Procedure) (once : Distinct (program_numbers P)) (s
   stmt = s.place.stmt
 
   abbrev f : Resolver
-  f = frame_at s.front s.own
+  f = resolver_at s.front s.own
 
   abbrev k : Context
   k = context_of (context_at (length s.front)) s.place.holes

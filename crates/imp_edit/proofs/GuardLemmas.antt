@@ -15,7 +15,7 @@ use Rattle.imp_check.proofs.FallingLemmas.{all_more, falling_more}
 use Rattle.imp_check.specs.Statements.{condition_fault, block_fault}
 use Rattle.imp_check.specs.Parts.{part_of}
 use Rattle.imp_check.specs.Programs.{AreNumbered, block_count, program_count, variables_fault, check_fault}
-use Rattle.imp_check.specs.Entries.{entries_of, entry_of, form_in, frame_at, heads_of, sites_of}
+use Rattle.imp_check.specs.Entries.{entries_of, entry_of, form_in, resolver_at, heads_of, sites_of}
 use Rattle.imp_check.specs.Changes.{AreWithin, Makes, overlay}
 use Rattle.imp_check.specs.declared.change.Change.{Change}
 use Rattle.imp_check.specs.declared.change.Put.{Put}
@@ -107,7 +107,7 @@ module _ (p : Procedure) (hs : List Hole) (before behind : Statements) (ps qs : 
   fits_there (If n c t e) f k = λ rs es w. (k, w.1, w.2, tt)
   fits_there (While n c b) f k = λ rs es w. (k, w.1, tt)
 
-  same_sites : (s : Statement) (es : List Procedure) (k : ℕ) → sites (frame_at es p) k (one s) ≡ sites (frame_at es p) k (one (with_condition s d))
+  same_sites : (s : Statement) (es : List Procedure) (k : ℕ) → sites (resolver_at es p) k (one s) ≡ sites (resolver_at es p) k (one (with_condition s d))
   same_sites (Simple n a) es k = refl
   same_sites (Break n) es k = refl
   same_sites (Call n x g os) es k = refl
@@ -121,7 +121,7 @@ module _ (p : Procedure) (hs : List Hole) (before behind : Statements) (ps qs : 
   same_count (If n c t e) = refl
   same_count (While n c b) = refl
 
-  form_is : (s : Statement) (es : List Procedure) → fits Conditional (part_of s) ≡ true → form_in (frame_at es p) (with_condition s d) ≡ form.Cond (guard_in (layout_in p) d)
+  form_is : (s : Statement) (es : List Procedure) → fits Conditional (part_of s) ≡ true → form_in (resolver_at es p) (with_condition s d) ≡ form.Cond (guard_in (layout_in p) d)
   form_is (Simple n a) es f = cc
   form_is (Break n) es f = cc
   form_is (Call n x g os) es f = cc
@@ -144,7 +144,7 @@ module _ (p : Procedure) (hs : List Hole) (before behind : Statements) (ps qs : 
   guard_makes s x y change f once again k same puts no_heads counted no_sites = record {
     entries = λ m. go m (number_of s == m) refl ∙ ap (λ (os : List Put). overlay os (entry_of (entries_of (old s))) m) (sym puts);
     heads =
-        heads_stay p (plug hs (between before behind (one s))) (plug hs (between before behind (one (with_condition s d)))) ps qs (plug_ends (frame_at ps p) 0 hs (between before behind (one s)) (between before behind (one (with_condition s d))) (guard_ends before behind s d))
+        heads_stay p (plug hs (between before behind (one s))) (plug hs (between before behind (one (with_condition s d)))) ps qs (plug_ends (resolver_at ps p) 0 hs (between before behind (one s)) (between before behind (one (with_condition s d))) (guard_ends before behind s d))
         ∙ ap (λ (o : Option (List Head)). unwrap_or o (heads_of (old s))) (sym no_heads);
     counted = counted ∙ count_stays s;
     sites = sites_stay p hs before (one s) (one (with_condition s d)) behind (same_sites s) ps qs ∙ ap (λ (o : Option (List (List ℕ))). unwrap_or o (sites_of (old s))) (sym no_sites);

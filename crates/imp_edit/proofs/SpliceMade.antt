@@ -6,7 +6,7 @@ use Rattle.std.specs.Option.{option_map}
 use Rattle.imp_syntax.specs.Plain.{Statements, Ends, Procedure, numbers, program_numbers}
 use Rattle.imp_syntax.specs.declared.edit.Edit.{Edit}
 use Rattle.imp_slots.specs.Fits.{Absent, Distinct, FitsCode}
-use Rattle.imp_check.specs.Entries.{entries_of, entry_of, frame_at, context_at, head_of, heads_of, sites_of}
+use Rattle.imp_check.specs.Entries.{entries_of, entry_of, resolver_at, context_at, head_of, heads_of, sites_of}
 use Rattle.imp_check.specs.Faults.{first, unless, at, in_procedure}
 use Rattle.imp_check.specs.Fine.{IsFine}
 use Rattle.imp_check.specs.Names.{variables}
@@ -78,11 +78,11 @@ module _ (p : Procedure) (hs : List Hole) (before olds behind : Statements) (ps 
           let b = first_or behind None in
           let at = entry_of (entries_of O) in
           gap_table ps qs p before olds news behind breaks apart hs old new (breaks_told ps qs p hs before olds behind news g context in_front gone old new) m
-          ∙ ap (λ (es : List Entry). spliced (record (gap_splice (frame_at ps p) k a b (numbers olds) news breaks) { come = es }) (held_in k.around (ends_with a b news)) at m) (quiet_entries (layout_in p) ps [] k a b news (closed_quiet (in_loop false hs) news closed))
-          ∙ ap (λ ns. spliced (gap_splice (frame_at [] p) k a b ns news breaks) (held_in k.around (ends_with a b news)) at m) (sym gone)
-          ∙ ap (λ z. spliced (gap_splice (frame_at [] p) z a b g.gone news breaks) (held_in z.around (ends_with a b news)) at m) (sym context)
-          ∙ ap (λ z. spliced (gap_splice (frame_at [] p) g.context z b g.gone news breaks) (held_in g.context.around (ends_with z b news)) at m) (sym in_front)
-          ∙ ap (λ z. spliced (gap_splice (frame_at [] p) g.context g.front z g.gone news breaks) (held_in g.context.around (ends_with g.front z news)) at m) (sym in_back)
+          ∙ ap (λ (es : List Entry). spliced (record (gap_splice (resolver_at ps p) k a b (numbers olds) news breaks) { come = es }) (held_in k.around (ends_with a b news)) at m) (quiet_entries (layout_in p) ps [] k a b news (closed_quiet (in_loop false hs) news closed))
+          ∙ ap (λ ns. spliced (gap_splice (resolver_at [] p) k a b ns news breaks) (held_in k.around (ends_with a b news)) at m) (sym gone)
+          ∙ ap (λ z. spliced (gap_splice (resolver_at [] p) z a b g.gone news breaks) (held_in z.around (ends_with a b news)) at m) (sym context)
+          ∙ ap (λ z. spliced (gap_splice (resolver_at [] p) g.context z b g.gone news breaks) (held_in g.context.around (ends_with z b news)) at m) (sym in_front)
+          ∙ ap (λ z. spliced (gap_splice (resolver_at [] p) g.context g.front z g.gone news breaks) (held_in g.context.around (ends_with g.front z news)) at m) (sym in_back)
 
     heads_are : heads_of N ≡ heads_in g.context.around (heads_of O) g.context.proc (ends_with g.front g.next news)
     heads_are =
@@ -119,7 +119,7 @@ module _ (p : Procedure) (hs : List Hole) (before olds behind : Statements) (ps 
 
     -- The change makes the new program.
     pub spliced_made : IsFine O → AreNumbered N → Apart (numbers olds) (numbers news) → (next : ℕ) (b : ℕ) → All (λ (n : ℕ). n < next) (program_numbers O) → next ≤ b → All (λ (n : ℕ). n < b) (numbers news) →
-        FitsCode [] (layout_in p) (code_in (frame_at [] p) news) → splice_fault O h g news ≡ None → (change : Change) → IsSplice O h g news change → IsMade O N b change
+        FitsCode [] (layout_in p) (code_in (resolver_at [] p) news) → splice_fault O h g news ≡ None → (change : Change) → IsSplice O h g news change → IsMade O N b change
     spliced_made fine numbered apart next b low more come fits none change s = record {
       makes = record {
         entries = λ m. entries_are fine.numbered.once numbered.once apart m ∙ sym (s.entries m);
@@ -191,11 +191,11 @@ module _ (e : Edit) (P : List Procedure) (g : Gap) (h : Head) (fine : IsFine P) 
       come : All (λ (n : ℕ). n < next_after e next) (numbers (brought e))
       come = subst (λ (ns : List ℕ). All (λ (n : ℕ). n < next_after e next) ns) (sym continues) (never_below (next_after e next) (counting next (uses e)) (λ m k. counting_high next (uses e) m k))
 
-      pub gap_made : AreNumbered (edited e P) → FitsCode [] (layout_in h.bare) (code_in (frame_at [] h.bare) (brought e)) → splice_fault P h g (brought e) ≡ None → (change : Change) → IsSplice P h g (brought e) change → IsMade P (edited e P) (next_after e next) change
+      pub gap_made : AreNumbered (edited e P) → FitsCode [] (layout_in h.bare) (code_in (resolver_at [] h.bare) (brought e)) → splice_fault P h g (brought e) ≡ None → (change : Change) → IsSplice P h g (brought e) change → IsMade P (edited e P) (next_after e next) change
       gap_made numbered fits none change s =
           let new = new_program part.own part.holes part.before part.olds (brought e) part.behind part.front part.back in
           let splice : IsSplice whole (head_of own) g (brought e) change = subst (λ (z : Head). IsSplice whole z g (brought e) change) head_is (subst (λ (os : List Procedure). IsSplice os h g (brought e) change) part.is s) in
-          let fit : FitsCode [] (layout_in part.own) (code_in (frame_at [] part.own) (brought e)) = subst (λ (z : Head). FitsCode [] (layout_in z.bare) (code_in (frame_at [] z.bare) (brought e))) head_is fits in
+          let fit : FitsCode [] (layout_in part.own) (code_in (resolver_at [] part.own) (brought e)) = subst (λ (z : Head). FitsCode [] (layout_in z.bare) (code_in (resolver_at [] z.bare) (brought e))) head_is fits in
           let no : splice_fault whole (head_of own) g (brought e) ≡ None = ap (λ (z : Head). splice_fault whole z g (brought e)) (sym head_is) ∙ ap (λ (os : List Procedure). splice_fault os h g (brought e)) (sym part.is) ∙ none in
           let made : IsMade whole new (next_after e next) change =
           spliced_made part.own part.holes part.before part.olds part.behind part.front part.back (brought e) part.quiet closed g part.context part.in_front part.in_back part.gone

@@ -8,7 +8,7 @@ use Rattle.imp_syntax.specs.declared.edit.Edit.TheVariants as edit
 use Rattle.imp_syntax.specs.declared.edit.Place.{Place}
 use Rattle.imp_syntax.specs.declared.edit.Place.TheVariants as place
 use Rattle.imp_check.specs.Changes.{AreWithin, overlay}
-use Rattle.imp_check.specs.Entries.{inside, inside_loop, context_at, entries_of, entry_of, frame_at, heads_of}
+use Rattle.imp_check.specs.Entries.{inside, inside_loop, context_at, entries_of, entry_of, resolver_at, heads_of}
 use Rattle.imp_check.specs.Faults.{first, unless, at, in_procedure}
 use Rattle.imp_check.specs.Names.{named_in, variables}
 use Rattle.imp_check.specs.Programs.{block_count, program_count, nesting, name_of, last_of}
@@ -92,7 +92,7 @@ splice_fault ps h g news = first (size_fault ps g news) (in_procedure h.bare.nam
 
 -- what is then known of the statements
 abbrev pub entries_with : List Procedure → Head → Gap → Statements → ℕ → Option Entry
-entries_with ps h g news = spliced (gap_splice (frame_at [] h.bare) g.context g.front g.next g.gone news (loop_breaks ps g news)) (held_in g.context.around (ends_with g.front g.next news)) (entry_of (entries_of ps))
+entries_with ps h g news = spliced (gap_splice (resolver_at [] h.bare) g.context g.front g.next g.gone news (loop_breaks ps g news)) (held_in g.context.around (ends_with g.front g.next news)) (entry_of (entries_of ps))
 
 -- a number, if there is one, is below a bound
 abbrev pub IsBelow : ℕ → Option ℕ → Type 0

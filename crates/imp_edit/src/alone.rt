@@ -5,7 +5,7 @@ ghost use Rattle.imp_syntax.specs.Plain.{Ends, If};
 ghost use Rattle.imp_check.specs.Names.{variables};
 ghost use Rattle.imp_check.specs.Programs.{variables_fault};
 ghost use Rattle.imp_check.specs.Faults.{at, in_procedure};
-ghost use Rattle.imp_check.specs.Entries.{entries_of, entry_of, form_in, frame_at};
+ghost use Rattle.imp_check.specs.Entries.{entries_of, entry_of, form_in, resolver_at};
 ghost use Rattle.imp_check.specs.declared.entry.Entry.{Entry};
 ghost use Rattle.imp_edit.specs.declared.error.EditError.TheVariants.{Fault as refused_by};
 ghost use Rattle.imp_edit.specs.Alone.{IsAlone, alone, alone_fault, FitsAlone};
@@ -32,7 +32,7 @@ pub(crate) fn form_alone(
 ) -> Result<SlotForm, EditError>
     requires fine { variables_fault [] (variables proc.now) ≡ None }
     requires alone { IsAlone stmt }
-    ensures form { IfOk result (λ form. form ≡ form_in (frame_at [] proc.now) stmt) }
+    ensures form { IfOk result (λ form. form ≡ form_in (resolver_at [] proc.now) stmt) }
     ensures fits { IfOk result (λ _. FitsAlone proc.now stmt) }
     ensures faultless { IfOk result (λ _. alone_fault (variables proc.now) stmt ≡ None) }
     ensures refused { IfErr result (IsRefusal (option_map refused_by (in_procedure proc.now.name (at number (alone_fault (variables proc.now) stmt))))) }

@@ -4,7 +4,7 @@ ghost use Rattle.std.specs.List.{All};
 ghost use Rattle.std.specs.Option.{option_map};
 ghost use Rattle.imp_syntax.specs.Plain.{Statements};
 ghost use Rattle.imp_check.specs.Changes.{AreFalling, AreWithin, overlay};
-ghost use Rattle.imp_check.specs.Entries.{block_entries, entries_of, entry_of, frame_at};
+ghost use Rattle.imp_check.specs.Entries.{block_entries, entries_of, entry_of, resolver_at};
 ghost use Rattle.imp_check.specs.Faults.{first};
 ghost use Rattle.imp_check.specs.Parts.{first_or, last_or};
 ghost use Rattle.imp_check.specs.Programs.{has};
@@ -240,7 +240,7 @@ pub(crate) fn puts_of(
     news: &Block,
     entries: Vec<Entry>,
 ) -> Result<Vec<Put>, Memory>
-    requires come { entries.items ≡ block_entries (frame_at [] head.now.bare) gap.now.context gap.now.front gap.now.next news.now }
+    requires come { entries.items ≡ block_entries (resolver_at [] head.now.bare) gap.now.context gap.now.front gap.now.next news.now }
     ensures are { IfOk result (λ puts. (m : ℕ) → overlay puts.items (entry_of (entries_of table.now.program)) m ≡ entries_with table.now.program head.now gap.now news.now m) }
     ensures within { IfOk result (λ puts. (b : ℕ) → AreBelow b gap.now news.now → AreWithin b puts.items) }
 {

@@ -3,7 +3,7 @@ ghost use Rattle.std.specs.Prelude.{◌≡◌, ◌+◌, ◌<◌, ◌^◌, [], �
 ghost use Rattle.std.specs.Option.{option_map};
 ghost use Rattle.imp_syntax.specs.Plain.{Ends, Starts, block_of, number_of};
 ghost use Rattle.imp_slots.specs.Fits.{FitsCode};
-ghost use Rattle.imp_check.specs.Entries.{block_entries, entry_at, form_in, frame_at, statement_entries};
+ghost use Rattle.imp_check.specs.Entries.{block_entries, entry_at, form_in, resolver_at, statement_entries};
 ghost use Rattle.imp_check.specs.Faults.{at, in_procedure};
 ghost use Rattle.imp_check.specs.Names.{variables};
 ghost use Rattle.imp_check.specs.Parts.{first_or};
@@ -41,8 +41,8 @@ pub(crate) fn entries_of(
     requires fine { variables_fault [] (variables head.now.bare) ≡ None }
     requires quiet { are_quiet news.now ≡ true }
     requires shallow { gap.now.context.depth + nesting news.now < 2 ^ 32 }
-    ensures are { IfOk result (λ entries. entries.items ≡ block_entries (frame_at [] head.now.bare) gap.now.context gap.now.front gap.now.next news.now) }
-    ensures fit { IfOk result (λ _. FitsCode [] (layout_in head.now.bare) (code_in (frame_at [] head.now.bare) news.now)) }
+    ensures are { IfOk result (λ entries. entries.items ≡ block_entries (resolver_at [] head.now.bare) gap.now.context gap.now.front gap.now.next news.now) }
+    ensures fit { IfOk result (λ _. FitsCode [] (layout_in head.now.bare) (code_in (resolver_at [] head.now.bare) news.now)) }
     ensures faultless { IfOk result (λ _. block_fault (lone (variables head.now.bare)) true news.now ≡ None) }
     ensures refused { IfErr result (IsRefusal (option_map refused_by (in_procedure head.now.bare.name (block_fault (lone (variables head.now.bare)) true news.now)))) }
 {
@@ -92,8 +92,8 @@ fn add_block(
     requires fine { variables_fault [] (variables head.now.bare) ≡ None }
     requires quiet { are_quiet block.now ≡ true }
     requires shallow { site.now.context.depth + nesting block.now < 2 ^ 32 }
-    ensures added { OnOk result (entries.new.items ≡ entries.old.items ++ block_entries (frame_at [] head.now.bare) site.now.context site.now.front site.now.next block.now) }
-    ensures fit { OnOk result (FitsCode [] (layout_in head.now.bare) (code_in (frame_at [] head.now.bare) block.now)) }
+    ensures added { OnOk result (entries.new.items ≡ entries.old.items ++ block_entries (resolver_at [] head.now.bare) site.now.context site.now.front site.now.next block.now) }
+    ensures fit { OnOk result (FitsCode [] (layout_in head.now.bare) (code_in (resolver_at [] head.now.bare) block.now)) }
     ensures faultless { OnOk result (block_fault (lone (variables head.now.bare)) true block.now ≡ None) }
     ensures refused { IfErr result (IsRefusal (option_map refused_by (in_procedure head.now.bare.name (block_fault (lone (variables head.now.bare)) true block.now)))) }
 {
@@ -127,8 +127,8 @@ fn add_statement(
     requires fine { variables_fault [] (variables head.now.bare) ≡ None }
     requires quiet { is_quiet stmt.now ≡ true }
     requires shallow { site.now.context.depth + statement_nesting stmt.now < 2 ^ 32 }
-    ensures added { OnOk result (entries.new.items ≡ entries.old.items ++ statement_entries (frame_at [] head.now.bare) site.now.context site.now.front site.now.next stmt.now) }
-    ensures fit { OnOk result (FitsCode [] (layout_in head.now.bare) (code_in (frame_at [] head.now.bare) (Starts stmt.now Ends))) }
+    ensures added { OnOk result (entries.new.items ≡ entries.old.items ++ statement_entries (resolver_at [] head.now.bare) site.now.context site.now.front site.now.next stmt.now) }
+    ensures fit { OnOk result (FitsCode [] (layout_in head.now.bare) (code_in (resolver_at [] head.now.bare) (Starts stmt.now Ends))) }
     ensures faultless { OnOk result (statement_fault (lone (variables head.now.bare)) true stmt.now ≡ None) }
     ensures refused { IfErr result (IsRefusal (option_map refused_by (in_procedure head.now.bare.name (statement_fault (lone (variables head.now.bare)) true stmt.now)))) }
 {
@@ -158,7 +158,7 @@ fn add_statement(
 fn entry_at(alloc: Global, head: &Head, site: &Site, stmt: &Stmt) -> Result<Entry, EditError>
     requires fine { variables_fault [] (variables head.now.bare) ≡ None }
     requires quiet { is_quiet stmt.now ≡ true }
-    ensures is { IfOk result (λ entry. entry ≡ entry_at (frame_at [] head.now.bare) site.now.context site.now.front site.now.next stmt.now) }
+    ensures is { IfOk result (λ entry. entry ≡ entry_at (resolver_at [] head.now.bare) site.now.context site.now.front site.now.next stmt.now) }
     ensures fits { IfOk result (λ _. FitsAlone head.now.bare stmt.now) }
     ensures faultless { IfOk result (λ _. alone_fault (variables head.now.bare) stmt.now ≡ None) }
     ensures refused { IfErr result (IsRefusal (option_map refused_by (in_procedure head.now.bare.name (at (number_of stmt.now) (alone_fault (variables head.now.bare) stmt.now))))) }
@@ -187,7 +187,7 @@ fn entry_at(alloc: Global, head: &Head, site: &Site, stmt: &Stmt) -> Result<Entr
 fn form_in(alloc: Global, head: &Head, stmt: &Stmt) -> Result<SlotForm, EditError>
     requires fine { variables_fault [] (variables head.now.bare) ≡ None }
     requires quiet { is_quiet stmt.now ≡ true }
-    ensures is { IfOk result (λ form. form ≡ form_in (frame_at [] head.now.bare) stmt.now) }
+    ensures is { IfOk result (λ form. form ≡ form_in (resolver_at [] head.now.bare) stmt.now) }
     ensures fits { IfOk result (λ _. FitsAlone head.now.bare stmt.now) }
     ensures faultless { IfOk result (λ _. alone_fault (variables head.now.bare) stmt.now ≡ None) }
     ensures refused { IfErr result (IsRefusal (option_map refused_by (in_procedure head.now.bare.name (at (number_of stmt.now) (alone_fault (variables head.now.bare) stmt.now))))) }

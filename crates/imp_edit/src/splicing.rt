@@ -2,7 +2,7 @@
 ghost use Rattle.std.specs.Prelude.{◌≡◌, ◌+◌, ◌<◌, [], length, unwrap_or, IfOk, IfErr, None, true};
 ghost use Rattle.std.specs.Option.{option_map};
 ghost use Rattle.imp_slots.specs.Fits.{FitsCode};
-ghost use Rattle.imp_check.specs.Entries.{frame_at, heads_of};
+ghost use Rattle.imp_check.specs.Entries.{resolver_at, heads_of};
 ghost use Rattle.imp_check.specs.Names.{variables};
 ghost use Rattle.imp_check.specs.Programs.{last_of, name_of, nesting, variables_fault};
 ghost use Rattle.imp_check.specs.Slots.{code_in, layout_in};
@@ -46,7 +46,7 @@ pub(crate) fn splice(
     requires fine { variables_fault [] (variables head.now.bare) ≡ None }
     requires quiet { are_quiet news.now ≡ true }
     ensures is { IfOk result (IsSplice table.now.program head.now gap.now news.now) }
-    ensures fit { IfOk result (λ _. FitsCode [] (layout_in head.now.bare) (code_in (frame_at [] head.now.bare) news.now)) }
+    ensures fit { IfOk result (λ _. FitsCode [] (layout_in head.now.bare) (code_in (resolver_at [] head.now.bare) news.now)) }
     ensures faultless { IfOk result (λ _. splice_fault table.now.program head.now gap.now news.now ≡ None) }
     ensures refused { IfErr result (IsRefusal (option_map refused_by (splice_fault table.now.program head.now gap.now news.now))) }
 {

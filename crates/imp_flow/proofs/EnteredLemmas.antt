@@ -13,7 +13,7 @@ use Rattle.imp_slots.specs.Fits.{Distinct, IsChecked}
 use Rattle.imp_check.specs.Parts.{first_or, last_or, leaving}
 use Rattle.imp_check.specs.Programs.{AreNumbered}
 use Rattle.imp_check.specs.Slots.{Resolver, layout_in, code_in, guard_in, callee_in, invoke_in, routine_of, routines_from, routines_of}
-use Rattle.imp_check.specs.Entries.{inside, inside_loop, entry_at, block_entries, procedure_entries, entries_from, entries_of, entry_of, frame_at, context_at, heads_of, head_of}
+use Rattle.imp_check.specs.Entries.{inside, inside_loop, entry_at, block_entries, procedure_entries, entries_from, entries_of, entry_of, resolver_at, context_at, heads_of, head_of}
 use Rattle.imp_check.specs.declared.entry.Context.{Context}
 use Rattle.imp_check.specs.declared.entry.Entry as known
 use Rattle.imp_check.specs.declared.entry.Head.{Head}
@@ -160,7 +160,7 @@ code_end (Some r) = Some (last_point r.code Entry)
 
 ends_from : (es ps : List Procedure) (q : ℕ) → code_end (slice_get (routines_from es ps) q) ≡ end_of (slice_get ps q)
 ends_from es [] q = refl
-ends_from es (p ∷ ps) zero = ap Some (last_is (frame_at es p) p.body Entry None)
+ends_from es (p ∷ ps) zero = ap Some (last_is (resolver_at es p) p.body Entry None)
 ends_from es (p ∷ ps) (suc q) = ends_from (es ++ p ∷ []) ps q
 
 callee_is : (ps : List Routine) (q : ℕ) → callee_end ps q ≡ code_end (look ps q)
@@ -243,7 +243,7 @@ module _ (P : List Procedure) (at : Table) where
   -- the nodes of a procedure
   own : (es ps : List Procedure) (p : Procedure) → P ≡ es ++ p ∷ ps → Known at (procedure_entries es p) → block_nodes (reverse (routines_of es)) [] Entry (routine_of es p).code ≡ map N (procedure_entries es p)
   own es ps p s k =
-      nodes_are at (end_in P) (frame_at es p) (reverse (routines_of es)) (λ q. callees_are es (p ∷ ps) q ∙ ap (λ z. end_in z (length (reverse (routines_of es))) q) (sym s)) p.body [] (context_at (length es)) None None (counted [] es) (λ m j. no_loops m) k
+      nodes_are at (end_in P) (resolver_at es p) (reverse (routines_of es)) (λ q. callees_are es (p ∷ ps) q ∙ ap (λ z. end_in z (length (reverse (routines_of es))) q) (sym s)) p.body [] (context_at (length es)) None None (counted [] es) (λ m j. no_loops m) k
 
   there_all : (es ps : List Procedure) → P ≡ es ++ ps → Known at (entries_from es ps) → (e : known.Entry) → In e (entries_from es ps) → Member (N e) (nodes_of (all_back es ps))
   there_all es [] s k e h = absurd h
@@ -337,7 +337,7 @@ ending x o = if_some o (λ r. if bytes_eq x r.name then Some ([], last_point r.c
 end_at : (es ps : List Procedure) (k : ℕ) (h : Head) (x : List ℕ) → slice_get (heads_of ps) k ≡ Some h → ending x (slice_get (routines_from es ps) k) ≡ (if bytes_eq x h.bare.name then Some ([], behind_or Entry h.body.last) else None)
 end_at es [] k h x e = absurd cc
 end_at es (p ∷ ps) zero h x e =
-    ap (λ q. if bytes_eq x p.name then Some ([], q) else None) (last_is (frame_at es p) p.body Entry None)
+    ap (λ q. if bytes_eq x p.name then Some ([], q) else None) (last_is (resolver_at es p) p.body Entry None)
     ∙ ap (λ (z : Head). if bytes_eq x z.bare.name then Some ([], behind_or Entry z.body.last) else None) (same_Some (head_of p) h e)
 end_at es (p ∷ ps) (suc k) h x e = end_at (es ++ p ∷ []) ps k h x e
 

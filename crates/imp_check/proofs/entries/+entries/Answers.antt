@@ -4,7 +4,7 @@ use Rattle.imp_check.proofs.entries.+entries.Goals as goal
 
 pub block_entries-loop-i-preserved : goal.block_entries-loop-i-preserved
 block_entries-loop-i-preserved g c =
-    let f = c.args.frame.now in
+    let f = c.args.resolver.now in
     let ss = c.as_slice-stmts.result.now in
     let i = c.loop-i.i in
     let old = c.loop-i.making in

@@ -14,6 +14,6 @@ decreases-statement_entries l = goal.size-statement_entries l
 abbrev pub invariant-block_entries-loop-i : goal.invariant-block_entries-loop-i
 invariant-block_entries-loop-i l = record {
   is : block_of l.stmts ≡ l.block;
-  put : put_all (block_entries l.frame l.context l.front None (block_of (drop l.i l.stmts))) l.making.places.items ≡ put_all (block_entries l.frame l.context None None l.block) l.initial.making.places.items;
-  sites : with_sites (block_entries l.frame l.context l.front None (block_of (drop l.i l.stmts))) l.making.sites.items ≡ with_sites (block_entries l.frame l.context None None l.block) l.initial.making.sites.items;
+  put : put_all (block_entries l.resolver l.context l.front None (block_of (drop l.i l.stmts))) l.making.places.items ≡ put_all (block_entries l.resolver l.context None None l.block) l.initial.making.places.items;
+  sites : with_sites (block_entries l.resolver l.context l.front None (block_of (drop l.i l.stmts))) l.making.sites.items ≡ with_sites (block_entries l.resolver l.context None None l.block) l.initial.making.sites.items;
 }

@@ -14,5 +14,5 @@ decreases-statement_in l = goal.size-statement_in l
 abbrev pub invariant-code_in-loop-stmt : goal.invariant-code_in-loop-stmt
 invariant-code_in-loop-stmt l = record {
   is : block_of l.stmt-items ≡ l.block;
-  told : code_then l.nodes.items (code_in l.frame (block_of (drop l.stmt-index l.stmt-items))) ≡ code_in l.frame l.block;
+  told : code_then l.nodes.items (code_in l.resolver (block_of (drop l.stmt-index l.stmt-items))) ≡ code_in l.resolver l.block;
 }

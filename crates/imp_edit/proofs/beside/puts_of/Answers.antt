@@ -3,7 +3,7 @@ use Rattle.std.specs.List.{All}
 use Rattle.std.specs.Option.{option_map}
 use Rattle.imp_syntax.specs.Plain.{numbers}
 use Rattle.imp_check.specs.Changes.{overlay}
-use Rattle.imp_check.specs.Entries.{block_entries, entries_of, entry_of, frame_at}
+use Rattle.imp_check.specs.Entries.{block_entries, entries_of, entry_of, resolver_at}
 use Rattle.imp_check.specs.Parts.{first_or, last_or}
 use Rattle.imp_check.specs.Programs.{has}
 use Rattle.imp_check.specs.declared.entry.Entry.{Entry}
@@ -17,7 +17,7 @@ returns-clause-are c m =
     let g = c.args.gap.now in
     let news = c.args.news.now in
     let at = entry_of (entries_of c.args.table.now.program) in
-    let f = frame_at [] c.args.head.now.bare in
+    let f = resolver_at [] c.args.head.now.bare in
     let es = c.args.entries.items in
     let come = block_entries f g.context g.front g.next news in
     let e : entry_numbers es ≡ numbers news = ap entry_numbers c.requires.come ∙ block_numbers f g.context g.front g.next news in
@@ -38,7 +38,7 @@ pub returns-clause-within : goal.returns-clause-within
 returns-clause-within c b w =
     let g = c.args.gap.now in
     let news = c.args.news.now in
-    let f = frame_at [] c.args.head.now.bare in
+    let f = resolver_at [] c.args.head.now.bare in
     let es = c.args.entries.items in
     let e : entry_numbers es ≡ numbers news = ap entry_numbers c.requires.come ∙ block_numbers f g.context g.front g.next news in
     c.in_ok-put_gone.ensures.within b (subst (λ (ns : List ℕ). All (λ (n : ℕ). n < b) ns) (sym c.as_slice.ensures.same) w.gone)

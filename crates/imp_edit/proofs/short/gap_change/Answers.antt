@@ -3,7 +3,7 @@ use Rattle.std.specs.Option.{option_map}
 use Rattle.imp_syntax.specs.Plain.{Procedure, Statements}
 use Rattle.imp_slots.specs.Fits.{FitsCode}
 use Rattle.imp_check.specs.Slots.{code_in, layout_in}
-use Rattle.imp_check.specs.Entries.{frame_at, heads_of}
+use Rattle.imp_check.specs.Entries.{resolver_at, heads_of}
 use Rattle.edit_entries.specs.Gaps.{closed_at}
 use Rattle.edit_entries.proofs.Closed.{quiet_at}
 use Rattle.imp_edit.specs.Edited.{brought}
@@ -48,7 +48,7 @@ returns-in-Ok-clause-made c =
     gap_made d P g h (fine_of P c.procs.ensures.faultless c.procs.ensures.numbered c.procs.ensures.fit) c.requires.site c.requires.here
     (ap (λ (os : List Procedure). slice_get (heads_of os) g.context.proc) (sym c.view.ensures.is) ∙ sym c.in-Some.ensures.is)
     closed c.args.next c.requires.below c.requires.continues c.requires.numbered
-    (subst (λ (b : Statements). FitsCode [] (layout_in h.bare) (code_in (frame_at [] h.bare) b)) is c.in-Ok.ensures.fit)
+    (subst (λ (b : Statements). FitsCode [] (layout_in h.bare) (code_in (resolver_at [] h.bare) b)) is c.in-Ok.ensures.fit)
     (ap (splice_fault P h g) (sym is) ∙ c.in-Ok.ensures.faultless)
     c.in-Ok.change
     (subst (λ (b : Statements). IsSplice P h g b c.in-Ok.change) is c.in-Ok.ensures.is)

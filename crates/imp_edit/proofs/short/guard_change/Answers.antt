@@ -3,7 +3,7 @@ use Rattle.imp_syntax.specs.Plain.{Procedure, Statement}
 use Rattle.imp_syntax.specs.Changes.{with_condition}
 use Rattle.imp_check.specs.Names.{variables}
 use Rattle.imp_check.specs.Programs.{program_count}
-use Rattle.imp_check.specs.Entries.{form_in, frame_at, heads_of}
+use Rattle.imp_check.specs.Entries.{form_in, resolver_at, heads_of}
 use Rattle.imp_check.specs.declared.entry.SlotForm.{SlotForm}
 use Rattle.imp_edit.specs.Alone.{alone_fault, FitsAlone}
 use Rattle.imp_edit.proofs.GuardLemmas.{fine_of, guard_variables, guard_made}
@@ -35,7 +35,7 @@ returns-clause-made c =
     (subst (FitsAlone h.bare) is c.in_ok-form.ensures.fits)
     (c.changed_entry.ensures.is
     ∙ ap (λ (z : Statement). record e { part = z; form = c.in_ok-form.form }) (c.in_ok-part.ensures.is ∙ ap (with_condition e.part) c.in_ok-clone.ensures.cases)
-    ∙ ap (λ (z : SlotForm). record e { part = with_condition e.part d; form = z }) (c.in_ok-form.ensures.form ∙ ap (form_in (frame_at [] h.bare)) is))
+    ∙ ap (λ (z : SlotForm). record e { part = with_condition e.part d; form = z }) (c.in_ok-form.ensures.form ∙ ap (form_in (resolver_at [] h.bare)) is))
     c.in_ok-entries.ensures.is
     refl
     (c.count.ensures.is ∙ ap program_count c.view-2.ensures.is)
