@@ -2,7 +2,7 @@
 use Rattle.std.proofs.Common.{ℕ, zero, suc, ◌≡◌, ◌+◌, ◌<◌, ◌≤◌, List, [], ◌∷◌, ◌++◌, length, take, drop, reverse, get_or, slice_get, option_map, Option, Some, None, Result, Ok, Err, IfOk, refl, sym, ap, subst, ◌∙◌, arith}
 use Rattle.std.specs.Prelude.{if◌then◌else◌}
 use Rattle.std.specs.Str.{bytes_eq}
-use Rattle.std.proofs.lemmas.List.{reverse-append, take-append-drop}
+use Rattle.std.proofs.lemmas.List.{reverse-append, take-append-drop, take_all}
 use Rattle.imp_slots.specs.Plain.{Invoke, Code, Routine}
 use Rattle.imp_syntax.specs.declared.edit.Location.{Location}
 use Rattle.imp_syntax.specs.declared.edit.Location.TheVariants.{Before, After, Head, End}
@@ -122,15 +122,9 @@ module _ {S : Type 0} (dom : Operations S) (plan : Plan) where
     sites = g.2 ∙ ap (λ z. x ∷ z) a.sites ∙ sym (back xs i x h k);
   }
 
-  take_past : (xs : List ℕ) (i : ℕ) → length xs ≤ i → take i xs ≡ xs
-  take_past [] zero h = refl
-  take_past [] (suc i) h = refl
-  take_past (x ∷ xs) zero h = absurd (omega arith)
-  take_past (x ∷ xs) (suc i) h = ap (λ ys. x ∷ ys) (take_past xs i (omega arith))
-
   pub chain_end : (xs : List ℕ) (i : ℕ) (e : Entered S) → length xs ≤ i → Along xs i e → IsEntered plan.program (reverse xs) (Some e) (entry dom plan.engine (reverse plan.program) (reverse xs))
   chain_end xs i e h a =
-      let all : reverse (take i xs) ≡ reverse xs = ap reverse (take_past xs i h) in
+      let all : reverse (take i xs) ≡ reverse xs = ap reverse (take_all i xs h) in
       (ap (entry dom plan.engine (reverse plan.program)) (sym all) ∙ a.comes, a.there, a.sites ∙ all)
 
   -- the values at the locations of a procedure that is entered

@@ -1,4 +1,5 @@
 -- Counts of numbers: one more, one less, and those of a statement.
+use Rattle.std.proofs.lemmas.List.{take_all}
 use Rattle.std.proofs.Common.{◌≡◌, ◌≢◌, ℕ, zero, suc, ◌+◌, ◌-◌, ◌<◌, ◌≤◌, ◌==◌, ◌++◌, cond, true, false, List, [], ◌∷◌, length, take, drop, get_or, Option, Some, None, refl, sym, ap, ◌∙◌, subst, arith}
 use Rattle.std.specs.Prelude.{if◌then◌else◌, unwrap_or}
 use Rattle.std.proofs.lemmas.Bool.Decides.{nat_tests}
@@ -125,14 +126,8 @@ occurs_once n ns = once n (rising ns) (rising_sorted ns) ∙ ap one_if (rising_h
 pub retold : (es : List (ℕ × ℕ)) (f g : ℕ → ℕ) → ((n : ℕ) → f n ≡ g n) → Tells es f → Tells es g
 retold es f g h t = record { sorted = t.sorted; at = λ n. t.at n ∙ ap or_none (h n) }
 
-take_past : {A : Type 0} (ks : List A) (i : ℕ) → length ks ≤ i → take i ks ≡ ks
-take_past [] zero h = refl
-take_past [] (suc i) h = refl
-take_past (k ∷ ks) zero h = absurd (omega arith)
-take_past (k ∷ ks) (suc i) h = ap (λ ms. k ∷ ms) (take_past ks i (omega arith))
-
 pub occurs_whole : (n : ℕ) (ks : List ℕ) (i : ℕ) → length ks ≤ i → occurs n (take i ks) ≡ occurs n ks
-occurs_whole n ks i h = ap (occurs n) (take_past ks i h)
+occurs_whole n ks i h = ap (occurs n) (take_all i ks h)
 
 -- the numbers of a statement, each once
 pub more_once : (es : List (ℕ × ℕ)) (f : ℕ → ℕ) (ks ns : List ℕ) → ks ≡ rising ns → Tells es (λ n. capped (f n + occurs n ks)) → Tells es (λ n. capped (f n + one_if (has n ns)))
@@ -190,7 +185,7 @@ times_first n [] = refl
 times_first n (ns ∷ lists) = refl
 
 pub times_whole : (n : ℕ) (lists : List (List ℕ)) (i : ℕ) → length lists ≤ i → times n (take i lists) ≡ times n lists
-times_whole n lists i h = ap (times n) (take_past lists i h)
+times_whole n lists i h = ap (times n) (take_all i lists h)
 
 -- statements so far
 by_both : (at : ℕ → Option Entry) (xs ys : List ℕ) → lists_by at (xs ++ ys) ≡ lists_by at xs ++ lists_by at ys
@@ -206,4 +201,4 @@ by_first at n [] = refl
 by_first at n (k ∷ ks) = refl
 
 pub by_whole : (at : ℕ → Option Entry) (n : ℕ) (ks : List ℕ) (i : ℕ) → length ks ≤ i → times n (lists_by at (take i ks)) ≡ times n (lists_by at ks)
-by_whole at n ks i h = ap (λ zs. times n (lists_by at zs)) (take_past ks i h)
+by_whole at n ks i h = ap (λ zs. times n (lists_by at zs)) (take_all i ks h)

@@ -1,4 +1,5 @@
 -- What a change takes and brings, with what is both left out.
+use Rattle.std.proofs.lemmas.List.{take_all}
 use Rattle.std.proofs.Common.{◌≡◌, ℕ, zero, suc, ◌+◌, ◌<◌, ◌≤◌, ◌==◌, ◌++◌, Bool, true, false, List, [], ◌∷◌, length, take, get_or, slice_get, Option, Some, None, refl, sym, ap, subst, ◌∙◌, arith}
 use Rattle.std.proofs.lemmas.Option.{slice_get-get_or, same_Some}
 use Rattle.std.specs.Prelude.{if◌then◌else◌}
@@ -8,7 +9,7 @@ use Rattle.program_chains.specs.Chains.{has}
 use Rattle.call_contexts.specs.Literals.{form_literals}
 use Rattle.call_contexts.specs.Differences.{lists_in, numbers_in, lost, gained, AreDifferent, AreMore}
 use Rattle.call_contexts.specs.Tallies.{one_if, times}
-use Rattle.call_contexts.proofs.Looped.{take_none, take_past}
+use Rattle.call_contexts.proofs.Looped.{take_none}
 use Rattle.call_contexts.proofs.TallyLemmas.{times_both}
 use Rattle.plain_values.proofs.Lists.{take_item}
 use Rattle.plain_values.proofs.Cases.{by_test}
@@ -49,7 +50,7 @@ module _ (at : ℕ → Option Entry) (puts : List Put) (k : ℕ) where
       })
 
   pub differ_all : (i : ℕ) (less more : List (List ℕ)) → length puts ≤ i → SoFar i less more → AreDifferent (lost k at puts) (gained k puts) less more
-  differ_all i less more l d = subst (λ (ps : List Put). AreDifferent (lost k at ps) (gained k ps) less more) (take_past puts i l) d
+  differ_all i less more l d = subst (λ (ps : List Put). AreDifferent (lost k at ps) (gained k ps) less more) (take_all i puts l) d
 
 -- One more on both sides, or none where it is the same.
 pub more_same : (less more : List (List ℕ)) (goes comes : List ℕ) → goes ≡ comes → AreMore less more goes comes less more

@@ -1,4 +1,3 @@
-pub mod Lists
 pub mod Numbered
 pub mod Few
 pub mod Sorted

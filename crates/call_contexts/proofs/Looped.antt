@@ -273,12 +273,6 @@ pub take_none : {A : Type 0} (xs : List A) → take 0 xs ≡ []
 take_none [] = refl
 take_none (x ∷ xs) = refl
 
-pub take_past : {A : Type 0} (xs : List A) (i : ℕ) → length xs ≤ i → take i xs ≡ xs
-take_past [] zero h = refl
-take_past [] (suc i) h = refl
-take_past (x ∷ xs) zero h = absurd (omega arith)
-take_past (x ∷ xs) (suc i) h = ap (λ ys. x ∷ ys) (take_past xs i (omega arith))
-
 abbrev pub Adds : (initial now : ℕ → Bool) → (ns : List ℕ) → (is : ℕ → Bool) → Type 0
 Adds initial now ns is = (n : ℕ) → now n ≡ (initial n || (has n ns && is n))
 

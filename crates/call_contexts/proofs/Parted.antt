@@ -1,6 +1,6 @@
 -- The marks and the tally of each procedure of a program, and what a change makes of them.
 use Rattle.std.proofs.lemmas.Option.{slice_get-map, slice_get_within, same_Some}
-use Rattle.std.proofs.lemmas.List.{length-map}
+use Rattle.std.proofs.lemmas.List.{length-map, take_all}
 use Rattle.std.proofs.Common.{◌≡◌, ℕ, ℤ, zero, suc, ◌+◌, ◌-◌, ◌<◌, ◌≤◌, ◌==◌, ◌||◌, ◌&&◌, ◌^◌, Bool, true, false, List, [], ◌∷◌, ◌++◌, length, take, slice_get, get_or, add-one, Option, Some, None, option_map, inl, inr, refl, sym, ap, ◌∙◌, subst, arith}
 use Rattle.std.specs.Prelude.{if◌then◌else◌, Result, Ok, Err, IfOk}
 use Rattle.std.specs.Bool.{OnTrue}
@@ -230,12 +230,6 @@ part_more whole all more i x e h p = p ∙ ap (λ zs. zs ++ x ∷ []) e ∙ sym 
     taken (y ∷ xs) zero x h = let q : y ≡ x = same_Some y x h in ap (λ z. z ∷ []) q
     taken (y ∷ xs) (suc i) x h = ap (λ zs. y ∷ zs) (taken xs i x h)
 
-take_whole : {A : Type 0} (xs : List A) (n : ℕ) → length xs ≤ n → take n xs ≡ xs
-take_whole [] zero h = refl
-take_whole [] (suc n) h = refl
-take_whole (x ∷ xs) zero h = absurd (omega arith)
-take_whole (x ∷ xs) (suc n) h = ap (λ zs. x ∷ zs) (take_whole xs n (omega arith))
-
 -- The parts of the first procedures.
 pub record SoFar (e : Engine) (program : List Routine) (place : ℕ) (s : Setting) : Type 0 where
   pub engine : s.engine ≡ e
@@ -256,9 +250,9 @@ so_far_more e program i k s t ms ts ls so_far at part same more others rest =
 
 pub so_far_whole : (e : Engine) (ps : List Procedure) (i : ℕ) (s : Setting) → SoFar e (routines_of ps) i s → length ps ≤ i → s ≡ setting_of e (routines_of ps)
 so_far_whole e ps i s so_far h =
-    let ms = so_far.marks ∙ take_whole (all_marks e.widening (routines_of ps)) i (omega (arith, h, length-map (routines_of ps) (marks e.widening), as_many [] ps)) in
-    let ts = so_far.tallies ∙ take_whole (all_tallies e.widening (routines_of ps)) i (omega (arith, h, length-map (routines_of ps) (tally_by e.widening), as_many [] ps)) in
-    let ls = so_far.loops ∙ take_whole (all_loops (routines_of ps)) i (omega (arith, h, length-map (routines_of ps) loops, as_many [] ps)) in
+    let ms = so_far.marks ∙ take_all i (all_marks e.widening (routines_of ps)) (omega (arith, h, length-map (routines_of ps) (marks e.widening), as_many [] ps)) in
+    let ts = so_far.tallies ∙ take_all i (all_tallies e.widening (routines_of ps)) (omega (arith, h, length-map (routines_of ps) (tally_by e.widening), as_many [] ps)) in
+    let ls = so_far.loops ∙ take_all i (all_loops (routines_of ps)) (omega (arith, h, length-map (routines_of ps) loops, as_many [] ps)) in
     λ j. record { engine = so_far.engine j; marks = ms j; tallies = ts j; loops = ls j }
 
 -- Procedures that are touched, one change after the other.
@@ -300,7 +294,7 @@ touched_none at [] k = refl
 touched_none at (p ∷ ps) k = refl
 
 pub touched_whole : (at : ℕ → Option Entry) (ps : List Put) (i k : ℕ) (has : Bool) → has ≡ touches at (take i ps) k → length ps ≤ i → has ≡ touches at ps k
-touched_whole at ps i k has e h = e ∙ ap (λ qs. touches at qs k) (take_whole ps i h)
+touched_whole at ps i k has e h = e ∙ ap (λ qs. touches at qs k) (take_all i ps h)
 
 -- a part that is as it was
 part_of : (w : Widening) (program : List Routine) (k : ℕ) (ms ns : List ℤ) (t u : List (ℕ × ℕ)) (ls os : List ℕ) → ns ≡ ms → u ≡ t → os ≡ ls → IsPart w program k ms t ls → IsPart w program k ns u os

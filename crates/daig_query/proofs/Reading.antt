@@ -1,5 +1,6 @@
 -- Answers read from cells.
-use Rattle.std.proofs.Common.{◌≡◌, ℕ, zero, suc, ◌+◌, ◌-◌, ◌*◌, ◌<◌, ◌≤◌, ◌⊎◌, List, [], ◌∷◌, ◌++◌, map, take, drop, fold, length, Option, Some, None, option_map, slice_get, get_or, refl, sym, ap, subst, ◌∙◌, inl, inr, arith, mul-add}
+use Rattle.std.proofs.Common.{◌≡◌, ℕ, zero, suc, ◌+◌, ◌-◌, ◌*◌, ◌<◌, ◌≤◌, ◌⊎◌, List, [], ◌∷◌, ◌++◌, map, take, drop, fold, length, Option, Some, None, option_map, slice_get, get_or, refl, sym, ap, subst, ◌∙◌, inl, inr, arith, mul-add, append-nil}
+use Rattle.std.proofs.Math.Seq.{take-length}
 use Rattle.std.specs.Prelude.{reverse, Result, Ok, Err, IfOk}
 use Rattle.std.specs.FinMap.{get}
 use Rattle.std.specs.Option.{option_and_then}
@@ -41,7 +42,6 @@ use Rattle.daig_query.specs.Walked.{IsDone, place_of}
 use Rattle.daig_query.specs.Answered.{plain_value, value_in, HoldValues, joined_all, Covers, Says}
 use Rattle.daig_query.proofs.Found.{stored, is_there}
 use Rattle.daig_query.proofs.Lists.{take_next}
-use Rattle.call_contexts.proofs.Lists.{take_whole}
 
 module _ {S : Type 0} (dom : Operations S) (engine : Engine) where
   folded : (s : S) (ss : List S) → joined_all dom (Some s) ss ≡ Some (fold dom.join s (map dom.shed ss))
@@ -93,13 +93,9 @@ module _ {S : Type 0} (dom : Operations S) (plan : Plan) (store : Store S) (righ
       go [] e = refl
       go (t ∷ ts) e = absurd cc
 
-  append_none : {A : Type 0} (xs : List A) → xs ++ [] ≡ xs
-  append_none [] = refl
-  append_none (x ∷ xs) = ap (λ ys. x ∷ ys) (append_none xs)
-
   module _ (ts : List Target) (w : Walk) (done : IsDone dom plan ts store w) where
     lasts_are : map (value_of_target (found dom plan)) ts ≡ map (λ x. (found dom plan x).value) done.placed.stands.lasts
-    lasts_are = done.placed.stands.values ∙ (ap (λ vs. map (λ x. (found dom plan x).value) done.placed.stands.lasts ++ vs) (none_left (place_of ts store w) done.asks_none) ∙ append_none (map (λ x. (found dom plan x).value) done.placed.stands.lasts))
+    lasts_are = done.placed.stands.values ∙ (ap (λ vs. map (λ x. (found dom plan x).value) done.placed.stands.lasts ++ vs) (none_left (place_of ts store w) done.asks_none) ∙ append-nil (map (λ x. (found dom plan x).value) done.placed.stands.lasts))
 
     -- what a walk that is done found are the values of its targets
     pub done_holds : HoldValues store w.found.items (map (value_of_target (found dom plan)) ts)
@@ -167,7 +163,7 @@ module _ {S : Type 0} (dom : Operations S) (store : Store S) (cells : List ℕ) 
     joined_says engine i o a b (ss, front, all) =
         let n : length vs ≡ length cells = sym (length-map vs Some) ∙ (sym (ap length holds) ∙ length-map cells (value_in store)) in
         let m : i ≡ length vs = omega arith in
-        let whole : vs ≡ map plain.State ss = sym (take_whole vs) ∙ (ap (λ k. take k vs) (sym m) ∙ front) in
+        let whole : vs ≡ map plain.State ss = sym (take-length vs) ∙ (ap (λ k. take k vs) (sym m) ∙ front) in
         subst (λ us. Says (summed dom engine us) (option_map State o)) (sym whole) (says_joined dom engine ss o all)
 
     -- one holds an Over

@@ -1,5 +1,6 @@
 -- What is missing behind a fill, and demands in turn.
 use Rattle.std.proofs.Common.{◌≡◌, ℕ, zero, suc, ◌||◌, Bool, true, false, cond, not, List, [], ◌∷◌, ◌++◌, take, drop, length, Some, slice_get, refl, sym, ap, subst, ◌∙◌}
+use Rattle.std.proofs.Math.Seq.{take-length}
 use std.Path.{fun_ext}
 use Rattle.std.specs.List.{filter}
 use Rattle.plain_values.proofs.Cases.{by_bool}
@@ -20,7 +21,6 @@ use Rattle.daig_query.specs.Kept.{kept}
 use Rattle.daig_query.specs.Right.{IsRight}
 use Rattle.daig_query.specs.Filled.{missing, Fills}
 use Rattle.daig_query.proofs.Running.{system, wanted, bound, acyclic, low}
-use Rattle.call_contexts.proofs.Lists.{take_whole}
 
 -- filters of one list by tests that agree on it
 filter_same : {A : Type 0} (p q : A → Bool) (xs : List A) → ((i : ℕ) (x : A) → slice_get xs i ≡ Some x → p x ≡ q x) → filter p xs ≡ filter q xs
@@ -78,4 +78,4 @@ module _ {S : Type 0} (dom : Operations S) (plan : Plan) (ts : List Target) (old
   pub in_turn : (xss : List (List CellName)) → Fills dom plan ts old new (length (missing dom plan ts old)) →
       missing_in_turn (system dom plan ts) (kept old) (wanted dom plan ts ∷ xss) ≡ missing dom plan ts old ++ missing_in_turn (system dom plan ts) (kept new) xss
   in_turn xss fills =
-      ap (λ keeps. missing dom plan ts old ++ missing_in_turn (system dom plan ts) keeps xss) (fun_ext (λ x. sym (fills.adds x ∙ ap (λ ys. kept old x || member same_name ys x) (take_whole (missing dom plan ts old)))))
+      ap (λ keeps. missing dom plan ts old ++ missing_in_turn (system dom plan ts) keeps xss) (fun_ext (λ x. sym (fills.adds x ∙ ap (λ ys. kept old x || member same_name ys x) (take-length (missing dom plan ts old)))))

@@ -1,5 +1,5 @@
 -- Stacks of names: their names, and the first name without a cell that each waits for.
-use Rattle.std.proofs.Common.{◌≡◌, ℕ, zero, suc, ◌+◌, ◌-◌, ◌<◌, ◌≤◌, ◌⊎◌, Bool, true, false, cond, not, List, [], ◌∷◌, ◌++◌, take, reverse, length, Option, Some, None, IsSome, is_some, option_map, slice_get, refl, sym, ap, subst, ◌∙◌, inl, inr, arith, length-append}
+use Rattle.std.proofs.Common.{◌≡◌, ℕ, zero, suc, ◌+◌, ◌-◌, ◌<◌, ◌≤◌, ◌⊎◌, Bool, true, false, cond, not, List, [], ◌∷◌, ◌++◌, take, reverse, length, Option, Some, None, IsSome, is_some, option_map, slice_get, refl, sym, ap, subst, ◌∙◌, inl, inr, arith, length-append, append-nil}
 use Rattle.std.specs.FinMap.{get}
 use Rattle.std.proofs.lemmas.List.{reverse-append}
 use Rattle.std.proofs.lemmas.Option.{slice_get_within, slice_get-map, same_Some}
@@ -136,12 +136,8 @@ module _ {S : Type 0} (dom : Operations S) (plan : Plan) (store : Store S) (righ
     pub targets_kept : asks k ≡ None → (i : ℕ) (y : CellName) → slice_get (demanded (found dom plan) ts) i ≡ Some y → kept store y ≡ true
     targets_kept e i y g =
         let left : names_left (found dom plan) k ≡ [] = none_left (names_left (found dom plan) k) (sym (walk_asks (found dom plan) k) ∙ e) in
-        let all : demanded (found dom plan) ts ≡ stands.asked = stands.names ∙ (ap (λ xs. stands.asked ++ xs) left ∙ append_none stands.asked) in
+        let all : demanded (found dom plan) ts ≡ stands.asked = stands.names ∙ (ap (λ xs. stands.asked ++ xs) left ∙ append-nil stands.asked) in
         stands.asked_kept y (at_member stands.asked i y (subst (λ xs. slice_get xs i ≡ Some y) all g))
-      where
-        append_none : (xs : List CellName) → xs ++ [] ≡ xs
-        append_none [] = refl
-        append_none (x ∷ xs) = ap (λ ys. x ∷ ys) (append_none xs)
 
     module _ (os : List Open) (stacked : AreStacked dom plan store k os) where
       abbrev names : List CellName

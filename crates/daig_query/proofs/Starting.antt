@@ -1,5 +1,6 @@
 -- A run begins where a walk stands, over the cells that there are.
 use Rattle.std.proofs.Common.{◌≡◌, ℕ, zero, suc, ◌<◌, ◌≤◌, false, List, [], ◌∷◌, ◌++◌, take, drop, length, Some, None, slice_get, sym, ap, subst, ◌∙◌, arith}
+use Rattle.std.proofs.Math.Seq.{take-length}
 use Rattle.std.specs.Prelude.{is_some}
 use Rattle.std.proofs.lemmas.List.{length-map}
 use Rattle.std.proofs.lemmas.Option.{slice_get_within}
@@ -26,7 +27,6 @@ use Rattle.daig_query.proofs.Walks.{stands_first}
 use Rattle.daig_query.proofs.Stacked.{stack_waits, all_absent, name_at}
 use Rattle.daig_query.proofs.Running.{Runs, runs_start, runs_push}
 use Rattle.daig_query.proofs.Turns.{IsRunning}
-use Rattle.call_contexts.proofs.Lists.{take_whole}
 
 module _ {S : Type 0} (dom : Operations S) (plan : Plan) where
   -- the first names of a stack are a stack
@@ -81,7 +81,7 @@ module _ {S : Type 0} (dom : Operations S) (plan : Plan) where
         lifted : Runs dom plan ts (kept store) (kept store) (stacked_names store os) 0
         lifted =
             let n : length (stacked_names store os) ≡ length os = length-map os (name_of store) in
-            subst (λ xs. Runs dom plan ts (kept store) (kept store) xs 0) (ap (λ m. take m (stacked_names store os)) (sym n) ∙ take_whole (stacked_names store os)) (lifts (length os) (omega arith))
+            subst (λ xs. Runs dom plan ts (kept store) (kept store) xs 0) (ap (λ m. take m (stacked_names store os)) (sym n) ∙ take-length (stacked_names store os)) (lifts (length os) (omega arith))
 
         pub begins : IsRunning dom plan ts store store w
         begins =

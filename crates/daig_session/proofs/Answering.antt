@@ -1,5 +1,5 @@
 -- What a question answers is the machine's.
-use Rattle.std.proofs.Common.{◌≡◌, ℕ, suc, ◌+◌, ◌*◌, ◌≤◌, List, [], length, Some, refl, sym, ap, subst, ◌∙◌, arith}
+use Rattle.std.proofs.Common.{◌≡◌, ℕ, suc, ◌+◌, ◌*◌, ◌≤◌, List, [], length, Some, refl, sym, ap, subst, ◌∙◌, arith, append-nil}
 use Rattle.imp_syntax.specs.declared.edit.Location.{Location}
 use Rattle.imp_slots.specs.Fits.{IsChecked}
 use Rattle.domain_laws.specs.Operations.{Operations}
@@ -22,11 +22,10 @@ use Rattle.daig_session.specs.Holds.{Holds}
 use Rattle.daig_session.specs.Reports.{IsUnticked}
 use Rattle.daig_session.specs.Turns.{Fails}
 use Rattle.daig_session.proofs.Filled.{added_holds, as_many}
-use Rattle.call_contexts.proofs.Lists.{append_none}
 
 -- nothing was filled
 pub between_none : (xs : List CellName) (m : Machine) (stands : Machine → Type 0) → stands m → IsBetween xs m stands
-between_none xs m stands h = record { count = 0; some = subst stands (ap (λ ks. keeping ks m.cost m) (sym (append_none m.kept))) h }
+between_none xs m stands h = record { count = 0; some = subst stands (ap (λ ks. keeping ks m.cost m) (sym (append-nil m.kept))) h }
 
 -- a refusal takes no steps
 pub no_steps : (n : ℕ) (e : QueryError) → IsUnticked n n e

@@ -1,5 +1,6 @@
 -- What is filled is kept by the machine.
 use Rattle.std.proofs.Common.{◌≡◌, ℕ, ◌||◌, List, [], ◌++◌, take, length, sym, ap, subst, ◌∙◌}
+use Rattle.std.proofs.Math.Seq.{take-length}
 use Rattle.imp_syntax.specs.declared.edit.Location.{Location}
 use Rattle.imp_slots.specs.Fits.{IsChecked}
 use Rattle.imp_check.specs.Slots.{routines_of}
@@ -25,7 +26,6 @@ use Rattle.daig_session.specs.Going.{IsAsked}
 use Rattle.daig_session.specs.Holds.{Holds, IsReady}
 use Rattle.daig_session.proofs.Asked.{targets_are}
 use Rattle.daig_session.proofs.Waiting.{waiting_grows}
-use Rattle.call_contexts.proofs.Lists.{take_whole}
 
 -- How many cells were filled is no part of what is in order.
 pub ready_costing : {S : Type 0} (dom : Operations S) (store : Store S) (book : Book) (cost : ℕ) → IsReady dom store book → IsReady dom store (record book { cost = cost })
@@ -116,4 +116,4 @@ module _ {S : Type 0} (dom : Operations S) (book : Book) (store new : Store S) w
     asked_holds m cost h e n =
         let ms = missing_at dom l string m in
         subst (λ k. Holds dom new (record book { cost = cost }) (keeping (m.kept ++ ms) k m)) e (
-        subst (λ ys. Holds dom new (record book { cost = cost }) (keeping (m.kept ++ ys) cost m)) (ap (λ k. take k ms) n ∙ take_whole ms) (keeping_holds m cost h))
+        subst (λ ys. Holds dom new (record book { cost = cost }) (keeping (m.kept ++ ys) cost m)) (ap (λ k. take k ms) n ∙ take-length ms) (keeping_holds m cost h))

@@ -1,5 +1,6 @@
 -- Checked statements one after another: what is missing of them, and what is kept then.
 use Rattle.std.proofs.Common.{◌≡◌, ℕ, zero, suc, ◌+◌, ◌*◌, ◌≤◌, Bool, ◌||◌, List, [], ◌∷◌, ◌++◌, map, take, length, Option, Some, None, Result, Ok, Err, refl, sym, ap, subst, ◌∙◌, arith, append_assoc, append-nil}
+use Rattle.std.proofs.Math.Seq.{take-length}
 use Rattle.std.proofs.lemmas.List.{length-append, map-append}
 use std.Path.{fun_ext}
 use Rattle.imp_syntax.specs.declared.edit.Location.TheVariants.{Before}
@@ -34,7 +35,6 @@ use Rattle.daig_session.specs.Reports.{chain_count, missing_of, work_on, HoldsAl
 use Rattle.daig_session.specs.Turns.{Questions}
 use Rattle.daig_session.proofs.Answering.{work_both}
 use Rattle.daig_session.proofs.Asked.{asked_answered}
-use Rattle.call_contexts.proofs.Lists.{take_whole}
 use mathlib.Core.Bool.{or-false}
 
 -- Fronts of lists.
@@ -112,7 +112,7 @@ module _ {S : Type 0} (dom : Operations S) (m : Machine) where
     pub all_part : (cs : List Checked) → HoldsAll dom m store book cs → HoldsPart dom m store book cs
     all_part cs h =
         let xs = missing_of dom m cs in
-        record { count = length xs; some = subst (λ ys. Holds dom store book (keeping (m.kept ++ ys) book.cost m)) (sym (take_whole xs)) h }
+        record { count = length xs; some = subst (λ ys. Holds dom store book (keeping (m.kept ++ ys) book.cost m)) (sym (take-length xs)) h }
 
     pub all_then : (cost : ℕ) (cs ds : List Checked) → HoldsAll dom (behind cs cost) store book ds → HoldsAll dom m store book (cs ++ ds)
     all_then cost cs ds h =

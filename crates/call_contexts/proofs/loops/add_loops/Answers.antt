@@ -1,10 +1,11 @@
+use Rattle.std.proofs.lemmas.List.{take_all}
 use Rattle.std.proofs.Common.{ℕ, ◌+◌, ◌||◌, ◌&&◌, List, take, ap, ◌∙◌}
 use Rattle.std.specs.BTreeSet.{contains}
 use Rattle.std.specs.Ordering.{nat_cmp}
 use Rattle.imp_check.specs.Entries.{entries_of, entry_of}
 use Rattle.program_chains.specs.Chains.{has}
 use Rattle.call_contexts.specs.Loops.{loop_in}
-use Rattle.call_contexts.proofs.Looped.{adds_none, adds_one, take_none, take_past}
+use Rattle.call_contexts.proofs.Looped.{adds_none, adds_one, take_none}
 use Rattle.call_contexts.proofs.loops.add_loops.Goals as goal
 use Rattle.plain_values.proofs.Lists.{take_item}
 
@@ -27,5 +28,5 @@ returns c =
     record {
       added = λ n.
           c.loop-stmt.invariant.added n
-          ∙ ap (λ (ns : List ℕ). contains nat_cmp c.args.found.now n || (has n ns && loop_in c.args.proc (entry_of (entries_of c.args.prog.now) n))) (take_past c.args.stmts.now c.loop-stmt.stmt-index c.loop-stmt-test.false);
+          ∙ ap (λ (ns : List ℕ). contains nat_cmp c.args.found.now n || (has n ns && loop_in c.args.proc (entry_of (entries_of c.args.prog.now) n))) (take_all c.loop-stmt.stmt-index c.args.stmts.now c.loop-stmt-test.false);
     }

@@ -1,10 +1,11 @@
+use Rattle.std.proofs.lemmas.List.{take_all}
 use Rattle.std.proofs.Common.{ℕ, ◌≡◌, ◌+◌, ◌==◌, Bool, List, take, ap, ◌∙◌}
 use Rattle.std.specs.Prelude.{if◌then◌else◌}
 use Rattle.imp_check.specs.Entries.{entries_of, entry_of}
 use Rattle.imp_check.specs.declared.change.Put.{Put}
 use Rattle.program_chains.specs.Chains.{has}
 use Rattle.call_contexts.specs.Loops.{loop_in, put_numbers}
-use Rattle.call_contexts.proofs.Looped.{sets_none, sets_one, put_step, take_none, take_past}
+use Rattle.call_contexts.proofs.Looped.{sets_none, sets_one, put_step, take_none}
 use Rattle.call_contexts.proofs.loops.set_loops.Goals as goal
 
 pub loop-put-init : goal.loop-put-init
@@ -35,5 +36,5 @@ returns c =
     let is : ℕ → Bool = λ n. loop_in c.args.proc (entry_of (entries_of c.args.prog.now) n) in
     record {
       rising = c.loop-put.invariant.rising;
-      set = λ n. c.loop-put.invariant.set n ∙ ap (λ (ps : List Put). if has n (put_numbers ps) then is n else has n initial) (take_past c.args.puts.now c.loop-put.put-index c.loop-put-test.false);
+      set = λ n. c.loop-put.invariant.set n ∙ ap (λ (ps : List Put). if has n (put_numbers ps) then is n else has n initial) (take_all c.loop-put.put-index c.args.puts.now c.loop-put-test.false);
     }
