@@ -1,6 +1,6 @@
 -- No answer of a program is an Over.
 use Rattle.std.specs.Prelude.{◌≡◌, ℕ, ◌≤◌, nat_lt, List, [], ◌∷◌, ◌++◌, length, map, reverse, slice_get, Option, Some, None, Bool, true, false, if◌then◌else◌}
-use Rattle.std.proofs.Common.{refl, sym, ap, ◌∙◌, arith, subst}
+use Rattle.std.proofs.Common.{refl, sym, ap, ◌∙◌, arith, subst, append-nil}
 use Rattle.std.specs.Str.{bytes_eq}
 use Rattle.std.proofs.lemmas.List.{reverse-append}
 use Rattle.imp_syntax.specs.declared.edit.Location.{Location}
@@ -147,11 +147,7 @@ module _ {S : Type 0} (dom : Operations S) (engine : Engine) (covers : S → Hea
 
     -- the procedures in turn, and back
     turned : (rs before : List Routine) → Roomy rs → Roomy (reverse before) → Roomy (reverse (before ++ rs))
-    turned [] before h b = subst (λ ps. Roomy (reverse ps)) (sym (none before)) b
-      where
-        none : (xs : List Routine) → xs ++ [] ≡ xs
-        none [] = refl
-        none (x ∷ xs) = ap (λ ys. x ∷ ys) (none xs)
+    turned [] before h b = subst (λ ps. Roomy (reverse ps)) (sym (append-nil before)) b
     turned (r ∷ rs) before h b =
         let e : reverse (before ++ (r ∷ [])) ≡ r ∷ reverse before = reverse-append before (r ∷ []) in
         subst (λ ps. Roomy (reverse ps)) (joined before r rs) (turned rs (before ++ (r ∷ [])) h.1 (subst Roomy (sym e) (h.0, b)))

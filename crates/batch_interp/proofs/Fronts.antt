@@ -25,7 +25,7 @@ use Rattle.batch_interp.specs.Totalling.{first_of, behind_first, all_added, answ
 use Rattle.batch_interp.specs.declared.claim.Claim.{Claim}
 use Rattle.batch_interp.specs.declared.value.Answer.{Answer}
 use Rattle.batch_interp.specs.declared.walks.Entered.{Entered}
-use Rattle.plain_values.proofs.Lists.{drop_item}
+use Rattle.plain_values.proofs.Lists.{drop_item, all_back}
 use Rattle.plain_values.proofs.Members.{Member, here, there, in_left, in_right}
 use Rattle.batch_meaning.proofs.Places.{found}
 use Rattle.batch_sound.proofs.Chains.{has_member, once_in}
@@ -200,11 +200,7 @@ module _ {S : Type 0} (dom : Operations S) (plan : Plan) where
     procedure_findings vs t = each_finding (checked_in r.code) vs (all_right r.code) t
 
   pub chains_back : (place : ℕ) (zs : List (List ℕ)) → zs ≡ map reverse (selected plan.program place []) → map reverse zs ≡ chains plan.program place
-  chains_back place zs e = ap (map reverse) e ∙ back (selected plan.program place []) ∙ every_ends (chains plan.program place)
-    where
-      back : (zs : List (List ℕ)) → map reverse (map reverse zs) ≡ zs
-      back [] = refl
-      back (z ∷ zs) = λ i. reverse-reverse z i ∷ back zs i
+  chains_back place zs e = ap (map reverse) e ∙ all_back (selected plan.program place []) ∙ every_ends (chains plan.program place)
 
 -- One more value at the end of the reversed lists.
 reversed : {A : Type 0} (xs ys : List A) (x : A) → xs ≡ ys ++ x ∷ [] → reverse xs ≡ x ∷ reverse ys

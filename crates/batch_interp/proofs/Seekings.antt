@@ -16,6 +16,7 @@ use Rattle.batch_interp.specs.Seeking.{holds_inside, places, spot_at, inner_of}
 use Rattle.plain_values.proofs.Cases.{by_test}
 use Rattle.plain_values.proofs.Lists.{drop_item}
 use Rattle.std.proofs.lemmas.List.{drop_all}
+use Rattle.call_contexts.proofs.Numbered.{has_both}
 use Rattle.batch_meaning.proofs.Places.{find_both, find_key, or_else}
 
 none_found : {A : Type 0} (n : ℕ) (xs : List (ℕ × A)) → has n (keys xs) ≡ false → find n xs ≡ None
@@ -62,15 +63,11 @@ module _ {S : Type 0} (dom : Operations S) (plan : Plan) (place : ℕ) (z : List
   places_before (node.Call n k q) r v = refl
   places_before (node.Break n) r v = refl
 
-  has_or : (n : ℕ) (xs ys : List ℕ) → has n (xs ++ ys) ≡ (has n xs || has n ys)
-  has_or n [] ys = refl
-  has_or n (x ∷ xs) ys = by_test n x (λ c. (if c then true else has n (xs ++ ys)) ≡ ((if c then true else has n xs) || has n ys)) (λ e. refl) (λ e. has_or n xs ys)
-
   inner_numbers : (n : ℕ) (s : SlotNode) (v : Value S) → has n (keys (inner_of dom plan place z s v)) ≡ holds_inside n s
   inner_numbers n (node.Simple m a) v = refl
   inner_numbers n (node.If m c t e) v =
       ap (has n) (keys_both (P t (lift (dom.assume c true) v)) (P e (lift (dom.assume c false) v)))
-      ∙ has_or n (keys (P t (lift (dom.assume c true) v))) (keys (P e (lift (dom.assume c false) v)))
+      ∙ has_both n (keys (P t (lift (dom.assume c true) v))) (keys (P e (lift (dom.assume c false) v)))
       ∙ (λ i. has n (numbers_of_places t (lift (dom.assume c true) v) i) || has n (numbers_of_places e (lift (dom.assume c false) v) i))
   inner_numbers n (node.While m c b) v = ap (has n) (numbers_of_places b (lift (dom.assume c true) (head_of dom plan.engine (marks_at plan place) z m c (passed dom plan place z b) v).value))
   inner_numbers n (node.Call m k q) v = refl

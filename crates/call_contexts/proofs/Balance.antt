@@ -2,6 +2,7 @@
 use Rattle.std.proofs.lemmas.Bool.{cases_lt}
 use Rattle.std.proofs.Common.{◌≡◌, ◌≢◌, ℕ, zero, suc, ◌+◌, ◌<◌, ◌≤◌, ◌==◌, ◌⊎◌, inl, inr, cond, Bool, true, false, List, [], ◌∷◌, ◌++◌, length, take, slice_get, Option, Some, None, refl, sym, ap, ◌∙◌, subst, arith, append_assoc, append-nil, length-append}
 use Rattle.std.specs.Prelude.{if◌then◌else◌}
+use Rattle.imp_check.proofs.ChangeLemmas.{no_entry}
 use Rattle.imp_syntax.specs.Plain.{Statements, Ends, Starts, Procedure}
 use Rattle.imp_syntax.specs.Plain as tree
 use Rattle.imp_slots.specs.Fits.{Absent, Distinct}
@@ -62,10 +63,6 @@ below_beyond : (ns : List ℕ) (b : ℕ) → beyond ns ≤ b → Below b ns
 below_beyond [] b h = tt
 below_beyond (n ∷ ns) b h = (omega arith, below_beyond ns b (omega arith))
 
-absent_none : (n : ℕ) (es : List Entry) → Absent n (entry_numbers es) → entry_of es n ≡ None
-absent_none n [] a = refl
-absent_none n (e ∷ es) a = ap (λ b. cond b (Some e) (entry_of es n)) (other e.number n (λ i. a.0 (sym i))) ∙ absent_none n es a.1
-
 module _ (k n : ℕ) where
   -- whether what is a statement of the procedure has the number
   abbrev here : Option Entry → ℕ
@@ -86,7 +83,7 @@ module _ (k n : ℕ) where
   by_numbers (e ∷ es) b d l =
       let g : ℕ → ℕ = λ m. here (entry_of es m) in
       let h : ℕ → ℕ = λ m. here (entry_of (e ∷ es) m) in
-      let was : here (entry_of es e.number) ≡ 0 = ap here (absent_none e.number es d.0) in
+      let was : here (entry_of es e.number) ≡ 0 = ap here (no_entry es e.number d.0) in
       let is : here (entry_of (e ∷ es) e.number) ≡ here (Some e) = ap (λ b. here (cond b (Some e) (entry_of es e.number))) (same e.number) in
       omega (arith, was, is, by_numbers es b d.1 l.1, sum_changed g h e.number b l.0 (λ m i. ap (λ b. here (cond b (Some e) (entry_of es m))) (other e.number m (λ j. i (sym j)))))
 

@@ -3,12 +3,13 @@ use Rattle.std.proofs.lemmas.Bool.Decides.{nat_tests}
 use Rattle.std.proofs.lemmas.Map.Lookups.{exact_unsigned, btree_set_from_contains}
 use Rattle.std.proofs.lemmas.Option.{slice_get-map, slice_get_within, same_Some}
 use Rattle.std.proofs.lemmas.List.{length-map}
-use Rattle.std.proofs.Common.{◌≡◌, ◌≢◌, ℕ, zero, suc, ◌+◌, ◌<◌, ◌≤◌, ◌==◌, ◌||◌, ◌&&◌, Bool, true, false, cond, List, [], ◌∷◌, ◌++◌, length, take, slice_get, get_or, Option, Some, None, option_map, inl, inr, refl, sym, ap, ◌∙◌, subst, arith}
+use Rattle.std.proofs.Common.{◌≡◌, ◌≢◌, ℕ, zero, suc, ◌+◌, ◌<◌, ◌==◌, ◌||◌, ◌&&◌, Bool, true, false, cond, List, [], ◌∷◌, ◌++◌, length, take, slice_get, get_or, Option, Some, None, option_map, inl, inr, refl, sym, ap, ◌∙◌, subst, arith}
 use Rattle.std.specs.Prelude.{if◌then◌else◌}
 use Rattle.std.specs.Cmp.{nat_cmp_total, both_ways}
 use Rattle.std.specs.Ordering.{nat_cmp}
 use Rattle.std.specs.List.Sorted.{IsStrictlySortedBy}
 use Rattle.std.specs.BTreeSet.{BTreeSet}
+use Rattle.std.proofs.Math.Bool.{and-false, or-false}
 use Rattle.imp_syntax.specs.Plain.{Procedure}
 use Rattle.imp_slots.specs.Plain.{Code, Stop, Simple, If, While, Call, Break}
 use Rattle.imp_check.specs.Slots.{routine_of, routines_of}
@@ -181,11 +182,7 @@ loops_made ps k ns none found numbered l s e f h = told_loops ps k ns numbered l
 
     whole : (n : ℕ) (b : Bool) → loop_in k (entry_of (entries_of ps) n) ≡ b → (false || (has n (numbers_at ps k) && loop_in k (entry_of (entries_of ps) n))) ≡ loop_in k (entry_of (entries_of ps) n)
     whole n true t = ap (λ c. c && loop_in k (entry_of (entries_of ps) n)) (inside n t)
-    whole n false t = ap (λ c. has n (numbers_at ps k) && c) t ∙ none_both (has n (numbers_at ps k)) ∙ sym t
-      where
-        none_both : (b : Bool) → (b && false) ≡ false
-        none_both true = refl
-        none_both false = refl
+    whole n false t = ap (λ c. has n (numbers_at ps k) && c) t ∙ and-false (has n (numbers_at ps k)) ∙ sym t
 
 -- They rise.
 pub loops_rise : (ps : List Procedure) (k : ℕ) (ns : List ℕ) → slice_get (all_loops (routines_of ps)) k ≡ Some ns → IsStrictlySortedBy nat_cmp ns
@@ -277,11 +274,7 @@ abbrev pub Adds : (initial now : ℕ → Bool) → (ns : List ℕ) → (is : ℕ
 Adds initial now ns is = (n : ℕ) → now n ≡ (initial n || (has n ns && is n))
 
 pub adds_none : (found is : ℕ → Bool) (ns : List ℕ) → ns ≡ [] → Adds found found ns is
-adds_none found is ns e n = sym (ap (λ ms. found n || (has n ms && is n)) e ∙ ends (found n))
-  where
-    ends : (b : Bool) → (b || false) ≡ b
-    ends true = refl
-    ends false = refl
+adds_none found is ns e n = sym (ap (λ ms. found n || (has n ms && is n)) e ∙ or-false (found n))
 
 pub adds_one : (initial now more : ℕ → Bool) (ns ms : List ℕ) (is : ℕ → Bool) (m : ℕ) → Adds initial now ns is → ms ≡ ns ++ m ∷ [] → ((n : ℕ) → more n ≡ (now n || (is m && (n == m)))) → Adds initial more ms is
 adds_one initial now more ns ms is m a e h n =

@@ -10,6 +10,7 @@ use Rattle.std.specs.List.{list_any}
 use Rattle.std.specs.List.Sorted.{IsStrictlySortedBy}
 use Rattle.std.specs.BTreeMap.{is_at}
 use Rattle.std.specs.BTreeSet.{BTreeSet, insert_key}
+use Rattle.std.proofs.Math.Bool.{or-true}
 use Rattle.program_chains.specs.Chains.{has}
 use Rattle.program_chains.specs.Marks.{with_mark, marks_of}
 use Rattle.call_contexts.proofs.Sorted.{inserted_sorted, inserted_has}
@@ -46,11 +47,7 @@ with_has q z xs = ap (list_any (is_at (int_cmp q))) (mark_is_key z xs) ∙ inser
 three : (a b c d : Bool) → (a || (b || (c || d))) ≡ (c || ((a || b) || d))
 three true b true d = refl
 three true b false d = refl
-three false b true d = twice b
-  where
-    twice : (b : Bool) → (b || true) ≡ true
-    twice true = refl
-    twice false = refl
+three false b true d = or-true b
 three false b false d = refl
 
 marks_have : (q : ℤ) (ns : List ℕ) → list_any (is_at (int_cmp q)) (marks_of ns) ≡ (list_any (is_at (int_cmp q)) (marks_of []) || list_any (is_mark q) ns)
@@ -82,11 +79,7 @@ passes f [] n h e = absurd cc
 passes f (x ∷ xs) n h e =
     (by_test n x (λ c. (if c then true else has n xs) ≡ true → (f x || list_any f xs) ≡ true)
     (λ i h. ap (λ b. b || list_any f xs) (sym (ap f i) ∙ e))
-    (λ i h. ap (λ b. f x || b) (passes f xs n h e) ∙ ends (f x))) h
-  where
-    ends : (b : Bool) → (b || true) ≡ true
-    ends true = refl
-    ends false = refl
+    (λ i h. ap (λ b. f x || b) (passes f xs n h e) ∙ or-true (f x))) h
 
 any_same : (f : ℕ → Bool) (xs ys : List ℕ) → ((n : ℕ) → has n xs ≡ has n ys) → list_any f xs ≡ list_any f ys
 any_same f xs ys h =
@@ -96,7 +89,7 @@ any_same f xs ys h =
 
 -- a number among them is one of its marks
 pub mark_of : (n : ℕ) (ns : List ℕ) → has n ns ≡ true → list_any (is_at (int_cmp (pos n))) (marks_of ns) ≡ true
-mark_of n ns h = marks_have (pos n) ns ∙ ap (λ b. list_any (is_at (int_cmp (pos n))) (marks_of []) || b) (passes (is_mark (pos n)) ns n h (own (is_eq (int_cmp (pos n) (neg_ℤ (pos n)))))) ∙ ends (list_any (is_at (int_cmp (pos n))) (marks_of []))
+mark_of n ns h = marks_have (pos n) ns ∙ ap (λ b. list_any (is_at (int_cmp (pos n))) (marks_of []) || b) (passes (is_mark (pos n)) ns n h (own (is_eq (int_cmp (pos n) (neg_ℤ (pos n)))))) ∙ or-true (list_any (is_at (int_cmp (pos n))) (marks_of []))
   where
     equal : (r : Ordering) → r ≡ ordering_reverse r → is_eq r ≡ true
     equal Less e = absurd cc
@@ -108,10 +101,6 @@ mark_of n ns h = marks_have (pos n) ns ∙ ap (λ b. list_any (is_at (int_cmp (p
 
     own : (b : Bool) → (is_eq (int_cmp (pos n) (pos n)) || b) ≡ true
     own b = ap (λ c. c || b) itself
-
-    ends : (b : Bool) → (b || true) ≡ true
-    ends true = refl
-    ends false = refl
 
 abbrev keyed : List ℤ → BTreeSet ℤ
 keyed ks = record { keys = ks }

@@ -6,6 +6,7 @@ use Rattle.std.specs.Prelude.{if◌then◌else◌, Result, Ok, Err, IfOk}
 use Rattle.std.specs.Bool.{OnTrue}
 use Rattle.std.specs.List.Sorted.{IsStrictlySortedBy}
 use Rattle.std.specs.Map.{keys_of}
+use Rattle.std.proofs.Math.Bool.{or-true}
 use Rattle.imp_syntax.specs.Plain.{Procedure}
 use Rattle.imp_slots.specs.Plain.{Routine}
 use Rattle.imp_slots.specs.Fits.{Distinct}
@@ -266,16 +267,8 @@ touches_last at (q ∷ ps) p k =
     swap true b true d e = refl
     swap true b false true e = refl
     swap true b false false e = refl
-    swap false b true d e = ends b
-      where
-        ends : (b : Bool) → (b || true) ≡ true
-        ends true = refl
-        ends false = refl
-    swap false b false true e = ends b
-      where
-        ends : (b : Bool) → (b || true) ≡ true
-        ends true = refl
-        ends false = refl
+    swap false b true d e = or-true b
+    swap false b false true e = or-true b
     swap false b false false e = refl
 
 pub touched_more : (at : ℕ → Option Entry) (ps : List Put) (i : ℕ) (p : Put) (k : ℕ) (had goes comes : Bool) → i < length ps → p ≡ get_or ps i p → had ≡ touches at (take i ps) k → goes ≡ (stands_in (at p.number) k || had) → comes ≡ (stands_in p.entry k || goes) → comes ≡ touches at (take (i + 1) ps) k

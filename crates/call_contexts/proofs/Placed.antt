@@ -4,6 +4,7 @@ use Rattle.std.specs.Prelude.{if◌then◌else◌}
 use Rattle.std.specs.Str.{bytes_eq}
 use Rattle.std.specs.Cmp.Lexicographic.{bytes_decides}
 use Rattle.std.proofs.lemmas.Bool.Decides.{nat_tests}
+use Rattle.std.proofs.Math.Bool.{or-false}
 use Rattle.imp_syntax.specs.Plain.{Statements, Ends, Starts, Procedure}
 use Rattle.imp_syntax.specs.Plain as tree
 use Rattle.imp_slots.specs.Plain.{code_numbers}
@@ -181,12 +182,8 @@ module _ (n : ℕ) where
   any_is [] d = refl
   any_is (x ∷ xs) d =
       by_test x.number n (λ b. cond b (is_loop x.part || any_loop xs) (any_loop xs) ≡ loop_of (cond b (Some x) (entry_of xs n)))
-      (λ e. ap (λ r. is_loop x.part || r) (none_absent xs (subst (λ m. Absent m (entry_numbers xs)) e d.0)) ∙ or_false (is_loop x.part))
+      (λ e. ap (λ r. is_loop x.part || r) (none_absent xs (subst (λ m. Absent m (entry_numbers xs)) e d.0)) ∙ or-false (is_loop x.part))
       (λ e. any_is xs d.1)
-    where
-      or_false : (b : Bool) → (b || false) ≡ b
-      or_false true = refl
-      or_false false = refl
 
 -- Whether a program has a loop of a number is told by the statement of the number.
 pub while_is : (ps : List Procedure) (n : ℕ) → AreNumbered ps → is_while n (routines_of ps) ≡ loop_of (entry_of (entries_of ps) n)

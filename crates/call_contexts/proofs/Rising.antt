@@ -19,6 +19,7 @@ use Rattle.call_contexts.proofs.Sorted.{inserted_sorted, inserted_has}
 use Rattle.call_contexts.proofs.TallyLemmas.{any_is, same_test}
 use Rattle.plain_values.proofs.Cases.{by_test}
 use Rattle.std.proofs.lemmas.Option.{slice_get_within, same_Some}
+use Rattle.std.proofs.Math.Bool.{and-false}
 
 -- A number is among others where it has a place.
 pub has_there : (ns : List ℕ) (i n : ℕ) → slice_get ns i ≡ Some n → has n ns ≡ true
@@ -131,11 +132,7 @@ has_filtered p (m ∷ ns) q = go (p m) refl (has_filtered p ns q)
   where
     go : (b : Bool) → p m ≡ b → has q (filter p ns) ≡ (has q ns && p q) → has q (cond b (m ∷ filter p ns) (filter p ns)) ≡ ((if q == m then true else has q ns) && p q)
     go true e h = by_test q m (λ b. (if b then true else has q (filter p ns)) ≡ ((if b then true else has q ns) && p q)) (λ i. sym e ∙ ap p (sym i)) (λ i. h)
-    go false e h = by_test q m (λ b. has q (filter p ns) ≡ ((if b then true else has q ns) && p q)) (λ i. h ∙ ap (λ c. has q ns && c) (ap p i ∙ e) ∙ neither (has q ns) ∙ sym (ap p i ∙ e)) (λ i. h)
-      where
-        neither : (b : Bool) → (b && false) ≡ false
-        neither true = refl
-        neither false = refl
+    go false e h = by_test q m (λ b. has q (filter p ns) ≡ ((if b then true else has q ns) && p q)) (λ i. h ∙ ap (λ c. has q ns && c) (ap p i ∙ e) ∙ and-false (has q ns) ∙ sym (ap p i ∙ e)) (λ i. h)
 
 pub removed_rises : (ns : List ℕ) (n i : ℕ) → slice_get ns i ≡ Some n → IsStrictlySortedBy nat_cmp ns → IsStrictlySortedBy nat_cmp (remove ns i)
 removed_rises ns n i e s = subst (IsStrictlySortedBy nat_cmp) (sym (removed ns n i s e)) (IsStrictlySortedBy-filter nat_cmp (λ m. not (m == n)) ns s)

@@ -21,6 +21,8 @@ use Rattle.call_contexts.proofs.Placed.{one_more, swapped}
 use Rattle.plain_values.proofs.Lists.{drop_item, get_last, get_other}
 use Rattle.plain_values.proofs.Cases.{by_test}
 use Rattle.std.proofs.lemmas.Option.{slice_get_within}
+use Rattle.std.proofs.Math.Seq.{drop-length}
+use Rattle.std.proofs.lemmas.List.{length-drop}
 
 pub callee_before : (before : List Routine) (l : Layout) (i : Invoke) (q : ℕ) (o : Option Routine) → o ≡ slice_get before q → FitsCall l i o → q < length before
 callee_before before l i q None e f = absurd f
@@ -162,7 +164,7 @@ from_sites ps main p table law checked numbered e h t =
     let f = chains_in table main in
     let g = chains rs in
     let s : 0 + (p + 1) ≡ p + 1 = omega arith in
-    let l : length later ≡ main - p = rest rs (p + 1) ∙ counted in
+    let l : length later ≡ main - p = length-drop (p + 1) rs ∙ counted in
     let k : Known (entry_of (entries_of ps)) (entries_of ps) = found (entries_of ps) (subst Distinct (sym (all_numbers ps)) numbered.once) in
     sites_are f p (entry_of (entries_of ps)) (entries_of ps) k
     ∙ through_from f p [] ps
@@ -171,11 +173,6 @@ from_sites ps main p table law checked numbered e h t =
     ∙ sym (through_later g [] rs 0 (p + 1) p refl checked.fit (omega arith))
     ∙ sym (law rs checked p (omega arith))
   where
-    rest : {A : Type 0} (xs : List A) (n : ℕ) → length (drop n xs) ≡ length xs - n
-    rest xs zero = omega arith
-    rest [] (suc n) = omega arith
-    rest (x ∷ xs) (suc n) = rest xs n ∙ omega arith
-
     counted : length (routines_of ps) - (p + 1) ≡ main - p
     counted = omega arith
 
@@ -196,11 +193,7 @@ pub none_past : (program : List Routine) (p : ℕ) → IsChecked program → len
 none_past program p checked h = go (length program)
   where
     gone : (f : ℕ → List (List ℕ)) → through f 0 program p ≡ []
-    gone f = through_later f [] program 0 (length program) p refl checked.fit (omega arith) ∙ ap (λ rs. through f (0 + length program) rs p) (all_dropped program)
-      where
-        all_dropped : (rs : List Routine) → drop (length rs) rs ≡ []
-        all_dropped [] = refl
-        all_dropped (r ∷ rs) = all_dropped rs
+    gone f = through_later f [] program 0 (length program) p refl checked.fit (omega arith) ∙ ap (λ rs. through f (0 + length program) rs p) (drop-length program)
 
     go : (most : ℕ) → chains_within most program p ≡ []
     go zero = refl

@@ -8,6 +8,7 @@ use Rattle.std.specs.List.{list_any}
 use Rattle.std.specs.List.Sorted.{IsStrictlySortedBy}
 use Rattle.std.specs.Map.{keys_of, lookup}
 use Rattle.std.specs.BTreeMap.{is_at}
+use Rattle.std.proofs.Math.Nat.{suc-add}
 use Rattle.imp_slots.specs.Plain.{Code, Stop, Simple, If, While, Call, Break}
 use Rattle.program_chains.specs.Chains.{has}
 use Rattle.program_chains.specs.Marks.{effect_literals, guard_literals, argument_literals, literals, marks_of}
@@ -58,10 +59,7 @@ times_joined zero b = ap any_times (none b)
   where
     none : (b : ℕ) → 0 + b ≡ b
     none b = omega arith
-times_joined (suc a) b = ap any_times (more a b)
-  where
-    more : (a b : ℕ) → suc a + b ≡ suc (a + b)
-    more a b = omega arith
+times_joined (suc a) b = ap any_times (suc-add a b)
 
 one_times : (b : Bool) → any_times (one_if b) ≡ b
 one_times true = refl

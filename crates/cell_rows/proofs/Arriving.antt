@@ -10,7 +10,7 @@ use Rattle.cell_names.specs.declared.frame.Frame.TheVariants.{InLoop}
 use Rattle.cell_names.specs.declared.frame.Point.{Point}
 use Rattle.cell_names.specs.declared.frame.Point.TheVariants.{Then, Else, Body, Post, Fix}
 use Rattle.cell_names.specs.Paths.{CellName}
-use Rattle.plain_values.proofs.Members.{Member, here, there, in_left, in_right, Each, each_more, each_both, none_there, each_as, keys, keys_both}
+use Rattle.plain_values.proofs.Members.{Member, here, there, in_left, in_right, Each, each_more, each_both, none_there, each_as, keys, keys_both, in_map}
 use Rattle.cell_rows.specs.Names.{Scope, name, Mark, At, Algebra, Place, behind_it, inside, level, level_of, AllFine}
 use Rattle.cell_rows.specs.Cells.{Cell, block, values, one_round, fix_value, after_value, value_of_name, value_of_mark}
 use Rattle.cell_rows.specs.Targets.{Text, text, deeper, texts, Step, Take, takes, callee_of, is_loop, unless_over, value_in_path, demanded_in}
@@ -33,11 +33,6 @@ keys_texts (If n guard t e r) p = rw (keys_both, keys_both, keys_texts t, keys_t
 keys_texts (While n guard b r) p = rw (keys_both, keys_deeper, keys_texts b, keys_texts r) refl
 keys_texts (Call n call q r) p = ap (λ k. n ∷ k) (keys_texts r _)
 keys_texts (Break n r) p = ap (λ k. n ∷ k) (keys_texts r _)
-
-in_deeper : (n : ℕ) (x : ℕ × Text) (xs : List (ℕ × Text)) → Member x xs → Member (deeper n x) (map (deeper n) xs)
-in_deeper n x [] m = elim m [ ]
-in_deeper n x (y ∷ xs) here = here
-in_deeper n x (y ∷ xs) (there m) = there (in_deeper n x xs m)
 
 module _ {S : Type 0} (dom : Operations S) (engine : Engine) where
   -- What is known at a statement, by its code and the value in front of it.
@@ -76,7 +71,7 @@ module _ {S : Type 0} (dom : Operations S) (engine : Engine) where
       each_as (ShownAt b Body) (ShownAt (While n guard b r) p) xs
       (λ x s. record {
         text = text (n ∷ s.text.loops) s.text.front s.text.code;
-        listed = there (in_left (texts r (Post n)) (in_deeper n (x.0, s.text) (texts b Body) s.listed));
+        listed = there (in_left (texts r (Post n)) (in_map (deeper n) (x.0, s.text) (texts b Body) s.listed));
         fits = record { callee = s.fits.callee; loop = s.fits.loop; headed = s.fits.headed };
       }) e
 
@@ -244,7 +239,7 @@ module _ {S : Type 0} (dom : Operations S) (engine : Engine) where
       deepen : (x : ℕ × Spot S) (s : S) → F.value ≡ State s → Seen body Body (InLoop n F.index ∷ w) (round_at F.index) x → Seen (While n guard body r) y.point w b x
       deepen x s e q = record {
         text = text (n ∷ q.text.loops) q.text.front q.text.code;
-        listed = there (in_left (texts r (Post n)) (in_deeper n (x.0, q.text) (texts body Body) q.listed));
+        listed = there (in_left (texts r (Post n)) (in_map (deeper n) (x.0, q.text) (texts body Body) q.listed));
         fits = record { callee = q.fits.callee; loop = q.fits.loop; headed = q.fits.headed };
         outcome = go q.outcome;
       }
@@ -276,7 +271,7 @@ module _ {S : Type 0} (dom : Operations S) (engine : Engine) where
                 let o = (over_spots b.scope.marks b.sites (calls_of dom engine b.scope.earlier b.sites) j z body _ (ap (lift (dom.assume guard true)) h)).at x m in
                 record {
                   text = text (n ∷ s.text.loops) s.text.front s.text.code;
-                  listed = there (in_left (texts r (Post n)) (in_deeper n (x.0, s.text) (texts body Body) s.listed));
+                  listed = there (in_left (texts r (Post n)) (in_map (deeper n) (x.0, s.text) (texts body Body) s.listed));
                   fits = record { callee = s.fits.callee; loop = s.fits.loop; headed = s.fits.headed };
                   outcome = inr (record { loop = j; chain = z; over = o; stops = λ rest p. at_over j z e (takes s.text.loops ++ rest) p; needs = λ rest p. over_needs j z e (takes s.text.loops ++ rest) p });
                 };

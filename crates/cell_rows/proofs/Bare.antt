@@ -2,6 +2,7 @@
 use Rattle.std.proofs.Common.{◌≡◌, ℕ, zero, suc, List, [], ◌∷◌, ◌++◌, map, Option, Some, None, Bool, true, false, if◌then◌else◌, refl, sym, ap, ◌∙◌, nat_lt, ◌==◌}
 use Rattle.std.specs.Option.{option_map}
 use Rattle.std.proofs.lemmas.List.{map-append}
+use Rattle.std.proofs.lemmas.Iterator.Adapters.{option_map_id}
 use Rattle.imp_slots.specs.Plain.{Guard, Invoke, Code, Stop, Simple, If, While, Call, Break, Routine}
 use Rattle.batch_meaning.specs.Batch.{Engine}
 use Rattle.batch_meaning.specs.Places.{find, if_some, from, main_layout}
@@ -103,16 +104,11 @@ module _ (engine : Engine) {V : Type 0} (A : Algebra V) where
         ap (λ o. statement engine bare o n (λ b. in_loop engine bare b n k)) (follow_bare w)
         ∙ statement_bare bare_place (follow engine A program w) n (λ b. in_loop engine A b n k) (λ b. in_loop engine bare b n k) (λ b y d. loop_bare n k b y d)
 
-    -- rows
-    id_map : {X : Type 0} (o : Option X) → option_map (λ x. x) o ≡ o
-    id_map None = refl
-    id_map (Some x) = refl
-
     same_row : (w : List Frame) (n : ℕ) (g : P → Mark V → Code → Option Row) (k : Q → Mark (Unit {0}) → Code → Option Row) → ((b : P) (y : Mark V) (d : Code) → k (bare_place b) (bare_mark y) d ≡ g b y d) → statement engine bare (follow engine bare program w) n k ≡ statement engine A (follow engine A program w) n g
     same_row w n g k f =
         ap (λ o. statement engine bare o n k) (follow_bare w)
-        ∙ statement_bare (λ (r : Row). r) (follow engine A program w) n g k (λ b y d. f b y d ∙ sym (id_map (g b y d)))
-        ∙ id_map (statement engine A (follow engine A program w) n g)
+        ∙ statement_bare (λ (r : Row). r) (follow engine A program w) n g k (λ b y d. f b y d ∙ sym (option_map_id (g b y d)))
+        ∙ option_map_id (statement engine A (follow engine A program w) n g)
 
     const_row : (r : Row) (o : Option P) → if_some (option_map bare_place o) (λ d. Some r) ≡ if_some o (λ d. Some r)
     const_row r None = refl

@@ -1,6 +1,6 @@
 -- The marks' values are those of the batch interpreter.
 use Rattle.std.proofs.Common.{ℤ, ◌≡◌, ◌≢◌, ℕ, zero, suc, ◌+◌, ◌<◌, List, [], ◌∷◌, ◌++◌, length, map, Option, Some, None, Bool, true, false, if◌then◌else◌, refl, sym, ap, ◌∙◌, arith, slice_get, append_assoc}
-use Rattle.std.proofs.lemmas.List.{map-append}
+use Rattle.std.proofs.lemmas.List.{map-append, length-append}
 use Rattle.imp_slots.specs.Plain.{Layout, Guard, Code, Stop, Simple, If, While, Call, Break, Routine}
 use Rattle.imp_slots.specs.Fits.{Absent, Distinct}
 use Rattle.domain_laws.specs.Operations.{Operations}
@@ -17,11 +17,7 @@ use Rattle.cell_rows.specs.Cells.{Cell, cell, with_one, joined_to, block, values
 pub breaks_points : (c : Code) (p : _) → length (leave_points c p) ≡ breaks c
 breaks_points Stop p = refl
 breaks_points (Simple n effect r) p = breaks_points r _
-breaks_points (If n guard t e r) p = rw (length_both, length_both, breaks_points t, breaks_points e, breaks_points r) refl
-  where
-    length_both : {A : Type 0} (xs ys : List A) → length (xs ++ ys) ≡ length xs + length ys
-    length_both [] ys = omega arith
-    length_both (x ∷ xs) ys = omega (arith, length_both xs ys)
+breaks_points (If n guard t e r) p = rw (length-append, length-append, breaks_points t, breaks_points e, breaks_points r) refl
 breaks_points (While n guard b r) p = breaks_points r _
 breaks_points (Call n call q r) p = breaks_points r _
 breaks_points (Break n r) p = ap suc (breaks_points r _)
@@ -29,11 +25,7 @@ breaks_points (Break n r) p = ap suc (breaks_points r _)
 pub breaks_numbers : (c : Code) → length (break_numbers c) ≡ breaks c
 breaks_numbers Stop = refl
 breaks_numbers (Simple n effect r) = breaks_numbers r
-breaks_numbers (If n guard t e r) = rw (length_both, length_both, breaks_numbers t, breaks_numbers e, breaks_numbers r) refl
-  where
-    length_both : {A : Type 0} (xs ys : List A) → length (xs ++ ys) ≡ length xs + length ys
-    length_both [] ys = omega arith
-    length_both (x ∷ xs) ys = omega (arith, length_both xs ys)
+breaks_numbers (If n guard t e r) = rw (length-append, length-append, breaks_numbers t, breaks_numbers e, breaks_numbers r) refl
 breaks_numbers (While n guard b r) = breaks_numbers r
 breaks_numbers (Call n call q r) = breaks_numbers r
 breaks_numbers (Break n r) = ap suc (breaks_numbers r)
@@ -118,10 +110,6 @@ module _ (engine : Engine) {V : Type 0} (alg : Algebra V) (scope : Scope) (z : L
       let u = behind_it engine alg scope z (Break n r) x in
       each_more (HasSubs (E x (Break n r) ∷ L r u)) (E x (Break n r)) (L r u) tt (each_subs (L r u) (E x (Break n r) ∷ L r u) (λ p. there) (subs r u))
 
-length_both : {A : Type 0} (xs ys : List A) → length (xs ++ ys) ≡ length xs + length ys
-length_both [] ys = omega arith
-length_both (x ∷ xs) ys = omega (arith, length_both xs ys)
-
 pub got : {A B : Type 0} (f : A → B) (xs : List A) (i : ℕ) (p : B) → slice_get (map f xs) i ≡ Some p → (u : A) × (slice_get xs i ≡ Some u) × (f u ≡ p) × Member u xs
 got f [] i p e = absurd cc
 got f (x ∷ xs) zero p e = (x, refl, cc, here)
@@ -198,7 +186,7 @@ module _ {S : Type 0} (dom : Operations S) (engine : Engine) where
     pub leaving_count : (c : Code) (a : Value S) → length (block dom engine scope z c a).leaving ≡ breaks c
     leaving_count Stop a = refl
     leaving_count (Simple n effect r) a = leaving_count r _
-    leaving_count (If n guard t e r) a = rw (length_both, length_both, leaving_count t, leaving_count e, leaving_count r) (omega arith)
+    leaving_count (If n guard t e r) a = rw (length-append, length-append, leaving_count t, leaving_count e, leaving_count r) (omega arith)
     leaving_count (While n guard b r) a = leaving_count r _
     leaving_count (Call n call q r) a = leaving_count r _
     leaving_count (Break n r) a = ap suc (leaving_count r _)

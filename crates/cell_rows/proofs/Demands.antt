@@ -1,5 +1,6 @@
 -- A query's demands come one by one, and its answer is read from them.
 use Rattle.std.proofs.Common.{◌≡◌, ℕ, zero, suc, ◌+◌, ◌≤◌, List, [], ◌∷◌, ◌++◌, length, map, Option, Some, None, refl, sym, ap, ◌∙◌, subst, arith, append_assoc, append-nil, take, slice_get}
+use Rattle.std.proofs.lemmas.List.{map-append}
 use Rattle.batch_meaning.specs.Values.{Value, State, Over}
 use Rattle.cell_names.specs.declared.frame.Frame.{Frame}
 use Rattle.cell_names.specs.declared.frame.Frame.TheVariants.{InCall, InLoop}
@@ -58,10 +59,6 @@ module _ {S : Type 0} (g : CellName → Cell S) where
   pub demands_are : (ts : List Target) → gather g (next_demanded ts) (most_demanded ts) [] ≡ demanded g ts
   demands_are ts = gather_all ts (next_demanded ts) [] (most_demanded ts) (λ vs. refl) (omega arith)
 
-  map_append : {A B : Type 0} (f : A → B) (xs ys : List A) → map f (xs ++ ys) ≡ map f xs ++ map f ys
-  map_append f [] ys = refl
-  map_append f (x ∷ xs) ys = ap (λ k. f x ∷ k) (map_append f xs ys)
-
   read_target : (rest : List (Cell S) → List (Value S)) (ss : List Step) (p : Point) (w : List Frame) (us : List (Cell S)) → read_in rest ss (map g (demanded_in g ss p w) ++ us) ≡ value_in_path g ss p w ∷ rest us
   read_target rest [] p w us = refl
   read_target rest (Go n ∷ ss) p w us = read_target rest ss p (InCall n ∷ w) us
@@ -81,7 +78,7 @@ module _ {S : Type 0} (g : CellName → Cell S) where
   pub reads_are : (ts : List Target) → read_all ts (map g (demanded g ts)) ≡ map (value_of_target g) ts
   reads_are [] = refl
   reads_are (t ∷ ts) =
-      ap (read_in (read_all ts) t.steps) (map_append g (demanded_in g t.steps t.last []) (demanded g ts))
+      ap (read_in (read_all ts) t.steps) (map-append g (demanded_in g t.steps t.last []) (demanded g ts))
       ∙ read_target (read_all ts) t.steps t.last [] (map g (demanded g ts))
       ∙ ap (λ vs. value_of_target g t ∷ vs) (reads_are ts)
 

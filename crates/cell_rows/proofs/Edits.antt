@@ -8,6 +8,7 @@ use Rattle.demand_order.specs.Order.{member}
 use Rattle.demand_order.specs.Asking.{SameRow, Rows, AreRows, value_of, inputs_of}
 use Rattle.demand_order.proofs.AskingProofs.{value-is, system-acyclic}
 use Rattle.std.proofs.lemmas.Bool.{or_left, or_right}
+use Rattle.std.proofs.lemmas.List.{length-map}
 use Rattle.demand_order.proofs.Stable.{stable}
 use Rattle.cell_rows.specs.Names.{IsSame, AllFine}
 use Rattle.cell_rows.specs.Cells.{Cell, table, row_of_name, value_of_name, by_row, operation_row, asks_row, most_row, nothing}
@@ -32,11 +33,7 @@ module _ {T V : Type 0} (t u : Rows T V) where
     kept-at (suc r) x h p =
         let s = same x p in
         let i = map_on t.same tl.same_refl (value_of t) (value_of u) (inputs_of t x) (λ y m. let b : t.rank y < t.rank x = (system-acyclic t tl).falls x y m in kept-at r y (omega arith) (down x y p m)) in
-        value-is t tl x ∙ ap (t.operation x) (i ∙ ap (map (value_of u)) s.inputs) ∙ s.operation (map (value_of u) (inputs_of u x)) (map_length (value_of u) (inputs_of u x)) ∙ sym (value-is u ul x)
-      where
-        map_length : {A B : Type 0} (f : A → B) (xs : List A) → length (map f xs) ≡ length xs
-        map_length f [] = refl
-        map_length f (x ∷ xs) = ap suc (map_length f xs)
+        value-is t tl x ∙ ap (t.operation x) (i ∙ ap (map (value_of u)) s.inputs) ∙ s.operation (map (value_of u) (inputs_of u x)) (length-map (inputs_of u x) (value_of u)) ∙ sym (value-is u ul x)
 
     pub kept : (x : T) → P x → value_of t x ≡ value_of u x
     kept x p = kept-at (suc (t.rank x)) x (omega arith) p

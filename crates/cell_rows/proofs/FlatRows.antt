@@ -9,7 +9,7 @@ use Rattle.cell_names.specs.declared.frame.Frame.TheVariants.{InCall, InLoop}
 use Rattle.cell_names.specs.declared.frame.Point.{Point}
 use Rattle.cell_names.specs.declared.frame.Point.TheVariants.{Entry, Then, Else, Body, Post, Iterate, Fix, Exit, Leap}
 use Rattle.plain_values.proofs.Cases.{by_test}
-use Rattle.plain_values.proofs.Members.{Member, here, there, in_left, in_right, keys}
+use Rattle.plain_values.proofs.Members.{Member, here, there, in_left, in_right, keys, in_map}
 use Rattle.batch_meaning.proofs.Places.{found}
 use Rattle.cell_rows.specs.Names.{Scope, scope_of, name, Mark, mark, Place, bare, number, entry, start_of, in_call, in_loop, iterate_point, round_place, statement, follow, when}
 use Rattle.cell_rows.specs.Rows as R
@@ -45,11 +45,6 @@ module _ (engine : Engine) (program : List Routine) (once : Distinct (keys (flat
     texts_in : (q : ℕ × Text) → Member q (texts b.code b.first.point) → Entered b.scope q.0 q.1.front q.1.code
     earlier_in : (x : ℕ × Flat) → Member x (flat b.scope.earlier) → Member x (flat program)
 
-  in_flat_of : (c : Routine) (e : List Routine) (q : ℕ × Text) (xs : List (ℕ × Text)) → Member q xs → Member (flat_of c e q) (map (flat_of c e) xs)
-  in_flat_of c e q [] m = elim m [ ]
-  in_flat_of c e q (y ∷ xs) here = here
-  in_flat_of c e q (y ∷ xs) (there m) = there (in_flat_of c e q xs m)
-
   flat_from : (ps : List Routine) (q : ℕ) (x : ℕ × Flat) → Member x (flat (from ps q)) → Member x (flat ps)
   flat_from [] q x m = m
   flat_from (b ∷ ps) q x m =
@@ -62,7 +57,7 @@ module _ (engine : Engine) (program : List Routine) (once : Distinct (keys (flat
   covers_start (c ∷ before) z x b i f e = subst Covers (same_Some _ _ e) (record {
     texts_in = λ q m.
         let l : Member q (texts c.code Entry) = subst (λ (p : Point). Member q (texts c.code p)) i m in
-        record { routine = c; earlier = before; scoped = refl; text = q.1; listed = f _ (in_left (flat before) (in_flat_of c before q (texts c.code Entry) l)); front = refl; code = refl };
+        record { routine = c; earlier = before; scoped = refl; text = q.1; listed = f _ (in_left (flat before) (in_map (flat_of c before) q (texts c.code Entry) l)); front = refl; code = refl };
     earlier_in = λ y m. f y (in_right (map (flat_of c before) (texts c.code Entry)) m);
   })
 

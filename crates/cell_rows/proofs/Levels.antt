@@ -1,5 +1,6 @@
 -- The marks of a block: what each is made of, its rank, and how it is found.
-use Rattle.std.proofs.Common.{◌≡◌, ℕ, ◌+◌, ◌≤◌, List, [], ◌∷◌, ◌++◌, map, Bool, true, false, refl, ap, arith}
+use Rattle.std.proofs.Common.{◌≡◌, ℕ, ◌+◌, ◌≤◌, List, ◌∷◌, map, Bool, true, false, refl, ap, arith}
+use Rattle.std.proofs.lemmas.List.{map-append}
 use Rattle.imp_slots.specs.Plain.{Guard, Code, Stop, Simple, If, While, Call, Break}
 use Rattle.batch_meaning.specs.Batch.{Engine}
 use Rattle.cell_names.specs.declared.frame.Point.{Point}
@@ -143,14 +144,10 @@ module _ (engine : Engine) {V : Type 0} (alg : Algebra V) (scope : Scope) (z : L
   abbrev pub point_of : Mark V → Point
   point_of x = x.point
 
-  pub map_both : {A B : Type 0} (f : A → B) (xs ys : List A) → map f (xs ++ ys) ≡ map f xs ++ map f ys
-  map_both f [] ys = refl
-  map_both f (x ∷ xs) ys = ap (λ k. f x ∷ k) (map_both f xs ys)
-
   pub leaves_are : (c : Code) (x : Mark V) → map point_of (leaves engine alg scope z c x) ≡ leave_points c x.point
   leaves_are Stop x = refl
   leaves_are (Simple n effect r) x = leaves_are r _
-  leaves_are (If n guard t e r) x = rw (map_both, map_both, leaves_are t, leaves_are e, leaves_are r) refl
+  leaves_are (If n guard t e r) x = rw (map-append, map-append, leaves_are t, leaves_are e, leaves_are r) refl
   leaves_are (While n guard b r) x = leaves_are r _
   leaves_are (Call n call q r) x = leaves_are r _
   leaves_are (Break n r) x = ap (λ k. x.point ∷ k) (leaves_are r _)

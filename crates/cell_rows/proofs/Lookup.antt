@@ -1,5 +1,5 @@
 -- Names find their marks.
-use Rattle.std.proofs.Common.{◌≡◌, ℕ, ◌<◌, List, [], ◌∷◌, length, Option, Some, None, Bool, true, false, if◌then◌else◌, refl, sym, ap, subst, ◌⊎◌, inl, inr, arith, nat_lt}
+use Rattle.std.proofs.Common.{◌≡◌, ℕ, ◌<◌, List, [], ◌∷◌, length, Option, Some, None, true, false, if◌then◌else◌, refl, sym, ap, subst, ◌⊎◌, inl, inr, arith, nat_lt}
 use Rattle.imp_slots.specs.Plain.{Code, Stop, Simple, If, While, Call, Break, Routine}
 use Rattle.imp_slots.specs.Fits.{Distinct}
 use Rattle.batch_meaning.specs.Batch.{Engine}
@@ -13,7 +13,7 @@ use Rattle.plain_values.proofs.Members.{Member, Each, each_more, each_both, none
 use Rattle.batch_meaning.proofs.Places.{found, found_member}
 use Rattle.cell_rows.specs.Names.{Scope, CallsBelow, Mark, At, Algebra, Place, number, behind_it, inside, entry, level, level_of, Nested, IsFine, AllFine, start_of, in_call, in_loop, round_place, statement, follow, branch_mark, post_mark, mark_at, is_entry}
 use Rattle.cell_rows.proofs.Levels.{Known, first, post, branch, keyed, keys_own}
-use Rattle.std.proofs.lemmas.Option.{same_Some}
+use Rattle.std.proofs.lemmas.Option.{same_Some, cond_some}
 
 pub then_some : {A B : Type 0} (o : Option A) (f : A → Option B) (r : B) → if_some o f ≡ Some r → (a : A) × (o ≡ Some a) × (f a ≡ Some r)
 then_some None f r e = absurd cc
@@ -120,16 +120,12 @@ module _ (engine : Engine) {V : Type 0} (alg : Algebra V) where
   fine_call b n y (Call m call q r) c f e = fine_start (from b.scope.earlier q) _ _ c (fine_from b.scope.earlier q f.procs) (inl refl) e
   fine_call b n y (Break m r) c f e = absurd cc
 
-  by_limit : {A : Type 0} (t : Bool) (a r : A) → (if t then Some a else None) ≡ Some r → (t ≡ true) × (a ≡ r)
-  by_limit true a r e = (refl, cc)
-  by_limit false a r e = absurd cc
-
   fine_loop : (b : P) (n k : ℕ) (y : Mark V) (d : Code) (c : P) → Fine b → Stands b y d → in_loop engine alg b n k y d ≡ Some c → Fine c
   fine_loop b n k y Stop c f s e = absurd cc
   fine_loop b n k y (Simple m effect r) c f s e = absurd cc
   fine_loop b n k y (If m guard t x r) c f s e = absurd cc
   fine_loop b n k y (While m guard t r) c f s e =
-      let i = by_limit (nat_lt k engine.budget) (round_place engine alg b n guard t k y) c e in
+      let i = cond_some (nat_lt k engine.budget) (round_place engine alg b n guard t k y) c e in
       subst Fine i.1 (record { block = part_of b y (While m guard t r) f s; procs = f.procs; starts = inr refl })
   fine_loop b n k y (Call m call q r) c f s e = absurd cc
   fine_loop b n k y (Break m r) c f s e = absurd cc

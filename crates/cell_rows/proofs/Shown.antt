@@ -3,7 +3,7 @@ use Rattle.std.proofs.Common.{ℕ, List, [], ◌∷◌, map, true, false}
 use Rattle.imp_slots.specs.Plain.{Code, Stop, Simple, If, While, Call, Break}
 use Rattle.batch_meaning.specs.Batch.{Engine}
 use Rattle.cell_names.specs.declared.frame.Point.TheVariants.{Then, Else, Body, Post}
-use Rattle.plain_values.proofs.Members.{Member, here, there, in_left, in_right, Each, each_more, each_both, none_there, each_as}
+use Rattle.plain_values.proofs.Members.{Member, here, there, in_left, in_right, Each, each_more, each_both, none_there, each_as, in_map}
 use Rattle.cell_rows.specs.Names.{Scope, Mark, At, bare, number, behind_it, inside, entry, level}
 use Rattle.cell_rows.specs.Targets.{Text, text, deeper, texts}
 
@@ -37,11 +37,6 @@ inner_more xs ys f (Break n r) i = tt
 shows_more : (xs ys : List (ℕ × Text)) → ((q : ℕ × Text) → Member q xs → Member q ys) → (zs : List Seat) → Each (Shows xs) zs → Each (Shows ys) zs
 shows_more xs ys f zs e = each_as (Shows xs) (Shows ys) zs (λ x s. record { itself = f _ s.itself; inner = inner_more xs ys f x.1.code s.inner }) e
 
-in_deeper : (n : ℕ) (x : ℕ × Text) (xs : List (ℕ × Text)) → Member x xs → Member (deeper n x) (map (deeper n) xs)
-in_deeper n x [] m = elim m [ ]
-in_deeper n x (y ∷ xs) here = here
-in_deeper n x (y ∷ xs) (there m) = there (in_deeper n x xs m)
-
 module _ (engine : Engine) (e : Scope) (z : List ℕ) where
   abbrev L : Code → U → List Seat
   L = level engine bare e z
@@ -65,7 +60,7 @@ module _ (engine : Engine) (e : Scope) (z : List ℕ) where
       (shows_more (texts r (Post n)) xs (λ q m. there (in_right (texts t (Then n)) (in_right (texts f (Else n)) m))) _ (shows r (after (If n guard t f r) x)))))
   shows (While n guard b r) x =
       let xs = texts (While n guard b r) x.point in
-      each_more (Shows xs) (E x (While n guard b r)) _ (record { itself = here; inner = λ q m. there (in_left (texts r (Post n)) (in_deeper n q (texts b Body) m)) })
+      each_more (Shows xs) (E x (While n guard b r)) _ (record { itself = here; inner = λ q m. there (in_left (texts r (Post n)) (in_map (deeper n) q (texts b Body) m)) })
       (shows_more (texts r (Post n)) xs (λ q m. there (in_right (map (deeper n) (texts b Body)) m)) _ (shows r (after (While n guard b r) x)))
   shows (Call n call q r) x =
       let xs = texts (Call n call q r) x.point in

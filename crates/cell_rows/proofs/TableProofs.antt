@@ -21,7 +21,7 @@ use Rattle.cell_rows.proofs.Bare.{row_bare, mark_bare, bare_mark}
 use Rattle.cell_rows.proofs.Unique.{All, Solves, unique}
 use Rattle.cell_rows.proofs.BatchTie.{next_iterate}
 use Rattle.cell_rows.proofs.Tied.{at, Below, Ones, Twos, Fixes, Joined, Holds, Tied, neither, both, tied}
-use Rattle.std.proofs.lemmas.Option.{same_Some}
+use Rattle.std.proofs.lemmas.Option.{same_Some, cond_some}
 
 module _ {S : Type 0} (dom : Operations S) (engine : Engine) (program : List Routine) (all : AllFine program) where
   abbrev pub M : Type 0
@@ -48,10 +48,6 @@ module _ {S : Type 0} (dom : Operations S) (engine : Engine) (program : List Rou
 
   is_under : (k n : ℕ) → nat_lt k n ≡ true → k < n
   is_under k n h = grind (arith, nat_tests)
-
-  by_limit : {X : Type 0} (t : Bool) (a r : X) → (if t then Some a else None) ≡ Some r → (t ≡ true) × (a ≡ r)
-  by_limit true a r e = (refl, cc)
-  by_limit false a r e = absurd cc
 
   -- Another iterate is wanted only while the budget lasts.
   wants_few : (left : ℕ) (s : S) (vs : List (Cell S)) → wants dom engine left s vs ≡ true → length vs < left
@@ -99,7 +95,7 @@ module _ {S : Type 0} (dom : Operations S) (engine : Engine) (program : List Rou
   lower (Two op a b) m (v ∷ []) y h e = below_rank b y h.y m h.below_too (same_Some _ _ e)
   lower (Two op a b) m (v ∷ u ∷ vs) y h e = absurd cc
   lower (FixedRow n z w p) m vs y h e =
-      let i = by_limit (wants_first dom engine vs) (name w (iterate_point engine bare n p (length vs))) y e in
+      let i = cond_some (wants_first dom engine vs) (name w (iterate_point engine bare n p (length vs))) y e in
       let x = h.iterates (length vs) (wants_within vs i.0) in
       below_rank _ y x.0 m x.1 i.1
   lower (Joins stays l n w p) m [] y h e = below_rank l y h.left m h.below (same_Some _ _ e)
@@ -108,7 +104,7 @@ module _ {S : Type 0} (dom : Operations S) (engine : Engine) (program : List Rou
       go : (u : Value S) → right_of dom engine n w p u v.index ≡ Some y → rank y < m.rank
       go (Over j z) e = absurd cc
       go (State s) e =
-          let i = by_limit (nat_lt v.index N) (name (InLoop n v.index ∷ w) p) y e in
+          let i = cond_some (nat_lt v.index N) (name (InLoop n v.index ∷ w) p) y e in
           let x = h.rounds v.index (is_under v.index N i.0) in
           below_rank _ y x.0 m x.1 i.1
   lower (Joins stays l n w p) m (v ∷ u ∷ vs) y h e = absurd cc

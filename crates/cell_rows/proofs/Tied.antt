@@ -1,6 +1,6 @@
 -- Each name's value is its row's operation over its inputs' values, and its inputs have lower ranks.
 use Rattle.std.proofs.Common.{ℤ, ◌≡◌, ℕ, zero, suc, ◌+◌, ◌*◌, ◌<◌, ◌≤◌, List, [], ◌∷◌, length, Option, Some, None, Bool, true, false, if◌then◌else◌, refl, sym, ap, ◌∙◌, subst, inr, arith, nat_lt, slice_get}
-use Rattle.std.proofs.Math.Nat.{suc-mul}
+use Rattle.std.proofs.Math.Nat.{suc-mul, mul-le-mul_right}
 use Rattle.std.specs.Option.{option_map}
 use Rattle.std.proofs.lemmas.Option.{slice_get-map}
 use Rattle.std.proofs.lemmas.Bool.Decides.{nat_tests}
@@ -32,11 +32,6 @@ pub mul_less : (k n t : ℕ) → k < n → k * t + t ≤ n * t
 mul_less k zero t h = absurd (omega arith)
 mul_less zero (suc n) t h = omega (arith, suc-mul n t)
 mul_less (suc k) (suc n) t h = omega (arith, suc-mul k t, suc-mul n t, mul_less k n t (omega arith))
-
-pub mul_most : (k n t : ℕ) → k ≤ n → k * t ≤ n * t
-mul_most zero n t h = omega arith
-mul_most (suc k) zero t h = absurd (omega arith)
-mul_most (suc k) (suc n) t h = omega (arith, suc-mul k t, suc-mul n t, mul_most k n t (omega arith))
 
 module _ {S : Type 0} (dom : Operations S) (engine : Engine) (program : List Routine) (all : AllFine program) where
   abbrev N : ℕ
@@ -228,7 +223,7 @@ module _ {S : Type 0} (dom : Operations S) (engine : Engine) (program : List Rou
       marks_of = b.scope.marks;
       body = one_round dom engine b.scope b.sites guard body;
       start = y.value.value;
-      iterates = λ i h. (it i, iterate_below i fixed h (omega (arith, mul_most i N t h)), iterate_is i);
+      iterates = λ i h. (it i, iterate_below i fixed h (omega (arith, mul-le-mul_right t h)), iterate_is i);
       value = refl;
     })
 

@@ -1,6 +1,6 @@
 -- Each input's rank is lower, for every name and whatever was found so far.
 use Rattle.std.proofs.Common.{◌≡◌, ℕ, zero, suc, ◌+◌, ◌*◌, ◌<◌, ◌≤◌, List, [], ◌∷◌, length, Option, Some, None, Bool, true, false, if◌then◌else◌, refl, sym, ap, ◌∙◌, subst, arith, nat_lt, slice_get}
-use Rattle.std.proofs.Math.Nat.{suc-mul}
+use Rattle.std.proofs.Math.Nat.{suc-mul, mul-le-mul_right}
 use Rattle.std.proofs.lemmas.Bool.Decides.{nat_tests}
 use Rattle.imp_slots.specs.Plain.{Guard, Invoke, Code, Stop, Simple, If, While, Call, Break, Routine}
 use Rattle.imp_slots.specs.Fits.{Distinct}
@@ -17,7 +17,7 @@ use Rattle.cell_rows.specs.Rows.{next_operation, Row, Init, One, Two, Fixed as F
 use Rattle.cell_rows.specs.Total.{spread, offset, base, total_rank, or_zero, front_of}
 use Rattle.cell_rows.proofs.BatchTie.{breaks_numbers, place_is, span_from}
 use Rattle.cell_rows.proofs.Levels.{known_rank, known_last, last_is}
-use Rattle.cell_rows.proofs.Tied.{mul_less, mul_most}
+use Rattle.cell_rows.proofs.Tied.{mul_less}
 use Rattle.cell_rows.proofs.TotalRank.{U, Good, Whole, by_it, after_off, into_off, last_off, within_body, spread_from, iterate_off, round_base, end_off, leave_off, fix_off, exit_off, leap_off, behind_off}
 
 module _ (engine : Engine) (program : List Routine) (once : Distinct (keys (spread engine program))) where
@@ -79,7 +79,7 @@ module _ (engine : Engine) (program : List Routine) (once : Distinct (keys (spre
       pub low_fix : LowerIn (fix_row engine bare w b y (While n guard body r)) (bw + offset engine program (Fix n))
       low_fix = λ i h.
           let o = fix_off engine program once b.scope y n guard body r g in
-          let m = mul_most i N t h in
+          let m = mul-le-mul_right t h in
           low_iterate i _ h (omega arith)
 
       pub low_exit : LowerIn (exit_row engine bare w b y (While n guard body r)) (bw + offset engine program (Exit n))

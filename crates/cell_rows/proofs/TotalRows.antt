@@ -31,7 +31,7 @@ use Rattle.cell_rows.proofs.TableProofs.{HasName, is_table, values_agree, wants_
 use Rattle.cell_rows.proofs.Package.{inputs_have}
 use Rattle.cell_rows.proofs.TotalRank.{U, Good, fair, Whole}
 use Rattle.cell_rows.proofs.TotalFalls.{Lower, LowerIn, G, low_branch, low_post, low_next, low_fix, low_exit, low_leap, low_turn, low_enter}
-use Rattle.std.proofs.lemmas.Option.{same_Some}
+use Rattle.std.proofs.lemmas.Option.{same_Some, cond_some}
 
 find_map : {A B : Type 0} (f : A → B) (n : ℕ) (xs : List (ℕ × A)) → find n (map (λ (x : ℕ × A). (x.0, f x.1)) xs) ≡ option_map f (find n xs)
 find_map f n [] = refl
@@ -273,10 +273,6 @@ module _ {S : Type 0} (dom : Operations S) (engine : Engine) (program : List Rou
   under_it : (k n : ℕ) → nat_lt k n ≡ true → k < n
   under_it k n h = grind (arith, nat_tests)
 
-  by_limit : {X : Type 0} (t : Bool) (a r : X) → (if t then Some a else None) ≡ Some r → (t ≡ true) × (a ≡ r)
-  by_limit true a r e = (refl, cc)
-  by_limit false a r e = absurd cc
-
   abbrev rank : CellName → ℕ
   rank = total_rank engine program
 
@@ -288,7 +284,7 @@ module _ {S : Type 0} (dom : Operations S) (engine : Engine) (program : List Rou
   lower_asks (Two op a b) m (v ∷ []) y h e = subst (λ a. rank a < m) (same_Some _ _ e) h.1
   lower_asks (Two op a b) m (v ∷ u ∷ vs) y h e = absurd cc
   lower_asks (FixedRow n z w p) m vs y h e =
-      let i = by_limit (wants_first dom engine vs) (name w (iterate_point engine bare n p (length vs))) y e in
+      let i = cond_some (wants_first dom engine vs) (name w (iterate_point engine bare n p (length vs))) y e in
       subst (λ a. rank a < m) i.1 (h (length vs) (wants_within dom engine program fine vs i.0))
   lower_asks (Joins stays l n w p) m [] y h e = subst (λ a. rank a < m) (same_Some _ _ e) h.0
   lower_asks (Joins stays l n w p) m (v ∷ []) y h e = go v.value e
@@ -296,7 +292,7 @@ module _ {S : Type 0} (dom : Operations S) (engine : Engine) (program : List Rou
       go : (u : Value S) → right_of dom engine n w p u v.index ≡ Some y → rank y < m
       go (Over j z) e = absurd cc
       go (State s) e =
-          let i = by_limit (nat_lt v.index B) (name (InLoop n v.index ∷ w) p) y e in
+          let i = cond_some (nat_lt v.index B) (name (InLoop n v.index ∷ w) p) y e in
           subst (λ a. rank a < m) i.1 (h.1 v.index (under_it v.index B i.0))
   lower_asks (Joins stays l n w p) m (v ∷ u ∷ vs) y h e = absurd cc
 

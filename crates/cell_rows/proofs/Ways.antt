@@ -15,7 +15,7 @@ use Rattle.cell_names.specs.declared.frame.Point.{Point}
 use Rattle.cell_names.specs.declared.frame.Point.TheVariants.{Entry, Then, Else, Body, Post, Fix}
 use Rattle.plain_values.proofs.Cases.{by_test}
 use Rattle.batch_meaning.proofs.Procedures.{look_get, from_look, from_behind, from_from, from_self}
-use Rattle.plain_values.proofs.Members.{Member, here, there, in_left, in_right, keys, either}
+use Rattle.plain_values.proofs.Members.{Member, here, there, in_left, in_right, keys, either, in_map}
 use Rattle.batch_meaning.proofs.Places.{found, found_member, find_key}
 use Rattle.cell_rows.specs.Names.{CallsBelow, AllFine}
 use Rattle.cell_rows.specs.Rows.{last_point}
@@ -26,11 +26,6 @@ use Rattle.cell_rows.proofs.Arriving.{keys_texts}
 use Rattle.cell_rows.proofs.FlatOnce.{all_fine, flat_once, once_reversed}
 use Rattle.cell_rows.proofs.Chained.{AllOnce, all_once, once_from}
 use Rattle.std.proofs.lemmas.Option.{same_Some}
-
-in_deeper : (n : ℕ) (x : ℕ × Text) (xs : List (ℕ × Text)) → Member x xs → Member (deeper n x) (map (deeper n) xs)
-in_deeper n x [] m = elim m [ ]
-in_deeper n x (y ∷ xs) here = here
-in_deeper n x (y ∷ xs) (there m) = there (in_deeper n x xs m)
 
 -- a call of p in the text
 record Calls (p n : ℕ) (xs : List (ℕ × Text)) : Type 0 where
@@ -58,7 +53,7 @@ is_called p n (If k guard t e r) q m =
     ]
 is_called p n (While k guard b r) q m =
     elim (either n (calls_to p b) (calls_to p r) m) [
-      | inl a ↦ calls_deep p n k (texts b Body) (texts (While k guard b r) q) (λ x i. there (in_left (texts r (Post k)) (in_deeper k x (texts b Body) i))) (is_called p n b Body a)
+      | inl a ↦ calls_deep p n k (texts b Body) (texts (While k guard b r) q) (λ x i. there (in_left (texts r (Post k)) (in_map (deeper k) x (texts b Body) i))) (is_called p n b Body a)
       | inr d ↦ calls_more p n (texts r (Post k)) (texts (While k guard b r) q) (λ x i. there (in_right (map (deeper k) (texts b Body)) i)) (is_called p n r (Post k) d)
     ]
 is_called p n (Call k call c r) q m =
@@ -174,7 +169,7 @@ is_looped n (While k guard b r) q e =
     (λ i e. go (is_looped n b Body) (is_looped n r (Post k)) (has_while n b) refl e)) e
   where
     go : (has_while n b ≡ true → Loop n (texts b Body)) → (has_while n r ≡ true → Loop n (texts r (Post k))) → (a : Bool) → has_while n b ≡ a → (if a then true else has_while n r) ≡ true → Loop n (texts (While k guard b r) q)
-    go u v true i e = loop_deep n k (texts b Body) (texts (While k guard b r) q) (λ x m. there (in_left (texts r (Post k)) (in_deeper k x (texts b Body) m))) (u i)
+    go u v true i e = loop_deep n k (texts b Body) (texts (While k guard b r) q) (λ x m. there (in_left (texts r (Post k)) (in_map (deeper k) x (texts b Body) m))) (u i)
     go u v false i e = loop_more n (texts r (Post k)) (texts (While k guard b r) q) (λ x m. there (in_right (map (deeper k) (texts b Body)) m)) (v e)
 is_looped n (Call k call c r) q e = loop_more n (texts r (Post k)) (texts (Call k call c r) q) (λ x. there) (is_looped n r (Post k) e)
 is_looped n (Break k r) q e = loop_more n (texts r (Post k)) (texts (Break k r) q) (λ x. there) (is_looped n r (Post k) e)

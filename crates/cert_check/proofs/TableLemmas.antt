@@ -1,9 +1,11 @@
 -- Tables of states and of chains, one entry at a time.
-use Rattle.std.proofs.Common.{ℕ, zero, suc, ◌≡◌, ◌+◌, ◌<◌, ◌≤◌, Bool, true, false, List, [], ◌∷◌, ◌++◌, length, slice_get, None, refl, sym, ap, ◌∙◌, arith}
+use Rattle.std.proofs.Common.{ℕ, ◌≡◌, ◌+◌, ◌<◌, ◌≤◌, Bool, true, false, List, [], ◌∷◌, ◌++◌, length, slice_get, refl, sym, ap, ◌∙◌, arith}
 use Rattle.std.specs.Prelude.{◌==◌, ◌||◌, nat_lt, if◌then◌else◌}
 use Rattle.std.specs.Str.{bytes_eq}
 use Rattle.std.specs.List.{list_any}
 use Rattle.std.proofs.lemmas.Bool.Decides.{nat_tests}
+use Rattle.std.proofs.lemmas.List.{length_push}
+use Rattle.std.proofs.lemmas.Option.{slice_get_past}
 use Rattle.imp_slots.specs.Plain.{Routine}
 use Rattle.imp_slots.specs.Fits.{IsChecked}
 use Rattle.program_chains.specs.Chains.{chains}
@@ -33,13 +35,9 @@ pub record Chained (program : List Routine) (sets : List (List (List ℕ))) (pla
   pub count : length sets ≡ place
   pub told : (p : ℕ) (z : List ℕ) → p < place → chain_in sets p z ≡ is_chain z (chains program p)
 
-one_longer : {A : Type 0} (xs : List A) (x : A) → length (xs ++ x ∷ []) ≡ length xs + 1
-one_longer [] x = refl
-one_longer (y ∷ ys) x = omega (arith, one_longer ys x)
-
 pub sets_step : (program : List Routine) (sets more : List (List (List ℕ))) (place : ℕ) (set : List (List ℕ)) → more ≡ sets ++ set ∷ [] → ((z : List ℕ) → is_chain z set ≡ is_chain z (chains program place)) → Chained program sets place → Chained program more (place + 1)
 sets_step program sets more place set e f c = record {
-  count = ap length e ∙ one_longer sets set ∙ ap (λ n. n + 1) c.count;
+  count = ap length e ∙ length_push sets set ∙ ap (λ n. n + 1) c.count;
   told = λ p z h. by_bool (p == place)
       (λ b.
       let k : p ≡ place = grind (arith, nat_tests, b) in
@@ -54,9 +52,4 @@ sets_step program sets more place set e f c = record {
 }
 
 pub sets_whole : (program : List Routine) (sets : List (List (List ℕ))) (place : ℕ) → IsChecked program → length program ≤ place → Chained program sets place → AreChains program sets
-sets_whole program sets place checked h c p z = by_bool (nat_lt p place) (λ b. c.told p z (grind (arith, nat_tests, b))) (λ b. let k : place ≤ p = grind (arith, nat_tests, b) in let l = c.count in ap (λ o. in_set o z) (past sets p (omega (arith, l, k))) ∙ sym (ap (is_chain z) (none_past program p checked (omega (arith, h, k)))))
-  where
-    past : {A : Type 0} (xs : List A) (p : ℕ) → length xs ≤ p → slice_get xs p ≡ None
-    past [] p h = refl
-    past (x ∷ xs) zero h = absurd (omega arith)
-    past (x ∷ xs) (suc p) h = past xs p (omega arith)
+sets_whole program sets place checked h c p z = by_bool (nat_lt p place) (λ b. c.told p z (grind (arith, nat_tests, b))) (λ b. let k : place ≤ p = grind (arith, nat_tests, b) in let l = c.count in ap (λ o. in_set o z) (slice_get_past sets p (omega (arith, l, k))) ∙ sym (ap (is_chain z) (none_past program p checked (omega (arith, h, k)))))

@@ -1,5 +1,5 @@
 -- What is written, one line after another.
-use Rattle.std.proofs.Common.{ℕ, zero, suc, ◌≡◌, ◌+◌, ◌<◌, ◌≤◌, List, [], ◌∷◌, ◌++◌, length, map, drop, reverse, get_or, slice_get, Option, Some, Result, Ok, Err, IfOk, refl, sym, ap, subst, ◌∙◌, arith, append_assoc, add-one}
+use Rattle.std.proofs.Common.{ℕ, zero, suc, ◌≡◌, ◌+◌, ◌<◌, ◌≤◌, List, [], ◌∷◌, ◌++◌, length, map, drop, reverse, get_or, slice_get, Option, Some, Result, Ok, Err, IfOk, refl, sym, ap, subst, ◌∙◌, arith, append_assoc, add-one, append-nil}
 use Rattle.std.specs.Prelude.{Contains, Vec}
 use Rattle.std.proofs.lemmas.List.{drop_all, reverse-reverse}
 use Rattle.serde_json.specs.Written.{compact_text}
@@ -93,11 +93,7 @@ module _ {S : Type 0} (dom : Operations S) (port : Portable S) (engine : Engine)
       next = rw add-one refl
 
   pub procedures_end : (k : ℕ) (text : List ℕ) → length program ≤ k → behind text (lines_before dom port engine program (loops_from program k (drop k program)) (Lines [])) ≡ text
-  procedures_end k text h = ap (λ rs. behind text (L (loops_from program k rs) (Lines []))) (drop_all k program h) ∙ nothing text
-    where
-      nothing : (xs : List ℕ) → xs ++ [] ≡ xs
-      nothing [] = refl
-      nothing (x ∷ xs) = ap (λ ys. x ∷ ys) (nothing xs)
+  procedures_end k text h = ap (λ rs. behind text (L (loops_from program k rs) (Lines []))) (drop_all k program h) ∙ append-nil text
 
   pub all_written : behind [] (lines_before dom port engine program (all_loops program) (Lines [])) ≡ certificate_text (certificate_of dom port engine program (all_loops program))
   all_written = ap (behind []) (before_whole (all_loops program)) ∙ whole (certificate_of dom port engine program (all_loops program))

@@ -2,6 +2,7 @@
 use Rattle.std.proofs.Common.{◌≡◌, ℕ, ◌+◌, ◌<◌, ◌||◌, Bool, true, false, cond, List, [], ◌∷◌, ◌++◌, reverse, length, Option, Some, None, slice_get, refl, sym, ap, subst, ◌∙◌}
 use std.Path.{fun_ext}
 use Rattle.std.proofs.lemmas.List.{reverse-append}
+use Rattle.std.proofs.Math.Bool.{or-true}
 use Rattle.imp_slots.specs.Fits.{IsChecked}
 use Rattle.domain_laws.specs.Operations.{Operations}
 use Rattle.demand_order.specs.Order.{System, IsAcyclic, member, fill_all}
@@ -107,12 +108,8 @@ module _ {S : Type 0} (dom : Operations S) (plan : Plan) (ts : List Target) wher
           pub runs_fill : (new : CellName → Bool) → ((y : CellName) → new y ≡ (keeps y || same_name y x)) → Runs first new rest (count + 1)
           runs_fill new adds = name-fill system acyclic (found dom plan) wanted bound low (cells_of first) (cells_of keeps) names (total first) count r x rest split (cells_of new) (found dom plan x) none refl puts top_more
             where
-              or_true : (b : Bool) → (b || true) ≡ true
-              or_true true = refl
-              or_true false = refl
-
               puts : PutsName same_name (cells_of keeps) (cells_of new) x (found dom plan x)
               puts = record {
-                here = λ y e. ap (λ b. cond b (Some (found dom plan y)) None) (adds y ∙ (ap (λ b. keeps y || b) e ∙ or_true (keeps y))) ∙ ap (λ z. Some (found dom plan z)) (same_is.same_true y x e);
+                here = λ y e. ap (λ b. cond b (Some (found dom plan y)) None) (adds y ∙ (ap (λ b. keeps y || b) e ∙ or-true (keeps y))) ∙ ap (λ z. Some (found dom plan z)) (same_is.same_true y x e);
                 others = λ y e. ap (λ b. cond b (Some (found dom plan y)) None) (adds y ∙ (ap (λ b. keeps y || b) e ∙ or-false (keeps y)));
               }

@@ -1,8 +1,9 @@
 -- A turn at the name on top of a stack.
-use Rattle.std.proofs.Common.{◌≡◌, ℕ, suc, ◌+◌, ◌<◌, ◌⊎◌, ◌||◌, Bool, true, false, List, [], ◌∷◌, ◌++◌, length, Option, Some, None, IsSome, is_some, slice_get, refl, sym, ap, subst, ◌∙◌, inl, inr, arith, length-append}
+use Rattle.std.proofs.Common.{◌≡◌, ℕ, suc, ◌+◌, ◌<◌, ◌⊎◌, ◌||◌, false, List, [], ◌∷◌, ◌++◌, length, Option, Some, None, IsSome, is_some, slice_get, refl, sym, ap, subst, ◌∙◌, inl, inr, arith, length-append}
 use Rattle.std.specs.FinMap.{get, len}
 use Rattle.std.proofs.lemmas.List.{map-append}
 use Rattle.std.proofs.lemmas.Option.{slice_get_within}
+use Rattle.std.proofs.Math.Bool.{or-true}
 use Rattle.plain_values.proofs.Lists.{get_last}
 use Rattle.domain_laws.specs.Operations.{Operations}
 use Rattle.cell_names.specs.Paths.{CellName}
@@ -31,10 +32,6 @@ use Rattle.daig_query.proofs.Stacked.{names_stay, open_ready}
 use Rattle.daig_query.proofs.Starting.{stacked_front}
 use Rattle.imp_flow.proofs.EnteredLemmas.{get_front}
 use Rattle.demand_order.proofs.RunLemmas.{take_start}
-
-or_true : (b : Bool) → (b || true) ≡ true
-or_true true = refl
-or_true false = refl
 
 module _ {S : Type 0} (dom : Operations S) (plan : Plan) where
   -- the top is open
@@ -221,7 +218,7 @@ module _ {S : Type 0} (dom : Operations S) (plan : Plan) where
             there : IsSome (get new.graph.cells entry.cell)
             there =
                 ap is_some (sym (filled_number new.graph.cells new.names.names puts.right.once (name_of mid entry) entry.cell number))
-                ∙ (puts.adds (name_of mid entry) ∙ (ap (λ b. kept mid (name_of mid entry) || b) (same_is.same_refl (name_of mid entry)) ∙ or_true (kept mid (name_of mid entry))))
+                ∙ (puts.adds (name_of mid entry) ∙ (ap (λ b. kept mid (name_of mid entry) || b) (same_is.same_refl (name_of mid entry)) ∙ or-true (kept mid (name_of mid entry))))
 
             longer : (rest : List Open) (o : Open) → os ≡ rest ++ o ∷ [] → AreStacked dom plan new (place_of ts new w) (rest ++ record o { inputs = o.inputs ++ entry.cell ∷ [] } ∷ [])
             longer rest o os_is =

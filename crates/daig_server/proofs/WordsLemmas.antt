@@ -2,6 +2,7 @@
 use Rattle.std.proofs.Common.{◌≡◌, ◌≤◌, ◌<◌, ℕ, nat_le, Bool, true, false, ◌&&◌, List, Option, Some, None, option_and_then, option_map, codes, if◌then◌else◌, refl, sym, subst, arith}
 use Rattle.std.proofs.lemmas.Bool.Decides.{nat_tests}
 use Rattle.std.specs.Str.{bytes_eq}
+use Rattle.std.proofs.lemmas.Option.{cond_some}
 use Rattle.clap.specs.Walk.{Row, Text, first_of, is_empty}
 use Rattle.clap.specs.Simple.{subcommand_of}
 use Rattle.clap.specs.Faults.{fault_of}
@@ -38,14 +39,10 @@ both_true true true false is = cc
 both_true true false c is = cc
 both_true false b c is = cc
 
-gate : (test : Bool) (x y : ℕ) → (if test then Some x else None) ≡ Some y → (test ≡ true) × (x ≡ y)
-gate true x y is = (refl, cc)
-gate false x y is = cc
-
 within : (least most : ℕ) (text : List ℕ) (n : ℕ) → number_in least most text ≡ Some n → (least ≤ n) × (n ≤ most)
 unfolding number_in
 within least most text n is =
-    let passed = gate _ _ n is in
+    let passed = cond_some _ _ n is in
     let tests = both_true _ _ _ passed.0 in
     let low : nat_le least n ≡ true = rw (sym passed.1) tests.0 in
     let high : nat_le n most ≡ true = rw (sym passed.1) tests.1 in

@@ -1,6 +1,6 @@
 -- Checked statements one after another: what is missing of them, and what is kept then.
 use Rattle.std.proofs.Common.{◌≡◌, ℕ, zero, suc, ◌+◌, ◌*◌, ◌≤◌, Bool, ◌||◌, List, [], ◌∷◌, ◌++◌, map, take, length, Option, Some, None, Result, Ok, Err, refl, sym, ap, subst, ◌∙◌, arith, append_assoc, append-nil}
-use Rattle.std.proofs.Math.Seq.{take-length}
+use Rattle.std.proofs.Math.Seq.{take-length, take-append-add}
 use Rattle.std.proofs.lemmas.List.{length-append, map-append}
 use std.Path.{fun_ext}
 use Rattle.imp_syntax.specs.declared.edit.Location.TheVariants.{Before}
@@ -36,11 +36,6 @@ use Rattle.daig_session.specs.Turns.{Questions}
 use Rattle.daig_session.proofs.Answering.{work_both}
 use Rattle.daig_session.proofs.Asked.{asked_answered}
 use mathlib.Core.Bool.{or-false}
-
--- Fronts of lists.
-take_over : {A : Type 0} (xs ys : List A) (n : ℕ) → take (length xs + n) (xs ++ ys) ≡ xs ++ take n ys
-take_over [] ys n = let e : 0 + n ≡ n = omega arith in ap (λ k. take k ys) e
-take_over (x ∷ xs) ys n = let e : suc (length xs) + n ≡ suc (length xs + n) = omega arith in ap (λ k. take k (x ∷ (xs ++ ys))) e ∙ ap (λ zs. x ∷ zs) (take_over xs ys n)
 
 take_within : {A : Type 0} (xs ys : List A) (n : ℕ) → (k : ℕ) × (take k (xs ++ ys) ≡ take n xs)
 take_within xs ys zero = (0, refl)
@@ -126,7 +121,7 @@ module _ {S : Type 0} (dom : Operations S) (m : Machine) where
         let ys = missing_of dom (behind cs cost) ds in
         record {
           count = length xs + p.count;
-          some = subst (λ ks. Holds dom store book (keeping ks book.cost m)) (append_assoc m.kept xs (take p.count ys) ∙ ap (λ zs. m.kept ++ zs) (sym (ap (take (length xs + p.count)) (missing_both cost cs ds) ∙ take_over xs ys p.count))) p.some;
+          some = subst (λ ks. Holds dom store book (keeping ks book.cost m)) (append_assoc m.kept xs (take p.count ys) ∙ ap (λ zs. m.kept ++ zs) (sym (ap (take (length xs + p.count)) (missing_both cost cs ds) ∙ take-append-add xs ys p.count))) p.some;
         }
 
     pub part_more : (cs ds : List Checked) → HoldsPart dom m store book cs → HoldsPart dom m store book (cs ++ ds)

@@ -1,8 +1,8 @@
 -- Reports, a statement at a time.
-use Rattle.std.proofs.Common.{◌≡◌, ℕ, zero, suc, ◌+◌, ◌-◌, ◌*◌, ◌≤◌, List, [], ◌∷◌, ◌++◌, take, drop, length, Some, slice_get, refl, sym, ap, subst, ◌∙◌, arith, append_assoc, append-nil}
+use Rattle.std.proofs.Common.{◌≡◌, ℕ, suc, ◌+◌, ◌-◌, ◌*◌, ◌≤◌, List, [], ◌∷◌, ◌++◌, take, drop, length, Some, slice_get, sym, ap, subst, ◌∙◌, arith, append_assoc, append-nil}
 use Rattle.std.specs.FinMap.{len}
 use Rattle.std.proofs.Math.Nat.{mul-le-mul_left}
-use Rattle.std.proofs.lemmas.List.{length-append, map-append, take-append-drop}
+use Rattle.std.proofs.lemmas.List.{length-append, map-append, take-append-drop, take_all}
 use Rattle.imp_syntax.specs.Plain.{Procedure, program_numbers}
 use Rattle.imp_check.specs.Programs.{AreNumbered}
 use Rattle.imp_check.specs.Slots.{routines_of}
@@ -33,13 +33,7 @@ among_at : (ps : List Procedure) (ns : List ℕ) (i n : ℕ) → slice_get ns i 
 among_at ps ns i n e = let k : i + 1 ≡ suc i = omega arith in ap (λ j. checked_among ps (take j ns)) k ∙ (ap (checked_among ps) (take_next ns i n e) ∙ among_next ps (take i ns) n)
 
 pub among_end : (ps : List Procedure) (ns : List ℕ) (i : ℕ) → length ns ≤ i → checked_among ps (take i ns) ≡ checked_among ps ns
-among_end ps ns i h = ap (checked_among ps) (all ns i h)
-  where
-    all : (ns : List ℕ) (i : ℕ) → length ns ≤ i → take i ns ≡ ns
-    all [] zero h = refl
-    all [] (suc i) h = refl
-    all (n ∷ ns) zero h = absurd (omega arith)
-    all (n ∷ ns) (suc i) h = ap (λ ms. n ∷ ms) (all ns i (omega arith))
+among_end ps ns i h = ap (checked_among ps) (take_all i ns h)
 
 among_split : (ps : List Procedure) (ns : List ℕ) (k : ℕ) → checked_among ps (take k ns) ++ checked_among ps (drop k ns) ≡ checked_among ps ns
 among_split ps ns k = sym (among_both ps (take k ns) (drop k ns)) ∙ ap (checked_among ps) (take-append-drop k ns)

@@ -1,6 +1,6 @@
 -- What is done for tickets is the machine's.
-use Rattle.std.proofs.Common.{◌≡◌, ℕ, zero, suc, ◌+◌, ◌<◌, ◌≤◌, List, [], ◌∷◌, ◌++◌, map, take, drop, length, if◌then◌else◌, Some, None, Err, slice_get, refl, sym, ap, subst, ◌∙◌, inr, arith}
-use Rattle.std.proofs.lemmas.List.{length-map, map_push}
+use Rattle.std.proofs.Common.{◌≡◌, ℕ, zero, suc, ◌+◌, ◌<◌, List, [], ◌∷◌, ◌++◌, map, take, drop, length, if◌then◌else◌, Some, None, Err, slice_get, refl, sym, ap, subst, ◌∙◌, inr, arith}
+use Rattle.std.proofs.lemmas.List.{length-map, map_push, length-take-le}
 use Rattle.plain_values.proofs.Cases.{by_test}
 use Rattle.imp_syntax.specs.declared.edit.Location.{Location}
 use Rattle.imp_slots.specs.Fits.{Absent, Distinct, IsChecked}
@@ -119,12 +119,6 @@ ticket_here dom store book m n k o h are e q = sym (ap (λ (z : Machine). ticket
 pub no_ticket : {S : Type 0} (dom : Operations S) (store : Store S) (book : Book) (m : Machine) (n : ℕ) → Holds dom store book m → ticket_of n (tickets book.tickets) ≡ None → ticket_of n m.tickets ≡ None
 no_ticket dom store book m n h e = sym (ap (λ (z : Machine). ticket_of n z.tickets) h.is) ∙ e
 
-taken_length : {A : Type 0} (n : ℕ) (xs : List A) → n ≤ length xs → length (take n xs) ≡ n
-taken_length zero [] h = refl
-taken_length zero (x ∷ xs) h = refl
-taken_length (suc n) [] h = absurd (omega arith)
-taken_length (suc n) (x ∷ xs) h = ap suc (taken_length n xs (omega arith))
-
 module _ {S : Type 0} (dom : Operations S) (book : Book) (store : Store S) where
   -- why no ticket is opened
   pub ask_refused : (m : Machine) (l : Location) (string : List ℕ) (e : QueryError) → Holds dom store book m → length book.tickets.open_ones.items < 16 → IsRefused (answer dom (flow_in book).engine (flow_in book).program l string) e → Opens dom m (Holds dom store book) l string (Err (ask_error e))
@@ -163,7 +157,7 @@ module _ {S : Type 0} (dom : Operations S) (book : Book) (store new : Store S) (
       let ms = missing_at dom o.at o.string m in
       retold_holds dom new (record book { cost = count }) t (stepped dom (ticket o) most m)
       (subst (λ k. Holds dom new (record book { cost = count }) (keeping (m.kept ++ take k ms) (length (take k ms)) m)) c
-      (subst (λ k. Holds dom new (record book { cost = count }) (keeping (m.kept ++ take count ms) k m)) (sym (taken_length count ms (omega arith))) (keeping_holds dom book store new o.at o.string ts count checked a f law m count h)))
+      (subst (λ k. Holds dom new (record book { cost = count }) (keeping (m.kept ++ take count ms) k m)) (sym (length-take-le count ms (omega arith))) (keeping_holds dom book store new o.at o.string ts count checked a f law m count h)))
       e n
 
   -- nothing is

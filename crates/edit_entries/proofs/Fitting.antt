@@ -1,6 +1,7 @@
 -- A program fits again where a part of a block is exchanged for one that fits in the same place.
 use Rattle.std.proofs.Common.{◌≡◌, ℕ, zero, suc, ◌<◌, ◌||◌, Bool, true, false, List, [], ◌∷◌, ◌++◌, length, map, slice_get, refl, sym, ap, ◌∙◌, subst, arith}
 use Rattle.std.proofs.lemmas.List.{map-append}
+use Rattle.std.proofs.Math.Bool.{or_assoc}
 use Rattle.imp_syntax.specs.Plain.{Statement, Statements, Ends, Starts, Procedure}
 use Rattle.imp_syntax.specs.Plain as tree
 use Rattle.imp_slots.specs.Plain.{Layout, Invoke, Code, Routine}
@@ -102,10 +103,6 @@ some_both : (xs ys : List ℕ) → some (xs ++ ys) ≡ (some xs || some ys)
 some_both [] ys = refl
 some_both (x ∷ xs) ys = refl
 
-or_again : (a b c : Bool) → (a || (b || c)) ≡ ((a || b) || c)
-or_again true b c = refl
-or_again false b c = refl
-
 module _ (f : Resolver) where
   mutual
     statement_breaks : (s : Statement) (r : Code) → breaks (statement_in f s r) ≡ (some (leaving_in s) || breaks r)
@@ -115,7 +112,7 @@ module _ (f : Resolver) where
     statement_breaks (tree.If n c t e) r =
         ap (λ a. a || (breaks (code_in f e) || breaks r)) (block_breaks t)
         ∙ ap (λ a. some (leaving t) || (a || breaks r)) (block_breaks e)
-        ∙ or_again (some (leaving t)) (some (leaving e)) (breaks r)
+        ∙ sym (or_assoc (some (leaving t)) (some (leaving e)) (breaks r))
         ∙ ap (λ a. a || breaks r) (sym (some_both (leaving t) (leaving e)))
     statement_breaks (tree.While n c b) r = refl
 

@@ -1,5 +1,5 @@
 -- What is known of the statements that an edit touches.
-use Rattle.std.proofs.Common.{◌≡◌, ℕ, ◌⊎◌, inl, inr, List, [], ◌∷◌, ◌++◌, length, Option, Some, None, refl, sym, ap, subst, append_assoc}
+use Rattle.std.proofs.Common.{◌≡◌, ℕ, ◌⊎◌, inl, inr, List, [], ◌∷◌, ◌++◌, length, Option, Some, None, refl, sym, ap, subst, append_assoc, append-nil}
 use Rattle.imp_syntax.specs.Plain.{Statement, Simple, Break, Call, Statements, Ends, Starts, If, While, Procedure, number_of, program_numbers}
 use Rattle.imp_slots.specs.Fits.{Distinct}
 use Rattle.imp_check.specs.Slots.{Resolver}
@@ -49,11 +49,7 @@ module _ (f : Resolver) (e : Entry) where
   in_plug k (h ∷ hs) x i = in_fill k h (plug hs x) (in_plug (context_in k h) hs x i)
 
 in_program : (e : Entry) (es ps : List Procedure) (p : Procedure) (qs : List Procedure) → In e (procedure_entries (es ++ ps) p) → In e (entries_from es (ps ++ p ∷ qs))
-in_program e es [] p qs i = in_left e (procedure_entries es p) (entries_from (es ++ p ∷ []) qs) (subst (λ (os : List Procedure). In e (procedure_entries os p)) (nil es) i)
-  where
-    nil : (xs : List Procedure) → xs ++ [] ≡ xs
-    nil [] = refl
-    nil (y ∷ ys) = ap (λ (zs : List Procedure). y ∷ zs) (nil ys)
+in_program e es [] p qs i = in_left e (procedure_entries es p) (entries_from (es ++ p ∷ []) qs) (subst (λ (os : List Procedure). In e (procedure_entries os p)) (append-nil es) i)
 in_program e es (x ∷ ps) p qs i =
     in_right e (procedure_entries es x) (entries_from (es ++ x ∷ []) (ps ++ p ∷ qs)) (in_program e (es ++ x ∷ []) ps p qs (subst (λ (os : List Procedure). In e (procedure_entries os p)) (sym (append_assoc es (x ∷ []) ps)) i))
 

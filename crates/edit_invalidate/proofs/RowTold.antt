@@ -2,12 +2,12 @@
 use Rattle.std.specs.Bool.{Decides}
 use Rattle.std.specs.Cmp.Lexicographic.{pointwise}
 use Rattle.std.specs.Ordering.{int_eq}
-use Rattle.std.proofs.lemmas.Bool.Decides.{Decides-int_eq, Decides-eqb}
+use Rattle.std.proofs.lemmas.Bool.Decides.{Decides-int_eq, Decides-eqb, Decides-and, Decides-or, Decides-like}
 use Rattle.std.proofs.lemmas.Slice.Eq.{slice_eq-Decides}
 use Rattle.std.specs.Coded.{code_by}
 use denote.Struct.Codes.{itself}
 use base.Stored.{Coded, Gv}
-use Rattle.std.proofs.Common.{◌≡◌, suc, ◌≤◌, ◌&&◌, ◌||◌, ◌⊎◌, inl, inr, Bool, true, false, List, [], ◌∷◌, length, Option, refl, sym, ap, ◌∙◌, subst, arith}
+use Rattle.std.proofs.Common.{◌≡◌, suc, ◌≤◌, ◌⊎◌, inl, inr, Bool, true, false, List, [], ◌∷◌, length, Option, refl, sym, ap, ◌∙◌, subst, arith}
 use Rattle.plain_values.specs.Equal.{same_Decides}
 use Rattle.imp_slots.specs.Plain.{Returning}
 use Rattle.imp_slots.specs.Codes.{guard_code}
@@ -31,20 +31,6 @@ use Rattle.imp_flow.specs.declared.row.Row.TheVariants.{Init, One, Two, Fixed, J
 use Rattle.imp_flow.specs.Near.{outside, near, input_name, unary_of, binary_of, row_in}
 use Rattle.edit_invalidate.specs.RowCode.{same_ways, same_inputs, same_truth, same_unary, same_binary, same_row, is_nil}
 use Rattle.edit_invalidate.specs.Rows.{AskSame}
-
-mapped : {A B : Type 0} (b : Bool) → Decides b A → (A → B) → (B → A) → Decides b B
-mapped b d f g = (λ e. f (d.0 e), λ y. d.1 (g y))
-
-both : {A B : Type 0} (a b : Bool) → Decides a A → Decides b B → Decides (a && b) (A × B)
-both true b d e = (λ h. (d.0 refl, e.0 h), λ p. e.1 p.1)
-both false b d e = (λ h. absurd cc, λ p. d.1 p.0)
-
-either : {A B : Type 0} (a b : Bool) → Decides a A → Decides b B → Decides (a || b) (A ⊎ B)
-either true b d e = (λ h. inl (d.0 refl), λ p. refl)
-either false b d e = (λ h. inr (e.0 h), λ p. elim p [ inl x ↦ absurd (clash (d.1 x)) | inr y ↦ e.1 y ])
-  where
-    clash : false ≡ true → ⊥
-    clash e = cc
 
 never : {A : Type 0} → (A → ⊥) → Decides false A
 never n = (λ e. absurd cc, λ a. absurd (n a))
@@ -74,22 +60,19 @@ ways w Out Out = (λ e. refl, λ e. refl)
 ways w Out (Into g) = never (λ e. longer g (outside w) w (shorter w) (sym e))
 ways w (Into f) Here = never (λ e. longer f w w (omega arith) e)
 ways w (Into f) Out = never (λ e. longer f (outside w) w (shorter w) e)
-ways w (Into f) (Into g) = mapped _ (frame_decides f g) (λ e. ap (λ f. f ∷ w) e) (λ e. cc)
+ways w (Into f) (Into g) = Decides-like _ (λ e. ap (λ f. f ∷ w) e) (λ e. cc) (frame_decides f g)
 
 inputs : (w : List Frame) (a b : Input) → Decides (same_inputs (is_nil w) a b) (input_name w a ≡ input_name w b)
 inputs w a b =
-    mapped (same_inputs (is_nil w) a b) (both _ _ (point_decides a.point b.point) (ways w a.way b.way))
-    (λ p. ap (name (near w a.way)) p.0 ∙ ap (λ v. name v b.point) p.1)
-    (λ e. (ap (λ (c : CellName). c.point) e, ap (λ (c : CellName). c.path) e))
+    Decides-like (same_inputs (is_nil w) a b) (λ p. ap (name (near w a.way)) p.0 ∙ ap (λ v. name v b.point) p.1) (λ e. (ap (λ (c : CellName). c.point) e, ap (λ (c : CellName). c.path) e)) (Decides-and _ _ (point_decides a.point b.point) (ways w a.way b.way))
 
 unaries : (a b : Unary) → Decides (same_unary a b) (unary_of a ≡ unary_of b)
 unaries (one.Post s) (one.Post t) =
-    mapped _ (same_Decides stmt_coded s.now t.now) (λ e. ap (λ s. plain.Posts (act_of s)) e)
-    (λ e. let i : act_of s.now ≡ act_of t.now = cc in sym (stmt_of-act_of s.now) ∙ ap stmt_of i ∙ stmt_of-act_of t.now)
+    Decides-like _ (λ e. ap (λ s. plain.Posts (act_of s)) e) (λ e. let i : act_of s.now ≡ act_of t.now = cc in sym (stmt_of-act_of s.now) ∙ ap stmt_of i ∙ stmt_of-act_of t.now) (same_Decides stmt_coded s.now t.now)
 unaries (one.Assume c h) (one.Assume d i) =
-    mapped _ (both _ _ (same_Decides guard_code c.now d.now) (truth h i)) (λ p. ap (λ g. plain.Assumes g h) p.0 ∙ ap (plain.Assumes d.now) p.1) (λ e. (cc, cc))
-unaries (one.Enter c) (one.Enter d) = mapped _ (same_Decides entering_code c.now.entering d.now.entering) (λ e. ap plain.Enters e) (λ e. cc)
-unaries (one.Exit c) (one.Exit d) = mapped _ (same_Decides guard_code c.now d.now) (λ e. ap plain.Exits e) (λ e. cc)
+    Decides-like _ (λ p. ap (λ g. plain.Assumes g h) p.0 ∙ ap (plain.Assumes d.now) p.1) (λ e. (cc, cc)) (Decides-and _ _ (same_Decides guard_code c.now d.now) (truth h i))
+unaries (one.Enter c) (one.Enter d) = Decides-like _ (λ e. ap plain.Enters e) (λ e. cc) (same_Decides entering_code c.now.entering d.now.entering)
+unaries (one.Exit c) (one.Exit d) = Decides-like _ (λ e. ap plain.Exits e) (λ e. cc) (same_Decides guard_code c.now d.now)
 unaries a b = (λ e. absurd cc, λ e. absurd cc)
 
 abbrev returning_code : Coded (Option Returning)
@@ -97,8 +80,8 @@ returning_code = code_by Gv itself returning_to returning_from returning_from_to
 
 binaries : (a b : Binary) → Decides (same_binary a b) (binary_of a ≡ binary_of b)
 binaries two.Join two.Join = (λ e. refl, λ e. refl)
-binaries (two.Leave c) (two.Leave d) = mapped _ (same_Decides returning_code c.now.returning d.now.returning) (λ e. ap plain.Leaves e) (λ e. cc)
-binaries (two.Widen m) (two.Widen k) = mapped _ (slice_eq-Decides Decides-int_eq m.now k.now (pointwise int_eq m.now k.now) refl) (λ e. ap plain.Widens e) (λ e. cc)
+binaries (two.Leave c) (two.Leave d) = Decides-like _ (λ e. ap plain.Leaves e) (λ e. cc) (same_Decides returning_code c.now.returning d.now.returning)
+binaries (two.Widen m) (two.Widen k) = Decides-like _ (λ e. ap plain.Widens e) (λ e. cc) (slice_eq-Decides Decides-int_eq m.now k.now (pointwise int_eq m.now k.now) refl)
 binaries a b = (λ e. absurd cc, λ e. absurd cc)
 
 only : {A : Type 0} {B : Type 0} → (A → B) → A ⊎ ⊥ → B
@@ -109,22 +92,18 @@ is_true : (b : Bool) → Decides b (b ≡ true)
 is_true b = (λ e. e, λ e. e)
 
 rows : (w : List Frame) (r q : Row) (alone : Bool) → Decides (same_row (is_nil w) alone r q) (AskSame alone (row_in w r) (row_in w q))
-rows w (Init l) (Init m) alone = mapped _ (same_Decides layout_code l.now m.now) (λ e. inl (ap plain.Init e)) (λ s. only (λ e. cc) s)
+rows w (Init l) (Init m) alone = Decides-like _ (λ e. inl (ap plain.Init e)) (λ s. only (λ e. cc) s) (same_Decides layout_code l.now m.now)
 rows w (One o a) (One q b) alone =
-    mapped _ (both _ _ (unaries o q) (inputs w a b)) (λ p. inl (ap (λ o. plain.One o (input_name w a)) p.0 ∙ ap (plain.One (unary_of q)) p.1)) (λ s. only (λ e. (cc, cc)) s)
+    Decides-like _ (λ p. inl (ap (λ o. plain.One o (input_name w a)) p.0 ∙ ap (plain.One (unary_of q)) p.1)) (λ s. only (λ e. (cc, cc)) s) (Decides-and _ _ (unaries o q) (inputs w a b))
 rows w (Two o a b) (Two q c d) alone =
-    mapped _ (both _ _ (binaries o q) (both _ _ (inputs w a c) (inputs w b d)))
-    (λ p. inl (ap (λ o. plain.Two o (input_name w a) (input_name w b)) p.0 ∙ ap (λ a. plain.Two (binary_of q) a (input_name w b)) p.1.0 ∙ ap (plain.Two (binary_of q) (input_name w c)) p.1.1))
-    (λ s. only (λ e. (cc, (cc, cc))) s)
+    Decides-like _ (λ p. inl (ap (λ o. plain.Two o (input_name w a) (input_name w b)) p.0 ∙ ap (λ a. plain.Two (binary_of q) a (input_name w b)) p.1.0 ∙ ap (plain.Two (binary_of q) (input_name w c)) p.1.1)) (λ s. only (λ e. (cc, (cc, cc))) s) (Decides-and _ _ (binaries o q) (Decides-and _ _ (inputs w a c) (inputs w b d)))
 rows w (Fixed n p) (Fixed m q) alone =
-    mapped _ (both _ _ (Decides-eqb n m) (point_decides p q)) (λ i. inl (ap (λ n. plain.Fixed n (plain.sites_of w) w p) i.0 ∙ ap (plain.Fixed m (plain.sites_of w) w) i.1)) (λ s. only (λ e. (cc, cc)) s)
+    Decides-like _ (λ i. inl (ap (λ n. plain.Fixed n (plain.sites_of w) w p) i.0 ∙ ap (plain.Fixed m (plain.sites_of w) w) i.1)) (λ s. only (λ e. (cc, cc)) s) (Decides-and _ _ (Decides-eqb n m) (point_decides p q))
 rows w (Joins s l n p) (Joins t k m q) alone =
-    mapped _ (both _ _ (point_decides l k) (either _ _ (is_true alone) (both _ _ (truth s t) (both _ _ (Decides-eqb n m) (point_decides p q)))))
-    (λ i. elim i.1 [
+    Decides-like _ (λ i. elim i.1 [
       | inl a ↦ inr (ap (name w) i.0, a)
       | inr b ↦ inl (ap (λ s. plain.Joins s (name w l) n w p) b.0 ∙ ap (λ l. plain.Joins t (name w l) n w p) i.0 ∙ ap (λ n. plain.Joins t (name w k) n w p) b.1.0 ∙ ap (plain.Joins t (name w k) m w) b.1.1)
-    ])
-    back
+    ]) back (Decides-and _ _ (point_decides l k) (Decides-or _ _ (is_true alone) (Decides-and _ _ (truth s t) (Decides-and _ _ (Decides-eqb n m) (point_decides p q)))))
   where
     back : AskSame alone (row_in w (Joins s l n p)) (row_in w (Joins t k m q)) → (l ≡ k) × ((alone ≡ true) ⊎ ((s ≡ t) × ((n ≡ m) × (p ≡ q))))
     back (inl e) = let i : name w l ≡ name w k = cc in (ap (λ (c : CellName). c.point) i, inr (cc, (cc, cc)))

@@ -38,21 +38,6 @@ pub keys_program : (ps : List Procedure) → keys (program_seats ps) ≡ program
 keys_program [] = refl
 keys_program (p ∷ ps) = keys_both (seats p.name [] p.body) (program_seats ps) ∙ ap (λ k. k ++ keys (program_seats ps)) (keys_block p.name [] p.body) ∙ ap (λ k. numbers p.body ++ k) (keys_program ps)
 
-mutual
-  code_statement : (f : Resolver) (s : Statement) (r : Code) → code_numbers (statement_in f s r) ≡ numbers_in s ++ code_numbers r
-  code_statement f (tree.Simple n a) r = refl
-  code_statement f (tree.Break n) r = refl
-  code_statement f (tree.Call n x g es) r = refl
-  code_statement f (tree.If n c t e) r =
-      ap (λ k. n ∷ (k ++ (code_numbers (code_in f e) ++ code_numbers r))) (code_block f t)
-      ∙ ap (λ k. n ∷ (numbers t ++ (k ++ code_numbers r))) (code_block f e)
-      ∙ ap (λ k. n ∷ k) (sym (append_assoc (numbers t) (numbers e) (code_numbers r)))
-  code_statement f (tree.While n c b) r = ap (λ k. n ∷ (k ++ code_numbers r)) (code_block f b)
-
-  code_block : (f : Resolver) (ss : Statements) → code_numbers (code_in f ss) ≡ numbers ss
-  code_block f tree.Ends = refl
-  code_block f (tree.Starts s ss) = code_statement f s (code_in f ss) ∙ ap (λ k. numbers_in s ++ k) (code_block f ss)
-
 -- The first procedure of a name has that name.
 named : (es earlier : List Procedure) (g : List ℕ) (c : Routine) → slice_get (routines_from es earlier) (place_named earlier g) ≡ Some c → c.name ≡ g
 named es [] g c e = absurd cc

@@ -2,6 +2,8 @@
 use Rattle.std.proofs.lemmas.Bool.Decides.{nat_tests}
 use Rattle.std.proofs.Common.{◌≡◌, ℕ, zero, suc, ◌<◌, ◌≤◌, ◌==◌, ◌⊎◌, inl, inr, cond, Bool, true, false, List, [], ◌∷◌, ◌++◌, length, Option, Some, None, refl, sym, ap, ◌∙◌, subst, arith}
 use Rattle.std.specs.List.{All}
+use Rattle.std.proofs.lemmas.Bool.{cases_lt}
+use Rattle.std.proofs.lemmas.List.Elements.{All-push}
 use Rattle.imp_slots.specs.Fits.{Absent}
 use Rattle.imp_syntax.specs.Plain.{Procedure, program_numbers}
 use Rattle.imp_check.specs.Changes.{overlay, AreWithin}
@@ -12,7 +14,7 @@ use Rattle.imp_check.specs.Tables.{entry_in}
 use Rattle.imp_check.proofs.PutLemmas.{other, entry_past}
 use Rattle.imp_check.proofs.RebuildLemmas.{entry_numbers, all_numbers}
 use Rattle.imp_check.proofs.OverlayLemmas.{put_numbers, overlay_more, overlay_other}
-use Rattle.imp_check.proofs.FallingLemmas.{all_more, falling_more}
+use Rattle.imp_check.proofs.FallingLemmas.{falling_more}
 
 -- numbers above one are not it
 apart : (k : ℕ) (ps : List Put) → All (λ (p : Put). suc k ≤ p.number) ps → Absent k (put_numbers ps)
@@ -63,12 +65,12 @@ module _ (xs ys zs : List (Option Entry)) (o : Option Entry) (e : xs ≡ ys ++ o
         go false q = comes m (let r : length ys ≡ m → ⊥ = λ s. absurd (grind (arith, nat_tests)) in grind (arith, more)) l
 
     pub high_put : (p : Put) → p.number ≡ length ys → All (λ (q : Put). length ys ≤ q.number) (ps ++ p ∷ [])
-    high_put p n = all_more (λ (q : Put). length ys ≤ q.number) ps p (λ i d h. omega (arith, more, high i d h)) (omega (arith, n))
+    high_put p n = All-push (λ (q : Put). length ys ≤ q.number) ps p (λ i d h. omega (arith, more, high i d h)) (omega (arith, n))
 
     pub within_put : (p : Put) → p.number ≡ length ys → length ys < b → AreWithin b ps → AreWithin b (ps ++ p ∷ [])
     within_put p n l w = record {
       falling = falling_more ps p w.falling (λ i d h. omega (arith, n, higher i d h));
-      below = all_more (λ (q : Put). q.number < b) ps p w.below (omega (arith, n));
+      below = All-push (λ (q : Put). q.number < b) ps p w.below (omega (arith, n));
     }
 
     -- .. or left out, where nothing stands there nor comes.
@@ -86,7 +88,7 @@ module _ (xs ys zs : List (Option Entry)) (o : Option Entry) (e : xs ≡ ys ++ o
     high_left = λ i d h. omega (arith, more, high i d h)
 
 -- a number of no statement has no entry
-no_entry : (es : List Entry) (n : ℕ) → Absent n (entry_numbers es) → entry_of es n ≡ None
+pub no_entry : (es : List Entry) (n : ℕ) → Absent n (entry_numbers es) → entry_of es n ≡ None
 no_entry [] n a = refl
 no_entry (e ∷ es) n a = ap (λ b. cond b (Some e) (entry_of es n)) (other e.number n (λ q. a.0 (sym q))) ∙ no_entry es n a.1
 
@@ -103,11 +105,8 @@ absent_put b (p ∷ ps) a m h = let l : p.number < b = a 0 p (omega arith) in ((
 
 -- What comes below a number above all those of two programs makes the second of the first.
 pub entries_made : (old new : List Procedure) (at : ℕ → Option Entry) (puts : List Put) (b : ℕ) → All (λ (n : ℕ). n < b) (program_numbers old) → All (λ (n : ℕ). n < b) (program_numbers new) → ((n : ℕ) → at n ≡ entry_of (entries_of new) n) → ((n : ℕ) → n < b → overlay puts (entry_of (entries_of old)) n ≡ at n) → AreWithin b puts → (n : ℕ) → entry_of (entries_of new) n ≡ overlay puts (entry_of (entries_of old)) n
-entries_made old new at puts b low lows is comes w n = go (order n b)
+entries_made old new at puts b low lows is comes w n = go (cases_lt n b)
   where
-    order : (n b : ℕ) → (n < b) ⊎ (b ≤ n)
-    order n b = grind arith
-
     go : (n < b) ⊎ (b ≤ n) → entry_of (entries_of new) n ≡ overlay puts (entry_of (entries_of old)) n
     go (inl l) = sym (comes n l ∙ is n)
     go (inr l) = past_entry new b lows n l ∙ sym (overlay_other puts (entry_of (entries_of old)) n (absent_put b puts w.below n l) ∙ past_entry old b low n l)
@@ -126,15 +125,12 @@ none_past : (b : ℕ) (ns : List ℕ) → ((m : ℕ) → b ≤ m → Absent m ns
 none_past b [] h = λ i d k. absurd (omega arith)
 none_past b (n ∷ ns) h = go (none_past b ns (λ m l. (h m l).1))
   where
-    order : (n b : ℕ) → (n < b) ⊎ (b ≤ n)
-    order n b = grind arith
-
     first : (n < b) ⊎ (b ≤ n) → n < b
     first (inl l) = l
     first (inr l) = absurd ((h n l).0 refl)
 
     go : All (λ (n : ℕ). n < b) ns → All (λ (n : ℕ). n < b) (n ∷ ns)
-    go a zero d k = first (order n b)
+    go a zero d k = first (cases_lt n b)
     go a (suc i) d k = a i d (omega arith)
 
 -- All statements of a table have numbers below its places.

@@ -2,6 +2,7 @@
 use Rattle.std.proofs.lemmas.Bool.{cases_lt}
 use Rattle.std.proofs.Common.{◌≡◌, ℕ, zero, suc, ◌+◌, ◌<◌, ◌≤◌, ◌==◌, ◌⊎◌, inl, inr, cond, List, [], ◌∷◌, ◌++◌, length, slice_index_or, Option, refl, sym, ap, ◌∙◌, arith}
 use Rattle.std.specs.List.{All}
+use Rattle.std.proofs.lemmas.List.Elements.{All-push}
 use Rattle.imp_slots.specs.Fits.{Absent, Distinct}
 use Rattle.imp_check.specs.Changes.{overlay, AreFalling}
 use Rattle.imp_check.specs.declared.entry.Entry.{Entry}
@@ -72,16 +73,9 @@ overlay_gone ps n low high g l h at = overlay_other ps at n (apart_all n ps (λ 
     go j d k e (inl s) = omega (arith, e, g j d s k)
     go j d k e (inr s) = omega (arith, e, l j d (omega (arith, s, h)) k)
 
--- one more, which is less than all
-pub all_more : (P : Put → Type 0) (ps : List Put) (p : Put) → All P ps → P p → All P (ps ++ p ∷ [])
-all_more P [] p a h zero d l = h
-all_more P [] p a h (suc i) d l = absurd (omega arith)
-all_more P (q ∷ ps) p a h zero d l = a 0 q (omega arith)
-all_more P (q ∷ ps) p a h (suc i) d l = all_more P ps p (λ k e m. a (suc k) e (omega arith)) h i d (omega arith)
-
 pub falling_more : (ps : List Put) (p : Put) → AreFalling ps → All (λ (q : Put). p.number < q.number) ps → AreFalling (ps ++ p ∷ [])
 falling_more [] p f a i j d h l = absurd (omega arith)
 falling_more (q ∷ ps) p f a zero zero d h l = absurd (omega arith)
-falling_more (q ∷ ps) p f a zero (suc j) d h l = all_more (λ (z : Put). z.number < q.number) ps p (λ i e k. less_behind q ps f i e k) (a 0 q (omega arith)) j d (omega arith)
+falling_more (q ∷ ps) p f a zero (suc j) d h l = All-push (λ (z : Put). z.number < q.number) ps p (λ i e k. less_behind q ps f i e k) (a 0 q (omega arith)) j d (omega arith)
 falling_more (q ∷ ps) p f a (suc i) zero d h l = absurd (omega arith)
 falling_more (q ∷ ps) p f a (suc i) (suc j) d h l = falling_more ps p (falling_tail q ps f) (λ k e m. a (suc k) e (omega arith)) i j d (omega arith) (omega arith)

@@ -1,6 +1,7 @@
 -- Entries exchanged into a table.
 use Rattle.std.proofs.lemmas.Bool.Decides.{nat_tests}
 use Rattle.std.proofs.Common.{◌≡◌, ℕ, zero, suc, ◌+◌, ◌<◌, ◌==◌, cond, Bool, true, false, List, [], ◌∷◌, ◌++◌, ◌≤◌, length, map, take, drop, slice_index_or, slice_set, Option, refl, sym, ap, ◌∙◌, subst, arith, add-one}
+use Rattle.std.proofs.lemmas.List.{take_all}
 use Rattle.imp_slots.specs.Fits.{Absent, Distinct}
 use Rattle.imp_check.specs.Changes.{overlay, AreWithin}
 use Rattle.imp_check.specs.declared.entry.Entry.{Entry}
@@ -146,15 +147,9 @@ module _ (ps : List Put) (at : ℕ → Option Entry) (i : ℕ) (d p : Put) (h : 
       rw add-one (set_take cs i v l) ∙ ap (λ zs. zs ++ v ∷ []) t ∙ ap (λ (y : Put). back_of at (take i ps) ++ y ∷ []) z
       ∙ sym (ap (back_of at) one_more ∙ back_both at (take i ps) (p ∷ []))
 
-take_all : (xs : List Put) (n : ℕ) → length xs ≤ n → take n xs ≡ xs
-take_all [] zero h = refl
-take_all [] (suc n) h = refl
-take_all (x ∷ xs) zero h = absurd (omega arith)
-take_all (x ∷ xs) (suc n) h = ap (λ zs. x ∷ zs) (take_all xs n (omega arith))
-
 -- all are put in
 pub all_back : (ps cs : List Put) (at : ℕ → Option Entry) (i : ℕ) → length ps ≤ i → length cs ≡ length ps → take i cs ≡ back_of at (take i ps) → cs ≡ back_of at ps
-all_back ps cs at i h l t = sym (take_all cs i (omega (arith, h, l))) ∙ t ∙ ap (back_of at) (take_all ps i h)
+all_back ps cs at i h l t = sym (take_all i cs (omega (arith, h, l))) ∙ t ∙ ap (back_of at) (take_all i ps h)
 
 pub all_in : (ps : List Put) (at f : ℕ → Option Entry) (i : ℕ) → length ps ≤ i → ((m : ℕ) → f m ≡ overlay (take i ps) at m) → (m : ℕ) → f m ≡ overlay ps at m
-all_in ps at f i h r m = r m ∙ ap (λ zs. overlay zs at m) (take_all ps i h)
+all_in ps at f i h r m = r m ∙ ap (λ zs. overlay zs at m) (take_all i ps h)

@@ -1,5 +1,6 @@
 -- Call statements, each put to those of its callee.
 use Rattle.std.proofs.Common.{◌≡◌, ℕ, zero, suc, ◌+◌, ◌<◌, ◌≤◌, ◌==◌, ◌⊎◌, inl, inr, cond, Bool, true, false, List, [], ◌∷◌, ◌++◌, length, slice_get, slice_set, slice_index_or, Option, Some, None, option_map, refl, sym, ap, ◌∙◌, arith, add-one, append-nil, append_assoc}
+use Rattle.std.proofs.lemmas.Bool.{cases_lt}
 use Rattle.imp_check.specs.Entries.{calls_here, sites_in, sites_below}
 use Rattle.imp_check.specs.Puts.{with_site, with_form, with_sites, no_sites}
 use Rattle.imp_check.specs.declared.entry.Entry.{Entry}
@@ -62,17 +63,8 @@ none_past zero q h = refl
 none_past (suc n) zero h = absurd (omega arith)
 none_past (suc n) (suc q) h = none_past n q (omega arith)
 
-either : (q n : ℕ) → (q < n) ⊎ (n ≤ q)
-either q zero = inr (omega arith)
-either zero (suc n) = inl (omega arith)
-either (suc q) (suc n) = go (either q n)
-  where
-    go : (q < n) ⊎ (n ≤ q) → (suc q < suc n) ⊎ (suc n ≤ suc q)
-    go (inl h) = inl (omega arith)
-    go (inr h) = inr (omega arith)
-
 made_at : (es : List Entry) (n q : ℕ) → slice_get (with_sites es (no_sites n)) q ≡ slice_get (sites_below es n) q
-made_at es n q = sites_at es (no_sites n) q ∙ go (either q n)
+made_at es n q = sites_at es (no_sites n) q ∙ go (cases_lt q n)
   where
     go : (q < n) ⊎ (n ≤ q) → option_map (λ s. s ++ sites_in es q) (slice_get (no_sites n) q) ≡ slice_get (sites_below es n) q
     go (inl h) = ap (option_map (λ s. s ++ sites_in es q)) (none_at n q h) ∙ sym (below_at es n q h)

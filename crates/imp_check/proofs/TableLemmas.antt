@@ -1,5 +1,5 @@
 -- The tree of a table that is right, and its procedures.
-use Rattle.std.proofs.Common.{◌≡◌, ℕ, zero, suc, ◌||◌, cond, Bool, List, [], ◌∷◌, ◌++◌, length, take, slice_get, Option, Some, None, option_map, refl, ap, ◌∙◌, sym, subst, arith}
+use Rattle.std.proofs.Common.{◌≡◌, ℕ, zero, suc, ◌||◌, cond, Bool, List, [], ◌∷◌, length, slice_get, Option, Some, None, option_map, refl, ap, ◌∙◌, sym, subst, arith}
 use Rattle.std.specs.Str.{bytes_eq}
 use Rattle.imp_syntax.specs.Plain.{Procedure}
 use Rattle.imp_slots.specs.Fits.{Distinct}
@@ -51,17 +51,6 @@ pub layout_at : (ps : List Procedure) (k : ℕ) → option_map (λ (h : Head). h
 layout_at [] k = refl
 layout_at (p ∷ ps) zero = refl
 layout_at (p ∷ ps) (suc k) = layout_at ps k
-
--- a slice of a list that is written back whole
-pub written : {A : Type 0} (n : ℕ) (xs zs : List A) → length xs ≡ n → take n (xs ++ zs) ≡ xs
-written zero [] zs h = go zs
-  where
-    go : {A : Type 0} (zs : List A) → take 0 zs ≡ []
-    go [] = refl
-    go (z ∷ zs) = refl
-written zero (x ∷ xs) zs h = absurd (omega arith)
-written (suc n) [] zs h = absurd (omega arith)
-written (suc n) (x ∷ xs) zs h = ap (λ ys. x ∷ ys) (written n xs zs (omega arith))
 
 -- the same entries in another table
 pub same_right : (at after : ℕ → Option Entry) (count : ℕ) (heads : List Head) (sites : List (List ℕ)) → ((n : ℕ) → after n ≡ at n) → AreOf (program_by at count heads) at count heads sites → AreOf (program_by after count heads) after count heads sites

@@ -1,6 +1,6 @@
 -- An edit at a statement's number is an exchange of a part of the block in which the statement stands.
 use Rattle.std.proofs.lemmas.Bool.Decides.{nat_tests}
-use Rattle.std.proofs.Common.{◌≡◌, ◌≢◌, ℕ, ◌==◌, cond, List, [], ◌∷◌, ◌++◌, true, refl, sym, ap, ◌∙◌, subst, arith}
+use Rattle.std.proofs.Common.{◌≡◌, ◌≢◌, ℕ, ◌==◌, cond, List, [], ◌∷◌, ◌++◌, true, refl, sym, ap, ◌∙◌, subst, arith, append-nil}
 use Rattle.imp_syntax.specs.Plain.{Statement, Simple, Break, Call, If, While, Statements, Ends, Starts, Procedure, number_of, numbers_in, numbers, program_numbers}
 use Rattle.imp_slots.specs.Fits.{Absent, Distinct}
 use Rattle.edit_entries.specs.Holes.{append, Hole, Then, Else, Body, fill, plug, with_body}
@@ -129,14 +129,10 @@ module _ (n : ℕ) (made : Statement → Statements) where
   program_at : (ps : List Procedure) (p : Procedure) (qs : List Procedure) → Distinct (program_numbers (ps ++ p ∷ qs)) → Has n (numbers p.body) → in_program n made (ps ++ p ∷ qs) ≡ ps ++ with_body p (in_block n made p.body) ∷ qs
   program_at [] p qs d i = ap (λ (os : List Procedure). with_body p (in_block n made p.body) ∷ os) (absent_program qs (middle_alone [] (numbers p.body) (program_numbers qs) n d i))
   program_at (x ∷ ps) p qs d i =
-      let a = middle_alone (numbers x.body) (program_numbers (ps ++ p ∷ qs)) [] n (subst Distinct (ap (λ k. numbers x.body ++ k) (sym (nil (program_numbers (ps ++ p ∷ qs))))) d) (inside ps) in
+      let a = middle_alone (numbers x.body) (program_numbers (ps ++ p ∷ qs)) [] n (subst Distinct (ap (λ k. numbers x.body ++ k) (sym (append-nil (program_numbers (ps ++ p ∷ qs))))) d) (inside ps) in
       ap (λ b. with_body x b ∷ in_program n made (ps ++ p ∷ qs)) (absent_block n made x.body (absent_left n (numbers x.body) [] a))
       ∙ ap (λ (os : List Procedure). x ∷ os) (program_at ps p qs (distinct_right (numbers x.body) (program_numbers (ps ++ p ∷ qs)) d) i)
     where
-      nil : (xs : List ℕ) → xs ++ [] ≡ xs
-      nil [] = refl
-      nil (y ∷ ys) = ap (λ zs. y ∷ zs) (nil ys)
-
       inside : (os : List Procedure) → Has n (program_numbers (os ++ p ∷ qs))
       inside [] = has_left n (numbers p.body) (program_numbers qs) i
       inside (y ∷ os) = has_right n (numbers y.body) (program_numbers (os ++ p ∷ qs)) (inside os)

@@ -4,6 +4,7 @@ use Rattle.std.proofs.Common.{◌≡◌, ℕ, ◌<◌, ◌==◌, cond, List, [],
 use Rattle.std.specs.Prelude.{slice_get, unwrap_or}
 use Rattle.std.specs.List.{All}
 use Rattle.std.specs.Option.{option_map}
+use Rattle.std.proofs.lemmas.List.Elements.{All-push}
 use Rattle.imp_syntax.specs.Plain.{Condition, Statement, Simple, Break, Call, If, While, Statements, Ends, Procedure, number_of, program_numbers}
 use Rattle.imp_syntax.specs.Changes.{with_condition}
 use Rattle.imp_slots.specs.Fits.{Distinct, IsChecked, fits_guard}
@@ -11,7 +12,7 @@ use Rattle.imp_check.specs.Fine.{IsFine}
 use Rattle.imp_check.specs.Faults.{first, at, in_procedure}
 use Rattle.imp_check.specs.Names.{variables}
 use Rattle.imp_check.specs.Slots.{layout_in, guard_in, routines_of}
-use Rattle.imp_check.proofs.FallingLemmas.{all_more, falling_more}
+use Rattle.imp_check.proofs.FallingLemmas.{falling_more}
 use Rattle.imp_check.specs.Statements.{condition_fault, block_fault}
 use Rattle.imp_check.specs.Parts.{part_of}
 use Rattle.imp_check.specs.Programs.{AreNumbered, block_count, program_count, variables_fault, check_fault}
@@ -180,7 +181,7 @@ guard_refusal n d P e h fine k l f =
     ∙ ap (λ (z : Head). in_procedure z.bare.name (at n (condition_fault (variables z.bare) d))) (sym t.head)
 
 one_within : (next : ℕ) (p : Put) → p.number < next → AreWithin next (p ∷ [])
-one_within next p h = record { falling = falling_more [] p (λ i j d l m. absurd (omega arith)) (λ i d l. absurd (omega arith)); below = all_more (λ (q : Put). q.number < next) [] p (λ i d l. absurd (omega arith)) h }
+one_within next p h = record { falling = falling_more [] p (λ i j d l m. absurd (omega arith)) (λ i d l. absurd (omega arith)); below = All-push (λ (q : Put). q.number < next) [] p (λ i d l. absurd (omega arith)) h }
 
 -- The change of one entry makes the new program.
 pub guard_made : (n : ℕ) (d : Condition) (P : List Procedure) (e y : Entry) (h : Head) (next : ℕ) (change : Change) → IsFine P → entry_of (entries_of P) n ≡ Some e → slice_get (heads_of P) e.context.proc ≡ Some h → fits Conditional e.part ≡ true →

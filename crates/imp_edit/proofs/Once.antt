@@ -2,6 +2,7 @@
 use Rattle.std.proofs.lemmas.Bool.Decides.{nat_tests}
 use Rattle.std.proofs.Common.{ℕ, zero, suc, ◌≡◌, ◌≢◌, ◌+◌, ◌*◌, ◌<◌, ◌≤◌, ◌==◌, ◌⊎◌, inl, inr, Bool, true, false, List, [], ◌∷◌, refl, sym, ap, subst, arith}
 use Rattle.std.specs.List.{All}
+use Rattle.std.proofs.lemmas.Bool.{cases_lt}
 use Rattle.imp_slots.specs.Fits.{Absent, Distinct}
 use Rattle.imp_edit.specs.Edited.{counting}
 use Rattle.imp_edit.proofs.Tallies.{one, often}
@@ -41,9 +42,6 @@ pub below_never : (b : ℕ) (xs : List ℕ) → All (λ (n : ℕ). n < b) xs →
 below_never b [] a m h = refl
 below_never b (x ∷ xs) a m h = let l : x < b = a 0 x (omega arith) in omega (arith, other x m (λ e. omega arith), below_never b xs (λ i d k. a (suc i) d (omega arith)) m h)
 
-order : (m n : ℕ) → (m < n) ⊎ (n ≤ m)
-order m n = grind arith
-
 pub never_below : (b : ℕ) (xs : List ℕ) → ((m : ℕ) → b ≤ m → often m xs ≡ 0) → All (λ (n : ℕ). n < b) xs
 never_below b [] h = λ i d k. absurd (omega arith)
 never_below b (x ∷ xs) h = go (never_below b xs (λ m l. omega (arith, h m l)))
@@ -53,7 +51,7 @@ never_below b (x ∷ xs) h = go (never_below b xs (λ m l. omega (arith, h m l))
     first (inr l) = absurd (omega (arith, h x l, own x))
 
     go : All (λ (n : ℕ). n < b) xs → All (λ (n : ℕ). n < b) (x ∷ xs)
-    go a zero d k = first (order x b)
+    go a zero d k = first (cases_lt x b)
     go a (suc i) d k = a i d (omega arith)
 
 -- numbers one after the other

@@ -1,5 +1,6 @@
 -- A part in which no call stands, as it is found from one statement to the next.
 use Rattle.std.proofs.Common.{◌≡◌, ℕ, zero, suc, ◌-◌, ◌<◌, ◌≤◌, inl, inr, cond, List, [], ◌∷◌, ◌++◌, Option, Some, None, Bool, true, false, ◌&&◌, not, refl, sym, ap, ◌∙◌, arith, append-nil}
+use Rattle.std.proofs.Math.Bool.{and_assoc}
 use Rattle.imp_syntax.specs.Plain.{Statement, Statements, Ends, Starts, Procedure, numbers}
 use Rattle.imp_syntax.specs.Plain as tree
 use Rattle.imp_check.specs.Entries.{inside, inside_loop, entry_at, entries_of, entry_of, statement_entries, block_entries}
@@ -32,10 +33,6 @@ pub quiet_none : (at : ℕ → Option Entry) (left : ℕ) (o : Option ℕ) → n
 quiet_none at zero o h = refl
 quiet_none at (suc left) None h = refl
 quiet_none at (suc left) (Some n) h = ap (quiet_on (quiet_from at left)) h
-
-and_again : (a b c : Bool) → (a && (b && c)) ≡ ((a && b) && c)
-and_again true b c = refl
-and_again false b c = refl
 
 and_true : (a : Bool) → a ≡ (a && true)
 and_true true = refl
@@ -81,7 +78,7 @@ module _ (at : ℕ → Option Entry) (f : Resolver) where
       (quiet_is m t (inside c n which.Then) None (omega arith) (known_left at T E l))
       (quiet_is m u (inside c n which.Else) None (omega arith) (known_right at T E l))
       (quiet_is m ss c (Some n) (omega arith) (λ y i. k y (inr (in_right y (T ++ E) R i))))
-      ∙ and_again (are_quiet t) (are_quiet u) (are_quiet ss)
+      ∙ sym (and_assoc (are_quiet t) (are_quiet u) (are_quiet ss))
   quiet_is (suc m) (Starts (tree.While n d b) ss) c a h k =
       let e = entry_at f c a (first_or ss None) (tree.While n d b) in
       let B = block_entries f (inside_loop c n) None None b in

@@ -3,6 +3,7 @@ use Rattle.std.proofs.lemmas.Bool.Decides.{nat_tests}
 use Rattle.std.proofs.Common.{◌≡◌, ℕ, zero, suc, ◌+◌, ◌-◌, ◌<◌, ◌≤◌, ◌==◌, ◌||◌, cond, Bool, true, false, List, [], ◌∷◌, ◌++◌, length, drop, slice_get, slice_set, slice_index_or, Option, Some, None, refl, sym, ap, ◌∙◌, subst, arith, add-one, drop-cons}
 use Rattle.std.specs.List.{All}
 use Rattle.std.specs.Option.{option_map}
+use Rattle.edit_entries.proofs.Faults.{first_assoc}
 use Rattle.imp_syntax.specs.Plain.{Statement, Statements, Ends, Starts, Procedure, number_of, statements_of}
 use Rattle.imp_check.specs.Changes.{AreFalling, AreWithin}
 use Rattle.imp_check.specs.Entries.{entry_of, head_of, heads_of}
@@ -68,11 +69,6 @@ no_last ps hs i q k e =
     let n : i ≡ length ps - 1 = k ∙ ap (λ (zs : List Head). length zs - 1) q ∙ ap (λ n. n - 1) (heads_length ps) in
     no_name (last_of ps) (e ∙ ap (λ (zs : List Head). slice_get zs i) q ∙ ap (slice_get (heads_of ps)) n ∙ head_at ps (length ps - 1))
 
--- Entries put one after the other, the last one first.
-first_again : (a b c : Option Entry) → first (first a b) c ≡ first a (first b c)
-first_again None b c = refl
-first_again (Some x) b c = refl
-
 first_cond : (t : Bool) (e : Entry) (x : Option Entry) → first (cond t (Some e) None) x ≡ cond t (Some e) x
 first_cond true e x = refl
 first_cond false e x = refl
@@ -80,7 +76,7 @@ first_cond false e x = refl
 pub popped : (xs ys : List Entry) (e : Entry) (m : ℕ) (x : Option Entry) → xs ≡ ys ++ e ∷ [] → first (entry_of ys m) (cond (e.number == m) (Some e) x) ≡ first (entry_of xs m) x
 popped xs ys e m x q =
     ap (first (entry_of ys m)) (sym (first_cond (e.number == m) e x))
-    ∙ sym (first_again (entry_of ys m) (cond (e.number == m) (Some e) None) x)
+    ∙ sym (first_assoc (entry_of ys m) (cond (e.number == m) (Some e) None) x)
     ∙ ap (λ o. first o x) (sym (entry_append ys (e ∷ []) m) ∙ ap (λ zs. entry_of zs m) (sym q))
 
 pub all_front : (P : Entry → Type 0) (ys : List Entry) (e : Entry) → All P (ys ++ e ∷ []) → All P ys

@@ -1,6 +1,6 @@
 -- Changes of trees, as the code makes them.
-use Rattle.std.proofs.Common.{ℕ, zero, suc, ◌+◌, ◌<◌, ◌≤◌, ◌≡◌, refl, List, [], ◌∷◌, ◌++◌, length, drop, slice_index_or, cond, ◌==◌, true, false, ap, sym, ◌∙◌, arith, append_assoc}
-use Rattle.std.proofs.lemmas.List.{append-nil}
+use Rattle.std.proofs.Common.{ℕ, ◌+◌, ◌<◌, ◌≤◌, ◌≡◌, refl, List, [], ◌∷◌, ◌++◌, length, drop, slice_index_or, cond, ◌==◌, true, false, ap, sym, ◌∙◌, arith, append_assoc}
+use Rattle.std.proofs.lemmas.List.{append-nil, drop_all}
 use Rattle.std.proofs.lemmas.Bool.Decides.{nat_tests}
 use Rattle.imp_syntax.specs.Plain.{Condition, Statement, Simple, Break, Call, If, While, Statements, Ends, Starts, block_of, statements_of, number_of}
 use Rattle.imp_syntax.specs.Changes.{inserted, with_condition}
@@ -44,14 +44,8 @@ passed n made ss i s h e q =
     ap (λ b. statements_of (in_block n made b)) (block_rest ss i s h e)
     ∙ ap (λ t. statements_of (cond t (append (made s) (block_of (drop (i + 1) ss))) (Starts (in_statement n made s) (in_block n made (block_of (drop (i + 1) ss)))))) q
 
-past : (ss : List Statement) (i : ℕ) → length ss ≤ i → drop i ss ≡ []
-past [] zero h = refl
-past [] (suc i) h = refl
-past (s ∷ ss) zero h = absurd (omega arith)
-past (s ∷ ss) (suc i) h = past ss i (omega arith)
-
 ended : (n : ℕ) (made : Statement → Statements) (ss : List Statement) (i : ℕ) → length ss ≤ i → to_come n made ss i ≡ []
-ended n made ss i h = ap (λ zs. statements_of (in_block n made (block_of zs))) (past ss i h)
+ended n made ss i h = ap (λ zs. statements_of (in_block n made (block_of zs))) (drop_all i ss h)
 
 -- the block once the statement is met, and at the end
 pub met_whole : (n : ℕ) (made : Statement → Statements) (ss : List Statement) (b : Statements) (i : ℕ) (s : Statement) (front met_too all : List Statement) → i < length ss → s ≡ slice_index_or ss i s → number_of s ≡ n → front ++ to_come n made ss i ≡ statements_of (in_block n made b) → met_too ≡ front ++ statements_of (made s) → all ≡ met_too ++ drop (i + 1) ss → block_of all ≡ in_block n made b

@@ -26,6 +26,7 @@ use Rattle.imp_check.specs.declared.change.Put.{Put}
 use Rattle.imp_flow.specs.declared.search.Search.{Search}
 use Rattle.imp_flow.specs.Searches.{left_by, IsSearch, GoesOn, IsLooked, AllLooked, ArePutsLooked, AreCallersLooked, AreLoopsLooked}
 use Rattle.std.proofs.lemmas.Option.{same_Some}
+use Rattle.std.proofs.lemmas.Bool.{false≢true}
 
 -- the second set has what the first has, and m, unless it is kept
 abbrev pub Adds : (has more : ℕ → Bool) → (m : ℕ) → (kept : Bool) → Type 0
@@ -70,10 +71,7 @@ module _ (old new : Plan) where
       lost k f =
           let g : main_layout (reverse old.program) ≡ main_layout (reverse new.program) = cc in
           let t = (same_Decides layout_code (main_layout (reverse old.program)) (main_layout (reverse new.program))).1 g in
-          clash (sym k ∙ e ∙ t)
-        where
-          clash : false ≡ true → ⊥
-          clash e = cc
+          false≢true (sym k ∙ e ∙ t)
 
       only : (n : ℕ) → more n ≡ true → IsChanged old new n
       only n f =
@@ -181,10 +179,7 @@ module _ (old new : Plan) where
     looked_more n l = record { kept = λ f. l.kept (go (contains nat_cmp s.changed n) refl f) }
       where
         go : (b : Bool) → contains nat_cmp s.changed n ≡ b → contains nat_cmp t.changed n ≡ false → b ≡ false
-        go true e f = clash (sym f ∙ g.more n e)
-          where
-            clash : {b : Bool} → false ≡ true → b ≡ false
-            clash e = absurd cc
+        go true e f = absurd (false≢true (sym f ∙ g.more n e))
         go false e f = refl
 
     pub all_looked_more : (ns : List ℕ) → AllLooked old new s ns → AllLooked old new t ns

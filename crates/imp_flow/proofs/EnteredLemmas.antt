@@ -37,6 +37,7 @@ use Rattle.imp_flow.specs.Entered.{Table, start_of, behind_or, front_in, leave_a
 use Rattle.imp_flow.specs.Reached.{into_loops}
 use Rattle.imp_flow.proofs.NumberLemmas.{all_numbers as all_nodes, found_there}
 use Rattle.imp_check.proofs.SlotLemmas.{routines_push}
+use Rattle.call_contexts.proofs.Few.{as_many}
 
 -- The last point of a block is told by its last statement.
 pub last_is : (f : Resolver) (b : Statements) (p : Point) (o : Option ℕ) → last_point (code_in f b) (behind_or p o) ≡ behind_or p (last_or b o)
@@ -189,11 +190,7 @@ in_front es ps q = go (nat_lt q (length es)) refl
             at_least a b h = omega arith
 
 counted : (es ps : List Procedure) → length (reverse (routines_from es ps)) ≡ length ps
-counted es ps = length-reverse (routines_from es ps) ∙ count es ps
-  where
-    count : (es ps : List Procedure) → length (routines_from es ps) ≡ length ps
-    count es [] = refl
-    count es (p ∷ ps) = ap suc (count (es ++ p ∷ []) ps)
+counted es ps = length-reverse (routines_from es ps) ∙ as_many es ps
 
 callees_are : (es ps : List Procedure) (q : ℕ) → callee_end (reverse (routines_of es)) q ≡ end_in (es ++ ps) (length (reverse (routines_of es))) q
 callees_are es ps q =
@@ -204,10 +201,6 @@ callees_are es ps q =
     ∙ ap (λ n. end_in (es ++ ps) n q) (sym (counted [] es))
 
 -- One more procedure, in front of those of which the last one stands first.
-split : (es xs ys : List Procedure) → routines_from es (xs ++ ys) ≡ routines_from es xs ++ routines_from (es ++ xs) ys
-split es [] ys = ap (λ (z : List Procedure). routines_from z ys) (sym (append-nil es))
-split es (x ∷ xs) ys = ap (λ (z : List Routine). routine_of es x ∷ z) (split (es ++ x ∷ []) xs ys ∙ ap (λ (z : List Procedure). routines_from (es ++ x ∷ []) xs ++ routines_from z ys) (append_assoc es (x ∷ []) xs))
-
 abbrev all_back : (es ps : List Procedure) → List Routine
 all_back es ps = reverse (routines_from es ps) ++ reverse (routines_of es)
 
@@ -312,18 +305,11 @@ last_layout es (p ∷ []) (suc k) l h e = absurd cc
 last_layout es (p ∷ q ∷ ps) zero l h e = absurd (omega arith)
 last_layout es (p ∷ q ∷ ps) (suc k) l h e = ap main_layout (one_more es (q ∷ ps) p) ∙ last_layout (es ++ p ∷ []) (q ∷ ps) k l (omega arith) e
 
-as_many : (ps : List Procedure) → length (routines_of ps) ≡ length ps
-as_many ps = count [] ps
-  where
-    count : (es ps : List Procedure) → length (routines_from es ps) ≡ length ps
-    count es [] = refl
-    count es (p ∷ ps) = ap suc (count (es ++ p ∷ []) ps)
-
 pub main_there : (ps : List Procedure) (k : ℕ) (l : Layout) → k + 1 ≡ length (routines_of ps) → option_map layout_in (slice_get ps k) ≡ Some l → l ≡ main_layout (reverse (routines_of ps))
-main_there ps k l h e = sym (ap main_layout (sym (append-nil (reverse (routines_of ps)))) ∙ last_layout [] ps k l (h ∙ as_many ps) e)
+main_there ps k l h e = sym (ap main_layout (sym (append-nil (reverse (routines_of ps)))) ∙ last_layout [] ps k l (h ∙ as_many [] ps) e)
 
 pub main_gone : (ps : List Procedure) (k : ℕ) → k + 1 ≡ length (routines_of ps) → option_map layout_in (slice_get ps k) ≡ None → ⊥
-main_gone ps k h e = go ps k (h ∙ as_many ps) e
+main_gone ps k h e = go ps k (h ∙ as_many [] ps) e
   where
     go : (ps : List Procedure) (k : ℕ) → k + 1 ≡ length ps → option_map layout_in (slice_get ps k) ≡ None → ⊥
     go [] k h e = omega arith

@@ -12,6 +12,7 @@ use Rattle.imp_flow.specs.Entered.{Table, leave_at}
 use Rattle.imp_flow.specs.NodeRows.{breaks_of, fronts_of, joined_at, joins_at}
 use Rattle.imp_flow.proofs.ChangedLeaves.{break_at, front_at}
 use Rattle.std.proofs.lemmas.Option.{same_Some}
+use Rattle.std.proofs.lemmas.List.{drop_all}
 
 -- Breaks by their numbers.
 pub leaves_long : (at : Table) (bs : List ℕ) → length (map (leave_at at) bs) ≡ length bs
@@ -74,11 +75,5 @@ place_passed ls i n x e k =
     ap (counted i n) (drop_item ls i x e)
     ∙ by_test n x.stmt (λ c. option_map (λ j. i + j) (if c then Some 0 else next_place (place_of n (breaks_of (drop (i + 1) ls)))) ≡ counted (i + 1) n (drop (i + 1) ls)) (λ q. absurd (k (sym q))) (λ q. further i (place_of n (breaks_of (drop (i + 1) ls))))
 
-pub drop_none : (ls : List Leave) (i : ℕ) → length ls ≤ i → drop i ls ≡ []
-drop_none [] zero h = refl
-drop_none [] (suc i) h = refl
-drop_none (l ∷ ls) zero h = absurd (omega arith)
-drop_none (l ∷ ls) (suc i) h = drop_none ls i (omega arith)
-
 pub place_none : (ls : List Leave) (i n : ℕ) → length ls ≤ i → counted i n (drop i ls) ≡ None
-place_none ls i n h = ap (counted i n) (drop_none ls i h)
+place_none ls i n h = ap (counted i n) (drop_all i ls h)

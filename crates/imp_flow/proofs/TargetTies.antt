@@ -1,5 +1,5 @@
 -- Targets by nodes are those by the text.
-use Rattle.std.proofs.lemmas.List.{length-reverse, reverse-reverse}
+use Rattle.std.proofs.lemmas.List.{length-reverse, reverse-reverse, map-append}
 use Rattle.std.proofs.Common.{◌≡◌, ◌≢◌, ℕ, suc, ◌-◌, ◌<◌, List, [], ◌∷◌, ◌++◌, length, map, reverse, Option, Some, None, Bool, true, false, if◌then◌else◌, slice_get, Result, Ok, Err, IfOk, refl, sym, ap, ◌∙◌, subst, arith, append_assoc, append-nil}
 use Rattle.std.specs.Option.{option_map}
 use Rattle.std.specs.Str.{bytes_eq}
@@ -34,21 +34,16 @@ use Rattle.imp_flow.proofs.Ties.{flat_node, nodes_are, Stands, all_stand, find_n
 use Rattle.cell_rows.proofs.Ways.{flat_behind, in_flat}
 use Rattle.std.proofs.lemmas.Option.{same_Some}
 
--- The steps of a list, as they are defined.
-map_both : {A B : Type 0} (f : A → B) (xs ys : List A) → map f (xs ++ ys) ≡ map f xs ++ map f ys
-map_both f [] ys = refl
-map_both f (x ∷ xs) ys = ap (λ k. f x ∷ k) (map_both f xs ys)
-
 takes_are : (ns : List ℕ) → map step_of (into_loops ns) ≡ takes ns
 takes_are [] = refl
 takes_are (n ∷ ns) = ap (λ k. plain.Take n ∷ k) (takes_are ns)
 
 into_is : (ss : List Step) (ns : List ℕ) → map step_of (ss ++ into_loops ns) ≡ map step_of ss ++ takes ns
-into_is ss ns = map_both step_of ss (into_loops ns) ∙ ap (λ k. map step_of ss ++ k) (takes_are ns)
+into_is ss ns = map-append step_of ss (into_loops ns) ∙ ap (λ k. map step_of ss ++ k) (takes_are ns)
 
 call_is : (ss : List Step) (ns : List ℕ) (n : ℕ) → map step_of ((ss ++ into_loops ns) ++ Go n ∷ []) ≡ map step_of ss ++ (takes ns ++ plain.Go n ∷ [])
 call_is ss ns n =
-    map_both step_of (ss ++ into_loops ns) (Go n ∷ [])
+    map-append step_of (ss ++ into_loops ns) (Go n ∷ [])
     ∙ ap (λ k. k ++ plain.Go n ∷ []) (into_is ss ns)
     ∙ append_assoc (map step_of ss) (takes ns) (plain.Go n ∷ [])
 

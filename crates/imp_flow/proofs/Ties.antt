@@ -1,5 +1,5 @@
 -- The rows by nodes are the rows by the table of statements.
-use Rattle.std.proofs.lemmas.List.{length-append, reverse-reverse}
+use Rattle.std.proofs.lemmas.List.{length-append, reverse-reverse, map-append}
 use Rattle.std.proofs.Common.{◌≡◌, ℕ, zero, suc, ◌<◌, ◌==◌, ℤ, cond, List, [], ◌∷◌, ◌++◌, length, map, reverse, Option, Some, None, Bool, true, false, if◌then◌else◌, nat_lt, slice_get, refl, sym, ap, ◌∙◌, subst, arith, append_assoc, append-nil}
 use Rattle.std.specs.Option.{option_map}
 use Rattle.imp_slots.specs.Plain.{Guard, Code, Stop, Simple, If, While, Call, Break, Routine}
@@ -27,17 +27,13 @@ use Rattle.imp_flow.specs.NodeRows.{breaks_of, fronts_of, iterate_at, joined_at,
 use Rattle.imp_flow.specs.Plans.{Plan, marks_at, by_node, next_of, node_row}
 use Rattle.std.proofs.lemmas.Option.{same_Some}
 
-map_both : {A B : Type 0} (f : A → B) (xs ys : List A) → map f (xs ++ ys) ≡ map f xs ++ map f ys
-map_both f [] ys = refl
-map_both f (x ∷ xs) ys = ap (λ k. f x ∷ k) (map_both f xs ys)
-
 -- The breaks of a block, with the points in front of them.
 pub breaks_are : (c : Code) (p : Point) → breaks_of (leaving c p) ≡ break_numbers c
 breaks_are Stop p = refl
 breaks_are (Simple n e r) p = breaks_are r (Post n)
 breaks_are (If n g t e r) p =
-    map_both (λ (l : Leave). l.stmt) (leaving t (Then n)) (leaving e (Else n) ++ leaving r (Post n))
-    ∙ ap (λ k. breaks_of (leaving t (Then n)) ++ k) (map_both (λ (l : Leave). l.stmt) (leaving e (Else n)) (leaving r (Post n)))
+    map-append (λ (l : Leave). l.stmt) (leaving t (Then n)) (leaving e (Else n) ++ leaving r (Post n))
+    ∙ ap (λ k. breaks_of (leaving t (Then n)) ++ k) (map-append (λ (l : Leave). l.stmt) (leaving e (Else n)) (leaving r (Post n)))
     ∙ rw (breaks_are t (Then n), breaks_are e (Else n), breaks_are r (Post n)) refl
 breaks_are (While n g b r) p = breaks_are r (Post n)
 breaks_are (Call n i q r) p = breaks_are r (Post n)
@@ -47,8 +43,8 @@ pub fronts_are : (c : Code) (p : Point) → fronts_of (leaving c p) ≡ leave_po
 fronts_are Stop p = refl
 fronts_are (Simple n e r) p = fronts_are r (Post n)
 fronts_are (If n g t e r) p =
-    map_both (λ (l : Leave). l.front) (leaving t (Then n)) (leaving e (Else n) ++ leaving r (Post n))
-    ∙ ap (λ k. fronts_of (leaving t (Then n)) ++ k) (map_both (λ (l : Leave). l.front) (leaving e (Else n)) (leaving r (Post n)))
+    map-append (λ (l : Leave). l.front) (leaving t (Then n)) (leaving e (Else n) ++ leaving r (Post n))
+    ∙ ap (λ k. fronts_of (leaving t (Then n)) ++ k) (map-append (λ (l : Leave). l.front) (leaving e (Else n)) (leaving r (Post n)))
     ∙ rw (fronts_are t (Then n), fronts_are e (Else n), fronts_are r (Post n)) refl
 fronts_are (While n g b r) p = fronts_are r (Post n)
 fronts_are (Call n i q r) p = fronts_are r (Post n)
@@ -103,14 +99,14 @@ module _ (earlier : List Routine) where
       first loops p (If n g t e r) _
       ∙ ap (λ k. N loops (n, text [] p (If n g t e r)) ∷ k)
       (rw (block_is loops (Then n) t, block_is loops (Else n) e, block_is loops (Post n) r) refl
-      ∙ ap (λ k. map (N loops) (texts t (Then n)) ++ k) (sym (map_both (N loops) (texts e (Else n)) (texts r (Post n))))
-      ∙ sym (map_both (N loops) (texts t (Then n)) (texts e (Else n) ++ texts r (Post n))))
+      ∙ ap (λ k. map (N loops) (texts t (Then n)) ++ k) (sym (map-append (N loops) (texts e (Else n)) (texts r (Post n))))
+      ∙ sym (map-append (N loops) (texts t (Then n)) (texts e (Else n) ++ texts r (Post n))))
   block_is loops p (While n g b r) =
       first loops p (While n g b r) _
       ∙ ap (λ k. N loops (n, text [] p (While n g b r)) ∷ k)
       (ap (λ k. k ++ block_nodes earlier loops (Post n) r) (block_is (loops ++ n ∷ []) Body b ∙ deeper_nodes loops n (texts b Body))
       ∙ ap (λ k. map (N loops) (map (deeper n) (texts b Body)) ++ k) (block_is loops (Post n) r)
-      ∙ sym (map_both (N loops) (map (deeper n) (texts b Body)) (texts r (Post n))))
+      ∙ sym (map-append (N loops) (map (deeper n) (texts b Body)) (texts r (Post n))))
   block_is loops p (Call n i q r) = first loops p (Call n i q r) _ ∙ ap (λ k. N loops (n, text [] p (Call n i q r)) ∷ k) (block_is loops (Post n) r)
   block_is loops p (Break n r) = first loops p (Break n r) _ ∙ ap (λ k. N loops (n, text [] p (Break n r)) ∷ k) (block_is loops (Post n) r)
 
@@ -123,7 +119,7 @@ nodes_are [] = refl
 nodes_are (r ∷ earlier) =
     ap (λ k. k ++ nodes_of earlier) (block_is earlier [] Entry r.code ∙ flat_nodes r earlier (texts r.code Entry))
     ∙ ap (λ k. map flat_entry (map (flat_of r earlier) (texts r.code Entry)) ++ k) (nodes_are earlier)
-    ∙ sym (map_both flat_entry (map (flat_of r earlier) (texts r.code Entry)) (flat earlier))
+    ∙ sym (map-append flat_entry (map (flat_of r earlier) (texts r.code Entry)) (flat earlier))
 
 -- Each is under its own number, in the procedure at its place.
 abbrev Own : ℕ × Text → Type 0

@@ -1,11 +1,10 @@
 -- The test of two operations decides whether they are the same.
 use Rattle.std.proofs.Common.{◌≡◌, Bool, true, false, ◌&&◌, Option, refl, sym, ap, ◌∙◌}
-use Rattle.std.proofs.lemmas.Bool.{and_parts, and_from}
 use Rattle.std.specs.Bool.{Decides}
 use Rattle.std.specs.Cmp.Lexicographic.{pointwise, pointwise_decides}
 use Rattle.std.specs.Ordering.{int_eq}
 use Rattle.std.specs.Coded.{code_by}
-use Rattle.std.proofs.lemmas.Bool.Decides.{Decides-int_eq}
+use Rattle.std.proofs.lemmas.Bool.Decides.{Decides-int_eq, Decides-and, Decides-like}
 use Rattle.plain_values.specs.Equal.{code_same, same, same_Decides}
 use base.Stored.{Coded, Gv}
 use denote.Struct.Codes.{itself}
@@ -23,33 +22,27 @@ truth_is false false = (λ e. refl, λ e. refl)
 abbrev returning_code : Coded (Option Returning)
 returning_code = code_by Gv itself returning_to returning_from returning_from_to
 
-mapped : {A : Type 0} {B : Type 0} (b : Bool) → Decides b A → (A → B) → (B → A) → Decides b B
-mapped b d f g = (λ e. f (d.0 e), λ x. d.1 (g x))
-
-both : {A : Type 0} {B : Type 0} (a b : Bool) → Decides a A → Decides b B → Decides (a && b) (A × B)
-both a b d f = (λ e. (let p = and_parts a b e in (d.0 p.0, f.0 p.1)), λ p. and_from a b (d.1 p.0) (f.1 p.1))
-
 apart : {A : Type 0} → (A → ⊥) → Decides false A
 apart n = (λ e. absurd cc, λ a. absurd (n a))
 
 unary_is : (u v : Unary) → Decides (same_unary u v) (u ≡ v)
-unary_is (Posts a) (Posts b) = mapped (same act_code a b) (same_Decides act_code a b) (λ e. ap Posts e) (λ e. cc)
+unary_is (Posts a) (Posts b) = Decides-like (same act_code a b) (λ e. ap Posts e) (λ e. cc) (same_Decides act_code a b)
 unary_is (Assumes g h) (Assumes k i) =
-    mapped (same guard_code g k && same_truth h i) (both (same guard_code g k) (same_truth h i) (same_Decides guard_code g k) (truth_is h i)) (λ e. ap (λ g. Assumes g h) e.0 ∙ ap (Assumes k) e.1) (λ e. (cc, cc))
-unary_is (Enters a) (Enters b) = mapped (same entering_code a b) (same_Decides entering_code a b) (λ e. ap Enters e) (λ e. cc)
-unary_is (Exits g) (Exits k) = mapped (same guard_code g k) (same_Decides guard_code g k) (λ e. ap Exits e) (λ e. cc)
+    Decides-like (same guard_code g k && same_truth h i) (λ e. ap (λ g. Assumes g h) e.0 ∙ ap (Assumes k) e.1) (λ e. (cc, cc)) (Decides-and (same guard_code g k) (same_truth h i) (same_Decides guard_code g k) (truth_is h i))
+unary_is (Enters a) (Enters b) = Decides-like (same entering_code a b) (λ e. ap Enters e) (λ e. cc) (same_Decides entering_code a b)
+unary_is (Exits g) (Exits k) = Decides-like (same guard_code g k) (λ e. ap Exits e) (λ e. cc) (same_Decides guard_code g k)
 unary_is u v = apart (λ e. absurd cc)
 
 binary_is : (u v : Binary) → Decides (same_binary u v) (u ≡ v)
 binary_is JoinsBoth JoinsBoth = (λ e. refl, λ e. refl)
-binary_is (Leaves a) (Leaves b) = mapped (code_same (returning_to a) (returning_to b)) (same_Decides returning_code a b) (λ e. ap Leaves e) (λ e. cc)
-binary_is (Widens m) (Widens k) = mapped (pointwise int_eq m k) (pointwise_decides Decides-int_eq m k) (λ e. ap Widens e) (λ e. cc)
+binary_is (Leaves a) (Leaves b) = Decides-like (code_same (returning_to a) (returning_to b)) (λ e. ap Leaves e) (λ e. cc) (same_Decides returning_code a b)
+binary_is (Widens m) (Widens k) = Decides-like (pointwise int_eq m k) (λ e. ap Widens e) (λ e. cc) (pointwise_decides Decides-int_eq m k)
 binary_is u v = apart (λ e. absurd cc)
 
 pub operation_is : (o q : Op) → Decides (same_operation o q) (o ≡ q)
-operation_is (OpInit a) (OpInit b) = mapped (same layout_code a b) (same_Decides layout_code a b) (λ e. ap OpInit e) (λ e. cc)
-operation_is (OpOne a) (OpOne b) = mapped (same_unary a b) (unary_is a b) (λ e. ap OpOne e) (λ e. cc)
-operation_is (OpTwo a) (OpTwo b) = mapped (same_binary a b) (binary_is a b) (λ e. ap OpTwo e) (λ e. cc)
+operation_is (OpInit a) (OpInit b) = Decides-like (same layout_code a b) (λ e. ap OpInit e) (λ e. cc) (same_Decides layout_code a b)
+operation_is (OpOne a) (OpOne b) = Decides-like (same_unary a b) (λ e. ap OpOne e) (λ e. cc) (unary_is a b)
+operation_is (OpTwo a) (OpTwo b) = Decides-like (same_binary a b) (λ e. ap OpTwo e) (λ e. cc) (binary_is a b)
 operation_is OpFix OpFix = (λ e. refl, λ e. refl)
 operation_is OpJoin OpJoin = (λ e. refl, λ e. refl)
 operation_is o q = apart (λ e. absurd cc)

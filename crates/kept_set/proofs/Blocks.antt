@@ -1,5 +1,5 @@
 -- The block that a path leads to: its procedure, the loops around it, its statements.
-use Rattle.std.proofs.Common.{◌≡◌, ℕ, suc, List, [], ◌∷◌, ◌++◌, Option, Some, None, Bool, true, false, if◌then◌else◌, refl, sym, ap, ◌∙◌, subst, nat_lt, append_assoc, append-nil}
+use Rattle.std.proofs.Common.{◌≡◌, ℕ, suc, List, [], ◌∷◌, ◌++◌, Option, Some, None, refl, sym, ap, ◌∙◌, subst, nat_lt, append_assoc, append-nil}
 use Rattle.imp_slots.specs.Plain.{Guard, Code, Stop, Simple, If, While, Call, Break, Routine}
 use Rattle.imp_slots.specs.Fits.{Distinct}
 use Rattle.batch_meaning.specs.Batch.{Engine}
@@ -19,7 +19,7 @@ use Rattle.cell_rows.proofs.Listed.{numbered}
 use Rattle.cell_rows.proofs.Shown.{U, shows}
 use Rattle.kept_set.proofs.Tails.{Tail, whole, tail_trans, tail_rest, from_tail, tail_in, all_listed, names_of, tail_same}
 use Rattle.kept_set.proofs.Seats.{sits}
-use Rattle.std.proofs.lemmas.Option.{same_Some}
+use Rattle.std.proofs.lemmas.Option.{same_Some, cond_some}
 
 -- The procedure and the loops of the block at a path's end, by the number in its last frame.
 abbrev pub IsHome : List Routine → List Frame → List ℕ → List ℕ → Type 0
@@ -93,16 +93,12 @@ module _ (engine : Engine) (ps : List Routine) (once : Distinct (keys (flat ps))
       )) e
   block_call w b k n y (Break m r) c h s e = absurd cc
 
-  pub by_limit : {X : Type 0} (t : Bool) (a r : X) → (if t then Some a else None) ≡ Some r → (t ≡ true) × (a ≡ r)
-  by_limit true a r e = (refl, cc)
-  by_limit false a r e = absurd cc
-
   block_loop : (w : List Frame) (b : Q) (k : Block w b) (n i : ℕ) (y : U) (d : Code) (c : Q) → n ≡ number d → Stands engine bare b y d → Distinct (keys (level_of engine bare b)) → in_loop engine bare b n i y d ≡ Some c → Block (InLoop n i ∷ w) c
   block_loop w b k n i y Stop c h s o e = absurd cc
   block_loop w b k n i y (Simple m effect r) c h s o e = absurd cc
   block_loop w b k n i y (If m guard t x r) c h s o e = absurd cc
   block_loop w b k n i y (While m guard t r) c h s o e =
-      subst (Block (InLoop n i ∷ w)) (by_limit (nat_lt i engine.budget) (round_place engine bare b n guard t i y) c e).1
+      subst (Block (InLoop n i ∷ w)) (cond_some (nat_lt i engine.budget) (round_place engine bare b n guard t i y) c e).1
       (record {
         routine = k.routine;
         earlier = k.earlier;

@@ -1,5 +1,6 @@
 -- Of a list of cells, those whose own row is changed are a list.
 use Rattle.std.proofs.Common.{◌≡◌, Bool, true, false, List, refl, inl, inr}
+use Rattle.std.proofs.lemmas.Bool.{false≢true}
 use Rattle.domain_laws.specs.Operations.{Operations}
 use Rattle.cell_names.specs.Paths.{CellName}
 use Rattle.demand_order.specs.Order.{member}
@@ -14,10 +15,7 @@ is_not (inl a) = false
 is_not (inr n) = true
 
 not_it : {A : Type 0} (d : Decided A) → is_not d ≡ true → A → ⊥
-not_it (inl a) e = let f : false ≡ true = e in absurd (clash f)
-  where
-    clash : false ≡ true → ⊥
-    clash e = cc
+not_it (inl a) e = let f : false ≡ true = e in absurd (false≢true f)
 not_it (inr n) e = n
 
 it_not : {A : Type 0} (d : Decided A) → (A → ⊥) → is_not d ≡ true

@@ -18,6 +18,7 @@ use Rattle.kept_set.specs.RowTest.{OnlyLeft, SameAsked}
 use Rattle.cell_rows.proofs.FlatShapes.{fix_number, Shape, Shaped, flat_shaped}
 use Rattle.kept_set.proofs.Plans.{same_rows_stay}
 use Rattle.std.proofs.lemmas.Option.{same_Some}
+use Rattle.std.proofs.lemmas.Bool.{false≢true}
 
 module _ {S : Type 0} (dom : Operations S) (engine : Engine) (f : CellName → Cell S) where
   -- what a row asks for, by these values
@@ -147,12 +148,9 @@ module _ {S : Type 0} (dom : Operations S) (e : Edit) (same : CellName → CellN
   pub left_input : (s : Bool) (l : CellName) (n : ℕ) (w : List Frame) (p : Point) → r ≡ Joins s l n w p → Decides (length (inputs_of (old_rows dom e same) x) == 1) (inputs_of (old_rows dom e same) x ≡ l ∷ [])
   left_input s l n w p i = go (right dom e.engine f l n w p) (old_inputs ∙ ap (by dom e.engine f) i ∙ by_joins dom e.engine f s l n w p)
     where
-      clash : false ≡ true → ⊥
-      clash e = cc
-
       go : (o : Option CellName) → inputs_of (old_rows dom e same) x ≡ l ∷ listed dom e.engine f o → Decides (length (inputs_of (old_rows dom e same) x) == 1) (inputs_of (old_rows dom e same) x ≡ l ∷ [])
       go None j = (λ b. j, λ k. ap (λ xs. length xs == 1) j)
-      go (Some y) j = (λ b. absurd (clash (sym (ap (λ xs. length xs == 1) j) ∙ b)), λ k. ap (λ xs. length xs == 1) k)
+      go (Some y) j = (λ b. absurd (false≢true (sym (ap (λ xs. length xs == 1) j) ∙ b)), λ k. ap (λ xs. length xs == 1) k)
 
   keeps : KeepsRow dom e same x → SameAsked r q (inputs_of (old_rows dom e same) x)
   keeps s =

@@ -2,6 +2,7 @@
 use Rattle.std.proofs.Common.{◌≡◌, ℕ, ◌≤◌, ◌+◌, List, [], ◌∷◌, ◌++◌, take, length, reverse, Option, Some, None, IsSome, Bool, true, false, not, if◌then◌else◌, slice_get, refl, sym, ap, subst, ◌∙◌, append_assoc, append-nil, arith}
 use Rattle.std.specs.FinMap.{get}
 use Rattle.std.proofs.lemmas.Option.{slice_get-get_or, slice_get_within, same_Some}
+use Rattle.std.proofs.Math.Seq.{take-length}
 use Rattle.imp_slots.specs.Plain.{Effect, DoBreak, Does}
 use Rattle.plain_values.proofs.Lists.{take_item}
 use Rattle.domain_laws.specs.Operations.{Operations}
@@ -147,8 +148,4 @@ module _ {S : Type 0} (dom : Operations S) where
       out ≡ all_hung dom plan.engine plan.program same_name xs
   hung_all plan names cells out i xs u l h a =
       let e : i ≡ length cells = omega (arith, u, l) in
-      h.are xs a ∙ ap (all_hung dom plan.engine plan.program same_name) (ap (λ k. take k xs) (e ∙ numbers_length names cells xs a) ∙ whole xs)
-    where
-      whole : (xs : List CellName) → take (length xs) xs ≡ xs
-      whole [] = refl
-      whole (x ∷ xs) = ap (λ zs. x ∷ zs) (whole xs)
+      h.are xs a ∙ ap (all_hung dom plan.engine plan.program same_name) (ap (λ k. take k xs) (e ∙ numbers_length names cells xs a) ∙ take-length xs)

@@ -1,5 +1,5 @@
 -- Behind a value that is an Over or dead two simple statements give the same.
-use Rattle.std.proofs.Common.{◌≡◌, ℕ, zero, suc, List, ◌∷◌, reverse, slice_get, Option, Some, None, Bool, true, false, not, refl, sym, ap, ◌∙◌, subst}
+use Rattle.std.proofs.Common.{◌≡◌, ℕ, zero, suc, List, ◌∷◌, reverse, slice_get, Option, Some, None, Bool, true, false, refl, sym, ap, ◌∙◌, subst}
 use Rattle.imp_slots.specs.Plain.{Layout, Guard, Effect, DoBreak, Does, Invoke, Code, Stop, Simple, If, While, Call, Break, Routine}
 use Rattle.imp_slots.specs.Fits.{fits_effect, IsChecked}
 use Rattle.concrete_sem.specs.Values.{Variables, Heap}
@@ -32,18 +32,15 @@ use Rattle.demand_laws.specs.Claims.{found_by}
 use Rattle.why_slice.specs.Upstream.{is_live}
 use Rattle.why_slice.proofs.Fitting.{AllSuit, follow_fits, at_fits}
 use Rattle.std.proofs.lemmas.Option.{same_Some}
+use Rattle.std.proofs.lemmas.Bool.{not-false}
 
 module _ {S : Type 0} (dom : Operations S) (engine : Engine) (covers : S → Heap → List Variables → Type 0) (laws : Laws dom covers) (rises : MarksRise) (dead : KeepsDead dom) where
   -- on a value that fits
   idle_value : (l : Layout) (ls : List Layout) (e f : Effect) (v : Value S) → fits_effect l e ≡ true → fits_effect l f ≡ true → Fit dom engine covers laws v (l ∷ ls) → is_live dom v ≡ false → lift (dom.post (Does e)) v ≡ lift (dom.post (Does f)) v
   idle_value l ls e f (Over n z) h k g i = refl
   idle_value l ls e f (State x) h k g i =
-      let d : dom.dead x ≡ true = go (dom.dead x) i in
+      let d : dom.dead x ≡ true = not-false (dom.dead x) i in
       ap (λ s. State s) (dead e l ls x h g d ∙ sym (dead f l ls x k g d))
-    where
-      go : (b : Bool) → not b ≡ false → b ≡ true
-      go true e = refl
-      go false e = absurd cc
 
   module _ (s : ℕ) (f : Effect) (program : List Routine) (checked : IsChecked program) (suit : AllSuit s f (reverse program)) (same : CellName → CellName → Bool) (is : IsSame same) where
     abbrev back : List Routine

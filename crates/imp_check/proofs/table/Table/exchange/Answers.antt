@@ -1,7 +1,8 @@
 use Rattle.std.proofs.Common.{length, drop, ap, ◌∙◌, subst, arith}
+use Rattle.std.proofs.lemmas.List.{take_at}
 use Rattle.imp_check.specs.Tables.{Tabled, entry_in, AreOf}
 use Rattle.imp_check.specs.Changes.{overlay}
-use Rattle.imp_check.proofs.TableLemmas.{table_is, table_right, written}
+use Rattle.imp_check.proofs.TableLemmas.{table_is, table_right}
 use Rattle.imp_check.proofs.ExchangeLemmas.{after_right, back_makes}
 use Rattle.imp_check.proofs.table.Table.exchange.Goals as goal
 
@@ -29,7 +30,7 @@ returns-clause-back g c =
     let after = entry_in c.put_all.new.places.items in
     let right = subst (λ (t : Tabled). AreOf t.program at c.self.inside.count c.self.inside.heads c.self.inside.sites) c.self.view_is c.self.invariant in
     back_makes c.args.self.now.program g.program c.args.change.now c.requires.0 c.requires.1.0 at c.self.inside.count c.self.inside.heads c.self.inside.sites right after (λ m. c.put_all.ensures.is m ∙ ap (λ ps. overlay ps at m) c.as_mut_slice.ensures.value) _
-    (λ m. ap (λ ps. overlay ps after m) (written c.args.change.now.entries.len c.put_all.new.puts (drop (length c.put_all.new.puts) c.args.change.now.entries.items) (omega (arith, c.put_all.auto.puts, c.as_mut_slice.ensures.len))) ∙ c.put_all.ensures.back m)
+    (λ m. ap (λ ps. overlay ps after m) (take_at c.put_all.new.puts (drop (length c.put_all.new.puts) c.args.change.now.entries.items) c.args.change.now.entries.len (omega (arith, c.put_all.auto.puts, c.as_mut_slice.ensures.len))) ∙ c.put_all.ensures.back m)
     c.swap.ensures.y_after
     c.exchange_list.ensures.back
     c.exchange_list-2.ensures.back
