@@ -1,6 +1,6 @@
 -- One step of each kind of statement, over plain variables.
 use Rattle.std.proofs.Common.{Result, Ok, Err, IfOk, Some, slice_get, take, ℕ, suc, ◌≡◌, ◌+◌, ◌<◌, ◌≤◌, ℤ, true, false, List, [], ◌∷◌, ◌++◌, length, drop, get_or, refl, sym, ap, subst, ◌∙◌, append_assoc}
-use Rattle.imp_slots.specs.Plain.{Routine, Guard, DoBreak, Code, Stop, Simple, If, While, Call, Break}
+use Rattle.imp_slots.specs.Plain.{Routine, Guard, Code, Stop, Simple, If, While, Call, Break}
 use Rattle.imp_slots.specs.BlockViews.{before_code, code_of}
 use Rattle.imp_slots.specs.declared.blocks.SlotNode.{SlotNode}
 use Rattle.imp_slots.specs.declared.blocks.SlotNode.TheVariants as node
@@ -18,10 +18,6 @@ use Rattle.batch_interp.specs.declared.value.Answer.TheVariants.{State, Over}
 use Rattle.batch_interp.proofs.Procedures.{call_there}
 use Rattle.plain_values.proofs.Lists.{drop_item}
 use Rattle.std.proofs.lemmas.List.{drop_all, append-nil}
-
-states_append : {S : Type 0} (xs : List S) (s : S) → states (xs ++ s ∷ []) ≡ states xs ++ plain.State s ∷ []
-states_append [] s = refl
-states_append (x ∷ xs) s = ap (λ ys. plain.State x ∷ ys) (states_append xs s)
 
 module _ {S : Type 0} (dom : Operations S) (engine : Engine) where
   pub joined_step : (xs : List S) (i : ℕ) (all x t : S) → i < length xs → x ≡ get_or xs i x → t ≡ dom.join all x → joined dom engine (plain.State t) (states (drop (i + 1) xs)) ≡ joined dom engine (plain.State all) (states (drop i xs))
@@ -119,37 +115,6 @@ module _ {S : Type 0} (dom : Operations S) (engine : Engine) (marks : List ℤ) 
   block_end ss i now before h =
       ap (λ xs. after (states before) (B (code_of xs) (plain.State now))) (drop_all i ss h)
       ∙ ap (λ ls. record { value = plain.State now; leaving = ls }) (append-nil (states before))
-
-  -- a statement that nothing leaves
-  pub ends_alone : (p : Passed S) (before : List S) (a : Answer S) → p.leaving ≡ [] → value_of a ≡ p.value → Ends before before p a
-  ends_alone p before (State t) l v = (let w : p.value ≡ plain.State t = sym v in λ i. record { value = w i; leaving = states before ++ l i }) ∙ ap (λ ls. record { value = plain.State t; leaving = ls }) (append-nil (states before))
-  ends_alone p before (Over n chain) l v = sym v
-
-  pub ends_break : (n : ℕ) (s t : S) (before behind : List S) → t ≡ dom.post DoBreak s → behind ≡ before ++ s ∷ [] → Ends before behind (B (Break n Stop) (plain.State s)) (State t)
-  ends_break n s t before behind e l =
-      let ls : states before ++ plain.State s ∷ [] ≡ states behind = sym (states_append before s) ∙ sym (ap states l) in
-      let f : dom.post DoBreak s ≡ t = sym e in
-      λ i. record { value = plain.State (f i); leaving = ls i }
-
-  -- both blocks of an if
-  pub if_left : (g : Guard) (t e : Code) (s : S) (n : ℕ) (y : List ℕ) → (B t (plain.State (dom.assume g true s))).value ≡ plain.Over n y → (B (If 0 g t e Stop) (plain.State s)).value ≡ plain.Over n y
-  if_left g t e s n y h = ap (λ v. lift2 dom.join v (B e (plain.State (dom.assume g false s))).value) h
-
-  pub if_right : (g : Guard) (t e : Code) (s l : S) (before middle : List S) (n : ℕ) (y : List ℕ) → Ends before middle (B t (plain.State (dom.assume g true s))) (State l) → (B e (plain.State (dom.assume g false s))).value ≡ plain.Over n y → (B (If 0 g t e Stop) (plain.State s)).value ≡ plain.Over n y
-  if_right g t e s l before middle n y h u =
-      let x : (B t (plain.State (dom.assume g true s))).value ≡ plain.State l = ap (λ (p : Passed S). p.value) h in
-      λ i. lift2 dom.join (x i) (u i)
-
-  pub if_both : (g : Guard) (t e : Code) (s l r j : S) (before middle behind : List S) → Ends before middle (B t (plain.State (dom.assume g true s))) (State l) → Ends middle behind (B e (plain.State (dom.assume g false s))) (State r) → j ≡ dom.join l r → Ends before behind (B (If 0 g t e Stop) (plain.State s)) (State j)
-  if_both g t e s l r j before middle behind h u d =
-      let p = B t (plain.State (dom.assume g true s)) in
-      let q = B e (plain.State (dom.assume g false s)) in
-      let x : p.value ≡ plain.State l = ap (λ (p : Passed S). p.value) h in
-      let y : q.value ≡ plain.State r = ap (λ (p : Passed S). p.value) u in
-      let v : lift2 dom.join p.value q.value ≡ plain.State j = (λ i. lift2 dom.join (x i) (y i)) ∙ ap plain.State (sym d) in
-      let ls : states before ++ ((p.leaving ++ q.leaving) ++ []) ≡ states behind =
-      ap (λ xs. states before ++ xs) (append-nil (p.leaving ++ q.leaving)) ∙ sym (append_assoc (states before) p.leaving q.leaving) ∙ ap (λ xs. xs ++ q.leaving) (ap (λ (p : Passed S). p.leaving) h) ∙ ap (λ (p : Passed S). p.leaving) u in
-      λ i. record { value = v i; leaving = ls i }
 
   -- a round of a loop
   abbrev F : Guard → Code → (over : Value S) → (left k : ℕ) → S → meaning.Fixed S

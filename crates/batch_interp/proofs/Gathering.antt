@@ -41,8 +41,5 @@ module _ {S : Type 0} (dom : Operations S) (engine : Engine) where
         ap (λ x. gathered (Some x) (rest zs (i + 1))) a
         ∙ sym (ap (gathered u) (next_of zs i z h e ∙ ap (λ o. if_some o (λ v. if_some (rest zs (i + 1)) (λ vs. Some (v ∷ vs)))) (sym (g ∙ ap (λ x. f (reverse x)) s))) ∙ one_more u v (rest zs (i + 1)))
 
-    pub sum_gone : (zs : List (List ℕ)) (i : ℕ) (z y : List ℕ) (u : Option (Value S)) → i < length zs → z ≡ get_or zs i z → y ≡ z → None ≡ f (reverse y) → gathered u (all_values dom engine f (map reverse (drop i zs))) ≡ Refuses NoStatement
-    sum_gone zs i z y u h e s g = ap (gathered u) (next_of zs i z h e ∙ ap (λ o. if_some o (λ v. if_some (rest zs (i + 1)) (λ vs. Some (v ∷ vs)))) (sym (g ∙ ap (λ x. f (reverse x)) s)))
-
     pub sum_end : (zs : List (List ℕ)) (i : ℕ) (u : Option (Value S)) → length zs ≤ i → gathered u (all_values dom engine f (map reverse (drop i zs))) ≡ gathered u (Some [])
     sum_end zs i u h = ap (λ xs. gathered u (all_values dom engine f (map reverse xs))) (drop_all i zs h)

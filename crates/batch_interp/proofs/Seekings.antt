@@ -1,5 +1,5 @@
 -- Statements found by their numbers, one at a time.
-use Rattle.std.proofs.Common.{ℕ, ◌≡◌, ◌≢◌, ◌+◌, ◌<◌, ◌≤◌, ◌||◌, true, false, List, [], ◌∷◌, ◌++◌, length, drop, get_or, Some, None, refl, sym, ap, ◌∙◌, append_assoc}
+use Rattle.std.proofs.Common.{ℕ, ◌≡◌, ◌≢◌, ◌+◌, ◌<◌, ◌||◌, true, false, List, [], ◌∷◌, ◌++◌, length, drop, get_or, Some, None, refl, sym, ap, ◌∙◌, append_assoc}
 use Rattle.std.specs.Prelude.{if◌then◌else◌}
 use Rattle.plain_values.proofs.Members.{keys, keys_both}
 use Rattle.imp_slots.specs.Plain.{Guard, Does, DoBreak, Code, Stop, Simple, If, While, Call, Break, code_numbers}
@@ -15,7 +15,6 @@ use Rattle.batch_interp.specs.Frames.{Plan, marks_at, calls_in, passed}
 use Rattle.batch_interp.specs.Seeking.{holds_inside, places, spot_at, inner_of}
 use Rattle.plain_values.proofs.Cases.{by_test}
 use Rattle.plain_values.proofs.Lists.{drop_item}
-use Rattle.std.proofs.lemmas.List.{drop_all}
 use Rattle.call_contexts.proofs.Numbered.{has_both}
 use Rattle.batch_meaning.proofs.Places.{find_both, find_key, or_else}
 
@@ -76,13 +75,6 @@ module _ {S : Type 0} (dom : Operations S) (plan : Plan) (place : ℕ) (z : List
   rest_of : (ss : List SlotNode) (i : ℕ) (s : SlotNode) (v : Value S) → i < length ss → s ≡ get_or ss i s → P (code_of (drop i ss)) v ≡ (number_of s, spot_at dom plan place z s v) ∷ (inner_of dom plan place z s v ++ P (code_of (drop (i + 1) ss)) (passed dom plan place z (before_code s Stop) v).value)
   rest_of ss i s v h e = ap (λ xs. P (code_of xs) v) (drop_item ss i s h e) ∙ places_before s (code_of (drop (i + 1) ss)) v
 
-  -- the statement here
-  pub seek_here : (n : ℕ) (ss : List SlotNode) (i : ℕ) (s : SlotNode) (v : Value S) → i < length ss → s ≡ get_or ss i s → n ≡ number_of s → find n (places dom plan place z (code_of (drop i ss)) v) ≡ Some (spot_at dom plan place z s v)
-  seek_here n ss i s v h e k =
-      let rest = inner_of dom plan place z s v ++ P (code_of (drop (i + 1) ss)) (passed dom plan place z (before_code s Stop) v).value in
-      ap (find n) (rest_of ss i s v h e)
-      ∙ by_test n (number_of s) (λ c. (if c then Some (spot_at dom plan place z s v) else find n rest) ≡ Some (spot_at dom plan place z s v)) (λ e. refl) (λ e. absurd (e k))
-
   not_here : (n : ℕ) (ss : List SlotNode) (i : ℕ) (s : SlotNode) (v : Value S) → i < length ss → s ≡ get_or ss i s → n ≢ number_of s → find n (P (code_of (drop i ss)) v) ≡ find n (inner_of dom plan place z s v ++ P (code_of (drop (i + 1) ss)) (passed dom plan place z (before_code s Stop) v).value)
   not_here n ss i s v h e k =
       let rest = inner_of dom plan place z s v ++ P (code_of (drop (i + 1) ss)) (passed dom plan place z (before_code s Stop) v).value in
@@ -98,9 +90,6 @@ module _ {S : Type 0} (dom : Operations S) (plan : Plan) (place : ℕ) (z : List
   seek_behind n ss i s v w h e k m b =
       ap (λ x. find n (P (code_of (drop (i + 1) ss)) x)) b
       ∙ sym (not_here n ss i s v h e k ∙ second_part n (inner_of dom plan place z s v) (P (code_of (drop (i + 1) ss)) (passed dom plan place z (before_code s Stop) v).value) (inner_numbers n s v ∙ m))
-
-  pub seek_end : (n : ℕ) (ss : List SlotNode) (i : ℕ) (v : Value S) → length ss ≤ i → find n (places dom plan place z (code_of (drop i ss)) v) ≡ None
-  seek_end n ss i v h = ap (λ xs. find n (P (code_of xs) v)) (drop_all i ss h)
 
   pub then_part : (n m : ℕ) (c : Guard) (t e : Code) (v : Value S) → has n (code_numbers t) ≡ true → find n (places dom plan place z t (lift (dom.assume c true) v)) ≡ find n (inner_of dom plan place z (node.If m c t e) v)
   then_part n m c t e v h =

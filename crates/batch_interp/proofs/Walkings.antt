@@ -1,11 +1,11 @@
 -- Procedures entered one after another.
-use Rattle.std.proofs.Common.{ℕ, zero, suc, ◌≡◌, ◌+◌, ◌<◌, ◌≤◌, List, [], ◌∷◌, ◌++◌, length, take, drop, reverse, get_or, slice_get, option_map, Option, Some, None, Result, Ok, Err, IfOk, refl, sym, ap, subst, ◌∙◌, arith}
+use Rattle.std.proofs.Common.{ℕ, zero, suc, ◌≡◌, ◌+◌, ◌<◌, ◌≤◌, List, [], ◌∷◌, ◌++◌, length, take, drop, reverse, get_or, slice_get, option_map, Option, Some, None, Result, Ok, Err, IfOk, sym, ap, subst, ◌∙◌, arith}
 use Rattle.std.specs.Prelude.{if◌then◌else◌}
 use Rattle.std.specs.Str.{bytes_eq}
 use Rattle.std.proofs.lemmas.List.{reverse-append, take-append-drop, take_all}
 use Rattle.imp_slots.specs.Plain.{Invoke, Code, Routine}
 use Rattle.imp_syntax.specs.declared.edit.Location.{Location}
-use Rattle.imp_syntax.specs.declared.edit.Location.TheVariants.{Before, After, Head, End}
+use Rattle.imp_syntax.specs.declared.edit.Location.TheVariants.{Before, Head, End}
 use Rattle.program_chains.specs.Marks.{marks}
 use Rattle.domain_laws.specs.Operations.{Operations}
 use Rattle.batch_meaning.specs.Values.{Value, State, lift}
@@ -145,13 +145,6 @@ module _ {S : Type 0} (dom : Operations S) (plan : Plan) where
   told_there k m n z r code v f l y g a b s h =
       if_ok_along y (option_map value_of) (if_some (find m (places dom plan k z code v)) f) (value_in dom plan.engine (earlier plan.program (suc k)) z v l) h
       ((λ i. if_some (find (a i) (places dom plan k z (b i) v)) f) ∙ ap (λ xs. if_some (find n xs) f) (sym (spots_there k z r v g)) ∙ s)
-
-  pub at_gone : (l : Location) (z : List ℕ) (o : Option (List Routine × Value S)) → IsGone o → if_some o (λ x. value_in dom plan.engine x.0 z x.1 l) ≡ None
-  at_gone l z None h = refl
-  at_gone (Before n) z (Some x) h = ap (λ rs. value_in dom plan.engine rs z x.1 (Before n)) h
-  at_gone (After n) z (Some x) h = ap (λ rs. value_in dom plan.engine rs z x.1 (After n)) h
-  at_gone (Head n) z (Some x) h = ap (λ rs. value_in dom plan.engine rs z x.1 (Head n)) h
-  at_gone (End name) z (Some x) h = ap (λ rs. value_in dom plan.engine rs z x.1 (End name)) h
 
 pub get_same : (xs ys : List Routine) (k : ℕ) (r : Routine) → xs ≡ ys → k < length ys → r ≡ get_or xs k r → slice_get ys k ≡ Some r
 get_same xs ys k r e h g = get_there ys k r h (g ∙ ap (λ zs. get_or zs k r) e)

@@ -5,7 +5,7 @@ use Rattle.std.specs.Prelude.{if◌then◌else◌}
 use Rattle.imp_check.proofs.ChangeLemmas.{no_entry}
 use Rattle.imp_syntax.specs.Plain.{Statements, Ends, Starts, Procedure}
 use Rattle.imp_syntax.specs.Plain as tree
-use Rattle.imp_slots.specs.Fits.{Absent, Distinct}
+use Rattle.imp_slots.specs.Fits.{Distinct}
 use Rattle.imp_check.specs.Slots.{Resolver, code_in, routine_of, effect_in, guard_in}
 use Rattle.imp_check.specs.Parts.{first_or}
 use Rattle.imp_check.specs.Programs.{block_count, program_count}

@@ -142,14 +142,8 @@ module _ (steps : List Step) (names : List Name) (kept : IsKept steps names) whe
   pub last-path : (s : Step) (n : ℕ) → slice_get steps n ≡ Some s → path_at ps (suc n) ≡ path_by ps s
   last-path s n at = ap or_root (path-found s n at)
 
-  pub step-before : (s : Step) (n : ℕ) → slice_get steps n ≡ Some s → s.before ≤ n
-  step-before s n at = kept.steps_within n s at
-
 -- The same of what contracts see, `known`, in place of the fields.
 module _ (steps : List Step) (names : List Name) (kept : IsKept steps names) (known : Known) (is : known_of steps names ≡ known) where
-  paths-are : paths_of steps ≡ known.paths
-  paths-are = ap (λ (k : Known). k.paths) is
-
   names-are : map (name_in (paths_of steps)) names ≡ known.names
   names-are = ap (λ (k : Known). k.names) is
 
@@ -164,12 +158,6 @@ module _ (steps : List Step) (names : List Name) (kept : IsKept steps names) (kn
 
   pub known-names-once : IsOnce known.names
   known-names-once = along (λ k. IsOnce k.names) (names-once steps names kept)
-
-  pub known-path : (s : Step) (n : ℕ) → slice_get steps n ≡ Some s → slice_get known.paths (suc n) ≡ Some (path_by known.paths s)
-  known-path s n at = along (λ k. slice_get k.paths (suc n) ≡ Some (path_by k.paths s)) (path-found steps names kept s n at)
-
-  pub known-step : (s : Step) (n : ℕ) → s.before < length known.paths → slice_get known.paths n ≡ Some (path_by known.paths s) → (k : ℕ) × (n ≡ suc k) × (slice_get steps k ≡ Some s)
-  known-step s n h at = step-found steps names kept s n (back (λ k. s.before < length k.paths) h) (back (λ k. slice_get k.paths n ≡ Some (path_by k.paths s)) at)
 
   pub known-name : (x : Name) (n : ℕ) → slice_get names n ≡ Some x → slice_get known.names n ≡ Some (name_in known.paths x)
   known-name x n at = along (λ k. slice_get k.names n ≡ Some (name_in k.paths x)) (name-found steps names kept x n at)

@@ -59,9 +59,6 @@ numbered (Call n call q r) p = each_more Numbered (n, text [] p (Call n call q r
 numbered (Break n r) p = each_more Numbered (n, text [] p (Break n r)) (texts r (Post n)) refl (numbered r _)
 
 module _ {S : Type 0} (dom : Operations S) (engine : Engine) (program : List Routine) (all : AllFine program) (once : AllOnce program) where
-  abbrev N : ℕ
-  N = engine.budget
-
   abbrev A : Algebra (Cell S)
   A = values dom engine (main_layout program)
 

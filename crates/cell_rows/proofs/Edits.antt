@@ -11,8 +11,8 @@ use Rattle.std.proofs.lemmas.Bool.{or_left, or_right}
 use Rattle.std.proofs.lemmas.List.{length-map}
 use Rattle.demand_order.proofs.Stable.{stable}
 use Rattle.cell_rows.specs.Names.{IsSame, AllFine}
-use Rattle.cell_rows.specs.Cells.{Cell, table, row_of_name, value_of_name, by_row, operation_row, asks_row, most_row, nothing}
-use Rattle.cell_rows.proofs.TableProofs.{HasName, values_agree, is_table}
+use Rattle.cell_rows.specs.Cells.{Cell, table, row_of_name, by_row, operation_row, asks_row, most_row, nothing}
+use Rattle.cell_rows.proofs.TableProofs.{is_table}
 
 map_on : {T V : Type 0} (same : T → T → Bool) → ((x : T) → same x x ≡ true) → (v w : T → V) (xs : List T) → ((y : T) → member same xs y ≡ true → v y ≡ w y) → map v xs ≡ map w xs
 map_on same re v w [] h = refl
@@ -44,14 +44,6 @@ module _ {S : Type 0} (dom : Operations S) (engine : Engine) (old new : List Rou
 
   abbrev TN : Rows CellName (Cell S)
   TN = table dom engine new same
-
-  -- By the operations and inputs as they are, each by its own program's values.
-  pub kept_values : (P : CellName → Type 0) → ((x : CellName) → P x → SameIn TO TN x) → ((x y : CellName) → P x → member same (inputs_of TO x) y ≡ true → P y) →
-      (x : CellName) → P x → HasName dom engine old old_fine x → HasName dom engine new new_fine x → value_of_name dom engine old x ≡ value_of_name dom engine new x
-  kept_values P rows down x p o n =
-      sym (values_agree dom engine old old_fine same is x o)
-      ∙ kept TO TN (is_table dom engine old old_fine same is) (is_table dom engine new new_fine same is) P rows down x p
-      ∙ values_agree dom engine new new_fine same is x n
 
   -- By the rows in the text alone: then the inputs are the same too.
   row_same : (x : CellName) → row_of_name dom engine old x ≡ row_of_name dom engine new x → SameRow TO TN x

@@ -1,6 +1,6 @@
 -- For each name that the program has, the table gives its row.
 use Rattle.std.proofs.Common.{◌≡◌, ℕ, zero, suc, List, [], ◌∷◌, length, map, Option, Some, None, Bool, true, false, if◌then◌else◌, refl, sym, ap, ◌∙◌, subst, nat_lt}
-use Rattle.imp_slots.specs.Plain.{Guard, DoBreak, Does, Code, Stop, Simple, If, While, Call, Break, Routine}
+use Rattle.imp_slots.specs.Plain.{DoBreak, Does, Code, Stop, Simple, If, While, Call, Break, Routine}
 use Rattle.imp_slots.specs.Fits.{Distinct}
 use Rattle.batch_meaning.specs.Batch.{Engine}
 use Rattle.batch_meaning.specs.Places.{find, if_some, from, main_layout}
@@ -9,11 +9,11 @@ use Rattle.cell_names.specs.declared.frame.Frame.TheVariants.{InCall, InLoop}
 use Rattle.cell_names.specs.declared.frame.Point.{Point}
 use Rattle.cell_names.specs.declared.frame.Point.TheVariants.{Entry, Then, Else, Body, Post, Iterate, Fix, Exit, Leap}
 use Rattle.plain_values.proofs.Cases.{by_test}
-use Rattle.plain_values.proofs.Members.{Member, here, there, in_left, in_right, keys, in_map}
+use Rattle.plain_values.proofs.Members.{Member, there, in_left, in_right, keys, in_map}
 use Rattle.batch_meaning.proofs.Places.{found}
 use Rattle.cell_rows.specs.Names.{Scope, scope_of, name, Mark, mark, Place, bare, number, entry, start_of, in_call, in_loop, iterate_point, round_place, statement, follow, when}
 use Rattle.cell_rows.specs.Rows as R
-use Rattle.cell_rows.specs.Rows.{Row, Init, One, Two, row_at, branch_row, post_row, next_row, fix_row, exit_row, leap_row, enter_row, turn_row, loop_row, last_point}
+use Rattle.cell_rows.specs.Rows.{Row, Init, One, Two, row_at, branch_row, post_row, next_row, fix_row, exit_row, leap_row, enter_row, turn_row, last_point}
 use Rattle.cell_rows.specs.Targets.{Text, text, deeper, texts}
 use Rattle.cell_rows.specs.Flat.{Flat, flat_of, flat, stand_in, by_text, flat_row}
 use Rattle.cell_rows.proofs.Lookup.{Stands, unstated, then_some}
@@ -128,9 +128,6 @@ module _ (engine : Engine) (program : List Routine) (once : Distinct (keys (flat
   branch_reads w h b c y x (While n guard t r) i j k = refl
   branch_reads w h b c y x (Call n call q r) i j k = refl
   branch_reads w h b c y x (Break n r) i j k = refl
-
-  loop_reads : (w : List Frame) (n : ℕ) (guard : Guard) (body : Code) (k : ℕ) → loop_row engine bare w n guard body k ≡ loop_row engine bare w n guard body k
-  loop_reads w n guard body k = refl
 
   pub post_reads : (w : List Frame) → Reads (post_row engine bare w)
   post_reads w b c y x Stop i j k = refl

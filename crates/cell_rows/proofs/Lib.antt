@@ -7,7 +7,6 @@ pub mod BatchTie
 pub mod Tied
 pub mod Bare
 pub mod TableProofs
-pub mod Unroll
 pub mod Edits
 pub mod Package
 pub mod Demands

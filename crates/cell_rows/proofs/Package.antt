@@ -5,7 +5,6 @@ use Rattle.domain_laws.specs.Operations.{Operations}
 use Rattle.batch_meaning.specs.Batch.{Engine}
 use Rattle.cell_names.specs.Paths.{CellName}
 use Rattle.demand_order.specs.Order.{member, IsAcyclic}
-use Rattle.demand_order.specs.OrderLaws.{Needed, input, under}
 use Rattle.demand_order.specs.Asking.{Rows, value_of, inputs_of, system_of}
 use Rattle.demand_order.proofs.AskingProofs.{value-is, system-acyclic}
 use Rattle.cell_rows.specs.Names.{IsSame, AllFine}
@@ -44,11 +43,6 @@ module _ {S : Type 0} (dom : Operations S) (engine : Engine) (program : List Rou
   inputs_have x y h m =
       let s = (solves dom engine program all same is).down x h in
       all_member same is.same_true Has (inputs_of T x) (subst (All Has) (sym (inputs_agree dom engine program all same is x h)) s) y m
-
-  -- So are all that a demand for such names leads to.
-  pub needed_have : (xs : List CellName) → All Has xs → (y : CellName) → Needed (system_of T) xs y → Has y
-  needed_have xs h y (input _ m) = all_member same is.same_true Has xs h y m
-  needed_have xs h y (under x _ n m) = inputs_have x y (needed_have xs h x n) m
 
   pub acyclic : IsAcyclic (system_of T)
   acyclic = system-acyclic T (is_table dom engine program all same is)

@@ -1,5 +1,5 @@
 -- The statements of a block that stand in no loop of it, and those in its loops, are among the block's texts.
-use Rattle.std.proofs.Common.{ℕ, List, [], ◌∷◌, map, true, false}
+use Rattle.std.proofs.Common.{ℕ, List, [], map, true, false}
 use Rattle.imp_slots.specs.Plain.{Code, Stop, Simple, If, While, Call, Break}
 use Rattle.batch_meaning.specs.Batch.{Engine}
 use Rattle.cell_names.specs.declared.frame.Point.TheVariants.{Then, Else, Body, Post}

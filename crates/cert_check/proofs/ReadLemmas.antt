@@ -89,17 +89,7 @@ drop_byte xs i h = go xs i h ∙ (let e : suc i ≡ i + 1 = omega arith in ap (�
     go (x ∷ xs) (suc i) h = go xs i (omega arith)
 
 module _ {S : Type 0} (port : Portable S) (program : List Routine) where
-  -- LF ends a line, which is added or bad; another byte goes on with it
-  pub goes_ended : (byte : ℕ) (table more : List (List ℕ × S)) (i j : ℕ) (part cleared : List ℕ) → byte ≡ 10 → IsAdded port program part table more true → cleared ≡ [] → j ≡ i + 1 → GoesOn port program byte table i part more j cleared next.More
-  goes_ended byte table more i j part cleared e a c k all rest r =
-      subst (λ n. IsReading port program more n (lines_from cleared rest) all) (sym k)
-      (along port program all more (i + 1) (lines_from [] rest) (lines_from cleared rest) (ap (λ p. lines_from p rest) (sym c))
-      (line_read port program all table more i part (lines_from [] rest) a (along port program all table i (lines_from part (byte ∷ rest)) (part ∷ lines_from [] rest) (ap (λ b. lines_from part (b ∷ rest)) e) r)))
-
-  pub goes_bad : (byte : ℕ) (table more : List (List ℕ × S)) (i : ℕ) (part part' : List ℕ) → byte ≡ 10 → IsAdded port program part table more false → GoesOn port program byte table i part more i part' next.Bad
-  goes_bad byte table more i part part' e a all rest r =
-      line_bad port program all table more i part (lines_from [] rest) a (along port program all table i (lines_from part (byte ∷ rest)) (part ∷ lines_from [] rest) (ap (λ b. lines_from part (b ∷ rest)) e) r)
-
+  -- a byte other than LF goes on with the line
   pub goes_on : (byte : ℕ) (table : List (List ℕ × S)) (i : ℕ) (part longer : List ℕ) → byte ≢ 10 → longer ≡ part ++ byte ∷ [] → GoesOn port program byte table i part table i longer next.More
   goes_on byte table i part longer n e all rest r =
       along port program all table i (lines_from part (byte ∷ rest)) (lines_from longer rest)

@@ -30,9 +30,6 @@ module _ {S : Type 0} (dom : Operations S) (port : Portable S) (engine : Engine)
       ap (λ v. behind old (with_line dom port engine program (reverse chain) h.stmt (Some (value_of v)) more)) is
       ∙ line_goes (reverse chain) h.stmt s old new more (e ∙ (let turned : chain ≡ reverse (reverse chain) = sym (reverse-reverse chain) in λ i. old ++ (compact_text (line_data h.stmt (turned i) (t i)) ++ 10 ∷ [])))
 
-  pub added_over : (chain : List ℕ) (h : Head S) (n : ℕ) (y line old : List ℕ) (more : Certificate) → h.value ≡ known.Over n y → line ≡ certificate_text (Gives n (reverse y)) → behind old (lines_under dom port engine program (reverse chain) (head_told h ∷ []) more) ≡ line
-  added_over chain h n y line old more is e = ap (λ v. behind old (with_line dom port engine program (reverse chain) h.stmt (Some (value_of v)) more)) is ∙ sym e
-
   -- one more loop
   pub lines_step : (z : List ℕ) (hs : List (Head S)) (i : ℕ) (h : Head S) (more : Certificate) → i < length hs → h ≡ get_or hs i h → lines_under dom port engine program z (map head_told (drop i hs)) more ≡ lines_under dom port engine program z (head_told h ∷ []) (lines_under dom port engine program z (map head_told (drop (i + 1) hs)) more)
   lines_step z hs i h more l e = ap (λ xs. lines_under dom port engine program z (map head_told xs) more) (drop_item hs i h l e)

@@ -1,5 +1,5 @@
 -- Keys by number that are set and that get places.
-use Rattle.std.proofs.Common.{◌≡◌, ◌≢◌, ℕ, zero, suc, ◌<◌, List, [], ◌∷◌, ◌++◌, length, Option, Some, None, set, refl, ap, arith}
+use Rattle.std.proofs.Common.{◌≡◌, ◌≢◌, ℕ, zero, suc, ◌<◌, List, [], ◌∷◌, length, Option, Some, set, refl, ap, arith}
 use Rattle.daig_graph.specs.Keys.{key_at}
 use Rattle.daig_graph.proofs.Cases.{none-some}
 
@@ -14,13 +14,6 @@ set-others (k ∷ keys) zero zero key ne = absurd (ne refl)
 set-others (k ∷ keys) zero (suc q) key ne = refl
 set-others (k ∷ keys) (suc n) zero key ne = refl
 set-others (k ∷ keys) (suc n) (suc q) key ne = set-others keys n q key (λ e. ne (ap suc e))
-
--- a place more has no key
-pub key-push : (keys : List (Option ℕ)) (n : ℕ) → key_at (keys ++ None ∷ []) n ≡ key_at keys n
-key-push [] zero = refl
-key-push [] (suc n) = refl
-key-push (k ∷ keys) zero = refl
-key-push (k ∷ keys) (suc n) = key-push keys n
 
 -- a number that has a key has a place
 pub key-below : (keys : List (Option ℕ)) (n k : ℕ) → key_at keys n ≡ Some k → n < length keys

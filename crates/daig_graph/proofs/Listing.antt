@@ -9,9 +9,6 @@ use Rattle.daig_graph.proofs.Views.{held-get}
 use Rattle.daig_graph.proofs.Walking.{walk_of, walk-is, walk-length, walk-at, walk-list, walk-once, walk-all}
 
 module _ {T : Type 0} (slots : List (Option (Member T))) (firsts : ℕ → Option ℕ) (linked : AreLinked (λ k. get_or slots k None) firsts) (v : Held T) (v_is : v.slots ≡ map held_at slots) (list : ℕ) where
-  members : ℕ → Option (Member T)
-  members k = get_or slots k None
-
   within : (slots : List (Option (Member T))) (k : ℕ) (m : Member T) → get_or slots k None ≡ Some m → k < length slots
   within [] k m e = none-some e
   within (o ∷ slots) zero m e = omega arith

@@ -1,21 +1,9 @@
 -- One use more in its list, or one less.
-use Rattle.std.proofs.Common.{◌≡◌, ◌≢◌, ℕ, zero, suc, ◌+◌, ◌<◌, inl, inr, List, [], ◌∷◌, length, Option, Some, IsSome, slice_get, set, refl, sym, ap, ◌∙◌, subst, arith}
+use Rattle.std.proofs.Common.{◌≡◌, ℕ, ◌+◌, inl, inr, List, Option, Some, IsSome, slice_get, sym, ap, ◌∙◌, subst, arith}
 use Rattle.daig_graph.specs.declared.graph.Use.{Use}
 use Rattle.daig_graph.specs.Held.{Held, held, Takes, IsOnce}
 use Rattle.daig_graph.specs.Uses.{Unlinks}
 use Rattle.daig_graph.proofs.Cases.{same_number, some-inj}
-
-pub set-at : {A : Type 0} (xs : List A) (n : ℕ) (v : A) → n < length xs → slice_get (set xs n v) n ≡ Some v
-set-at [] n v h = absurd (omega (arith, h))
-set-at (x ∷ xs) zero v h = refl
-set-at (x ∷ xs) (suc n) v h = set-at xs n v (omega (arith, h))
-
-pub set-other : {A : Type 0} (xs : List A) (n i : ℕ) (v : A) → i ≢ n → slice_get (set xs n v) i ≡ slice_get xs i
-set-other [] n i v ne = refl
-set-other (x ∷ xs) zero zero v ne = absurd (ne refl)
-set-other (x ∷ xs) zero (suc i) v ne = refl
-set-other (x ∷ xs) (suc n) zero v ne = refl
-set-other (x ∷ xs) (suc n) (suc i) v ne = set-other xs n i v (λ e. ne (ap suc e))
 
 -- a key that is not yet taken out stands there
 pub still_there : (old mid : Held Use) (keys : List ℕ) (n u : ℕ) → Unlinks old mid keys n → IsOnce keys → slice_get keys n ≡ Some u → IsSome (held old u) → IsSome (held mid u)

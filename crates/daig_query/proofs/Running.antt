@@ -1,5 +1,5 @@
 -- The machine of demands runs over an engine's store.
-use Rattle.std.proofs.Common.{◌≡◌, ℕ, ◌+◌, ◌<◌, ◌||◌, Bool, true, false, cond, List, [], ◌∷◌, ◌++◌, reverse, length, Option, Some, None, slice_get, refl, sym, ap, subst, ◌∙◌}
+use Rattle.std.proofs.Common.{◌≡◌, ℕ, ◌+◌, ◌<◌, ◌||◌, Bool, true, cond, List, [], ◌∷◌, ◌++◌, reverse, length, Option, Some, None, slice_get, refl, sym, ap, subst, ◌∙◌}
 use std.Path.{fun_ext}
 use Rattle.std.proofs.lemmas.List.{reverse-append}
 use Rattle.std.proofs.Math.Bool.{or-true}
@@ -9,7 +9,7 @@ use Rattle.demand_order.specs.Order.{System, IsAcyclic, member, fill_all}
 use Rattle.demand_order.specs.Store.{first_absent, Puts as PutsName, missing_of, Leaves}
 use Rattle.demand_order.specs.Machine.{AreBelow, waits, Run, run_left}
 use Rattle.demand_order.proofs.AskingProofs.{system-acyclic}
-use Rattle.demand_order.proofs.RunLemmas.{run-start, run-push, run-lower, leaves-at, demand-end, name-more, name-fill, fill-smaller, name-absent}
+use Rattle.demand_order.proofs.RunLemmas.{run-start, run-push, run-lower, leaves-at, demand-end, name-more, name-fill, fill-smaller}
 use Rattle.demand_order.proofs.TheoremProofs.{ceiling, below}
 use Rattle.cell_names.specs.Paths.{CellName}
 use Rattle.cell_rows.specs.Cells.{Cell}
@@ -26,7 +26,7 @@ use Rattle.daig_query.specs.declared.store.Store.{Store}
 use Rattle.daig_query.specs.Kept.{kept}
 use Rattle.daig_query.specs.Right.{found}
 use Rattle.daig_query.specs.Filled.{missing}
-use Rattle.daig_query.proofs.Stacked.{held_of, has_kept, holds_value, held_none, first_none}
+use Rattle.daig_query.proofs.Stacked.{held_of, has_kept, holds_value, first_none}
 use mathlib.Core.Bool.{or-false}
 
 module _ {S : Type 0} (dom : Operations S) (plan : Plan) (ts : List Target) where
@@ -91,9 +91,6 @@ module _ {S : Type 0} (dom : Operations S) (plan : Plan) (ts : List Target) wher
       runs_end e all = demand-end system acyclic (found dom plan) wanted bound low (cells_of first) (cells_of keeps) names (total first) count r e (first_none (found dom plan) keeps wanted all)
 
       module _ (rest : List CellName) (x : CellName) (split : names ≡ rest ++ x ∷ []) where
-        pub top_absent : keeps x ≡ false
-        top_absent = held_none (found dom plan) keeps x (name-absent system acyclic (found dom plan) wanted bound low (cells_of first) (cells_of keeps) names (total first) count r x rest split)
-
         module _ (ready : (y : CellName) → member same_name (inputs dom plan x) y ≡ true → keeps y ≡ true) where
           none : first_absent (cells_of keeps) (system.inputs x) ≡ None
           unfolding inputs

@@ -1,10 +1,10 @@
 -- Each turn of the machine keeps what is known of a run over stores.
 use Rattle.std.specs.Prelude.{is_some, IfSome}
-use Rattle.std.proofs.Common.{◌≡◌, ℕ, suc, ◌+◌, ◌-◌, ◌*◌, ◌<◌, ◌≤◌, ◌||◌, false, List, [], ◌∷◌, ◌++◌, map, take, reverse, length, Option, Some, None, slice_get, sym, ap, subst, ◌∙◌, arith, length-append, mul-add, eqb}
+use Rattle.std.proofs.Common.{◌≡◌, ℕ, suc, ◌+◌, ◌-◌, ◌*◌, ◌<◌, ◌≤◌, ◌||◌, false, List, [], ◌∷◌, ◌++◌, take, reverse, length, Option, Some, None, slice_get, sym, ap, subst, ◌∙◌, arith, length-append, mul-add, eqb}
 use Rattle.std.specs.FinMap.{len}
 use Rattle.std.specs.Option.{option_eq}
 use Rattle.std.proofs.lemmas.Bool.Decides.{nat_tests}
-use Rattle.std.proofs.lemmas.List.{length-map, map-append}
+use Rattle.std.proofs.lemmas.List.{length-map}
 use Rattle.plain_values.proofs.Lists.{get_last, get_some}
 use Rattle.domain_laws.specs.Operations.{Operations}
 use Rattle.demand_order.specs.Order.{member}
@@ -16,18 +16,17 @@ use Rattle.imp_flow.specs.Plans.{Plan}
 use Rattle.named_cells.specs.Same.{same_name}
 use Rattle.named_cells.specs.Named.{filled_at}
 use Rattle.daig_query.specs.declared.advance.Turn.{Turn}
-use Rattle.daig_query.specs.declared.opening.Open.{Open}
 use Rattle.daig_query.specs.declared.store.Store.{Store}
 use Rattle.daig_query.specs.declared.walk.Walk.{Walk}
 use Rattle.daig_query.specs.Kept.{kept, Grows}
 use Rattle.daig_query.specs.Right.{found, IsRight}
 use Rattle.daig_query.specs.Opened.{name_of}
-use Rattle.daig_query.specs.Turned.{stacked_names, IsTopAbsent, Pushes, FillsTop, Waits, Ends, Turns}
+use Rattle.daig_query.specs.Turned.{stacked_names, Pushes, FillsTop, Waits, Ends, Turns}
 use Rattle.daig_query.specs.Filled.{added, missing, Fills}
 use Rattle.daig_query.specs.Walked.{IsGood, place_of}
 use Rattle.daig_query.proofs.Growing.{grows_trans, filled_same}
 use Rattle.daig_query.proofs.Stacked.{has_kept, stack_waits, targets_kept, name_at}
-use Rattle.daig_query.proofs.Running.{cells_of, system, wanted, Runs, left, missing_is, runs_same, runs_push, push_smaller, runs_leave, runs_end, top_absent, top_more, fill_less, runs_fill}
+use Rattle.daig_query.proofs.Running.{cells_of, system, wanted, Runs, left, missing_is, runs_same, runs_push, push_smaller, runs_leave, runs_end, top_more, fill_less, runs_fill}
 use Rattle.std.proofs.lemmas.Option.{same_Some}
 use Rattle.demand_order.proofs.RunLemmas.{take_start}
 
@@ -54,9 +53,6 @@ module _ {S : Type 0} (dom : Operations S) (plan : Plan) (ts : List Target) wher
 
   added_still : (first old new : Store S) → new.graph.cells ≡ old.graph.cells → added first new ≡ added first old
   added_still first old new cells = ap (λ m. len m - len first.graph.cells) cells
-
-  pub opens_within : (store : Store S) (w : Walk) → IsGood dom plan ts store w → (i : ℕ) (o : Open) → slice_get w.stack.items i ≡ Some o → o.name.path < length store.names.paths
-  opens_within store w good i o e = (good.stacked.opens i o e).path
 
   -- what the names under the top wait for is the top
   waits_top : (store : Store S) (w : Walk) → IsRight dom plan store → IsGood dom plan ts store w → (names : List CellName) (x : CellName) → stacked_names store w.stack.items ≡ names ++ x ∷ [] → kept store x ≡ false →
@@ -181,12 +177,6 @@ module _ {S : Type 0} (dom : Operations S) (plan : Plan) (ts : List Target) wher
         runs_end dom plan ts run.right.checked (kept first) (kept new) (stacked_names old before.stack.items) (added first new) (still cells) p.bottom
         (targets_kept dom plan new right ts (place_of ts new after) after.found.items p.done.placed.stands p.done.asks_none)
         ∙ ap length (missing_is dom plan ts first)
-
-  -- the top has no cell
-  pub running_absent : (first store : Store S) (w : Walk) → IsRunning first store w → IsTopAbsent store w.stack.items
-  running_absent first store w run rest o e =
-      top_absent dom plan ts run.right.checked (kept first) (kept store) (stacked_names store w.stack.items) (added first store) run.run (stacked_names store rest) (name_of store o)
-      (ap (map (name_of store)) e ∙ map-append (name_of store) rest (o ∷ []))
 
   -- how many cells more, at most so many
   pub within_start : (limit : Option ℕ) (store : Store S) → IfSome limit (λ n. added store store ≤ n)

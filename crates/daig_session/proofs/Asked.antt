@@ -10,7 +10,7 @@ use Rattle.domain_laws.specs.Operations.{Operations}
 use Rattle.batch_meaning.specs.Values as plain
 use Rattle.batch_meaning.specs.Values.{lift}
 use Rattle.batch_meaning.specs.Batch.{Engine, joined}
-use Rattle.batch_meaning.specs.Answers.{Answer, Answers, Refuses, In, Misses, answer, answer_in, procedure_of, summed}
+use Rattle.batch_meaning.specs.Answers.{Answer, Answers, Refuses, In, answer, answer_in, procedure_of, summed}
 use Rattle.cell_rows.specs.Cells.{Cell}
 use Rattle.cell_rows.specs.Targets.{Target, targets, value_of_target}
 use Rattle.cell_names.specs.Paths.{CellName}
@@ -29,9 +29,6 @@ module _ {S : Type 0} (dom : Operations S) (engine : Engine) (program : List Rou
 
   pub too_long : nat_lt 2 (length string) ≡ true → answer dom engine program l string ≡ Refuses LongString
   too_long h = ap (λ (b : Bool). if b then Refuses LongString else answer_in dom engine program l string (procedure_of program l)) h
-
-  pub misses : (r : Refusal) → nat_lt 2 (length string) ≡ false → procedure_of program l ≡ Misses r → answer dom engine program l string ≡ Refuses r
-  misses r h e = short_is h ∙ ap (answer_in dom engine program l string) e
 
   -- with these targets
   with_targets : (p : ℕ) (ts : List Target) → IsChecked program → nat_lt 2 (length string) ≡ false → procedure_of program l ≡ In p → targets program p l string ≡ Some ts →

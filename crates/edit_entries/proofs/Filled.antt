@@ -177,7 +177,3 @@ module _ (f : Resolver) (m : ℕ) where
   -- the same of the body of a loop, whose breaks leave that loop alone
   pub edit_body : (hs : List Hole) (b : Statements) (n : ℕ) (c : _) (r x y : Statements) → (n == m) ≡ false → Alike f m x y → Alike f m (plug hs (fill (Body b n c r) x)) (plug hs (fill (Body b n c r) y))
   edit_body hs b n c r x y e a = plug_same hs (fill (Body b n c r) x) (fill (Body b n c r) y) (ends_filled (Body b n c r) x y) (leaving_cut b r n c x y) (fill_other (Body b n c r) x y e a)
-
-  -- the same, where the breaks that leave the block stay
-  pub edit_same_breaks : (hs : List Hole) (h : Hole) (x y : Statements) → (holder h == m) ≡ false → leaving x ≡ leaving y → Alike f m x y → Alike f m (plug hs (fill h x)) (plug hs (fill h y))
-  edit_same_breaks hs h x y e q a = plug_same hs (fill h x) (fill h y) (ends_filled h x y) (leaving_filled h x y q) (fill_other h x y e a)

@@ -145,12 +145,7 @@ module _ (ps qs : List Procedure) (p : Procedure) (gs : List Hole) (h : Hole) (b
       told_breaks (Else v n c t r) f k a b y i w = absurd cc
       told_breaks (Body v n c r) f k a b y i w = w
 
-  -- The table after an edit of a block of a statement.
-  pub edit_table : Distinct (program_numbers O) → Distinct (program_numbers N) → Apart (numbers olds) (numbers news) → Told → (m : ℕ) →
-      entry_of (entries_of N) m ≡ spliced (the_splice ps qs p hs before olds news behind breaks) (held h (ends_of (between before behind news))) (entry_of (entries_of O)) m
-  edit_table old new apart told m = table_is ps qs p hs before olds news behind breaks old new apart told (held h (ends_of (between before behind news))) (holds old new told) m
-
--- The same of a block that is the body of a procedure: no statement has it.
+-- The table after an edit of a block that is the body of a procedure: no statement has it.
 pub edit_body_table : (ps qs : List Procedure) (p : Procedure) (before olds news behind : Statements) (breaks : List ℕ) → let O = old_program p [] before olds news behind ps qs in let N = new_program p [] before olds news behind ps qs in
     Distinct (program_numbers O) → Distinct (program_numbers N) → Apart (numbers olds) (numbers news) → (m : ℕ) →
     entry_of (entries_of N) m ≡ spliced (the_splice ps qs p [] before olds news behind breaks) (λ x. x) (entry_of (entries_of O)) m

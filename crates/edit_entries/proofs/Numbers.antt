@@ -1,12 +1,12 @@
 -- The numbers of a program in which statements are exchanged.
 use Rattle.std.proofs.lemmas.Bool.Decides.{nat_tests}
-use Rattle.std.proofs.Common.{◌≡◌, ◌≢◌, ℕ, ◌==◌, ◌||◌, inl, inr, Bool, true, false, List, [], ◌∷◌, ◌++◌, refl, sym, ap, ◌∙◌, subst, arith, append_assoc}
+use Rattle.std.proofs.Common.{◌≡◌, ℕ, ◌==◌, ◌||◌, inl, inr, Bool, true, false, List, [], ◌∷◌, ◌++◌, refl, sym, ap, ◌∙◌, subst, arith, append_assoc}
 use Rattle.imp_syntax.specs.Plain.{Statements, Ends, Starts, If, While, Procedure, numbers_in, numbers, program_numbers}
 use Rattle.imp_slots.specs.Fits.{Absent, Distinct}
 use Rattle.imp_check.specs.Programs.{has}
 use Rattle.edit_entries.specs.Holes.{append, Hole, Then, Else, Body, fill, plug, between, with_body}
 use Rattle.edit_entries.proofs.Located.{Has}
-use Rattle.imp_slots.proofs.Distinct.{absent_both, absent_left, absent_right}
+use Rattle.imp_slots.proofs.Distinct.{absent_left, absent_right}
 
 pub numbers_append : (xs ys : Statements) → numbers (append xs ys) ≡ numbers xs ++ numbers ys
 numbers_append Ends ys = refl
@@ -107,24 +107,3 @@ middle_alone (x ∷ l) ms r m d h = (λ e. absent_not x ms (absent_left x ms r (
 -- Numbers that all are away from others.
 abbrev pub Apart : List ℕ → List ℕ → Type 0
 Apart xs ys = (m : ℕ) → Has m xs → Absent m ys
-
-away : (x : ℕ) (ms : List ℕ) → ((m : ℕ) → Has m ms → m ≢ x) → Absent x ms
-away x [] f = tt
-away x (m ∷ ms) f = (λ e. f m (inl refl) (sym e), away x ms (λ n h. f n (inr h)))
-
-distinct_right : (xs ys : List ℕ) → Distinct (xs ++ ys) → Distinct ys
-distinct_right [] ys d = d
-distinct_right (x ∷ xs) ys d = distinct_right xs ys d.1
-
-distinct_both : (xs ys : List ℕ) → Distinct xs → Distinct ys → Apart xs ys → Distinct (xs ++ ys)
-distinct_both [] ys d e a = e
-distinct_both (x ∷ xs) ys d e a = (absent_both x xs ys d.0 (a x (inl refl)), distinct_both xs ys d.1 e (λ m h. a m (inr h)))
-
--- With new numbers in the middle, which stand once and nowhere else, numbers stand once again.
-pub distinct_edit : (l olds news r : List ℕ) → Distinct (l ++ (olds ++ r)) → Distinct news → Apart news (l ++ r) → Distinct (l ++ (news ++ r))
-distinct_edit [] olds news r d e a = distinct_both news r e (distinct_right olds r d) a
-distinct_edit (x ∷ l) olds news r d e a = (
-  absent_both x l (news ++ r) (absent_left x l (olds ++ r) d.0)
-      (absent_both x news r (away x news (λ m h. (a m h).0)) (absent_right x olds r (absent_right x l (olds ++ r) d.0))),
-  distinct_edit l olds news r d.1 e (λ m h. (a m h).1),
-)

@@ -41,9 +41,6 @@ procedures_fault_alike es ds (q ∷ qs) h =
     ap (λ o. first (in_procedure q.name o) (procedures_fault (es ++ q ∷ []) qs)) (procedure_fault_alike es (q ∷ qs) ds (q ∷ qs) q h refl)
     ∙ ap (λ o. first (in_procedure q.name (procedure_fault ds (q ∷ qs) q)) o) (procedures_fault_alike (es ++ q ∷ []) (ds ++ q ∷ []) qs (one_more es ds q h))
 
-at_nothing : (n : ℕ) (o : Option Fault) → o ≡ None → at n o ≡ None
-at_nothing n o h = ap (at n) h
-
 -- Where the spots are the first fault of some procedure, none of them is there.
 in_none : (x : List ℕ) (es os : List Procedure) (p : Procedure) → in_procedure x (procedure_fault es os p) ≡ None → procedure_fault es os p ≡ None
 in_none x es os p = go (procedure_fault es os p)

@@ -48,10 +48,6 @@ lead_take zero room ps (c ∷ cs) a = tt
 lead_take (suc n) room ps [] a = tt
 lead_take (suc n) room ps (c ∷ cs) a = (a.0, lead_take n room (after ps c) cs a.1)
 
-pub programs_count : (ps : List Procedure) (cs : List Change) → length (programs_by ps cs) ≡ length cs
-programs_count ps [] = refl
-programs_count ps (c ∷ cs) = ap suc (programs_count (after ps c) cs)
-
 -- more places
 pub lead_wider : (room more : ℕ) (ps : List Procedure) (cs : List Change) → room ≤ more → AllLead room ps cs → AllLead more ps cs
 lead_wider room more ps [] h a = tt
@@ -123,7 +119,3 @@ module _ (room : ℕ) (ps qs : List Procedure) (back : Change) (makes : Makes qs
 
   pub gone_onto : (onto onto_too : List Change) → IsFine ps → onto_too ≡ back ∷ onto → programs_by now onto_too ≡ ps ∷ programs_by ps onto
   gone_onto onto onto_too fine o = ap (λ zs. programs_by zs onto_too) is ∙ ap (programs_by qs) o ∙ programs_back room ps qs back fine makes within onto
-
-  pub gone_from : (c : Change) (from from_too : List Change) → qs ≡ after ps c → from ≡ c ∷ from_too → now ∷ programs_by now from_too ≡ programs_by ps from
-  gone_from c from from_too made f =
-      ap (λ zs. zs ∷ programs_by zs from_too) (is ∙ made) ∙ ap (programs_by ps) (sym f)

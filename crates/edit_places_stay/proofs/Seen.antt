@@ -5,7 +5,7 @@ use Rattle.std.specs.Cmp.Lexicographic.{bytes_decides}
 use Rattle.std.proofs.Common.{◌≡◌, ℕ, suc, List, [], ◌∷◌, ◌++◌, map, reverse, slice_get, Option, Some, None, Bool, true, false, cond, refl, sym, ap, ◌∙◌, subst, append_assoc, append-nil}
 use Rattle.imp_syntax.specs.Plain.{Statement, Statements, Procedure, numbers_in, numbers, program_numbers}
 use Rattle.imp_syntax.specs.Plain as tree
-use Rattle.imp_slots.specs.Plain.{Invoke, Code, Simple, If, While, Call, Break, Routine, code_numbers}
+use Rattle.imp_slots.specs.Plain.{Invoke, Code, Simple, If, While, Call, Break, Routine}
 use Rattle.imp_check.specs.Names.{place_named}
 use Rattle.imp_check.specs.Slots.{Resolver, layout_in, guard_in, effect_in, invoke_in, callee_in, statement_in, code_in, routine_of, routines_from, routines_of}
 use Rattle.batch_meaning.specs.Places.{from, if_some}

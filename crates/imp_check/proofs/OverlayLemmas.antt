@@ -16,10 +16,6 @@ abbrev pub back_of : (ℕ → Option Entry) → List Put → List Put
 back_of at [] = []
 back_of at (p ∷ ps) = record { number = p.number; entry = at p.number } ∷ back_of at ps
 
-pub back_numbers : (at : ℕ → Option Entry) (ps : List Put) → put_numbers (back_of at ps) ≡ put_numbers ps
-back_numbers at [] = refl
-back_numbers at (p ∷ ps) = ap (λ ns. p.number ∷ ns) (back_numbers at ps)
-
 pub overlay_alike : (ps : List Put) (f g : ℕ → Option Entry) → ((m : ℕ) → f m ≡ g m) → (m : ℕ) → overlay ps f m ≡ overlay ps g m
 overlay_alike [] f g h m = h m
 overlay_alike (p ∷ ps) f g h m = ap (cond (p.number == m) p.entry) (overlay_alike ps f g h m)

@@ -1,16 +1,11 @@
 -- Programs as they are read.
-use Rattle.std.proofs.Common.{◌≡◌, ℕ, ◌<◌, List, [], length, Option, Some, None, unwrap_or, slice_get, slice_index_or, ◌≤◌, refl, sym, ap, ◌∙◌, subst, arith}
+use Rattle.std.proofs.Common.{◌≡◌, ℕ, ◌<◌, List, [], length, Some, None, slice_get, slice_index_or, ◌≤◌, sym, ap, ◌∙◌}
 use Rattle.imp_syntax.specs.Plain.{Procedure}
 use Rattle.std.proofs.lemmas.Option.{slice_get-get_or, slice_get_past}
 use Rattle.imp_check.specs.Entries.{entries_of, sites_in, sites_of}
-use Rattle.imp_check.specs.Fine.{IsFine}
-use Rattle.imp_check.specs.Tables.{AreOf}
-use Rattle.imp_check.specs.Changes.{AreFalling, Makes}
 use Rattle.imp_check.specs.Views.{over, program_over, AreRead}
-use Rattle.imp_check.specs.declared.entry.Entry.{Entry}
 use Rattle.imp_check.specs.declared.entry.Head.{Head}
 use Rattle.imp_check.specs.declared.change.Put.{Put}
-use Rattle.imp_check.specs.declared.change.Change.{Change}
 use Rattle.imp_check.proofs.TableLemmas.{table_is, table_right}
 use Rattle.imp_check.proofs.SiteLemmas.{below_at, below_past}
 
@@ -19,30 +14,6 @@ read_is under puts count heads sites program r = table_is program (over under pu
 
 pub read_right : (under : List Procedure) (puts : List Put) (count : ℕ) (heads : List Head) (sites : List (List ℕ)) (program : List Procedure) → AreRead under puts count heads sites program → AreRead under puts count heads sites (program_over under puts count heads)
 read_right under puts count heads sites program r = record { right = table_right program (over under puts) count heads sites r.right; falling = r.falling }
-
-none_fall : AreFalling []
-none_fall i j d h l = absurd (omega arith)
-
--- a table as it is ..
-module _ (program : List Procedure) (at : ℕ → Option Entry) (count : ℕ) (heads : List Head) (sites : List (List ℕ)) (right : AreOf program at count heads sites) where
-  pub read_table : (hs : List Head) (ss : List (List ℕ)) → hs ≡ heads → ss ≡ sites → AreRead program [] count hs ss program
-  read_table hs ss h s = record {
-    right = record { fine = right.fine; entries = λ n. refl; counted = right.counted; procedures = h ∙ right.procedures; calls = s ∙ right.calls };
-    falling = none_fall;
-  }
-
-  -- .. and with a change over it
-  pub read_changed : (after : List Procedure) (c : Change) (puts : List Put) (hs : List Head) (ss : List (List ℕ)) → Makes program c after → IsFine after → AreFalling c.entries.items → puts ≡ c.entries.items → hs ≡ unwrap_or c.heads heads → ss ≡ unwrap_or c.sites sites → AreRead program puts c.count hs ss after
-  read_changed after c puts hs ss m f g p h s = subst (λ (ps : List Put). AreRead program ps c.count hs ss after) (sym p) (record {
-    right = record {
-      fine = f;
-      entries = λ n. sym (m.entries n);
-      counted = m.counted;
-      procedures = h ∙ ap (unwrap_or c.heads) right.procedures ∙ sym m.heads;
-      calls = s ∙ ap (unwrap_or c.sites) right.calls ∙ sym m.sites;
-    };
-    falling = g;
-  })
 
 -- the call statements of a procedure
 module _ (ps : List Procedure) (ss : List (List ℕ)) (i p : ℕ) where

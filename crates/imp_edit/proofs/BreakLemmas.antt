@@ -89,9 +89,6 @@ module _ (ps : List Procedure) (g : Gap) (news : Statements) where
         go true e = let q : h ≡ m = grind (arith, nat_tests) in ap (option_map (breaking (breaks_with ps g news x))) (ap at (sym q) ∙ known)
         go false e = refl
 
-    pub put_breaks : (m : ℕ) → cond (h == m) (Some (breaking (breaks_with ps g news x) x)) (at m) ≡ rebroken g.context.head (loop_breaks ps g news) at m
-    put_breaks m = sym (broken m)
-
     pub same_breaks : ((before : ℕ) → among before (leaving news) (left_of g.gone x.breaks) ≡ x.breaks) → (m : ℕ) → at m ≡ rebroken g.context.head (loop_breaks ps g news) at m
     same_breaks stay m = sym (broken m ∙ go (h == m) refl)
       where
@@ -111,10 +108,6 @@ one_more (While n d b) = omega arith
 
 -- What leaves a block whose statements are found.
 module _ (at : ℕ → Option Entry) (f : Resolver) where
-  nothing : (m : ℕ) → leaving_from at m None ≡ []
-  nothing zero = refl
-  nothing (suc m) = refl
-
   mutual
     part_leaves : (m : ℕ) (s : Statement) (c : Context) (a p : Option ℕ) → block_count (Starts s Ends) ≤ m → Known at (statement_entries f c a p s) → leaving_part (leaving_from at m) (entry_at f c a p s) (part_of s) ≡ leaving_in s
     part_leaves m (Simple n x) c a p h k = refl

@@ -1,5 +1,4 @@
 -- How often a number stands among the numbers of a program before and after an edit.
-use Rattle.std.proofs.lemmas.Bool.Decides.{nat_tests}
 use Rattle.std.proofs.Common.{ℕ, zero, suc, ◌≡◌, ◌+◌, ◌*◌, ◌≤◌, ◌==◌, cond, Bool, true, false, List, [], ◌∷◌, ◌++◌, refl, ap, arith}
 use Rattle.std.specs.Str.{bytes_eq}
 use Rattle.imp_syntax.specs.Plain.{Statement, Simple, Break, Call, If, While, Statements, Ends, Starts, Procedure, number_of, numbers_in, numbers, program_numbers}
@@ -24,9 +23,6 @@ numbers_append m (Starts s xs) ys =
     let a = often_both m (numbers_in s) (numbers (append xs ys)) in
     let b = often_both m (numbers_in s) (numbers xs) in
     omega (arith, a, b, numbers_append m xs ys)
-
-same : (m n : ℕ) → (m == n) ≡ true → m ≡ n
-same m n e = grind (arith, nat_tests)
 
 -- a statement's own number is among its numbers
 head : (n : ℕ) (s : Statement) → (number_of s == n) ≡ true → 1 ≤ often n (numbers_in s)

@@ -37,9 +37,6 @@ abbrev pub AreMarksAlike : Engine → (marks others : List ℤ) → Node → Typ
 AreMarksAlike engine ms os x = (ms ≡ os) ⊎ ((engine.budget ≤ engine.widening.delay) ⊎ (is_looping x.shape ≡ false))
 
 module _ (engine : Engine) (ms os : List ℤ) (x y : Node) (e : unlooped x ≡ unlooped y) where
-  next_y : List ℤ → List Frame → ℕ → Option Row
-  next_y ns w k = next_at w engine ns k y
-
   next_is : (w : List Frame) (k : ℕ) → next_at w engine ms k x ≡ next_at w engine ms k y
   next_is w k = ap (λ z. next_at w engine ms k z) e
 

@@ -69,9 +69,6 @@ all_same (x ∷ xs) (y ∷ ys) h =
 item_once : (bs : List ℕ) → Distinct bs → (i j : ℕ) → i < length bs → j < length bs → item bs i ≡ item bs j → i ≡ j
 item_once bs d i j h k e = same_Some i j (sym (place_is bs i d h) ∙ ap (λ b. place_of b bs) e ∙ place_is bs j d k)
 
-abbrev IsItem : List ℕ → ℕ → ℕ → Type 0
-IsItem bs b i = (item bs i ≡ b) × (i < length bs)
-
 found_item : (bs : List ℕ) (b i : ℕ) → place_of b bs ≡ Some i → item bs i ≡ b
 found_item [] b i e = absurd cc
 found_item (x ∷ bs) b zero e =

@@ -37,10 +37,6 @@ adds_true true kept n m more e h k = absurd cc
 adds_true false true n m more e h k = absurd cc
 adds_true false false n m more e h k = (refl, let f : (n == m) ≡ true = sym e ∙ k in grind (arith, nat_tests))
 
-adds_false : (has kept : Bool) (n m : ℕ) (more : Bool) → more ≡ (has || (not kept && (n == m))) → more ≡ false → has ≡ false
-adds_false true kept n m more e h = absurd cc
-adds_false false kept n m more e h = refl
-
 adds_kept : (has kept : Bool) (m : ℕ) (more : Bool) → more ≡ (has || (not kept && (m == m))) → more ≡ false → kept ≡ true
 adds_kept true kept m more e h = absurd cc
 adds_kept false true m more e h = refl
@@ -84,10 +80,6 @@ module _ (old new : Plan) where
     changed true k t = absurd cc
     changed false k t = t
 
-    stayed : (kept : Bool) → kept ≡ true → MatchBool kept (Stays old new m) (IsChanged old new m) → Stays old new m
-    stayed true k t = t
-    stayed false k t = absurd cc
-
     abbrev has : ℕ → Bool
     has = contains nat_cmp s.changed
 
@@ -97,26 +89,6 @@ module _ (old new : Plan) where
     only : (n : ℕ) → more n ≡ true → (b : Bool) → has n ≡ b → IsChanged old new n
     only n f true e = is.only n e
     only n f false e = let t = adds_true (has n) kept n m (more n) (adds n) e f in subst (IsChanged old new) (sym t.1) (changed kept t.0 told)
-
-    still : (n : ℕ) → has n ≡ true → (b : Bool) → more n ≡ b → b ≡ true
-    still n h true e = refl
-    still n h false e = sym (adds_false (has n) kept n m (more n) (adds n) e) ∙ h
-
-    pub goes_more : GoesOn old new s t
-    goes_more = record {
-      is = record {
-        one = is.one;
-        old_checked = is.old_checked;
-        new_checked = is.new_checked;
-        told = pair;
-        start = λ f. is.start (adds_false (has 0) kept 0 m (more 0) (adds 0) f);
-        only = λ n f. only n f (has n) refl;
-      };
-      more = λ n h. still n h (more n) refl;
-    }
-
-    pub looked_now : IsLooked old new t m
-    looked_now = record { kept = λ f. stayed kept (adds_kept (has m) kept m (more m) (adds m) f) told }
 
   start_is : (w : List Frame) (p : Point) → is_start w p ≡ true → (w ≡ []) × (p ≡ Entry)
   start_is [] Entry h = (refl, refl)
@@ -168,9 +140,6 @@ pub record IsPutLooked (old new : Plan) (s : Search) (p : Put) : Type 0 where
 
 module _ (old new : Plan) where
   -- A search goes on step by step, and what it looked at stays looked at.
-  pub goes_self : (s : Search) → IsSearch old new s → GoesOn old new s s
-  goes_self s i = record { is = i; more = λ n h. h }
-
   pub goes_both : (r s t : Search) → GoesOn old new r s → GoesOn old new s t → GoesOn old new r t
   goes_both r s t a b = record { is = b.is; more = λ n h. b.more n (a.more n h) }
 

@@ -236,9 +236,6 @@ module _ (engine : Engine) (ms os : List ℤ) (n a b : ℕ) (us vs : List ℕ) w
     lost_invoke : (i j : Invoke) (c d : ℕ) (u v : Point) → i ≢ j → Lost n (F p (Call i c (Some u))) (G p (Call j d (Some v)))
     lost_invoke i j c d u v h = go (same entering_code i.entering j.entering) refl
       where
-        make : Entering → Option Returning → Invoke
-        make e r = record { entering = e; returning = r }
-
         go : (t : Bool) → same entering_code i.entering j.entering ≡ t → Lost n (F p (Call i c (Some u))) (G p (Call j d (Some v)))
         go true e = lost_call i j c d u v (λ f k. h (ap₂ (λ (x : Entering) (y : Option Returning). let z : Invoke = record { entering = x; returning = y } in z) ((same_Decides entering_code i.entering j.entering).0 e) f))
         go false e =

@@ -1,7 +1,6 @@
 mod Numbered
 mod Continued
 mod Places
-mod Read
 mod Refused
 mod SmallTexts
 mod SmallEdits

@@ -30,9 +30,6 @@ use Rattle.line_answers.specs.Claims.{IsSafe, RefusalsAreSafe}
 stays : (reply : Reply) (m : Machine) → IsSafe (goes reply m) m
 stays reply m = λ why is. inl refl
 
-accepts : (reply : Reply) (m there : Machine) → ((why : Refusal) → reply ≡ r.Refused why → ⊥) → IsSafe (goes reply there) m
-accepts reply m there accepted = λ why is. absurd (accepted why is)
-
 told_accepts : {S : Type 0} (dom : Operations S) (l : Location) (v : Value S) (m : Machine) (why : Refusal) → told dom l v m ≡ r.Refused why → ⊥
 told_accepts dom l (State s) m why is = cc
 told_accepts dom l (Over n z) m why is = cc

@@ -1,5 +1,5 @@
 -- The last iterate decides, where the iterates stop at none before it.
-use Rattle.std.proofs.Common.{◌≡◌, ℕ, zero, suc, ◌<◌, Bool, true, false, ◌==◌, cond, ◌⊎◌, inl, inr, List, [], length, Option, Some, None, slice_get, get_or, option_map, is_some, ◌↔◌, refl, sym, ap, ◌∙◌, subst, arith, eq-eqb}
+use Rattle.std.proofs.Common.{◌≡◌, ℕ, zero, suc, ◌<◌, Bool, true, false, ◌==◌, cond, ◌⊎◌, inl, inr, List, length, Option, Some, None, slice_get, get_or, option_map, is_some, ◌↔◌, refl, sym, ap, ◌∙◌, subst, arith, eq-eqb}
 use Rattle.std.proofs.lemmas.Bool.Decides.{nat_tests}
 use Rattle.std.specs.Option.{option_and_then}
 use Rattle.daig_graph.specs.declared.value.Value.{Value}
@@ -30,13 +30,6 @@ module _ {V : Type 0} (budget : ℕ) (iterate : ℕ → Option (Value V)) where
       let Q : Value V → Type 0 = IsOverValue in
       let h : IsOverValue (value.State s) = subst Q (some-inj (sym over.1 ∙ e)) over.2 in
       absurd h
-
-  pub stage-none : IsStage budget iterate 0 stage.Open
-  stage-none = record {
-    stops = (λ e. no e, λ h. absurd (omega (arith, h.1)));
-    converges = (λ e. no e, λ h. absurd (omega (arith, h.1)));
-    overruns = (λ e. no e, λ h. absurd (omega (arith, h.1)));
-  }
 
   module _ (last : ℕ) (earlier : GoesOnTo budget iterate (suc last)) where
     only_last : (j : ℕ) → j < suc last → Stops budget iterate j → j ≡ last

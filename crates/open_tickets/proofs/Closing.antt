@@ -10,9 +10,6 @@ use Rattle.open_tickets.specs.Tickets.{number, ticket, AreBelow, tickets, AreOpe
 use Rattle.std.proofs.lemmas.Option.{same_Some}
 
 module _ {G : Type 0} where
-  abbrev Without : ℕ → List (Open G) → List (Open G)
-  Without k os = take k os ++ drop (suc k) os
-
   rest_below : (n k : ℕ) (os : List (Open G)) → AreBelow n os → AreBelow n (take k os ++ drop (suc k) os)
   rest_below n zero [] a = tt
   rest_below n zero (o ∷ os) a = a.1

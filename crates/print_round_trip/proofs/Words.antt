@@ -298,9 +298,6 @@ value_behind so_far d (c ∷ ds) = value_behind (so_far * 10 + (c - 48)) d ds
 glyph_digit : (d : ℕ) → d < 10 → is_digit (48 + d) ≡ true
 glyph_digit d h = grind (arith, nat_tests)
 
-one_run : (d : ℕ) → d < 10 → run is_digit ((48 + d) ∷ []) ≡ 1
-one_run d h = rw (glyph_digit d h) refl
-
 length_more : (bs : List ℕ) (d : ℕ) → length (bs ++ d ∷ []) ≡ suc (length bs)
 length_more [] d = refl
 length_more (b ∷ bs) d = ap suc (length_more bs d)

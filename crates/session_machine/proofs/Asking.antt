@@ -9,7 +9,6 @@ use Rattle.batch_meaning.specs.Answers.{Found, In, Misses, procedure_of}
 use Rattle.batch_meaning.specs.Batch.{Engine}
 use Rattle.batch_meaning.specs.Report.{Checked, checked_statements}
 use Rattle.cell_names.specs.Paths.{CellName}
-use Rattle.cell_rows.specs.Cells.{Cell}
 use Rattle.cell_rows.specs.Claims.{HasName, InputsAreNames}
 use Rattle.cell_rows.specs.Targets.{Target, demanded, targets}
 use Rattle.demand_order.specs.Order.{member, fill_all}
@@ -38,9 +37,6 @@ member_all g (c ∷ cs) y m =
     ]
 
 module _ {S : Type 0} (dom : Operations S) (engine : Engine) (program : List Routine) (checked : IsChecked program) (kept : List CellName) (are : AreKept dom engine program kept) (names : InputsAreNames dom) where
-  f : CellName → Cell S
-  f = found_by dom engine program same_name
-
   pub question_keeps : (l : Location) (string : List ℕ) (place : ℕ) (ts : List Target) → targets program place l string ≡ Some ts → (n : ℕ) →
       AreKept dom engine program (kept ++ take n (fill_all (names_of dom engine program same_name) (member same_name kept) [] (demanded (found_by dom engine program same_name) ts)))
   question_keeps l string place ts e n =

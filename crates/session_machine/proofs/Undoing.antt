@@ -17,9 +17,6 @@ module _ {S : Type 0} (dom : Operations S) (e : Edit) (co : IsChecked e.old) (cn
   abbrev back : Edit
   back = record { engine = e.engine; old = e.new; new = e.old }
 
-  abbrev mine : List CellName
-  mine = left dom e co cn kept are
-
   there : AreKept dom e.engine e.new (left dom e co cn kept are)
   there = move_keeps dom e co cn kept are
 

@@ -129,9 +129,6 @@ module _ {S : Type 0} (dom : Operations S) where
   pub record Hung (plan : Plan) (names : List CellName) (cells : List ℕ) (i : ℕ) (out : List ℕ) : Type 0 where
     pub are : (xs : List CellName) → AreNumbers names cells xs → out ≡ all_hung dom plan.engine plan.program same_name (take i xs)
 
-  pub hung_first : (plan : Plan) (names : List CellName) (cells empty : List ℕ) → empty ≡ [] → Hung plan names cells 0 empty
-  hung_first plan names cells empty e = record { are = λ xs a. e }
-
   pub hung_next : (plan : Plan) (names : List CellName) (cells now new : List ℕ) (i n : ℕ) (o : Option ℕ) → slice_get cells i ≡ Some n → Hung plan names cells i now → new ≡ now ++ listed o →
       ((x : CellName) → slice_get names n ≡ Some x → listed o ≡ hung_on dom plan.engine plan.program same_name x (flat_row plan.engine (reverse plan.program) x.path x.point)) → Hung plan names cells (i + 1) new
   hung_next plan names cells now new i n o at h e told = record {

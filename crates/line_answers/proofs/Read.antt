@@ -1,1 +1,0 @@
--- A text that is read has this reading, and no other.
