@@ -77,18 +77,18 @@ fn add_claims_in(node: &SlotNode, found: &mut Items<Claim>) -> Result<(), Memory
 #[cycle(befores)]
 #[tactic(auto, using(imp_slots::specs::BlockFalls::node_falls))]
 pub(crate) fn add_befores<D: Domain, L: Ledger>(
-    walk: &Interpreter<D>,
+    interpreter: &Interpreter<D>,
     block: &SlotBlock,
     before: Answer<D::State>,
     found: &mut Items<Answer<D::State>>,
     steps: &mut Steps<L>,
 ) -> Result<(), Memory>
-    ensures added { OnOk result (map value_of found.new ≡ map value_of found.old ++ befores (D.operations walk.now.dom.now) walk.now.plan.now walk.now.frame.now.place walk.now.frame.now.sites block.now (value_of before)) }
+    ensures added { OnOk result (map value_of found.new ≡ map value_of found.old ++ befores (D.operations interpreter.now.dom.now) interpreter.now.plan.now interpreter.now.frame.now.place interpreter.now.frame.now.sites block.now (value_of before)) }
 {
     let mut now = before;
     for node in block.statements() {
-        add_in_front(walk, node, &now, found, steps)?;
-        now = behind_node(walk, node, now, steps)?;
+        add_in_front(interpreter, node, &now, found, steps)?;
+        now = behind_node(interpreter, node, now, steps)?;
     }
     Ok(())
 }
@@ -96,23 +96,37 @@ pub(crate) fn add_befores<D: Domain, L: Ledger>(
 /// Adds what is known in front of a statement, if it has a check, or of those inside it that have one.
 #[cycle(befores)]
 fn add_in_front<D: Domain, L: Ledger>(
-    walk: &Interpreter<D>,
+    interpreter: &Interpreter<D>,
     node: &SlotNode,
     before: &Answer<D::State>,
     found: &mut Items<Answer<D::State>>,
     steps: &mut Steps<L>,
 ) -> Result<(), Memory>
-    ensures added { OnOk result (map value_of found.new ≡ map value_of found.old ++ in_front (D.operations walk.now.dom.now) walk.now.plan.now walk.now.frame.now.place walk.now.frame.now.sites node.now (value_of before.now)) }
+    ensures added { OnOk result (map value_of found.new ≡ map value_of found.old ++ in_front (D.operations interpreter.now.dom.now) interpreter.now.plan.now interpreter.now.frame.now.place interpreter.now.frame.now.sites node.now (value_of before.now)) }
 {
     match node {
-        SlotNode::Simple(_, action) => add_one(walk.alloc, walk.dom, action, before, found),
+        SlotNode::Simple(_, action) => add_one(
+            interpreter.alloc,
+            interpreter.dom,
+            action,
+            before,
+            found,
+        ),
         SlotNode::If(_, cond, then, els) => {
-            let holds = assumed(walk, cond, true, before, steps)?;
-            add_befores(walk, then, holds, found, steps)?;
-            let fails = assumed(walk, cond, false, before, steps)?;
-            add_befores(walk, els, fails, found, steps)
+            let holds = assumed(interpreter, cond, true, before, steps)?;
+            add_befores(interpreter, then, holds, found, steps)?;
+            let fails = assumed(interpreter, cond, false, before, steps)?;
+            add_befores(interpreter, els, fails, found, steps)
         }
-        SlotNode::While(n, cond, body) => add_inside(walk, *n, cond, body, before, found, steps),
+        SlotNode::While(n, cond, body) => add_inside(
+            interpreter,
+            *n,
+            cond,
+            body,
+            before,
+            found,
+            steps,
+        ),
         SlotNode::Call(_, _, _) => Ok(()),
         SlotNode::Break(_) => Ok(()),
     }
@@ -121,7 +135,7 @@ fn add_in_front<D: Domain, L: Ledger>(
 /// Adds what is known in front of each statement inside a loop that has a check.
 #[cycle(befores)]
 fn add_inside<D: Domain, L: Ledger>(
-    walk: &Interpreter<D>,
+    interpreter: &Interpreter<D>,
     n: u32,
     cond: &SlotCond,
     body: &SlotBlock,
@@ -129,11 +143,11 @@ fn add_inside<D: Domain, L: Ledger>(
     found: &mut Items<Answer<D::State>>,
     steps: &mut Steps<L>,
 ) -> Result<(), Memory>
-    ensures added { OnOk result (map value_of found.new ≡ map value_of found.old ++ in_front (D.operations walk.now.dom.now) walk.now.plan.now walk.now.frame.now.place walk.now.frame.now.sites (node.While n cond.now body.now) (value_of before.now)) }
+    ensures added { OnOk result (map value_of found.new ≡ map value_of found.old ++ in_front (D.operations interpreter.now.dom.now) interpreter.now.plan.now interpreter.now.frame.now.place interpreter.now.frame.now.sites (node.While n cond.now body.now) (value_of before.now)) }
 {
-    let head = head_from(walk, n, cond, body, before, steps)?;
-    let inside = assumed(walk, cond, true, &head, steps)?;
-    add_befores(walk, body, inside, found, steps)
+    let head = head_from(interpreter, n, cond, body, before, steps)?;
+    let inside = assumed(interpreter, cond, true, &head, steps)?;
+    add_befores(interpreter, body, inside, found, steps)
 }
 
 /// Adds what is known in front of a simple statement, if it has a check.

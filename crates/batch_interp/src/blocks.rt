@@ -58,20 +58,20 @@ pub fn behind_break<D: Domain, L: Ledger>(
 
 /// The next iterate of a loop behind the k-th: joined below the delay, else widened.
 fn next_iterate<D: Domain, L: Ledger>(
-    walk: &Interpreter<D>,
+    interpreter: &Interpreter<D>,
     k: u32,
     state: &D::State,
     end: &D::State,
     steps: &mut Steps<L>,
 ) -> Result<D::State, Memory>
-    ensures value { IfOk result (λ t. t ≡ next_of (D.operations walk.now.dom.now) walk.now.plan.now.engine (marks_at walk.now.plan.now walk.now.frame.now.place) k state.now end.now) }
+    ensures value { IfOk result (λ t. t ≡ next_of (D.operations interpreter.now.dom.now) interpreter.now.plan.now.engine (marks_at interpreter.now.plan.now interpreter.now.frame.now.place) k state.now end.now) }
 {
-    if k < walk.plan.delay() {
-        walk.dom.join(walk.alloc, state, end, steps)
+    if k < interpreter.plan.delay() {
+        interpreter.dom.join(interpreter.alloc, state, end, steps)
     } else {
-        walk.dom.widen(
-            walk.alloc,
-            walk.plan.marks(walk.frame.place),
+        interpreter.dom.widen(
+            interpreter.alloc,
+            interpreter.plan.marks(interpreter.frame.place),
             state,
             end,
             steps,
@@ -101,17 +101,17 @@ pub fn joined_states<D: Domain, L: Ledger>(
 #[cycle(blocks)]
 #[tactic(auto, using(imp_slots::specs::BlockFalls::node_falls))]
 pub(crate) fn block_answer<D: Domain, L: Ledger>(
-    walk: &Interpreter<D>,
+    interpreter: &Interpreter<D>,
     block: &SlotBlock,
     state: D::State,
     leaving: &mut Items<D::State>,
     steps: &mut Steps<L>,
 ) -> Result<Answer<D::State>, Memory>
-    ensures is { IfOk result (Ends leaving.old leaving.new (passed (D.operations walk.now.dom.now) walk.now.plan.now walk.now.frame.now.place walk.now.frame.now.sites block.now (plain.State state))) }
+    ensures is { IfOk result (Ends leaving.old leaving.new (passed (D.operations interpreter.now.dom.now) interpreter.now.plan.now interpreter.now.frame.now.place interpreter.now.frame.now.sites block.now (plain.State state))) }
 {
     let mut now = state;
     for node in block.statements() {
-        match node_answer(walk, node, &now, leaving, steps)? {
+        match node_answer(interpreter, node, &now, leaving, steps)? {
             Answer::State(next) => now = next,
             Answer::Over { head, chain } => return Ok(Answer::Over { head, chain }),
         }
@@ -122,26 +122,30 @@ pub(crate) fn block_answer<D: Domain, L: Ledger>(
 /// A statement alone, as a block.
 #[cycle(blocks)]
 pub(crate) fn node_answer<D: Domain, L: Ledger>(
-    walk: &Interpreter<D>,
+    interpreter: &Interpreter<D>,
     node: &SlotNode,
     state: &D::State,
     leaving: &mut Items<D::State>,
     steps: &mut Steps<L>,
 ) -> Result<Answer<D::State>, Memory>
-    ensures is { IfOk result (Ends leaving.old leaving.new (passed (D.operations walk.now.dom.now) walk.now.plan.now walk.now.frame.now.place walk.now.frame.now.sites (before_code node.now Stop) (plain.State state.now))) }
+    ensures is { IfOk result (Ends leaving.old leaving.new (passed (D.operations interpreter.now.dom.now) interpreter.now.plan.now interpreter.now.frame.now.place interpreter.now.frame.now.sites (before_code node.now Stop) (plain.State state.now))) }
 {
     match node {
         SlotNode::Simple(_, action) => {
-            let next = behind_action(walk.alloc, walk.dom, action, state, steps)?;
+            let next = behind_action(interpreter.alloc, interpreter.dom, action, state, steps)?;
             Ok(Answer::State(next))
         }
         SlotNode::If(_, cond, then, els) => {
-            if_answer(walk, cond, then, els, state, leaving, steps)
+            if_answer(interpreter, cond, then, els, state, leaving, steps)
         }
-        SlotNode::While(n, cond, body) => { while_answer(walk, *n, cond, body, state, steps) }
-        SlotNode::Call(n, call, callee) => { call_answer(walk, *n, call, *callee, state, steps) }
+        SlotNode::While(n, cond, body) => {
+            while_answer(interpreter, *n, cond, body, state, steps)
+        }
+        SlotNode::Call(n, call, callee) => {
+            call_answer(interpreter, *n, call, *callee, state, steps)
+        }
         SlotNode::Break(_) => {
-            let next = behind_break(walk.alloc, walk.dom, state, leaving, steps)?;
+            let next = behind_break(interpreter.alloc, interpreter.dom, state, leaving, steps)?;
             Ok(Answer::State(next))
         }
     }
@@ -150,7 +154,7 @@ pub(crate) fn node_answer<D: Domain, L: Ledger>(
 /// A block under a condition, from the state in front of the condition.
 #[cycle(blocks)]
 fn block_under<D: Domain, L: Ledger>(
-    walk: &Interpreter<D>,
+    interpreter: &Interpreter<D>,
     cond: &SlotCond,
     sense: bool,
     block: &SlotBlock,
@@ -158,16 +162,18 @@ fn block_under<D: Domain, L: Ledger>(
     leaving: &mut Items<D::State>,
     steps: &mut Steps<L>,
 ) -> Result<Answer<D::State>, Memory>
-    ensures is { IfOk result (Ends leaving.old leaving.new (passed (D.operations walk.now.dom.now) walk.now.plan.now walk.now.frame.now.place walk.now.frame.now.sites block.now (plain.State ((D.operations walk.now.dom.now).assume cond.now sense state.now)))) }
+    ensures is { IfOk result (Ends leaving.old leaving.new (passed (D.operations interpreter.now.dom.now) interpreter.now.plan.now interpreter.now.frame.now.place interpreter.now.frame.now.sites block.now (plain.State ((D.operations interpreter.now.dom.now).assume cond.now sense state.now)))) }
 {
-    let inside = walk.dom.assume(walk.alloc, cond, sense, state, steps)?;
-    block_answer(walk, block, inside, leaving, steps)
+    let inside = interpreter
+        .dom
+        .assume(interpreter.alloc, cond, sense, state, steps)?;
+    block_answer(interpreter, block, inside, leaving, steps)
 }
 
 /// Both blocks of an if, joined. The states that leave the first one stand first.
 #[cycle(blocks)]
 fn if_answer<D: Domain, L: Ledger>(
-    walk: &Interpreter<D>,
+    interpreter: &Interpreter<D>,
     cond: &SlotCond,
     then: &SlotBlock,
     els: &SlotBlock,
@@ -175,35 +181,47 @@ fn if_answer<D: Domain, L: Ledger>(
     leaving: &mut Items<D::State>,
     steps: &mut Steps<L>,
 ) -> Result<Answer<D::State>, Memory>
-    ensures is { IfOk result (Ends leaving.old leaving.new (passed (D.operations walk.now.dom.now) walk.now.plan.now walk.now.frame.now.place walk.now.frame.now.sites (If 0 cond.now then.now els.now Stop) (plain.State state.now))) }
+    ensures is { IfOk result (Ends leaving.old leaving.new (passed (D.operations interpreter.now.dom.now) interpreter.now.plan.now interpreter.now.frame.now.place interpreter.now.frame.now.sites (If 0 cond.now then.now els.now Stop) (plain.State state.now))) }
 {
-    let left = match block_under(walk, cond, true, then, state, leaving, steps)? {
+    let left = match block_under(interpreter, cond, true, then, state, leaving, steps)? {
         Answer::State(left) => left,
         Answer::Over { head, chain } => return Ok(Answer::Over { head, chain }),
     };
-    let right = match block_under(walk, cond, false, els, state, leaving, steps)? {
+    let right = match block_under(interpreter, cond, false, els, state, leaving, steps)? {
         Answer::State(right) => right,
         Answer::Over { head, chain } => return Ok(Answer::Over { head, chain }),
     };
-    Ok(Answer::State(walk.dom.join(walk.alloc, &left, &right, steps)?))
+    Ok(Answer::State(
+        interpreter
+            .dom
+            .join(interpreter.alloc, &left, &right, steps)?,
+    ))
 }
 
 /// A loop: its head where the condition is false, joined with what leaves the body.
 #[cycle(blocks)]
 fn while_answer<D: Domain, L: Ledger>(
-    walk: &Interpreter<D>,
+    interpreter: &Interpreter<D>,
     n: u32,
     cond: &SlotCond,
     body: &SlotBlock,
     state: &D::State,
     steps: &mut Steps<L>,
 ) -> Result<Answer<D::State>, Memory>
-    ensures is { IfOk result (λ a. value_of a ≡ (passed (D.operations walk.now.dom.now) walk.now.plan.now walk.now.frame.now.place walk.now.frame.now.sites (While n cond.now body.now Stop) (plain.State state.now)).value) }
+    ensures is { IfOk result (λ a. value_of a ≡ (passed (D.operations interpreter.now.dom.now) interpreter.now.plan.now interpreter.now.frame.now.place interpreter.now.frame.now.sites (While n cond.now body.now Stop) (plain.State state.now)).value) }
 {
-    match loop_head(walk, n, cond, body, state, steps)? {
+    match loop_head(interpreter, n, cond, body, state, steps)? {
         Fixed::At { head, leaving } => {
-            let out = walk.dom.assume(walk.alloc, cond, false, &head, steps)?;
-            let all = joined_states(walk.alloc, walk.dom, out, leaving.as_slice(), steps)?;
+            let out = interpreter
+                .dom
+                .assume(interpreter.alloc, cond, false, &head, steps)?;
+            let all = joined_states(
+                interpreter.alloc,
+                interpreter.dom,
+                out,
+                leaving.as_slice(),
+                steps,
+            )?;
             Ok(Answer::State(all))
         }
         Fixed::Over { head, chain } => Ok(Answer::Over { head, chain }),
@@ -213,23 +231,23 @@ fn while_answer<D: Domain, L: Ledger>(
 /// The iterates of a loop, from the state in front of it until one is the one before it.
 #[cycle(blocks)]
 pub(crate) fn loop_head<D: Domain, L: Ledger>(
-    walk: &Interpreter<D>,
+    interpreter: &Interpreter<D>,
     n: u32,
     cond: &SlotCond,
     body: &SlotBlock,
     state: &D::State,
     steps: &mut Steps<L>,
 ) -> Result<Fixed<D::State>, Memory>
-    ensures is { IfOk result (IsFixed (D.operations walk.now.dom.now) (head_of (D.operations walk.now.dom.now) walk.now.plan.now.engine (marks_at walk.now.plan.now walk.now.frame.now.place) walk.now.frame.now.sites n cond.now (passed (D.operations walk.now.dom.now) walk.now.plan.now walk.now.frame.now.place walk.now.frame.now.sites body.now) (plain.State state.now)) cond.now (passed (D.operations walk.now.dom.now) walk.now.plan.now walk.now.frame.now.place walk.now.frame.now.sites body.now)) }
+    ensures is { IfOk result (IsFixed (D.operations interpreter.now.dom.now) (head_of (D.operations interpreter.now.dom.now) interpreter.now.plan.now.engine (marks_at interpreter.now.plan.now interpreter.now.frame.now.place) interpreter.now.frame.now.sites n cond.now (passed (D.operations interpreter.now.dom.now) interpreter.now.plan.now interpreter.now.frame.now.place interpreter.now.frame.now.sites body.now) (plain.State state.now)) cond.now (passed (D.operations interpreter.now.dom.now) interpreter.now.plan.now interpreter.now.frame.now.place interpreter.now.frame.now.sites body.now)) }
 {
-    let mut now = walk.dom.copy(walk.alloc, state)?;
-    for k in 0..walk.plan.budget() {
-        let mut leaving = Items::new(walk.alloc);
-        let end = match block_under(walk, cond, true, body, &now, &mut leaving, steps)? {
+    let mut now = interpreter.dom.copy(interpreter.alloc, state)?;
+    for k in 0..interpreter.plan.budget() {
+        let mut leaving = Items::new(interpreter.alloc);
+        let end = match block_under(interpreter, cond, true, body, &now, &mut leaving, steps)? {
             Answer::State(end) => end,
             Answer::Over { head, chain } => return Ok(Fixed::Over { head, chain }),
         };
-        let next = next_iterate(walk, k, &now, &end, steps)?;
+        let next = next_iterate(interpreter, k, &now, &end, steps)?;
         if next == now {
             return Ok(Fixed::At { head: now, leaving });
         }
@@ -237,26 +255,30 @@ pub(crate) fn loop_head<D: Domain, L: Ledger>(
     }
     Ok(Fixed::Over {
         head: StmtId::new(n),
-        chain: walk.frame.chain(walk.alloc)?,
+        chain: interpreter.frame.chain(interpreter.alloc)?,
     })
 }
 
 /// A call: its procedure is entered and left.
 #[cycle(blocks)]
 fn call_answer<D: Domain, L: Ledger>(
-    walk: &Interpreter<D>,
+    interpreter: &Interpreter<D>,
     n: u32,
     call: &SlotCall,
     callee: u32,
     state: &D::State,
     steps: &mut Steps<L>,
 ) -> Result<Answer<D::State>, Memory>
-    ensures is { IfOk result (λ a. value_of a ≡ (passed (D.operations walk.now.dom.now) walk.now.plan.now walk.now.frame.now.place walk.now.frame.now.sites (Call n call.now callee Stop) (plain.State state.now)).value) }
+    ensures is { IfOk result (λ a. value_of a ≡ (passed (D.operations interpreter.now.dom.now) interpreter.now.plan.now interpreter.now.frame.now.place interpreter.now.frame.now.sites (Call n call.now callee Stop) (plain.State state.now)).value) }
 {
-    let entered = walk.dom.enter(walk.alloc, call, state, steps)?;
-    match callee_answer(walk, n, callee as usize, entered, steps)? {
+    let entered = interpreter
+        .dom
+        .enter(interpreter.alloc, call, state, steps)?;
+    match callee_answer(interpreter, n, callee as usize, entered, steps)? {
         Answer::State(done) => Ok(Answer::State(
-            walk.dom.leave(walk.alloc, call, state, &done, steps)?,
+            interpreter
+                .dom
+                .leave(interpreter.alloc, call, state, &done, steps)?,
         )),
         Answer::Over { head, chain } => Ok(Answer::Over { head, chain }),
     }
@@ -266,23 +288,23 @@ fn call_answer<D: Domain, L: Ledger>(
 #[cycle(blocks)]
 #[tactic(auto, using(crate::proofs::Weights::weight_falls))]
 fn callee_answer<D: Domain, L: Ledger>(
-    walk: &Interpreter<D>,
+    interpreter: &Interpreter<D>,
     n: u32,
     callee: usize,
     entered: D::State,
     steps: &mut Steps<L>,
 ) -> Result<Answer<D::State>, Memory>
-    ensures is { IfOk result (λ a. value_of a ≡ calls_in (D.operations walk.now.dom.now) walk.now.plan.now walk.now.frame.now.place walk.now.frame.now.sites n callee (plain.State entered)) }
+    ensures is { IfOk result (λ a. value_of a ≡ calls_in (D.operations interpreter.now.dom.now) interpreter.now.plan.now interpreter.now.frame.now.place interpreter.now.frame.now.sites n callee (plain.State entered)) }
 {
-    match walk.plan.callee(walk.frame.place, callee) {
+    match interpreter.plan.callee(interpreter.frame.place, callee) {
         None => Ok(Answer::State(entered)),
         Some(routine) => {
-            let inner = walk.frame.callee(walk.alloc, n, callee)?;
-            let mut leaving = Items::new(walk.alloc);
+            let inner = interpreter.frame.callee(interpreter.alloc, n, callee)?;
+            let mut leaving = Items::new(interpreter.alloc);
             let there = Interpreter {
-                alloc: walk.alloc,
-                dom: walk.dom,
-                plan: walk.plan,
+                alloc: interpreter.alloc,
+                dom: interpreter.dom,
+                plan: interpreter.plan,
                 frame: &inner,
             };
             block_answer(&there, routine.body(), entered, &mut leaving, steps)

@@ -35,18 +35,18 @@ pub struct Head<S> {
 #[cycle(heads)]
 #[tactic(auto, using(imp_slots::specs::BlockFalls::node_falls))]
 fn add_heads<D: Domain, L: Ledger>(
-    walk: &Interpreter<D>,
+    interpreter: &Interpreter<D>,
     block: &SlotBlock,
     before: Answer<D::State>,
     found: &mut Items<Head<D::State>>,
     steps: &mut Steps<L>,
 ) -> Result<(), Memory>
-    ensures added { OnOk result (map loop_value found.new ≡ map loop_value found.old ++ loop_values (D.operations walk.now.dom.now) walk.now.plan.now walk.now.frame.now.place walk.now.frame.now.sites block.now (value_of before)) }
+    ensures added { OnOk result (map loop_value found.new ≡ map loop_value found.old ++ loop_values (D.operations interpreter.now.dom.now) interpreter.now.plan.now interpreter.now.frame.now.place interpreter.now.frame.now.sites block.now (value_of before)) }
 {
     let mut now = before;
     for node in block.statements() {
-        add_heads_in(walk, node, &now, found, steps)?;
-        now = behind_node(walk, node, now, steps)?;
+        add_heads_in(interpreter, node, &now, found, steps)?;
+        now = behind_node(interpreter, node, now, steps)?;
     }
     Ok(())
 }
@@ -54,22 +54,24 @@ fn add_heads<D: Domain, L: Ledger>(
 /// Adds a statement, if it is a loop, and the loops inside it.
 #[cycle(heads)]
 fn add_heads_in<D: Domain, L: Ledger>(
-    walk: &Interpreter<D>,
+    interpreter: &Interpreter<D>,
     node: &SlotNode,
     before: &Answer<D::State>,
     found: &mut Items<Head<D::State>>,
     steps: &mut Steps<L>,
 ) -> Result<(), Memory>
-    ensures added { OnOk result (map loop_value found.new ≡ map loop_value found.old ++ values_inside (D.operations walk.now.dom.now) walk.now.plan.now walk.now.frame.now.place walk.now.frame.now.sites node.now (value_of before.now)) }
+    ensures added { OnOk result (map loop_value found.new ≡ map loop_value found.old ++ values_inside (D.operations interpreter.now.dom.now) interpreter.now.plan.now interpreter.now.frame.now.place interpreter.now.frame.now.sites node.now (value_of before.now)) }
 {
     match node {
         SlotNode::If(_, cond, then, els) => {
-            let holds = assumed(walk, cond, true, before, steps)?;
-            add_heads(walk, then, holds, found, steps)?;
-            let fails = assumed(walk, cond, false, before, steps)?;
-            add_heads(walk, els, fails, found, steps)
+            let holds = assumed(interpreter, cond, true, before, steps)?;
+            add_heads(interpreter, then, holds, found, steps)?;
+            let fails = assumed(interpreter, cond, false, before, steps)?;
+            add_heads(interpreter, els, fails, found, steps)
         }
-        SlotNode::While(n, cond, body) => { add_loop(walk, *n, cond, body, before, found, steps) }
+        SlotNode::While(n, cond, body) => {
+            add_loop(interpreter, *n, cond, body, before, found, steps)
+        }
         SlotNode::Simple(_, _) => Ok(()),
         SlotNode::Call(_, _, _) => Ok(()),
         SlotNode::Break(_) => Ok(()),
@@ -79,7 +81,7 @@ fn add_heads_in<D: Domain, L: Ledger>(
 /// Adds a loop, and those inside it.
 #[cycle(heads)]
 fn add_loop<D: Domain, L: Ledger>(
-    walk: &Interpreter<D>,
+    interpreter: &Interpreter<D>,
     n: u32,
     cond: &SlotCond,
     body: &SlotBlock,
@@ -87,13 +89,13 @@ fn add_loop<D: Domain, L: Ledger>(
     found: &mut Items<Head<D::State>>,
     steps: &mut Steps<L>,
 ) -> Result<(), Memory>
-    ensures added { OnOk result (map loop_value found.new ≡ map loop_value found.old ++ values_inside (D.operations walk.now.dom.now) walk.now.plan.now walk.now.frame.now.place walk.now.frame.now.sites (node.While n cond.now body.now) (value_of before.now)) }
+    ensures added { OnOk result (map loop_value found.new ≡ map loop_value found.old ++ values_inside (D.operations interpreter.now.dom.now) interpreter.now.plan.now interpreter.now.frame.now.place interpreter.now.frame.now.sites (node.While n cond.now body.now) (value_of before.now)) }
 {
-    let value = head_from(walk, n, cond, body, before, steps)?;
-    let inside = assumed(walk, cond, true, &value, steps)?;
+    let value = head_from(interpreter, n, cond, body, before, steps)?;
+    let inside = assumed(interpreter, cond, true, &value, steps)?;
     let stmt = StmtId::new(n);
     found.push(Head { stmt, value })?;
-    add_heads(walk, body, inside, found, steps)
+    add_heads(interpreter, body, inside, found, steps)
 }
 
 /// The loops of a procedure that is entered.
@@ -109,13 +111,13 @@ fn heads_of<D: Domain, L: Ledger>(
 {
     let Entered { frame, before } = entered;
     let mut found = Items::new(alloc);
-    let walk = Interpreter {
+    let interpreter = Interpreter {
         alloc,
         dom,
         plan,
         frame: &frame,
     };
-    add_heads(&walk, body, before, &mut found, steps)?;
+    add_heads(&interpreter, body, before, &mut found, steps)?;
     Ok(found)
 }
 

@@ -54,38 +54,40 @@ pub(crate) fn copy_of<D: Domain>(
 
 /// Where a condition has a truth value.
 pub(crate) fn assumed<D: Domain, L: Ledger>(
-    walk: &Interpreter<D>,
+    interpreter: &Interpreter<D>,
     cond: &SlotCond,
     sense: bool,
     before: &Answer<D::State>,
     steps: &mut Steps<L>,
 ) -> Result<Answer<D::State>, Memory>
-    ensures is { IfOk result (λ a. value_of a ≡ lift ((D.operations walk.now.dom.now).assume cond.now sense) (value_of before.now)) }
+    ensures is { IfOk result (λ a. value_of a ≡ lift ((D.operations interpreter.now.dom.now).assume cond.now sense) (value_of before.now)) }
 {
     match before {
         Answer::State(state) => Ok(Answer::State(
-            walk.dom.assume(walk.alloc, cond, sense, state, steps)?,
+            interpreter
+                .dom
+                .assume(interpreter.alloc, cond, sense, state, steps)?,
         )),
         Answer::Over { head, chain } => Ok(Answer::Over {
             head: *head,
-            chain: copy_of_chain(walk.alloc, chain)?,
+            chain: copy_of_chain(interpreter.alloc, chain)?,
         }),
     }
 }
 
 /// Behind a block.
 pub(crate) fn behind_block<D: Domain, L: Ledger>(
-    walk: &Interpreter<D>,
+    interpreter: &Interpreter<D>,
     block: &SlotBlock,
     before: Answer<D::State>,
     steps: &mut Steps<L>,
 ) -> Result<Answer<D::State>, Memory>
-    ensures is { IfOk result (λ a. value_of a ≡ (passed (D.operations walk.now.dom.now) walk.now.plan.now walk.now.frame.now.place walk.now.frame.now.sites block.now (value_of before)).value) }
+    ensures is { IfOk result (λ a. value_of a ≡ (passed (D.operations interpreter.now.dom.now) interpreter.now.plan.now interpreter.now.frame.now.place interpreter.now.frame.now.sites block.now (value_of before)).value) }
 {
     match before {
         Answer::State(state) => {
-            let mut leaving = Items::new(walk.alloc);
-            block_answer(walk, block, state, &mut leaving, steps)
+            let mut leaving = Items::new(interpreter.alloc);
+            block_answer(interpreter, block, state, &mut leaving, steps)
         }
         Answer::Over { head, chain } => Ok(Answer::Over { head, chain }),
     }
@@ -93,17 +95,17 @@ pub(crate) fn behind_block<D: Domain, L: Ledger>(
 
 /// Behind a statement.
 pub(crate) fn behind_node<D: Domain, L: Ledger>(
-    walk: &Interpreter<D>,
+    interpreter: &Interpreter<D>,
     node: &SlotNode,
     before: Answer<D::State>,
     steps: &mut Steps<L>,
 ) -> Result<Answer<D::State>, Memory>
-    ensures is { IfOk result (λ a. value_of a ≡ (passed (D.operations walk.now.dom.now) walk.now.plan.now walk.now.frame.now.place walk.now.frame.now.sites (before_code node.now Stop) (value_of before)).value) }
+    ensures is { IfOk result (λ a. value_of a ≡ (passed (D.operations interpreter.now.dom.now) interpreter.now.plan.now interpreter.now.frame.now.place interpreter.now.frame.now.sites (before_code node.now Stop) (value_of before)).value) }
 {
     match before {
         Answer::State(state) => {
-            let mut leaving = Items::new(walk.alloc);
-            node_answer(walk, node, &state, &mut leaving, steps)
+            let mut leaving = Items::new(interpreter.alloc);
+            node_answer(interpreter, node, &state, &mut leaving, steps)
         }
         Answer::Over { head, chain } => Ok(Answer::Over { head, chain }),
     }
@@ -111,16 +113,16 @@ pub(crate) fn behind_node<D: Domain, L: Ledger>(
 
 /// The head of a loop, from the state in front of it.
 fn head_of_state<D: Domain, L: Ledger>(
-    walk: &Interpreter<D>,
+    interpreter: &Interpreter<D>,
     n: u32,
     cond: &SlotCond,
     body: &SlotBlock,
     state: &D::State,
     steps: &mut Steps<L>,
 ) -> Result<Answer<D::State>, Memory>
-    ensures is { IfOk result (λ a. value_of a ≡ (head_of (D.operations walk.now.dom.now) walk.now.plan.now.engine (marks_at walk.now.plan.now walk.now.frame.now.place) walk.now.frame.now.sites n cond.now (passed (D.operations walk.now.dom.now) walk.now.plan.now walk.now.frame.now.place walk.now.frame.now.sites body.now) (State state.now)).value) }
+    ensures is { IfOk result (λ a. value_of a ≡ (head_of (D.operations interpreter.now.dom.now) interpreter.now.plan.now.engine (marks_at interpreter.now.plan.now interpreter.now.frame.now.place) interpreter.now.frame.now.sites n cond.now (passed (D.operations interpreter.now.dom.now) interpreter.now.plan.now interpreter.now.frame.now.place interpreter.now.frame.now.sites body.now) (State state.now)).value) }
 {
-    match loop_head(walk, n, cond, body, state, steps)? {
+    match loop_head(interpreter, n, cond, body, state, steps)? {
         Fixed::At { head, leaving: _ } => Ok(Answer::State(head)),
         Fixed::Over { head, chain } => Ok(Answer::Over { head, chain }),
     }
@@ -128,37 +130,37 @@ fn head_of_state<D: Domain, L: Ledger>(
 
 /// The head of a loop.
 pub(crate) fn head_answer<D: Domain, L: Ledger>(
-    walk: &Interpreter<D>,
+    interpreter: &Interpreter<D>,
     n: u32,
     cond: &SlotCond,
     body: &SlotBlock,
     before: Answer<D::State>,
     steps: &mut Steps<L>,
 ) -> Result<Answer<D::State>, Memory>
-    ensures is { IfOk result (λ a. value_of a ≡ (head_of (D.operations walk.now.dom.now) walk.now.plan.now.engine (marks_at walk.now.plan.now walk.now.frame.now.place) walk.now.frame.now.sites n cond.now (passed (D.operations walk.now.dom.now) walk.now.plan.now walk.now.frame.now.place walk.now.frame.now.sites body.now) (value_of before)).value) }
+    ensures is { IfOk result (λ a. value_of a ≡ (head_of (D.operations interpreter.now.dom.now) interpreter.now.plan.now.engine (marks_at interpreter.now.plan.now interpreter.now.frame.now.place) interpreter.now.frame.now.sites n cond.now (passed (D.operations interpreter.now.dom.now) interpreter.now.plan.now interpreter.now.frame.now.place interpreter.now.frame.now.sites body.now) (value_of before)).value) }
 {
     match before {
-        Answer::State(state) => head_of_state(walk, n, cond, body, &state, steps),
+        Answer::State(state) => head_of_state(interpreter, n, cond, body, &state, steps),
         Answer::Over { head, chain } => Ok(Answer::Over { head, chain }),
     }
 }
 
 /// The head of a loop, from what is lent.
 pub(crate) fn head_from<D: Domain, L: Ledger>(
-    walk: &Interpreter<D>,
+    interpreter: &Interpreter<D>,
     n: u32,
     cond: &SlotCond,
     body: &SlotBlock,
     before: &Answer<D::State>,
     steps: &mut Steps<L>,
 ) -> Result<Answer<D::State>, Memory>
-    ensures is { IfOk result (λ a. value_of a ≡ (head_of (D.operations walk.now.dom.now) walk.now.plan.now.engine (marks_at walk.now.plan.now walk.now.frame.now.place) walk.now.frame.now.sites n cond.now (passed (D.operations walk.now.dom.now) walk.now.plan.now walk.now.frame.now.place walk.now.frame.now.sites body.now) (value_of before.now)).value) }
+    ensures is { IfOk result (λ a. value_of a ≡ (head_of (D.operations interpreter.now.dom.now) interpreter.now.plan.now.engine (marks_at interpreter.now.plan.now interpreter.now.frame.now.place) interpreter.now.frame.now.sites n cond.now (passed (D.operations interpreter.now.dom.now) interpreter.now.plan.now interpreter.now.frame.now.place interpreter.now.frame.now.sites body.now) (value_of before.now)).value) }
 {
     match before {
-        Answer::State(state) => head_of_state(walk, n, cond, body, state, steps),
+        Answer::State(state) => head_of_state(interpreter, n, cond, body, state, steps),
         Answer::Over { head, chain } => Ok(Answer::Over {
             head: *head,
-            chain: copy_of_chain(walk.alloc, chain)?,
+            chain: copy_of_chain(interpreter.alloc, chain)?,
         }),
     }
 }
@@ -179,13 +181,13 @@ fn holds_inside(node: &SlotNode, number: u32) -> bool
 #[cycle(seeking)]
 #[tactic(auto, using(imp_slots::specs::BlockFalls::node_falls))]
 pub(crate) fn seek<'a, D: Domain, L: Ledger>(
-    walk: &Interpreter<D>,
+    interpreter: &Interpreter<D>,
     block: &'a SlotBlock,
     before: Answer<D::State>,
     number: u32,
     steps: &mut Steps<L>,
 ) -> Result<Option<Seen<'a, D::State>>, Memory>
-    ensures is { IfOk result (λ s. option_map (spot_of (D.operations walk.now.dom.now) walk.now.plan.now walk.now.frame.now.place walk.now.frame.now.sites) s ≡ find number (places (D.operations walk.now.dom.now) walk.now.plan.now walk.now.frame.now.place walk.now.frame.now.sites block.now (value_of before))) }
+    ensures is { IfOk result (λ s. option_map (spot_of (D.operations interpreter.now.dom.now) interpreter.now.plan.now interpreter.now.frame.now.place interpreter.now.frame.now.sites) s ≡ find number (places (D.operations interpreter.now.dom.now) interpreter.now.plan.now interpreter.now.frame.now.place interpreter.now.frame.now.sites block.now (value_of before))) }
 {
     let mut now = before;
     for node in block.statements() {
@@ -193,9 +195,9 @@ pub(crate) fn seek<'a, D: Domain, L: Ledger>(
             return Ok(Some(Seen { node, before: now }));
         }
         if holds_inside(node, number) {
-            return seek_inside(walk, node, now, number, steps);
+            return seek_inside(interpreter, node, now, number, steps);
         }
-        now = behind_node(walk, node, now, steps)?;
+        now = behind_node(interpreter, node, now, steps)?;
     }
     Ok(None)
 }
@@ -203,25 +205,25 @@ pub(crate) fn seek<'a, D: Domain, L: Ledger>(
 /// The first statement of this number inside a statement.
 #[cycle(seeking)]
 fn seek_inside<'a, D: Domain, L: Ledger>(
-    walk: &Interpreter<D>,
+    interpreter: &Interpreter<D>,
     node: &'a SlotNode,
     before: Answer<D::State>,
     number: u32,
     steps: &mut Steps<L>,
 ) -> Result<Option<Seen<'a, D::State>>, Memory>
-    ensures is { IfOk result (λ s. option_map (spot_of (D.operations walk.now.dom.now) walk.now.plan.now walk.now.frame.now.place walk.now.frame.now.sites) s ≡ find number (inner_of (D.operations walk.now.dom.now) walk.now.plan.now walk.now.frame.now.place walk.now.frame.now.sites node.now (value_of before))) }
+    ensures is { IfOk result (λ s. option_map (spot_of (D.operations interpreter.now.dom.now) interpreter.now.plan.now interpreter.now.frame.now.place interpreter.now.frame.now.sites) s ≡ find number (inner_of (D.operations interpreter.now.dom.now) interpreter.now.plan.now interpreter.now.frame.now.place interpreter.now.frame.now.sites node.now (value_of before))) }
 {
     match node {
         SlotNode::If(_, cond, then, els) => {
             if holds(then, number) {
-                seek_under(walk, cond, true, then, before, number, steps)
+                seek_under(interpreter, cond, true, then, before, number, steps)
             } else {
-                seek_under(walk, cond, false, els, before, number, steps)
+                seek_under(interpreter, cond, false, els, before, number, steps)
             }
         }
         SlotNode::While(n, cond, body) => {
-            let head = head_answer(walk, *n, cond, body, before, steps)?;
-            seek_under(walk, cond, true, body, head, number, steps)
+            let head = head_answer(interpreter, *n, cond, body, before, steps)?;
+            seek_under(interpreter, cond, true, body, head, number, steps)
         }
         SlotNode::Simple(_, _) => Ok(None),
         SlotNode::Call(_, _, _) => Ok(None),
@@ -232,7 +234,7 @@ fn seek_inside<'a, D: Domain, L: Ledger>(
 /// The first statement of this number in a block that stands under a condition.
 #[cycle(seeking)]
 fn seek_under<'a, D: Domain, L: Ledger>(
-    walk: &Interpreter<D>,
+    interpreter: &Interpreter<D>,
     cond: &SlotCond,
     sense: bool,
     block: &'a SlotBlock,
@@ -240,8 +242,8 @@ fn seek_under<'a, D: Domain, L: Ledger>(
     number: u32,
     steps: &mut Steps<L>,
 ) -> Result<Option<Seen<'a, D::State>>, Memory>
-    ensures is { IfOk result (λ s. option_map (spot_of (D.operations walk.now.dom.now) walk.now.plan.now walk.now.frame.now.place walk.now.frame.now.sites) s ≡ find number (places (D.operations walk.now.dom.now) walk.now.plan.now walk.now.frame.now.place walk.now.frame.now.sites block.now (lift ((D.operations walk.now.dom.now).assume cond.now sense) (value_of before)))) }
+    ensures is { IfOk result (λ s. option_map (spot_of (D.operations interpreter.now.dom.now) interpreter.now.plan.now interpreter.now.frame.now.place interpreter.now.frame.now.sites) s ≡ find number (places (D.operations interpreter.now.dom.now) interpreter.now.plan.now interpreter.now.frame.now.place interpreter.now.frame.now.sites block.now (lift ((D.operations interpreter.now.dom.now).assume cond.now sense) (value_of before)))) }
 {
-    let inside = assumed(walk, cond, sense, &before, steps)?;
-    seek(walk, block, inside, number, steps)
+    let inside = assumed(interpreter, cond, sense, &before, steps)?;
+    seek(interpreter, block, inside, number, steps)
 }

@@ -55,13 +55,13 @@ fn befores_of<D: Domain, L: Ledger>(
 {
     let Entered { frame, before } = entered;
     let mut found = Items::new(alloc);
-    let walk = Interpreter {
+    let interpreter = Interpreter {
         alloc,
         dom,
         plan,
         frame: &frame,
     };
-    add_befores(&walk, body, before, &mut found, steps)?;
+    add_befores(&interpreter, body, before, &mut found, steps)?;
     Ok(found)
 }
 

@@ -19,15 +19,15 @@ use std::sync::ledger::Ledger;
 
 /// In front of the statement of a number.
 fn before_number<D: Domain, L: Ledger>(
-    walk: &Interpreter<D>,
+    interpreter: &Interpreter<D>,
     body: &SlotBlock,
     before: Answer<D::State>,
     number: u32,
     steps: &mut Steps<L>,
 ) -> Result<Option<Answer<D::State>>, Memory>
-    ensures is { IfOk result (λ o. option_map value_of o ≡ if_some (find number (places (D.operations walk.now.dom.now) walk.now.plan.now walk.now.frame.now.place walk.now.frame.now.sites body.now (value_of before))) (λ s. Some s.before)) }
+    ensures is { IfOk result (λ o. option_map value_of o ≡ if_some (find number (places (D.operations interpreter.now.dom.now) interpreter.now.plan.now interpreter.now.frame.now.place interpreter.now.frame.now.sites body.now (value_of before))) (λ s. Some s.before)) }
 {
-    match seek(walk, body, before, number, steps)? {
+    match seek(interpreter, body, before, number, steps)? {
         None => Ok(None),
         Some(seen) => Ok(Some(seen.before)),
     }
@@ -35,18 +35,18 @@ fn before_number<D: Domain, L: Ledger>(
 
 /// Behind the statement of a number.
 fn after_number<D: Domain, L: Ledger>(
-    walk: &Interpreter<D>,
+    interpreter: &Interpreter<D>,
     body: &SlotBlock,
     before: Answer<D::State>,
     number: u32,
     steps: &mut Steps<L>,
 ) -> Result<Option<Answer<D::State>>, Memory>
-    ensures is { IfOk result (λ o. option_map value_of o ≡ if_some (find number (places (D.operations walk.now.dom.now) walk.now.plan.now walk.now.frame.now.place walk.now.frame.now.sites body.now (value_of before))) (λ s. Some s.after)) }
+    ensures is { IfOk result (λ o. option_map value_of o ≡ if_some (find number (places (D.operations interpreter.now.dom.now) interpreter.now.plan.now interpreter.now.frame.now.place interpreter.now.frame.now.sites body.now (value_of before))) (λ s. Some s.after)) }
 {
-    match seek(walk, body, before, number, steps)? {
+    match seek(interpreter, body, before, number, steps)? {
         None => Ok(None),
         Some(seen) => {
-            let after = behind_node(walk, seen.node, seen.before, steps)?;
+            let after = behind_node(interpreter, seen.node, seen.before, steps)?;
             Ok(Some(after))
         }
     }
@@ -54,15 +54,15 @@ fn after_number<D: Domain, L: Ledger>(
 
 /// At the head of a statement, if it is a loop.
 fn head_of_seen<D: Domain, L: Ledger>(
-    walk: &Interpreter<D>,
+    interpreter: &Interpreter<D>,
     seen: Seen<D::State>,
     steps: &mut Steps<L>,
 ) -> Result<Option<Answer<D::State>>, Memory>
-    ensures is { IfOk result (λ o. option_map value_of o ≡ if_some (head_at (D.operations walk.now.dom.now) walk.now.plan.now walk.now.frame.now.place walk.now.frame.now.sites seen.entry.node.now (value_of seen.entry.before)) (λ h. Some h.value)) }
+    ensures is { IfOk result (λ o. option_map value_of o ≡ if_some (head_at (D.operations interpreter.now.dom.now) interpreter.now.plan.now interpreter.now.frame.now.place interpreter.now.frame.now.sites seen.entry.node.now (value_of seen.entry.before)) (λ h. Some h.value)) }
 {
     match seen.node {
         SlotNode::While(n, cond, body) => {
-            let head = head_answer(walk, *n, cond, body, seen.before, steps)?;
+            let head = head_answer(interpreter, *n, cond, body, seen.before, steps)?;
             Ok(Some(head))
         }
         _ => Ok(None),
@@ -71,33 +71,33 @@ fn head_of_seen<D: Domain, L: Ledger>(
 
 /// At the head of the loop of a number.
 fn head_of_number<D: Domain, L: Ledger>(
-    walk: &Interpreter<D>,
+    interpreter: &Interpreter<D>,
     body: &SlotBlock,
     before: Answer<D::State>,
     number: u32,
     steps: &mut Steps<L>,
 ) -> Result<Option<Answer<D::State>>, Memory>
-    ensures is { IfOk result (λ o. option_map value_of o ≡ if_some (find number (places (D.operations walk.now.dom.now) walk.now.plan.now walk.now.frame.now.place walk.now.frame.now.sites body.now (value_of before))) head_value) }
+    ensures is { IfOk result (λ o. option_map value_of o ≡ if_some (find number (places (D.operations interpreter.now.dom.now) interpreter.now.plan.now interpreter.now.frame.now.place interpreter.now.frame.now.sites body.now (value_of before))) head_value) }
 {
-    match seek(walk, body, before, number, steps)? {
+    match seek(interpreter, body, before, number, steps)? {
         None => Ok(None),
-        Some(seen) => head_of_seen(walk, seen, steps),
+        Some(seen) => head_of_seen(interpreter, seen, steps),
     }
 }
 
 /// Behind the body of a procedure, if this is its name.
 fn end_of<D: Domain, L: Ledger>(
-    walk: &Interpreter<D>,
+    interpreter: &Interpreter<D>,
     routine: &Routine,
     before: Answer<D::State>,
     name: &Text,
     steps: &mut Steps<L>,
 ) -> Result<Option<Answer<D::State>>, Memory>
-    requires there { slice_get walk.now.plan.now.program walk.now.frame.now.place ≡ Some routine.now }
-    ensures is { IfOk result (λ o. option_map value_of o ≡ value_in (D.operations walk.now.dom.now) walk.now.plan.now.engine (earlier walk.now.plan.now.program (suc walk.now.frame.now.place)) walk.now.frame.now.sites (value_of before) (End name.now)) }
+    requires there { slice_get interpreter.now.plan.now.program interpreter.now.frame.now.place ≡ Some routine.now }
+    ensures is { IfOk result (λ o. option_map value_of o ≡ value_in (D.operations interpreter.now.dom.now) interpreter.now.plan.now.engine (earlier interpreter.now.plan.now.program (suc interpreter.now.frame.now.place)) interpreter.now.frame.now.sites (value_of before) (End name.now)) }
 {
     if name == routine.name() {
-        let end = behind_block(walk, routine.body(), before, steps)?;
+        let end = behind_block(interpreter, routine.body(), before, steps)?;
         Ok(Some(end))
     } else {
         Ok(None)
@@ -106,21 +106,21 @@ fn end_of<D: Domain, L: Ledger>(
 
 /// At a location of a procedure, if it has the location.
 fn value_within<D: Domain, L: Ledger>(
-    walk: &Interpreter<D>,
+    interpreter: &Interpreter<D>,
     routine: &Routine,
     before: Answer<D::State>,
     at: &Location,
     steps: &mut Steps<L>,
 ) -> Result<Option<Answer<D::State>>, Memory>
-    requires there { slice_get walk.now.plan.now.program walk.now.frame.now.place ≡ Some routine.now }
-    ensures is { IfOk result (λ o. option_map value_of o ≡ value_in (D.operations walk.now.dom.now) walk.now.plan.now.engine (earlier walk.now.plan.now.program (suc walk.now.frame.now.place)) walk.now.frame.now.sites (value_of before) at.now) }
+    requires there { slice_get interpreter.now.plan.now.program interpreter.now.frame.now.place ≡ Some routine.now }
+    ensures is { IfOk result (λ o. option_map value_of o ≡ value_in (D.operations interpreter.now.dom.now) interpreter.now.plan.now.engine (earlier interpreter.now.plan.now.program (suc interpreter.now.frame.now.place)) interpreter.now.frame.now.sites (value_of before) at.now) }
 {
     let body = routine.body();
     match at {
-        Location::Before(n) => before_number(walk, body, before, n.number(), steps),
-        Location::After(n) => after_number(walk, body, before, n.number(), steps),
-        Location::Head(n) => head_of_number(walk, body, before, n.number(), steps),
-        Location::End(name) => end_of(walk, routine, before, name, steps),
+        Location::Before(n) => before_number(interpreter, body, before, n.number(), steps),
+        Location::After(n) => after_number(interpreter, body, before, n.number(), steps),
+        Location::Head(n) => head_of_number(interpreter, body, before, n.number(), steps),
+        Location::End(name) => end_of(interpreter, routine, before, name, steps),
     }
 }
 
@@ -138,13 +138,13 @@ fn value_in<D: Domain, L: Ledger>(
 {
     let Entered { frame, before } = entered;
     let routine = &plan.routines()[frame.place];
-    let walk = Interpreter {
+    let interpreter = Interpreter {
         alloc,
         dom,
         plan,
         frame: &frame,
     };
-    value_within(&walk, routine, before, at, steps)
+    value_within(&interpreter, routine, before, at, steps)
 }
 
 /// At a location under a chain, which has the outermost call first, if the program has them.

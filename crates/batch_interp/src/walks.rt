@@ -62,20 +62,20 @@ fn entered_value<D: Domain, L: Ledger>(
 
 /// The procedure of a call, entered, where it stands in front of its caller.
 fn enter_callee<D: Domain, L: Ledger>(
-    walk: &Interpreter<D>,
+    interpreter: &Interpreter<D>,
     site: u32,
     call: &SlotCall,
     callee: usize,
     before: Answer<D::State>,
     steps: &mut Steps<L>,
 ) -> Result<Option<Entered<D::State>>, Memory>
-    ensures is { IfOk result (λ o. IsEntered walk.now.plan.now.program (site ∷ walk.now.frame.now.sites) o (called_from (D.operations walk.now.dom.now) walk.now.plan.now.program walk.now.frame.now.place (value_of before) (Some (call.now, callee)))) }
+    ensures is { IfOk result (λ o. IsEntered interpreter.now.plan.now.program (site ∷ interpreter.now.frame.now.sites) o (called_from (D.operations interpreter.now.dom.now) interpreter.now.plan.now.program interpreter.now.frame.now.place (value_of before) (Some (call.now, callee)))) }
 {
-    match walk.plan.callee(walk.frame.place, callee) {
+    match interpreter.plan.callee(interpreter.frame.place, callee) {
         None => Ok(None),
         Some(_) => {
-            let before = entered_value(walk.alloc, walk.dom, call, before, steps)?;
-            let frame = walk.frame.callee(walk.alloc, site, callee)?;
+            let before = entered_value(interpreter.alloc, interpreter.dom, call, before, steps)?;
+            let frame = interpreter.frame.callee(interpreter.alloc, site, callee)?;
             Ok(Some(Entered { frame, before }))
         }
     }
@@ -83,16 +83,23 @@ fn enter_callee<D: Domain, L: Ledger>(
 
 /// The procedure that a statement calls, entered.
 fn enter_seen<D: Domain, L: Ledger>(
-    walk: &Interpreter<D>,
+    interpreter: &Interpreter<D>,
     site: u32,
     seen: Seen<D::State>,
     steps: &mut Steps<L>,
 ) -> Result<Option<Entered<D::State>>, Memory>
-    ensures is { IfOk result (λ o. IsEntered walk.now.plan.now.program (site ∷ walk.now.frame.now.sites) o (called_from (D.operations walk.now.dom.now) walk.now.plan.now.program walk.now.frame.now.place (value_of seen.entry.before) (call_at seen.entry.node.now))) }
+    ensures is { IfOk result (λ o. IsEntered interpreter.now.plan.now.program (site ∷ interpreter.now.frame.now.sites) o (called_from (D.operations interpreter.now.dom.now) interpreter.now.plan.now.program interpreter.now.frame.now.place (value_of seen.entry.before) (call_at seen.entry.node.now))) }
 {
     match seen.node {
         SlotNode::Call(_, call, callee) => {
-            enter_callee(walk, site, call, *callee as usize, seen.before, steps)
+            enter_callee(
+                interpreter,
+                site,
+                call,
+                *callee as usize,
+                seen.before,
+                steps,
+            )
         }
         _ => Ok(None),
     }
@@ -112,15 +119,15 @@ fn enter_call<D: Domain, L: Ledger>(
 {
     let Entered { frame, before } = caller;
     let body = plan.routines()[frame.place].body();
-    let walk = Interpreter {
+    let interpreter = Interpreter {
         alloc,
         dom,
         plan,
         frame: &frame,
     };
-    match seek(&walk, body, before, site, steps)? {
+    match seek(&interpreter, body, before, site, steps)? {
         None => Ok(None),
-        Some(seen) => enter_seen(&walk, site, seen, steps),
+        Some(seen) => enter_seen(&interpreter, site, seen, steps),
     }
 }
 

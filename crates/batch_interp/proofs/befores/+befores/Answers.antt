@@ -9,30 +9,30 @@ use Rattle.batch_interp.proofs.befores.+befores.Goals as goal
 pub add_in_front-returns-in-While : goal.add_in_front-returns-in-While
 add_in_front-returns-in-While g t c =
     record {
-      added = on_ok_along _ _ _ _ _ c.add_inside.ensures.added (ap (λ s. in_front (g.D.Domain.operations c.args.walk.now.dom.now) c.args.walk.now.plan.now c.args.walk.now.frame.now.place c.args.walk.now.frame.now.sites s (value_of c.args.before.now)) (sym c.in-While.is));
+      added = on_ok_along _ _ _ _ _ c.add_inside.ensures.added (ap (λ s. in_front (g.D.Domain.operations c.args.interpreter.now.dom.now) c.args.interpreter.now.plan.now c.args.interpreter.now.frame.now.place c.args.interpreter.now.frame.now.sites s (value_of c.args.before.now)) (sym c.in-While.is));
     }
 
 pub add_inside-returns : goal.add_inside-returns
 add_inside-returns g t c =
     record {
       added = on_ok_along _ _ _ _ _ c.add_befores.ensures.added
-          (while_front (g.D.Domain.operations c.args.walk.now.dom.now) c.args.walk.now.plan.now c.args.walk.now.frame.now.place c.args.walk.now.frame.now.sites c.args.n c.args.cond.now c.args.body.now (value_of c.args.before.now) (value_of c.in_ok-head.head) (value_of c.in_ok-inside.inside) c.in_ok-head.ensures.is c.in_ok-inside.ensures.is);
+          (while_front (g.D.Domain.operations c.args.interpreter.now.dom.now) c.args.interpreter.now.plan.now c.args.interpreter.now.frame.now.place c.args.interpreter.now.frame.now.sites c.args.n c.args.cond.now c.args.body.now (value_of c.args.before.now) (value_of c.in_ok-head.head) (value_of c.in_ok-inside.inside) c.in_ok-head.ensures.is c.in_ok-inside.ensures.is);
     }
 
 pub add_befores-loop-node-init : goal.add_befores-loop-node-init
 add_befores-loop-node-init g t c =
-    let walk = c.args.walk.now in
+    let interpreter = c.args.interpreter.now in
     record {
       is = c.statements-node-items.ensures.same;
-      told = ap (λ b. map value_of c.args.found.now ++ befores (g.D.Domain.operations c.args.walk.now.dom.now) walk.plan.now walk.frame.now.place walk.frame.now.sites b (value_of c.args.before)) c.statements-node-items.ensures.same;
+      told = ap (λ b. map value_of c.args.found.now ++ befores (g.D.Domain.operations c.args.interpreter.now.dom.now) interpreter.plan.now interpreter.frame.now.place interpreter.frame.now.sites b (value_of c.args.before)) c.statements-node-items.ensures.same;
     }
 
 pub add_befores-loop-node-preserved : goal.add_befores-loop-node-preserved
 add_befores-loop-node-preserved g t c =
-    let dom = g.D.Domain.operations c.args.walk.now.dom.now in
-    let plan = c.args.walk.now.plan.now in
-    let place = c.args.walk.now.frame.now.place in
-    let z = c.args.walk.now.frame.now.sites in
+    let dom = g.D.Domain.operations c.args.interpreter.now.dom.now in
+    let plan = c.args.interpreter.now.plan.now in
+    let place = c.args.interpreter.now.frame.now.place in
+    let z = c.args.interpreter.now.frame.now.sites in
     let ss = c.statements-node-items.result.now in
     let i = c.loop-node.node-index in
     let v = value_of c.loop-node.now in
@@ -47,10 +47,10 @@ add_befores-loop-node-preserved g t c =
 
 pub add_befores-returns : goal.add_befores-returns
 add_befores-returns g t c =
-    let dom = g.D.Domain.operations c.args.walk.now.dom.now in
-    let plan = c.args.walk.now.plan.now in
-    let place = c.args.walk.now.frame.now.place in
-    let z = c.args.walk.now.frame.now.sites in
+    let dom = g.D.Domain.operations c.args.interpreter.now.dom.now in
+    let plan = c.args.interpreter.now.plan.now in
+    let place = c.args.interpreter.now.frame.now.place in
+    let z = c.args.interpreter.now.frame.now.sites in
     let ss = c.statements-node-items.result.now in
     let i = c.loop-node.node-index in
     let v = value_of c.loop-node.now in

@@ -16,7 +16,7 @@ decreases-add_inside g l = 2 * code_size l.body.now + 2
 
 abbrev pub invariant-add_befores-loop-node : goal.invariant-add_befores-loop-node
 invariant-add_befores-loop-node g l =
-    let rest = befores (g.D.Domain.operations l.walk.dom.now) l.walk.plan.now l.walk.frame.now.place l.walk.frame.now.sites in
+    let rest = befores (g.D.Domain.operations l.interpreter.dom.now) l.interpreter.plan.now l.interpreter.frame.now.place l.interpreter.frame.now.sites in
     record {
       is : code_of l.node-items ≡ l.block;
       told : map value_of l.found ++ rest (code_of (drop l.node-index l.node-items)) (value_of l.now) ≡ map value_of l.initial.found ++ rest l.block (value_of l.fn.before);

@@ -11,18 +11,18 @@ use Rattle.batch_interp.proofs.blocks.+blocks.Goals as goal
 
 pub block_answer-loop-node-init : goal.block_answer-loop-node-init
 block_answer-loop-node-init g t c =
-    let dom = g.D.Domain.operations c.args.walk.now.dom.now in
+    let dom = g.D.Domain.operations c.args.interpreter.now.dom.now in
     record {
       is = c.statements-node-items.ensures.same;
-      told = ap (λ b. after (states c.args.leaving.now) (passed dom c.args.walk.now.plan.now c.args.walk.now.frame.now.place c.args.walk.now.frame.now.sites b (plain.State c.args.state))) c.statements-node-items.ensures.same;
+      told = ap (λ b. after (states c.args.leaving.now) (passed dom c.args.interpreter.now.plan.now c.args.interpreter.now.frame.now.place c.args.interpreter.now.frame.now.sites b (plain.State c.args.state))) c.statements-node-items.ensures.same;
     }
 
 pub block_answer-returns-in-Over : goal.block_answer-returns-in-Over
 block_answer-returns-in-Over g t c =
-    let dom = g.D.Domain.operations c.args.walk.now.dom.now in
-    let plan = c.args.walk.now.plan.now in
-    let place = c.args.walk.now.frame.now.place in
-    let z = c.args.walk.now.frame.now.sites in
+    let dom = g.D.Domain.operations c.args.interpreter.now.dom.now in
+    let plan = c.args.interpreter.now.plan.now in
+    let place = c.args.interpreter.now.frame.now.place in
+    let z = c.args.interpreter.now.frame.now.sites in
     let h = rw c.in-Over.is at c.in_ok-next.ensures.is in
     record {
       is = block_left dom plan.engine (marks_at plan place) z (calls_in dom plan place z) c.statements-node-items.result.now c.loop-node.node-index c.node-item.result c.loop-node.now c.in-Over.head (reverse c.in-Over.chain) c.args.leaving.now c.loop-node.leaving (passed dom plan place z c.args.block.now (plain.State c.args.state)) c.loop-node.invariant.told c.loop-node-test.true c.node-item.is h;
@@ -30,10 +30,10 @@ block_answer-returns-in-Over g t c =
 
 pub block_answer-loop-node-preserved : goal.block_answer-loop-node-preserved
 block_answer-loop-node-preserved g t c =
-    let dom = g.D.Domain.operations c.args.walk.now.dom.now in
-    let plan = c.args.walk.now.plan.now in
-    let place = c.args.walk.now.frame.now.place in
-    let z = c.args.walk.now.frame.now.sites in
+    let dom = g.D.Domain.operations c.args.interpreter.now.dom.now in
+    let plan = c.args.interpreter.now.plan.now in
+    let place = c.args.interpreter.now.frame.now.place in
+    let z = c.args.interpreter.now.frame.now.sites in
     let h = rw c.in-State.is at c.in_ok-next.ensures.is in
     record {
       is = c.loop-node.invariant.is;
@@ -42,10 +42,10 @@ block_answer-loop-node-preserved g t c =
 
 pub block_answer-returns : goal.block_answer-returns
 block_answer-returns g t c =
-    let dom = g.D.Domain.operations c.args.walk.now.dom.now in
-    let plan = c.args.walk.now.plan.now in
-    let place = c.args.walk.now.frame.now.place in
-    let z = c.args.walk.now.frame.now.sites in
+    let dom = g.D.Domain.operations c.args.interpreter.now.dom.now in
+    let plan = c.args.interpreter.now.plan.now in
+    let place = c.args.interpreter.now.frame.now.place in
+    let z = c.args.interpreter.now.frame.now.sites in
     record {
       is =
           sym c.loop-node.invariant.told
@@ -54,18 +54,18 @@ block_answer-returns g t c =
 
 pub callee_answer-returns-in-None : goal.callee_answer-returns-in-None
 callee_answer-returns-in-None g t c =
-    record { is = sym (call_gone (g.D.Domain.operations c.args.walk.now.dom.now) c.args.walk.now.plan.now c.args.walk.now.frame.now.place c.args.walk.now.frame.now.sites c.args.n c.args.callee (plain.State c.args.entered) (sym c.in-None.ensures.is)) }
+    record { is = sym (call_gone (g.D.Domain.operations c.args.interpreter.now.dom.now) c.args.interpreter.now.plan.now c.args.interpreter.now.frame.now.place c.args.interpreter.now.frame.now.sites c.args.n c.args.callee (plain.State c.args.entered) (sym c.in-None.ensures.is)) }
 
 pub callee_answer-returns-in_ok-inner-in-Some : goal.callee_answer-returns-in_ok-inner-in-Some
 callee_answer-returns-in_ok-inner-in-Some g t c =
-    record { is = of_callee (g.D.Domain.operations c.args.walk.now.dom.now) c.args.walk.now.plan.now c.block_answer.result c.new-leaving.result c.block_answer.new.leaving c.args.walk.now.frame.now.place c.args.walk.now.frame.now.sites c.args.n c.args.callee c.in-Some.routine.now c.body.result.now c.in_ok-inner-in-Some.inner (plain.State c.args.entered) c.in-Some.ensures.is c.in_ok-inner-in-Some.ensures.is c.body.ensures.same c.block_answer.ensures.is }
+    record { is = of_callee (g.D.Domain.operations c.args.interpreter.now.dom.now) c.args.interpreter.now.plan.now c.block_answer.result c.new-leaving.result c.block_answer.new.leaving c.args.interpreter.now.frame.now.place c.args.interpreter.now.frame.now.sites c.args.n c.args.callee c.in-Some.routine.now c.body.result.now c.in_ok-inner-in-Some.inner (plain.State c.args.entered) c.in-Some.ensures.is c.in_ok-inner-in-Some.ensures.is c.body.ensures.same c.block_answer.ensures.is }
 
 pub loop_head-returns-in-Over : goal.loop_head-returns-in-Over
 loop_head-returns-in-Over g t c =
-    let dom = g.D.Domain.operations c.args.walk.now.dom.now in
-    let plan = c.args.walk.now.plan.now in
-    let place = c.args.walk.now.frame.now.place in
-    let z = c.args.walk.now.frame.now.sites in
+    let dom = g.D.Domain.operations c.args.interpreter.now.dom.now in
+    let plan = c.args.interpreter.now.plan.now in
+    let place = c.args.interpreter.now.frame.now.place in
+    let z = c.args.interpreter.now.frame.now.sites in
     let h = rw c.in-Over.is at c.in_ok-end.ensures.is in
     let e : plan.engine.budget - c.loop-k.k ≡ suc (plan.engine.budget - (c.loop-k.k + 1)) = omega arith in
     record {
@@ -77,13 +77,13 @@ loop_head-returns-in-Over g t c =
 
 pub loop_head-returns-then-eq : goal.loop_head-returns-then-eq
 loop_head-returns-then-eq g t c =
-    let dom = g.D.Domain.operations c.args.walk.now.dom.now in
-    let plan = c.args.walk.now.plan.now in
-    let place = c.args.walk.now.frame.now.place in
-    let z = c.args.walk.now.frame.now.sites in
+    let dom = g.D.Domain.operations c.args.interpreter.now.dom.now in
+    let plan = c.args.interpreter.now.plan.now in
+    let place = c.args.interpreter.now.frame.now.place in
+    let z = c.args.interpreter.now.frame.now.sites in
     let h = rw c.in-State.is at c.in_ok-end.ensures.is in
     let e : plan.engine.budget - c.loop-k.k ≡ suc (plan.engine.budget - (c.loop-k.k + 1)) = omega arith in
-    let same : dom.same c.in_ok-next.next c.loop-k.now ≡ true = g.met.D.Domain.tests_equality c.args.walk.now.dom.now c.in_ok-next.next c.loop-k.now ∙ sym c.if-eq.ensures in
+    let same : dom.same c.in_ok-next.next c.loop-k.now ≡ true = g.met.D.Domain.tests_equality c.args.interpreter.now.dom.now c.in_ok-next.next c.loop-k.now ∙ sym c.if-eq.ensures in
     record {
       is = (
         ap (λ (f : meaning.Fixed g.row.D-State.Denot). f.value)
@@ -95,13 +95,13 @@ loop_head-returns-then-eq g t c =
 
 pub loop_head-loop-k-preserved : goal.loop_head-loop-k-preserved
 loop_head-loop-k-preserved g t c =
-    let dom = g.D.Domain.operations c.args.walk.now.dom.now in
-    let plan = c.args.walk.now.plan.now in
-    let place = c.args.walk.now.frame.now.place in
-    let z = c.args.walk.now.frame.now.sites in
+    let dom = g.D.Domain.operations c.args.interpreter.now.dom.now in
+    let plan = c.args.interpreter.now.plan.now in
+    let place = c.args.interpreter.now.frame.now.place in
+    let z = c.args.interpreter.now.frame.now.sites in
     let h = rw c.in-State.is at c.in_ok-end.ensures.is in
     let e : plan.engine.budget - c.loop-k.k ≡ suc (plan.engine.budget - (c.loop-k.k + 1)) = omega arith in
-    let other : dom.same c.in_ok-next.next c.loop-k.now ≡ false = g.met.D.Domain.tests_equality c.args.walk.now.dom.now c.in_ok-next.next c.loop-k.now ∙ sym c.if-eq.ensures in
+    let other : dom.same c.in_ok-next.next c.loop-k.now ≡ false = g.met.D.Domain.tests_equality c.args.interpreter.now.dom.now c.in_ok-next.next c.loop-k.now ∙ sym c.if-eq.ensures in
     let F = iterate dom plan.engine (marks_at plan place) (λ x. (passed dom plan place z c.args.body.now (lift (dom.assume c.args.cond.now true) x)).value) (plain.Over c.args.n z) in
     let k : c.loop-k.k + 1 ≡ suc c.loop-k.k = omega arith in
     record {
@@ -113,10 +113,10 @@ loop_head-loop-k-preserved g t c =
 
 pub while_answer-returns-in_ok-all-in-At : goal.while_answer-returns-in_ok-all-in-At
 while_answer-returns-in_ok-all-in-At g t c =
-    let dom = g.D.Domain.operations c.args.walk.now.dom.now in
-    let plan = c.args.walk.now.plan.now in
-    let place = c.args.walk.now.frame.now.place in
-    let z = c.args.walk.now.frame.now.sites in
+    let dom = g.D.Domain.operations c.args.interpreter.now.dom.now in
+    let plan = c.args.interpreter.now.plan.now in
+    let place = c.args.interpreter.now.frame.now.place in
+    let z = c.args.interpreter.now.frame.now.sites in
     let body = passed dom plan place z c.args.body.now in
     let v = (head_of dom plan.engine (marks_at plan place) z c.args.n c.args.cond.now body (plain.State c.args.state.now)).value in
     let h = rw c.in-At.is at c.in_ok-head.ensures.is in
@@ -124,10 +124,10 @@ while_answer-returns-in_ok-all-in-At g t c =
 
 pub while_answer-returns-in-Over : goal.while_answer-returns-in-Over
 while_answer-returns-in-Over g t c =
-    let dom = g.D.Domain.operations c.args.walk.now.dom.now in
-    let plan = c.args.walk.now.plan.now in
-    let place = c.args.walk.now.frame.now.place in
-    let z = c.args.walk.now.frame.now.sites in
+    let dom = g.D.Domain.operations c.args.interpreter.now.dom.now in
+    let plan = c.args.interpreter.now.plan.now in
+    let place = c.args.interpreter.now.frame.now.place in
+    let z = c.args.interpreter.now.frame.now.sites in
     let body = passed dom plan place z c.args.body.now in
     let v = (head_of dom plan.engine (marks_at plan place) z c.args.n c.args.cond.now body (plain.State c.args.state.now)).value in
     let h = rw c.in-Over.is at c.in_ok-head.ensures.is in
@@ -135,5 +135,5 @@ while_answer-returns-in-Over g t c =
 
 pub block_under-returns : goal.block_under-returns
 block_under-returns g t c =
-    let walk = c.args.walk.now in
-    record { is = ends_along c.block_answer.result c.args.leaving.now c.block_answer.new.leaving (λ s. passed (g.D.Domain.operations walk.dom.now) walk.plan.now walk.frame.now.place walk.frame.now.sites c.args.block.now (plain.State s)) c.in_ok-inside.inside _ c.block_answer.ensures.is c.in_ok-inside.ensures.value }
+    let interpreter = c.args.interpreter.now in
+    record { is = ends_along c.block_answer.result c.args.leaving.now c.block_answer.new.leaving (λ s. passed (g.D.Domain.operations interpreter.dom.now) interpreter.plan.now interpreter.frame.now.place interpreter.frame.now.sites c.args.block.now (plain.State s)) c.in_ok-inside.inside _ c.block_answer.ensures.is c.in_ok-inside.ensures.value }

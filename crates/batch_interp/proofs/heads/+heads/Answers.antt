@@ -9,23 +9,23 @@ use Rattle.batch_interp.proofs.heads.+heads.Goals as goal
 pub add_heads_in-returns-in-While : goal.add_heads_in-returns-in-While
 add_heads_in-returns-in-While g t c =
     record {
-      added = on_ok_along _ _ _ _ _ c.add_loop.ensures.added (ap (λ s. values_inside (g.D.Domain.operations c.args.walk.now.dom.now) c.args.walk.now.plan.now c.args.walk.now.frame.now.place c.args.walk.now.frame.now.sites s (value_of c.args.before.now)) (sym c.in-While.is));
+      added = on_ok_along _ _ _ _ _ c.add_loop.ensures.added (ap (λ s. values_inside (g.D.Domain.operations c.args.interpreter.now.dom.now) c.args.interpreter.now.plan.now c.args.interpreter.now.frame.now.place c.args.interpreter.now.frame.now.sites s (value_of c.args.before.now)) (sym c.in-While.is));
     }
 
 pub add_heads-loop-node-init : goal.add_heads-loop-node-init
 add_heads-loop-node-init g t c =
-    let walk = c.args.walk.now in
+    let interpreter = c.args.interpreter.now in
     record {
       is = c.statements-node-items.ensures.same;
-      told = ap (λ b. map loop_value c.args.found.now ++ loop_values (g.D.Domain.operations c.args.walk.now.dom.now) walk.plan.now walk.frame.now.place walk.frame.now.sites b (value_of c.args.before)) c.statements-node-items.ensures.same;
+      told = ap (λ b. map loop_value c.args.found.now ++ loop_values (g.D.Domain.operations c.args.interpreter.now.dom.now) interpreter.plan.now interpreter.frame.now.place interpreter.frame.now.sites b (value_of c.args.before)) c.statements-node-items.ensures.same;
     }
 
 pub add_heads-loop-node-preserved : goal.add_heads-loop-node-preserved
 add_heads-loop-node-preserved g t c =
-    let dom = g.D.Domain.operations c.args.walk.now.dom.now in
-    let plan = c.args.walk.now.plan.now in
-    let place = c.args.walk.now.frame.now.place in
-    let z = c.args.walk.now.frame.now.sites in
+    let dom = g.D.Domain.operations c.args.interpreter.now.dom.now in
+    let plan = c.args.interpreter.now.plan.now in
+    let place = c.args.interpreter.now.frame.now.place in
+    let z = c.args.interpreter.now.frame.now.sites in
     let ss = c.statements-node-items.result.now in
     let i = c.loop-node.node-index in
     let v = value_of c.loop-node.now in
@@ -40,10 +40,10 @@ add_heads-loop-node-preserved g t c =
 
 pub add_heads-returns : goal.add_heads-returns
 add_heads-returns g t c =
-    let dom = g.D.Domain.operations c.args.walk.now.dom.now in
-    let plan = c.args.walk.now.plan.now in
-    let place = c.args.walk.now.frame.now.place in
-    let z = c.args.walk.now.frame.now.sites in
+    let dom = g.D.Domain.operations c.args.interpreter.now.dom.now in
+    let plan = c.args.interpreter.now.plan.now in
+    let place = c.args.interpreter.now.frame.now.place in
+    let z = c.args.interpreter.now.frame.now.sites in
     let ss = c.statements-node-items.result.now in
     let i = c.loop-node.node-index in
     let v = value_of c.loop-node.now in

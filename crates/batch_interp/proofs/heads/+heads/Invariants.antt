@@ -17,7 +17,7 @@ decreases-add_loop g l = 2 * code_size l.body.now + 2
 -- what is found so far, with what is left of the block, is all
 abbrev pub invariant-add_heads-loop-node : goal.invariant-add_heads-loop-node
 invariant-add_heads-loop-node g l =
-    let rest = loop_values (g.D.Domain.operations l.walk.dom.now) l.walk.plan.now l.walk.frame.now.place l.walk.frame.now.sites in
+    let rest = loop_values (g.D.Domain.operations l.interpreter.dom.now) l.interpreter.plan.now l.interpreter.frame.now.place l.interpreter.frame.now.sites in
     record {
       is : code_of l.node-items ≡ l.block;
       told : map loop_value l.found ++ rest (code_of (drop l.node-index l.node-items)) (value_of l.now) ≡ map loop_value l.initial.found ++ rest l.block (value_of l.fn.before);

@@ -9,10 +9,10 @@ use Rattle.batch_interp.proofs.spots.+seeking.Goals as goal
 
 pub seek-returns-then-holds_inside : goal.seek-returns-then-holds_inside
 seek-returns-then-holds_inside g t c =
-    let dom = g.D.Domain.operations c.args.walk.now.dom.now in
-    let plan = c.args.walk.now.plan.now in
-    let place = c.args.walk.now.frame.now.place in
-    let z = c.args.walk.now.frame.now.sites in
+    let dom = g.D.Domain.operations c.args.interpreter.now.dom.now in
+    let plan = c.args.interpreter.now.plan.now in
+    let place = c.args.interpreter.now.frame.now.place in
+    let z = c.args.interpreter.now.frame.now.sites in
     let other : c.args.number ≢ number_of c.node-item.result = λ e. c.if-number.false (e ∙ sym c.number.ensures.same) in
     record {
       is = if_ok_along _ _ _ _ c.seek_inside.ensures.is
@@ -22,10 +22,10 @@ seek-returns-then-holds_inside g t c =
 
 pub seek-loop-node-preserved : goal.seek-loop-node-preserved
 seek-loop-node-preserved g t c =
-    let dom = g.D.Domain.operations c.args.walk.now.dom.now in
-    let plan = c.args.walk.now.plan.now in
-    let place = c.args.walk.now.frame.now.place in
-    let z = c.args.walk.now.frame.now.sites in
+    let dom = g.D.Domain.operations c.args.interpreter.now.dom.now in
+    let plan = c.args.interpreter.now.plan.now in
+    let place = c.args.interpreter.now.frame.now.place in
+    let z = c.args.interpreter.now.frame.now.sites in
     let other : c.args.number ≢ number_of c.node-item.result = λ e. c.if-number.false (e ∙ sym c.number.ensures.same) in
     record {
       is = c.loop-node.invariant.is;
@@ -36,10 +36,10 @@ seek-loop-node-preserved g t c =
 
 pub seek_inside-returns-then-holds : goal.seek_inside-returns-then-holds
 seek_inside-returns-then-holds g t c =
-    let dom = g.D.Domain.operations c.args.walk.now.dom.now in
-    let plan = c.args.walk.now.plan.now in
-    let place = c.args.walk.now.frame.now.place in
-    let z = c.args.walk.now.frame.now.sites in
+    let dom = g.D.Domain.operations c.args.interpreter.now.dom.now in
+    let plan = c.args.interpreter.now.plan.now in
+    let place = c.args.interpreter.now.frame.now.place in
+    let z = c.args.interpreter.now.frame.now.sites in
     record {
       is = if_ok_along _ _ _ _ c.seek_under.ensures.is
           (then_part dom plan place z c.args.number c.in-If.field-0 c.in-If.cond c.in-If.then c.in-If.els (value_of c.args.before) (sym c.if-holds.ensures.is)
@@ -48,10 +48,10 @@ seek_inside-returns-then-holds g t c =
 
 pub seek_inside-returns-else-holds : goal.seek_inside-returns-else-holds
 seek_inside-returns-else-holds g t c =
-    let dom = g.D.Domain.operations c.args.walk.now.dom.now in
-    let plan = c.args.walk.now.plan.now in
-    let place = c.args.walk.now.frame.now.place in
-    let z = c.args.walk.now.frame.now.sites in
+    let dom = g.D.Domain.operations c.args.interpreter.now.dom.now in
+    let plan = c.args.interpreter.now.plan.now in
+    let place = c.args.interpreter.now.frame.now.place in
+    let z = c.args.interpreter.now.frame.now.sites in
     record {
       is = if_ok_along _ _ _ _ c.seek_under-else-holds.ensures.is
           (else_part dom plan place z c.args.number c.in-If.field-0 c.in-If.cond c.in-If.then c.in-If.els (value_of c.args.before) (sym c.if-holds.ensures.is)
@@ -60,10 +60,10 @@ seek_inside-returns-else-holds g t c =
 
 pub seek_inside-returns-in_ok-head-in-While : goal.seek_inside-returns-in_ok-head-in-While
 seek_inside-returns-in_ok-head-in-While g t c =
-    let dom = g.D.Domain.operations c.args.walk.now.dom.now in
-    let plan = c.args.walk.now.plan.now in
-    let place = c.args.walk.now.frame.now.place in
-    let z = c.args.walk.now.frame.now.sites in
+    let dom = g.D.Domain.operations c.args.interpreter.now.dom.now in
+    let plan = c.args.interpreter.now.plan.now in
+    let place = c.args.interpreter.now.frame.now.place in
+    let z = c.args.interpreter.now.frame.now.sites in
     record {
       is = if_ok_along _ _ _ _ c.seek_under-in-While.ensures.is
           (body_part dom plan place z c.args.number c.in-While.n c.in-While.cond c.in-While.body (value_of c.args.before) (value_of c.in_ok-head-in-While.head) c.in_ok-head-in-While.ensures.is
@@ -72,8 +72,8 @@ seek_inside-returns-in_ok-head-in-While g t c =
 
 pub seek_under-returns : goal.seek_under-returns
 seek_under-returns g t c =
-    let dom = g.D.Domain.operations c.args.walk.now.dom.now in
-    let plan = c.args.walk.now.plan.now in
-    let place = c.args.walk.now.frame.now.place in
-    let z = c.args.walk.now.frame.now.sites in
+    let dom = g.D.Domain.operations c.args.interpreter.now.dom.now in
+    let plan = c.args.interpreter.now.plan.now in
+    let place = c.args.interpreter.now.frame.now.place in
+    let z = c.args.interpreter.now.frame.now.sites in
     record { is = if_ok_along _ _ _ _ c.seek.ensures.is (ap (λ v. find c.args.number (places dom plan place z c.args.block.now v)) c.in_ok-inside.ensures.is) }

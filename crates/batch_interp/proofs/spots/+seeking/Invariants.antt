@@ -18,7 +18,7 @@ decreases-seek_under g l = 2 * code_size l.block.now + 2
 -- what is left of the block, from what is known so far, has the statement where the block has it
 abbrev pub invariant-seek-loop-node : goal.invariant-seek-loop-node
 invariant-seek-loop-node g l =
-    let all = places (g.D.Domain.operations l.walk.dom.now) l.walk.plan.now l.walk.frame.now.place l.walk.frame.now.sites in
+    let all = places (g.D.Domain.operations l.interpreter.dom.now) l.interpreter.plan.now l.interpreter.frame.now.place l.interpreter.frame.now.sites in
     record {
       is : code_of l.node-items ≡ l.block;
       told : find l.number (all (code_of (drop l.node-index l.node-items)) (value_of l.now)) ≡ find l.number (all l.block (value_of l.fn.before));

@@ -8,10 +8,10 @@ use Rattle.batch_interp.proofs.values.end_of.Goals as goal
 
 pub returns-in_ok-end : goal.returns-in_ok-end
 returns-in_ok-end g c =
-    let dom = g.D.Domain.operations c.args.walk.now.dom.now in
-    let plan = c.args.walk.now.plan.now in
-    let k = c.args.walk.now.frame.now.place in
-    let z = c.args.walk.now.frame.now.sites in
+    let dom = g.D.Domain.operations c.args.interpreter.now.dom.now in
+    let plan = c.args.interpreter.now.plan.now in
+    let k = c.args.interpreter.now.frame.now.place in
+    let z = c.args.interpreter.now.frame.now.sites in
     let v = value_of c.args.before in
     let same : bytes_eq c.args.name.now c.args.routine.now.name ≡ true = ap (bytes_eq c.args.name.now) (sym c.name.ensures.same) ∙ sym c.if-eq.ensures in
     record {
@@ -21,10 +21,10 @@ returns-in_ok-end g c =
 
 pub returns-else-eq : goal.returns-else-eq
 returns-else-eq g c =
-    let dom = g.D.Domain.operations c.args.walk.now.dom.now in
-    let plan = c.args.walk.now.plan.now in
-    let k = c.args.walk.now.frame.now.place in
-    let z = c.args.walk.now.frame.now.sites in
+    let dom = g.D.Domain.operations c.args.interpreter.now.dom.now in
+    let plan = c.args.interpreter.now.plan.now in
+    let k = c.args.interpreter.now.frame.now.place in
+    let z = c.args.interpreter.now.frame.now.sites in
     let v = value_of c.args.before in
     let other : bytes_eq c.args.name.now c.args.routine.now.name ≡ false = ap (bytes_eq c.args.name.now) (sym c.name.ensures.same) ∙ sym c.if-eq.ensures in
     record { is = if_false (bytes_eq c.args.name.now c.args.routine.now.name) _ _ _ other refl ∙ end_there dom plan k c.args.name.now z c.args.routine.now v c.requires.there }

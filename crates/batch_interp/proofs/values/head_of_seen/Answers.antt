@@ -6,9 +6,9 @@ use Rattle.batch_interp.proofs.values.head_of_seen.Goals as goal
 
 pub returns-in_ok-head-in-While : goal.returns-in_ok-head-in-While
 returns-in_ok-head-in-While g c =
-    let walk = c.args.walk.now in
+    let interpreter = c.args.interpreter.now in
     record {
       is =
           ap Some c.in_ok-head-in-While.ensures.is
-          ∙ ap (λ s. if_some (head_at (g.D.Domain.operations walk.dom.now) walk.plan.now walk.frame.now.place walk.frame.now.sites s (value_of c.args.seen.before)) (λ h. Some h.value)) (sym c.in-While.is);
+          ∙ ap (λ s. if_some (head_at (g.D.Domain.operations interpreter.dom.now) interpreter.plan.now interpreter.frame.now.place interpreter.frame.now.sites s (value_of c.args.seen.before)) (λ h. Some h.value)) (sym c.in-While.is);
     }

@@ -5,8 +5,8 @@ use Rattle.batch_interp.proofs.walks.enter_callee.Goals as goal
 
 pub returns-in-None : goal.returns-in-None
 returns-in-None g c =
-    record { is = callee_gone (g.D.Domain.operations c.args.walk.now.dom.now) c.args.walk.now.plan.now c.args.walk.now.frame.now.place c.args.callee c.args.call.now (value_of c.args.before) c.in-None.ensures.is }
+    record { is = callee_gone (g.D.Domain.operations c.args.interpreter.now.dom.now) c.args.interpreter.now.plan.now c.args.interpreter.now.frame.now.place c.args.callee c.args.call.now (value_of c.args.before) c.in-None.ensures.is }
 
 pub returns-in_ok-frame-in-Some : goal.returns-in_ok-frame-in-Some
 returns-in_ok-frame-in-Some g c =
-    record { is = callee_there (g.D.Domain.operations c.args.walk.now.dom.now) c.args.walk.now.plan.now c.args.walk.now.frame.now.place c.args.callee (c.args.site ∷ c.args.walk.now.frame.now.sites) c.args.call.now (value_of c.args.before) c.in-Some.field-0.now (record { frame = c.in_ok-frame-in-Some.frame; before = c.in_ok-before-in-Some.before }) c.in-Some.ensures.is c.in_ok-before-in-Some.ensures.is c.in_ok-frame-in-Some.ensures.is }
+    record { is = callee_there (g.D.Domain.operations c.args.interpreter.now.dom.now) c.args.interpreter.now.plan.now c.args.interpreter.now.frame.now.place c.args.callee (c.args.site ∷ c.args.interpreter.now.frame.now.sites) c.args.call.now (value_of c.args.before) c.in-Some.field-0.now (record { frame = c.in_ok-frame-in-Some.frame; before = c.in_ok-before-in-Some.before }) c.in-Some.ensures.is c.in_ok-before-in-Some.ensures.is c.in_ok-frame-in-Some.ensures.is }
