@@ -10,7 +10,7 @@ ghost use Rattle.cert_check.specs.Table.{state_at};
 ghost use Rattle.cert_check.specs.Following.{ended, why_of, behind_by, turned};
 ghost use Rattle.cert_check.specs.declared.followed.Followed.TheVariants.{Behind};
 
-use crate::followed::{Followed, Why};
+use crate::followed::{Followed, Follower, Why};
 use crate::written::{Written, loop_key};
 use batch_interp::{Frame, behind_action, behind_break, joined_states};
 use imp_slots::{SlotAction, SlotCall, SlotCond};
@@ -127,9 +127,7 @@ fn behind_loop<D: Portable, L: Ledger>(
 
 /// What a round comes to, by how the body of its loop ends.
 pub(crate) fn end_round<D: Portable, L: Ledger>(
-    alloc: Global,
-    dom: &D,
-    frame: &Frame,
+    follower: &Follower<D, D::State>,
     n: u32,
     cond: &SlotCond,
     head: &D::State,
@@ -137,14 +135,14 @@ pub(crate) fn end_round<D: Portable, L: Ledger>(
     leaving: &[D::State],
     steps: &mut Steps<L>,
 ) -> Result<Followed<D::State>, Memory>
-    ensures is { IfOk result (λ r. turned (D.operations dom.now) (D.port dom.now).leq frame.now.sites n cond.now head.now (ended leaving.now end) ≡ ended [] r) }
+    ensures is { IfOk result (λ r. turned (D.operations follower.now.dom.now) (D.port follower.now.dom.now).leq follower.now.frame.now.sites n cond.now head.now (ended leaving.now end) ≡ ended [] r) }
 {
     match end {
         Followed::Behind(end) => {
-            if dom.leq(alloc, &end, head)? {
-                behind_loop(alloc, dom, cond, head, leaving, steps)
+            if follower.dom.leq(follower.alloc, &end, head)? {
+                behind_loop(follower.alloc, follower.dom, cond, head, leaving, steps)
             } else {
-                fail(alloc, frame, n, Why::Step)
+                fail(follower.alloc, follower.frame, n, Why::Step)
             }
         }
         Followed::Fails { at, chain, why } => Ok(Followed::Fails { at, chain, why }),

@@ -1,6 +1,20 @@
-//! What following a block comes to.
+//! What following a block is lent, and what it comes to.
 
+use crate::written::Written;
+use batch_interp::Frame;
+use imp_slots::Routine;
 use imp_syntax::{Chain, StmtId};
+use std::alloc::Global;
+
+/// What each step of following a block is lent: the domain, the program, the written states, and where the block stands.
+#[derive(Drop)]
+pub(crate) struct Follower<'a, D, S> {
+    pub(crate) alloc: Global,
+    pub(crate) dom: &'a D,
+    pub(crate) routines: &'a [Routine],
+    pub(crate) written: &'a Written<S>,
+    pub(crate) frame: &'a Frame,
+}
 
 /// Why what is written of a loop does not do.
 #[derive(Clone, Copy, Debug, Drop, PartialEq, Eq)]

@@ -9,7 +9,7 @@ ghost use Rattle.cert_check.specs.Following.{ended, calls_in, followed_in, round
 ghost use Rattle.cert_check.specs.declared.followed.Followed.TheVariants.{Behind};
 
 use crate::behind::{act, end_round, fail, head_of, join_blocks, leave_call, leave_loop};
-use crate::followed::{Followed, Why};
+use crate::followed::{Followed, Follower, Why};
 use crate::written::Written;
 use batch_interp::Frame;
 use imp_slots::{Routine, SlotBlock, SlotCall, SlotCond, SlotNode};
@@ -24,23 +24,17 @@ use step_counter::Steps;
 #[cycle(following)]
 #[tactic(auto, using(imp_slots::specs::BlockFalls::node_falls))]
 fn follow_block<D: Portable, L: Ledger>(
-    alloc: Global,
-    dom: &D,
-    routines: &[Routine],
-    written: &Written<D::State>,
-    frame: &Frame,
+    follower: &Follower<D, D::State>,
     block: &SlotBlock,
     state: D::State,
     leaving: &mut Items<D::State>,
     steps: &mut Steps<L>,
 ) -> Result<Followed<D::State>, Memory>
-    ensures is { IfOk result (λ r. after leaving.old (followed_in (D.operations dom.now) (D.port dom.now).leq written.now routines.now frame.now.place frame.now.sites block.now state) ≡ ended leaving.new r) }
+    ensures is { IfOk result (λ r. after leaving.old (followed_in (D.operations follower.now.dom.now) (D.port follower.now.dom.now).leq follower.now.written.now follower.now.routines.now follower.now.frame.now.place follower.now.frame.now.sites block.now state) ≡ ended leaving.new r) }
 {
     let mut now = state;
     for node in block.statements() {
-        match follow_node(
-            alloc, dom, routines, written, frame, node, &now, leaving, steps,
-        )? {
+        match follow_node(follower, node, &now, leaving, steps)? {
             Followed::Behind(next) => now = next,
             Followed::Fails { at, chain, why } => return Ok(Followed::Fails { at, chain, why }),
         }
@@ -51,47 +45,29 @@ fn follow_block<D: Portable, L: Ledger>(
 /// A statement alone, as a block.
 #[cycle(following)]
 fn follow_node<D: Portable, L: Ledger>(
-    alloc: Global,
-    dom: &D,
-    routines: &[Routine],
-    written: &Written<D::State>,
-    frame: &Frame,
+    follower: &Follower<D, D::State>,
     node: &SlotNode,
     state: &D::State,
     leaving: &mut Items<D::State>,
     steps: &mut Steps<L>,
 ) -> Result<Followed<D::State>, Memory>
-    ensures is { IfOk result (λ r. after leaving.old (followed_in (D.operations dom.now) (D.port dom.now).leq written.now routines.now frame.now.place frame.now.sites (before_code node.now Stop) state.now) ≡ ended leaving.new r) }
+    ensures is { IfOk result (λ r. after leaving.old (followed_in (D.operations follower.now.dom.now) (D.port follower.now.dom.now).leq follower.now.written.now follower.now.routines.now follower.now.frame.now.place follower.now.frame.now.sites (before_code node.now Stop) state.now) ≡ ended leaving.new r) }
 {
     match node {
-        SlotNode::Simple(_, action) => act(alloc, dom, action, state, steps),
-        SlotNode::If(_, cond, then, els) => {
-            follow_if(
-                alloc, dom, routines, written, frame, cond, then, els, state, leaving, steps,
-            )
-        }
-        SlotNode::While(n, cond, body) => {
-            follow_while(
-                alloc, dom, routines, written, frame, *n, cond, body, state, steps,
-            )
-        }
-        SlotNode::Call(n, call, callee) => {
-            follow_call(
-                alloc, dom, routines, written, frame, *n, call, *callee, state, steps,
-            )
-        }
-        SlotNode::Break(_) => leave_loop(alloc, dom, state, leaving, steps),
+        SlotNode::Simple(_, action) => act(follower.alloc, follower.dom, action, state, steps),
+        SlotNode::If(_, cond, then, els) => follow_if(
+            follower, cond, then, els, state, leaving, steps,
+        ),
+        SlotNode::While(n, cond, body) => follow_while(follower, *n, cond, body, state, steps),
+        SlotNode::Call(n, call, callee) => follow_call(follower, *n, call, *callee, state, steps),
+        SlotNode::Break(_) => leave_loop(follower.alloc, follower.dom, state, leaving, steps),
     }
 }
 
 /// A block, from where the condition in front of it has this truth value.
 #[cycle(following)]
 fn follow_branch<D: Portable, L: Ledger>(
-    alloc: Global,
-    dom: &D,
-    routines: &[Routine],
-    written: &Written<D::State>,
-    frame: &Frame,
+    follower: &Follower<D, D::State>,
     cond: &SlotCond,
     sense: bool,
     block: &SlotBlock,
@@ -99,22 +75,18 @@ fn follow_branch<D: Portable, L: Ledger>(
     leaving: &mut Items<D::State>,
     steps: &mut Steps<L>,
 ) -> Result<Followed<D::State>, Memory>
-    ensures is { IfOk result (λ r. after leaving.old (followed_in (D.operations dom.now) (D.port dom.now).leq written.now routines.now frame.now.place frame.now.sites block.now ((D.operations dom.now).assume cond.now sense state.now)) ≡ ended leaving.new r) }
+    ensures is { IfOk result (λ r. after leaving.old (followed_in (D.operations follower.now.dom.now) (D.port follower.now.dom.now).leq follower.now.written.now follower.now.routines.now follower.now.frame.now.place follower.now.frame.now.sites block.now ((D.operations follower.now.dom.now).assume cond.now sense state.now)) ≡ ended leaving.new r) }
 {
-    let inside = dom.assume(alloc, cond, sense, state, steps)?;
-    follow_block(
-        alloc, dom, routines, written, frame, block, inside, leaving, steps,
-    )
+    let inside = follower
+        .dom
+        .assume(follower.alloc, cond, sense, state, steps)?;
+    follow_block(follower, block, inside, leaving, steps)
 }
 
 /// Both blocks of an if, joined. The states that leave the first one stand first.
 #[cycle(following)]
 fn follow_if<D: Portable, L: Ledger>(
-    alloc: Global,
-    dom: &D,
-    routines: &[Routine],
-    written: &Written<D::State>,
-    frame: &Frame,
+    follower: &Follower<D, D::State>,
     cond: &SlotCond,
     then: &SlotBlock,
     els: &SlotBlock,
@@ -122,45 +94,35 @@ fn follow_if<D: Portable, L: Ledger>(
     leaving: &mut Items<D::State>,
     steps: &mut Steps<L>,
 ) -> Result<Followed<D::State>, Memory>
-    ensures is { IfOk result (λ r. after leaving.old (followed_in (D.operations dom.now) (D.port dom.now).leq written.now routines.now frame.now.place frame.now.sites (If 0 cond.now then.now els.now Stop) state.now) ≡ ended leaving.new r) }
+    ensures is { IfOk result (λ r. after leaving.old (followed_in (D.operations follower.now.dom.now) (D.port follower.now.dom.now).leq follower.now.written.now follower.now.routines.now follower.now.frame.now.place follower.now.frame.now.sites (If 0 cond.now then.now els.now Stop) state.now) ≡ ended leaving.new r) }
 {
-    let left = match follow_branch(
-        alloc, dom, routines, written, frame, cond, true, then, state, leaving, steps,
-    )? {
+    let left = match follow_branch(follower, cond, true, then, state, leaving, steps)? {
         Followed::Behind(left) => left,
         Followed::Fails { at, chain, why } => return Ok(Followed::Fails { at, chain, why }),
     };
-    let right = follow_branch(
-        alloc, dom, routines, written, frame, cond, false, els, state, leaving, steps,
-    )?;
-    join_blocks(alloc, dom, &left, right, steps)
+    let right = follow_branch(follower, cond, false, els, state, leaving, steps)?;
+    join_blocks(follower.alloc, follower.dom, &left, right, steps)
 }
 
 /// A loop, from the state in front of it.
 #[cycle(following)]
 fn follow_while<D: Portable, L: Ledger>(
-    alloc: Global,
-    dom: &D,
-    routines: &[Routine],
-    written: &Written<D::State>,
-    frame: &Frame,
+    follower: &Follower<D, D::State>,
     n: u32,
     cond: &SlotCond,
     body: &SlotBlock,
     state: &D::State,
     steps: &mut Steps<L>,
 ) -> Result<Followed<D::State>, Memory>
-    ensures is { IfOk result (λ r. followed_in (D.operations dom.now) (D.port dom.now).leq written.now routines.now frame.now.place frame.now.sites (While n cond.now body.now Stop) state.now ≡ ended [] r) }
+    ensures is { IfOk result (λ r. followed_in (D.operations follower.now.dom.now) (D.port follower.now.dom.now).leq follower.now.written.now follower.now.routines.now follower.now.frame.now.place follower.now.frame.now.sites (While n cond.now body.now Stop) state.now ≡ ended [] r) }
 {
-    match head_of(alloc, written, frame, n)? {
-        None => fail(alloc, frame, n, Why::Missing),
+    match head_of(follower.alloc, follower.written, follower.frame, n)? {
+        None => fail(follower.alloc, follower.frame, n, Why::Missing),
         Some(head) => {
-            if dom.leq(alloc, state, head)? {
-                follow_round(
-                    alloc, dom, routines, written, frame, n, cond, body, head, steps,
-                )
+            if follower.dom.leq(follower.alloc, state, head)? {
+                follow_round(follower, n, cond, body, head, steps)
             } else {
-                fail(alloc, frame, n, Why::Entry)
+                fail(follower.alloc, follower.frame, n, Why::Entry)
             }
         }
     }
@@ -169,66 +131,36 @@ fn follow_while<D: Portable, L: Ledger>(
 /// A round of a loop from its head, and what is behind the loop.
 #[cycle(following)]
 fn follow_round<D: Portable, L: Ledger>(
-    alloc: Global,
-    dom: &D,
-    routines: &[Routine],
-    written: &Written<D::State>,
-    frame: &Frame,
+    follower: &Follower<D, D::State>,
     n: u32,
     cond: &SlotCond,
     body: &SlotBlock,
     head: &D::State,
     steps: &mut Steps<L>,
 ) -> Result<Followed<D::State>, Memory>
-    ensures is { IfOk result (λ r. round (D.operations dom.now) (D.port dom.now).leq frame.now.sites n cond.now (followed_in (D.operations dom.now) (D.port dom.now).leq written.now routines.now frame.now.place frame.now.sites body.now) head.now ≡ ended [] r) }
+    ensures is { IfOk result (λ r. round (D.operations follower.now.dom.now) (D.port follower.now.dom.now).leq follower.now.frame.now.sites n cond.now (followed_in (D.operations follower.now.dom.now) (D.port follower.now.dom.now).leq follower.now.written.now follower.now.routines.now follower.now.frame.now.place follower.now.frame.now.sites body.now) head.now ≡ ended [] r) }
 {
-    let mut leaving = Items::new(alloc);
-    let end = follow_branch(
-        alloc,
-        dom,
-        routines,
-        written,
-        frame,
-        cond,
-        true,
-        body,
-        head,
-        &mut leaving,
-        steps,
-    )?;
+    let mut leaving = Items::new(follower.alloc);
+    let end = follow_branch(follower, cond, true, body, head, &mut leaving, steps)?;
     let leaving = leaving.as_slice();
-    end_round(alloc, dom, frame, n, cond, head, end, leaving, steps)
+    end_round(follower, n, cond, head, end, leaving, steps)
 }
 
 /// A call: its procedure is entered and left.
 #[cycle(following)]
 fn follow_call<D: Portable, L: Ledger>(
-    alloc: Global,
-    dom: &D,
-    routines: &[Routine],
-    written: &Written<D::State>,
-    frame: &Frame,
+    follower: &Follower<D, D::State>,
     n: u32,
     call: &SlotCall,
     callee: u32,
     state: &D::State,
     steps: &mut Steps<L>,
 ) -> Result<Followed<D::State>, Memory>
-    ensures is { IfOk result (λ r. followed_in (D.operations dom.now) (D.port dom.now).leq written.now routines.now frame.now.place frame.now.sites (Call n call.now callee Stop) state.now ≡ ended [] r) }
+    ensures is { IfOk result (λ r. followed_in (D.operations follower.now.dom.now) (D.port follower.now.dom.now).leq follower.now.written.now follower.now.routines.now follower.now.frame.now.place follower.now.frame.now.sites (Call n call.now callee Stop) state.now ≡ ended [] r) }
 {
-    let entered = dom.enter(alloc, call, state, steps)?;
-    let done = follow_callee(
-        alloc,
-        dom,
-        routines,
-        written,
-        frame,
-        n,
-        callee as usize,
-        entered,
-        steps,
-    )?;
-    leave_call(alloc, dom, call, state, done, steps)
+    let entered = follower.dom.enter(follower.alloc, call, state, steps)?;
+    let done = follow_callee(follower, n, callee as usize, entered, steps)?;
+    leave_call(follower.alloc, follower.dom, call, state, done, steps)
 }
 
 /// The procedure at a place, where it stands in front of the one at `place`.
@@ -246,34 +178,27 @@ fn callee_at(routines: &[Routine], place: usize, callee: usize) -> Option<&Routi
 #[cycle(following)]
 #[tactic(auto, using(batch_interp::proofs::Weights::weight_falls))]
 fn follow_callee<D: Portable, L: Ledger>(
-    alloc: Global,
-    dom: &D,
-    routines: &[Routine],
-    written: &Written<D::State>,
-    frame: &Frame,
+    follower: &Follower<D, D::State>,
     n: u32,
     callee: usize,
     entered: D::State,
     steps: &mut Steps<L>,
 ) -> Result<Followed<D::State>, Memory>
-    ensures is { IfOk result (EndsSo (calls_in (D.operations dom.now) (D.port dom.now).leq written.now routines.now frame.now.place frame.now.sites n callee entered)) }
+    ensures is { IfOk result (EndsSo (calls_in (D.operations follower.now.dom.now) (D.port follower.now.dom.now).leq follower.now.written.now follower.now.routines.now follower.now.frame.now.place follower.now.frame.now.sites n callee entered)) }
 {
-    match callee_at(routines, frame.place, callee) {
+    match callee_at(follower.routines, follower.frame.place, callee) {
         None => Ok(Followed::Behind(entered)),
         Some(routine) => {
-            let inner = frame.callee(alloc, n, callee)?;
-            let mut leaving = Items::new(alloc);
-            follow_block(
-                alloc,
-                dom,
-                routines,
-                written,
-                &inner,
-                routine.body(),
-                entered,
-                &mut leaving,
-                steps,
-            )
+            let inner = follower.frame.callee(follower.alloc, n, callee)?;
+            let mut leaving = Items::new(follower.alloc);
+            let there = Follower {
+                alloc: follower.alloc,
+                dom: follower.dom,
+                routines: follower.routines,
+                written: follower.written,
+                frame: &inner,
+            };
+            follow_block(&there, routine.body(), entered, &mut leaving, steps)
         }
     }
 }
@@ -293,15 +218,12 @@ pub(crate) fn follow_main<D: Portable, L: Ledger>(
     let main = &routines[frame.place];
     let first = dom.init(alloc, main.layout(), steps)?;
     let mut leaving = Items::new(alloc);
-    follow_block(
+    let follower = Follower {
         alloc,
         dom,
         routines,
         written,
-        &frame,
-        main.body(),
-        first,
-        &mut leaving,
-        steps,
-    )
+        frame: &frame,
+    };
+    follow_block(&follower, main.body(), first, &mut leaving, steps)
 }
