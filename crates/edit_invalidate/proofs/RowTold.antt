@@ -4,14 +4,10 @@ use Rattle.std.specs.Cmp.Lexicographic.{pointwise}
 use Rattle.std.specs.Ordering.{int_eq}
 use Rattle.std.proofs.lemmas.Bool.Decides.{Decides-int_eq, Decides-eqb, Decides-and, Decides-or, Decides-like}
 use Rattle.std.proofs.lemmas.Slice.Eq.{slice_eq-Decides}
-use Rattle.std.specs.Coded.{code_by}
-use denote.Struct.Codes.{itself}
-use base.Stored.{Coded, Gv}
-use Rattle.std.proofs.Common.{◌≡◌, suc, ◌≤◌, ◌⊎◌, inl, inr, Bool, true, false, List, [], ◌∷◌, length, Option, refl, sym, ap, ◌∙◌, subst, arith}
+use Rattle.std.proofs.Common.{◌≡◌, suc, ◌≤◌, ◌⊎◌, inl, inr, Bool, true, false, List, [], ◌∷◌, length, refl, sym, ap, ◌∙◌, subst, arith}
 use Rattle.plain_values.specs.Equal.{same_Decides}
-use Rattle.imp_slots.specs.Plain.{Returning}
 use Rattle.imp_slots.specs.Codes.{guard_code}
-use Rattle.imp_slots.specs.PartCodes.{layout_code, entering_code, returning_to, returning_from, returning_from_to}
+use Rattle.imp_slots.specs.PartCodes.{layout_code, entering_code}
 use Rattle.imp_slots.specs.EnumCodes.{stmt_coded}
 use Rattle.imp_slots.specs.ActionViews.{act_of, stmt_of, stmt_of-act_of}
 use Rattle.cell_names.specs.declared.frame.Frame.{Frame}
@@ -29,17 +25,12 @@ use Rattle.imp_flow.specs.declared.row.Binary.TheVariants as two
 use Rattle.imp_flow.specs.declared.row.Row.{Row}
 use Rattle.imp_flow.specs.declared.row.Row.TheVariants.{Init, One, Two, Fixed, Joins}
 use Rattle.imp_flow.specs.Near.{outside, near, input_name, unary_of, binary_of, row_in}
-use Rattle.edit_invalidate.specs.RowCode.{same_ways, same_inputs, same_truth, same_unary, same_binary, same_row, is_nil}
+use Rattle.kept_set.proofs.Decided.{returning_code, truth_decides}
+use Rattle.edit_invalidate.specs.RowCode.{same_ways, same_inputs, same_unary, same_binary, same_row, is_nil}
 use Rattle.edit_invalidate.specs.Rows.{AskSame}
 
 never : {A : Type 0} → (A → ⊥) → Decides false A
 never n = (λ e. absurd cc, λ a. absurd (n a))
-
-truth : (a b : Bool) → Decides (same_truth a b) (a ≡ b)
-truth true true = (λ e. refl, λ e. refl)
-truth true false = (λ e. absurd cc, λ e. absurd cc)
-truth false true = (λ e. absurd cc, λ e. absurd cc)
-truth false false = (λ e. refl, λ e. refl)
 
 -- Paths of other lengths are others.
 shorter : (w : List Frame) → length (outside w) ≤ length w
@@ -70,13 +61,10 @@ unaries : (a b : Unary) → Decides (same_unary a b) (unary_of a ≡ unary_of b)
 unaries (one.Post s) (one.Post t) =
     Decides-like _ (λ e. ap (λ s. plain.Posts (act_of s)) e) (λ e. let i : act_of s.now ≡ act_of t.now = cc in sym (stmt_of-act_of s.now) ∙ ap stmt_of i ∙ stmt_of-act_of t.now) (same_Decides stmt_coded s.now t.now)
 unaries (one.Assume c h) (one.Assume d i) =
-    Decides-like _ (λ p. ap (λ g. plain.Assumes g h) p.0 ∙ ap (plain.Assumes d.now) p.1) (λ e. (cc, cc)) (Decides-and _ _ (same_Decides guard_code c.now d.now) (truth h i))
+    Decides-like _ (λ p. ap (λ g. plain.Assumes g h) p.0 ∙ ap (plain.Assumes d.now) p.1) (λ e. (cc, cc)) (Decides-and _ _ (same_Decides guard_code c.now d.now) (truth_decides h i))
 unaries (one.Enter c) (one.Enter d) = Decides-like _ (λ e. ap plain.Enters e) (λ e. cc) (same_Decides entering_code c.now.entering d.now.entering)
 unaries (one.Exit c) (one.Exit d) = Decides-like _ (λ e. ap plain.Exits e) (λ e. cc) (same_Decides guard_code c.now d.now)
 unaries a b = (λ e. absurd cc, λ e. absurd cc)
-
-abbrev returning_code : Coded (Option Returning)
-returning_code = code_by Gv itself returning_to returning_from returning_from_to
 
 binaries : (a b : Binary) → Decides (same_binary a b) (binary_of a ≡ binary_of b)
 binaries two.Join two.Join = (λ e. refl, λ e. refl)
@@ -103,7 +91,7 @@ rows w (Joins s l n p) (Joins t k m q) alone =
     Decides-like _ (λ i. elim i.1 [
       | inl a ↦ inr (ap (name w) i.0, a)
       | inr b ↦ inl (ap (λ s. plain.Joins s (name w l) n w p) b.0 ∙ ap (λ l. plain.Joins t (name w l) n w p) i.0 ∙ ap (λ n. plain.Joins t (name w k) n w p) b.1.0 ∙ ap (plain.Joins t (name w k) m w) b.1.1)
-    ]) back (Decides-and _ _ (point_decides l k) (Decides-or _ _ (is_true alone) (Decides-and _ _ (truth s t) (Decides-and _ _ (Decides-eqb n m) (point_decides p q)))))
+    ]) back (Decides-and _ _ (point_decides l k) (Decides-or _ _ (is_true alone) (Decides-and _ _ (truth_decides s t) (Decides-and _ _ (Decides-eqb n m) (point_decides p q)))))
   where
     back : AskSame alone (row_in w (Joins s l n p)) (row_in w (Joins t k m q)) → (l ≡ k) × ((alone ≡ true) ⊎ ((s ≡ t) × ((n ≡ m) × (p ≡ q))))
     back (inl e) = let i : name w l ≡ name w k = cc in (ap (λ (c : CellName). c.point) i, inr (cc, (cc, cc)))

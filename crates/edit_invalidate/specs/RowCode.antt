@@ -6,6 +6,7 @@ use Rattle.plain_values.specs.Equal.{same, code_same}
 use Rattle.imp_slots.specs.Codes.{guard_code}
 use Rattle.imp_slots.specs.PartCodes.{layout_code, entering_code, returning_to}
 use Rattle.imp_slots.specs.EnumCodes.{stmt_coded}
+use Rattle.domain_laws.specs.Claims.{same_truth}
 use Rattle.cell_names.specs.contracts.frame.FramePartialEq.TheImpl as frames
 use Rattle.cell_names.specs.contracts.frame.PointPartialEq.TheImpl as points
 use Rattle.imp_flow.specs.declared.input.Input.{Input}
@@ -33,11 +34,6 @@ same_ways in_main (Into f) (Into g) = frames.ghosts.eq f g
 
 abbrev pub same_inputs : (in_main : Bool) → Input → Input → Bool
 same_inputs in_main a b = points.ghosts.eq a.point b.point && same_ways in_main a.way b.way
-
-abbrev pub same_truth : Bool → Bool → Bool
-same_truth true b = b
-same_truth false true = false
-same_truth false false = true
 
 abbrev pub same_unary : Unary → Unary → Bool
 same_unary (one.Post s) (one.Post t) = same stmt_coded s.now t.now

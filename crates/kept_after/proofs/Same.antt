@@ -1,26 +1,16 @@
 -- The test of two operations decides whether they are the same.
-use Rattle.std.proofs.Common.{◌≡◌, Bool, true, false, ◌&&◌, Option, refl, sym, ap, ◌∙◌}
+use Rattle.std.proofs.Common.{◌≡◌, false, ◌&&◌, refl, ap, ◌∙◌}
 use Rattle.std.specs.Bool.{Decides}
 use Rattle.std.specs.Cmp.Lexicographic.{pointwise, pointwise_decides}
 use Rattle.std.specs.Ordering.{int_eq}
-use Rattle.std.specs.Coded.{code_by}
 use Rattle.std.proofs.lemmas.Bool.Decides.{Decides-int_eq, Decides-and, Decides-like}
 use Rattle.plain_values.specs.Equal.{code_same, same, same_Decides}
-use base.Stored.{Coded, Gv}
-use denote.Struct.Codes.{itself}
-use Rattle.imp_slots.specs.Plain.{Returning}
 use Rattle.imp_slots.specs.Codes.{guard_code}
-use Rattle.imp_slots.specs.PartCodes.{act_code, layout_code, entering_code, returning_to, returning_from, returning_from_to}
+use Rattle.imp_slots.specs.PartCodes.{act_code, layout_code, entering_code, returning_to}
 use Rattle.cell_rows.specs.Rows.{Unary, Posts, Assumes, Enters, Exits, Binary, JoinsBoth, Leaves, Widens, Op, OpInit, OpOne, OpTwo, OpFix, OpJoin}
-use Rattle.kept_after.specs.Same.{same_truth, same_unary, same_binary, same_operation}
-
-truth_is : (a b : Bool) → Decides (same_truth a b) (a ≡ b)
-truth_is true b = (λ e. sym e, λ e. sym e)
-truth_is false true = (λ e. absurd cc, λ e. absurd cc)
-truth_is false false = (λ e. refl, λ e. refl)
-
-abbrev returning_code : Coded (Option Returning)
-returning_code = code_by Gv itself returning_to returning_from returning_from_to
+use Rattle.domain_laws.specs.Claims.{same_truth}
+use Rattle.kept_set.proofs.Decided.{returning_code, truth_decides}
+use Rattle.kept_after.specs.Same.{same_unary, same_binary, same_operation}
 
 apart : {A : Type 0} → (A → ⊥) → Decides false A
 apart n = (λ e. absurd cc, λ a. absurd (n a))
@@ -28,7 +18,7 @@ apart n = (λ e. absurd cc, λ a. absurd (n a))
 unary_is : (u v : Unary) → Decides (same_unary u v) (u ≡ v)
 unary_is (Posts a) (Posts b) = Decides-like (same act_code a b) (λ e. ap Posts e) (λ e. cc) (same_Decides act_code a b)
 unary_is (Assumes g h) (Assumes k i) =
-    Decides-like (same guard_code g k && same_truth h i) (λ e. ap (λ g. Assumes g h) e.0 ∙ ap (Assumes k) e.1) (λ e. (cc, cc)) (Decides-and (same guard_code g k) (same_truth h i) (same_Decides guard_code g k) (truth_is h i))
+    Decides-like (same guard_code g k && same_truth h i) (λ e. ap (λ g. Assumes g h) e.0 ∙ ap (Assumes k) e.1) (λ e. (cc, cc)) (Decides-and (same guard_code g k) (same_truth h i) (same_Decides guard_code g k) (truth_decides h i))
 unary_is (Enters a) (Enters b) = Decides-like (same entering_code a b) (λ e. ap Enters e) (λ e. cc) (same_Decides entering_code a b)
 unary_is (Exits g) (Exits k) = Decides-like (same guard_code g k) (λ e. ap Exits e) (λ e. cc) (same_Decides guard_code g k)
 unary_is u v = apart (λ e. absurd cc)

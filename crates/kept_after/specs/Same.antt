@@ -5,12 +5,8 @@ use Rattle.std.specs.Ordering.{int_eq}
 use Rattle.plain_values.specs.Equal.{code_same, same}
 use Rattle.imp_slots.specs.Codes.{guard_code}
 use Rattle.imp_slots.specs.PartCodes.{act_code, layout_code, entering_code, returning_to}
+use Rattle.domain_laws.specs.Claims.{same_truth}
 use Rattle.cell_rows.specs.Rows.{Unary, Posts, Assumes, Enters, Exits, Binary, JoinsBoth, Leaves, Widens, Op, OpInit, OpOne, OpTwo, OpFix, OpJoin}
-
-abbrev pub same_truth : Bool → Bool → Bool
-same_truth true b = b
-same_truth false true = false
-same_truth false false = true
 
 abbrev pub same_unary : Unary → Unary → Bool
 same_unary (Posts a) (Posts b) = same act_code a b
