@@ -1,5 +1,6 @@
 -- The tree of a table that is right, and its procedures.
 use Rattle.std.proofs.Common.{◌≡◌, ℕ, zero, suc, ◌||◌, cond, Bool, List, [], ◌∷◌, length, slice_get, Option, Some, None, option_map, refl, ap, ◌∙◌, sym, subst, arith}
+pub use Rattle.std.proofs.lemmas.List.{take_at}
 use Rattle.std.specs.Str.{bytes_eq}
 use Rattle.imp_syntax.specs.Plain.{Procedure}
 use Rattle.imp_slots.specs.Fits.{Distinct}

@@ -54,7 +54,7 @@ pub(crate) fn put_entry(alloc: Global, places: &mut Vec<Place>, entry: Entry) ->
 }
 
 /// Exchanges what stands at these numbers of a table.
-#[tactic(auto, using(crate::proofs::TableLemmas::written))]
+#[tactic(auto, using(crate::proofs::TableLemmas::take_at))]
 pub(crate) fn put_all(places: &mut Vec<Place>, puts: &mut [Put])
     requires within { AreWithin (length places.old.items) puts.old }
     ensures is { (m : ℕ) → entry_in places.new.items m ≡ overlay puts.old (entry_in places.old.items) m }

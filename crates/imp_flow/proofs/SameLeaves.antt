@@ -1,12 +1,13 @@
 -- The breaks of two loops, one by one.
 use Rattle.std.proofs.Common.{◌≡◌, ◌≢◌, ℕ, suc, ◌+◌, ◌<◌, ◌≤◌, ◌&&◌, List, [], ◌∷◌, length, drop, slice_get, Some, Bool, true, false, refl, sym, ap, ◌∙◌, arith}
 use Rattle.std.specs.Cmp.Lexicographic.{pointwise}
+use Rattle.std.proofs.lemmas.List.{drop_all}
 use Rattle.cell_names.specs.contracts.frame.PointPartialEq.TheImpl as points
 use Rattle.imp_flow.specs.declared.node.Leave.{Leave}
 use Rattle.imp_flow.specs.contracts.node.LeavePartialEq.TheImpl as leaves
 use Rattle.imp_flow.specs.Changed.{last_of, same_leaves}
 use Rattle.imp_flow.proofs.ChangedLeaves.{there}
-use Rattle.imp_flow.proofs.LeaveLemmas.{drop_item, drop_none}
+use Rattle.imp_flow.proofs.LeaveLemmas.{drop_item}
 use Rattle.plain_values.proofs.Cases.{and_false}
 
 and_swap : (a b c : Bool) → (a && (b && c)) ≡ (b && (a && c))
@@ -34,7 +35,7 @@ leaves_apart (l ∷ ls) (k ∷ ks) h =
     ap (λ b. points.ghosts.eq e.0.front f.0.front && b) (not_as_long e.1 f.1 (λ n. h (ap suc (sym (rest_length k ks) ∙ n ∙ rest_length l ls)))) ∙ and_false (points.ghosts.eq e.0.front f.0.front)
 
 pub leaves_end : (ls ks : List Leave) (i : ℕ) → length ls ≤ i → length ks ≡ length ls → same_leaves (drop i ls) (drop i ks) ≡ true
-leaves_end ls ks i h e = (λ j. same_leaves (drop_none ls i h j) (drop_none ks i (omega arith) j))
+leaves_end ls ks i h e = (λ j. same_leaves (drop_all i ls h j) (drop_all i ks (omega arith) j))
 
 -- the last break of each
 pub last_same : (ls ks : List Leave) (i : ℕ) (l k : Leave) (b : Bool) → length ks ≡ length ls → slice_get ls i ≡ Some l → slice_get ks i ≡ Some k → i + 1 ≡ length ls → b ≡ points.ghosts.eq l.front k.front →
@@ -42,7 +43,7 @@ pub last_same : (ls ks : List Leave) (i : ℕ) (l k : Leave) (b : Bool) → leng
 last_same ls ks i l k b n e f h t =
     let ended = leaves_end ls ks (i + 1) (omega arith) n in
     (λ j. same_leaves (drop_item ls i l e j) (drop_item ks i k f j))
-    ∙ (λ j. same_leaves (l ∷ drop_none ls (i + 1) (omega arith) j) (k ∷ drop_none ks (i + 1) (omega arith) j))
+    ∙ (λ j. same_leaves (l ∷ drop_all (i + 1) ls (omega arith) j) (k ∷ drop_all (i + 1) ks (omega arith) j))
     ∙ ap (λ c. c && true) (sym t)
     ∙ ap (λ c. b && c) (sym ended)
 

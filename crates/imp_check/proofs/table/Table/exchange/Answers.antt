@@ -1,8 +1,7 @@
 use Rattle.std.proofs.Common.{length, drop, ap, ◌∙◌, subst, arith}
-use Rattle.std.proofs.lemmas.List.{take_at}
 use Rattle.imp_check.specs.Tables.{Tabled, entry_in, AreOf}
 use Rattle.imp_check.specs.Changes.{overlay}
-use Rattle.imp_check.proofs.TableLemmas.{table_is, table_right}
+use Rattle.imp_check.proofs.TableLemmas.{table_is, table_right, take_at}
 use Rattle.imp_check.proofs.ExchangeLemmas.{after_right, back_makes}
 use Rattle.imp_check.proofs.table.Table.exchange.Goals as goal
 
