@@ -10,7 +10,7 @@ pub first_alone : {A : Type 0} (a : Option A) → first a None ≡ a
 first_alone None = refl
 first_alone (Some x) = refl
 
-first_assoc : {A : Type 0} (a b c : Option A) → first (first a b) c ≡ first a (first b c)
+pub first_assoc : {A : Type 0} (a b c : Option A) → first (first a b) c ≡ first a (first b c)
 first_assoc None b c = refl
 first_assoc (Some x) b c = refl
 
