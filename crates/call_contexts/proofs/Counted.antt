@@ -1,5 +1,5 @@
 -- Counts of numbers: one more, one less, and those of a statement.
-use Rattle.std.proofs.lemmas.List.{take_all}
+use Rattle.std.proofs.lemmas.List.{take_all, drop_all}
 use Rattle.std.proofs.Common.{◌≡◌, ◌≢◌, ℕ, zero, suc, ◌+◌, ◌-◌, ◌<◌, ◌≤◌, ◌==◌, ◌++◌, cond, true, false, List, [], ◌∷◌, length, take, drop, get_or, Option, Some, None, refl, sym, ap, ◌∙◌, subst, arith}
 use Rattle.std.specs.Prelude.{if◌then◌else◌, unwrap_or}
 use Rattle.std.proofs.lemmas.Bool.Decides.{nat_tests}
@@ -16,7 +16,7 @@ use Rattle.call_contexts.specs.Literals.{literals_in}
 use Rattle.call_contexts.specs.Differences.{lists_by}
 use Rattle.call_contexts.specs.Tallies.{one_if, times, occurs, rising, or_none, Tells, capped}
 use Rattle.call_contexts.proofs.TallyLemmas.{same_test, times_both, rising_sorted, rising_has}
-use Rattle.plain_values.proofs.Lists.{drop_item, take_item, drop_none}
+use Rattle.plain_values.proofs.Lists.{drop_item, take_item}
 use Rattle.plain_values.proofs.Cases.{by_test}
 
 -- a number alone
@@ -27,7 +27,7 @@ rising_one (m ∷ k ∷ ns) n h e = absurd (omega arith)
 
 -- from the last number on
 pub rising_last : (ns : List ℕ) → rising (drop (length ns) ns) ≡ []
-rising_last ns = ap rising (drop_none ns (length ns) (omega arith))
+rising_last ns = ap rising (drop_all (length ns) ns (omega arith))
 
 pub rising_more : (ns : List ℕ) (k i n : ℕ) → k ≡ i + 1 → i < length ns → n ≡ get_or ns i n → rising (drop i ns) ≡ insert_key nat_cmp (rising (drop k ns)) n
 rising_more ns k i n e h g = ap rising (drop_item ns i n h g) ∙ ap (λ j. insert_key nat_cmp (rising (drop j ns)) n) (sym e)

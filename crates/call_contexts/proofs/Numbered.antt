@@ -1,12 +1,13 @@
 -- Statements by their numbers, one at a time.
 use Rattle.std.proofs.Common.{ℕ, ◌≡◌, ◌==◌, ◌+◌, ◌<◌, ◌≤◌, ◌||◌, Bool, true, false, List, [], ◌∷◌, ◌++◌, length, drop, get_or, refl, ap, ◌∙◌}
 use Rattle.std.specs.Prelude.{if◌then◌else◌}
+use Rattle.std.proofs.lemmas.List.{drop_all}
 use Rattle.imp_slots.specs.Plain.{Code, Stop, code_numbers}
 use Rattle.imp_slots.specs.BlockViews.{before_code, code_of}
 use Rattle.imp_slots.specs.declared.blocks.SlotNode.{SlotNode}
 use Rattle.imp_slots.specs.declared.blocks.SlotNode.TheVariants as node
 use Rattle.program_chains.specs.Chains.{has}
-use Rattle.plain_values.proofs.Lists.{drop_item, drop_none}
+use Rattle.plain_values.proofs.Lists.{drop_item}
 
 pub has_both : (n : ℕ) (xs ys : List ℕ) → has n (xs ++ ys) ≡ (has n xs || has n ys)
 has_both n [] ys = refl
@@ -45,4 +46,4 @@ pub has_found : (n : ℕ) (ss : List SlotNode) (i : ℕ) (s : SlotNode) → i < 
 has_found n ss i s h e k = has_here n ss i s h e ∙ ap (λ b. b || has n (code_numbers (code_of (drop (i + 1) ss)))) k
 
 pub has_end : (n : ℕ) (ss : List SlotNode) (i : ℕ) → length ss ≤ i → has n (code_numbers (code_of (drop i ss))) ≡ false
-has_end n ss i h = ap (λ xs. has n (code_numbers (code_of xs))) (drop_none ss i h)
+has_end n ss i h = ap (λ xs. has n (code_numbers (code_of xs))) (drop_all i ss h)

@@ -3,6 +3,7 @@ use Rattle.std.proofs.Common.{◌≡◌, ℕ, zero, suc, ◌+◌, ◌-◌, ◌<�
 use Rattle.std.specs.Prelude.{is_some, reverse}
 use Rattle.std.specs.FinMap.{get}
 use Rattle.std.proofs.lemmas.Option.{slice_get_within}
+use Rattle.std.proofs.lemmas.List.{drop_all}
 use Rattle.domain_laws.specs.Operations.{Operations}
 use Rattle.batch_meaning.specs.Values as batch
 use Rattle.cell_names.specs.declared.frame.Frame.{Frame}
@@ -27,12 +28,7 @@ use Rattle.daig_query.proofs.Growing.{names_grow}
 use Rattle.named_cells.proofs.Numbers.{filled_number}
 use Rattle.daig_query.proofs.Found.{stored}
 use Rattle.daig_query.proofs.Walks.{stands_go, stands_on, stands_next, stands_grow}
-use Rattle.plain_values.proofs.Lists.{drop_none}
-
-pub drop_next : {A : Type 0} (xs : List A) (i : ℕ) (x : A) → slice_get xs i ≡ Some x → drop i xs ≡ x ∷ drop (suc i) xs
-drop_next [] i x e = absurd cc
-drop_next (y ∷ ys) zero x e = let q : y ≡ x = cc in ap (λ z. z ∷ ys) q
-drop_next (y ∷ ys) (suc i) x e = drop_next ys i x e
+use Rattle.plain_values.proofs.Lists.{drop_next}
 
 pub behind_none : (ts : List Target) → behind_steps 0 ts ≡ ts
 behind_none [] = refl
@@ -50,7 +46,7 @@ module _ {S : Type 0} (ts : List Target) (store : Store S) (w : Walk) (t : Targe
   place_is ss e = ap (λ us. law.walk path (behind_steps w.step us)) (drop_next ts w.target t here) ∙ ap (λ us. law.walk path (to_point us t.last ∷ rest)) e
 
   pub place_end : length t.steps ≤ w.step → place_of ts store w ≡ law.walk path (to_point [] t.last ∷ rest)
-  place_end h = place_is [] (drop_none t.steps w.step h)
+  place_end h = place_is [] (drop_all w.step t.steps h)
 
   pub place_step : (s : Step) → slice_get t.steps w.step ≡ Some s → place_of ts store w ≡ law.walk path (to_point (s ∷ drop (suc w.step) t.steps) t.last ∷ rest)
   place_step s e = place_is (s ∷ drop (suc w.step) t.steps) (drop_next t.steps w.step s e)

@@ -2,12 +2,12 @@
 use Rattle.std.proofs.Common.{ℕ, zero, suc, ◌≡◌, ◌+◌, ◌-◌, ◌*◌, ◌^◌, ◌<◌, ◌≤◌, Bool, true, false, cond, List, [], ◌∷◌, ◌++◌, length, drop, min, max, map, refl, ap, sym, ◌∙◌, arith, length-append, add-one, drop-cons, get_or, nat_lt, ◌==◌, ◌⊎◌, inl, inr}
 use Rattle.std.proofs.lemmas.Bool.{lt-ltb, cases_lt, false≢true}
 use Rattle.std.proofs.Math.Dec.{eqb-suc-zero}
+use Rattle.std.proofs.lemmas.List.{drop_all}
 use Rattle.imp_syntax.specs.Plain.{Statement, Statements, Starts, Procedure}
 use Rattle.imp_check.specs.Chains.{calls_in, calls, extended, chains_through, chains_to, all_chains}
 use Rattle.imp_check.specs.Programs.{longest}
 use Rattle.imp_check.specs.Tallies.{capped, tally_of, added, called, none, tallies_of}
 use Rattle.imp_check.specs.declared.chains.Tally.{Tally}
-use Rattle.plain_values.proofs.Lists.{drop_none}
 
 pub length_both : (f : List ℕ) (t e : Statements) → length (calls f t ++ calls f e) ≡ length (calls f t) + length (calls f e)
 length_both f t e = length-append (calls f t) (calls f e)
@@ -147,7 +147,7 @@ through_next f ps ts i p d total c new w n known h e en ec enew told =
 
 pub through_end : (f : List ℕ) (ps : List Procedure) (i : ℕ) (total w : Tally) → length ps ≤ i → total.count ≤ 2 ^ 32 - 1 → added total (tally_of (chains_through f (drop i ps))) ≡ w → total ≡ w
 through_end f ps i total w h few told =
-    let e : drop i ps ≡ [] = drop_none ps i h in
+    let e : drop i ps ≡ [] = drop_all i ps h in
     sym (added_none total few) ∙ ap (λ (z : List Procedure). added total (tally_of (chains_through f z))) (sym e) ∙ told
 
 pub only_main : (f : List ℕ) (ps : List Procedure) → true ≡ (length ps == 0) → record { count = 1; longest = 0 } ≡ tally_of (chains_to f ps)

@@ -1,11 +1,11 @@
 -- Statement numbers.
 use Rattle.std.proofs.Common.{ℕ, zero, suc, ◌≡◌, ◌≢◌, ◌+◌, ◌<◌, ◌≤◌, ◌==◌, ◌&&◌, ◌||◌, not, ◌↔◌, Bool, true, false, List, [], ◌∷◌, ◌++◌, length, drop, get_or, refl, sym, ap, ◌∙◌, arith, add-one, drop-cons, eq-eqb}
 use Rattle.std.proofs.lemmas.Bool.{and_parts, false≢true, not-true, or_parts}
+use Rattle.std.proofs.Math.Bool.{and-false}
 use borrow.Author.Tests.{eqb-true}
 use Rattle.imp_slots.specs.Fits.{Absent, Distinct}
 use Rattle.imp_syntax.specs.Plain.{Procedure, numbers, program_numbers}
 use Rattle.imp_check.specs.Programs.{AreNumbered, has, all_once}
-use Rattle.plain_values.proofs.Cases.{and_false}
 
 pub program_step : (ps : List Procedure) (i : ℕ) (p : Procedure) → i < length ps → p ≡ get_or ps i p → program_numbers (drop i ps) ≡ numbers p.body ++ program_numbers (drop (i + 1) ps)
 program_step ps i p h e = rw (drop-cons ps i p, add-one, ← e) refl
@@ -27,13 +27,13 @@ pub once_fails : (ns : List ℕ) (i : ℕ) → all_once (drop i ns) ≡ false �
 once_fails ns zero h = h
 once_fails [] (suc i) h = h
 once_fails (n ∷ ns) (suc i) h =
-    ap (λ (b : Bool). not (n == 0) && (not (has ns n) && b)) (once_fails ns i h) ∙ ap (λ (b : Bool). not (n == 0) && b) (and_false (not (has ns n))) ∙ and_false (not (n == 0))
+    ap (λ (b : Bool). not (n == 0) && (not (has ns n) && b)) (once_fails ns i h) ∙ ap (λ (b : Bool). not (n == 0) && b) (and-false (not (has ns n))) ∙ and-false (not (n == 0))
 
 pub zero_fails : (ns : List ℕ) (i n : ℕ) → i < length ns → n ≡ get_or ns i 0 → n ≡ 0 → all_once ns ≡ false
 zero_fails ns i n h e z = let f = eq-eqb n 0 z in once_fails ns i (once_step ns i n h e ∙ ap (λ (b : Bool). not b && (not (has (drop (i + 1) ns) n) && all_once (drop (i + 1) ns))) f)
 
 pub again_fails : (ns : List ℕ) (i n : ℕ) → i < length ns → n ≡ get_or ns i 0 → has (drop (i + 1) ns) n ≡ true → all_once ns ≡ false
-again_fails ns i n h e f = once_fails ns i (once_step ns i n h e ∙ ap (λ (b : Bool). not (n == 0) && (not b && all_once (drop (i + 1) ns))) f ∙ and_false (not (n == 0)))
+again_fails ns i n h e f = once_fails ns i (once_step ns i n h e ∙ ap (λ (b : Bool). not (n == 0) && (not b && all_once (drop (i + 1) ns))) f ∙ and-false (not (n == 0)))
 
 apart : (m n : ℕ) → (m == n) ≡ false → m ≢ n
 apart m n h e = false≢true (sym h ∙ eq-eqb m n e)

@@ -2,8 +2,8 @@
 use Rattle.std.proofs.lemmas.Bool.Decides.{nat_tests}
 use Rattle.std.proofs.Common.{ℕ, ◌≡◌, ◌+◌, ◌-◌, ◌^◌, ◌<◌, ◌≤◌, ◌&&◌, ◌⊎◌, inl, inr, nat_lt, min, cond, true, false, Some, None, sym, ap, ◌∙◌, arith}
 use Rattle.std.proofs.lemmas.Bool.{and_from}
+use Rattle.std.proofs.Math.Bool.{and-false}
 use Rattle.imp_edit.specs.Refusals.{passes}
-use Rattle.plain_values.proofs.Cases.{and_false}
 
 -- a count below the limit is exact, and one at it is no less
 limited : (u c : ℕ) → c ≡ min u (2 ^ 32 - 1) → ((c ≡ u) × (u ≤ 2 ^ 32 - 1)) ⊎ ((c ≡ 2 ^ 32 - 1) × (c ≤ u))
@@ -33,5 +33,5 @@ pub few_new : (u c next : ℕ) → c ≡ min u (2 ^ 32 - 1) → next + c ≤ 100
 few_new u c next e h = go (limited u c e)
   where
     go : ((c ≡ u) × (u ≤ 2 ^ 32 - 1)) ⊎ ((c ≡ 2 ^ 32 - 1) × (c ≤ u)) → cond (passes u next) None (Some (next + u)) ≡ Some (next + c)
-    go (inl k) = ap (λ b. cond (nat_lt 0 u && b) None (Some (next + u))) (not_less 1000001 (next + u) (omega (arith, k.0))) ∙ ap (λ b. cond b None (Some (next + u))) (and_false (nat_lt 0 u)) ∙ ap (λ m. Some (next + m)) (sym k.0)
+    go (inl k) = ap (λ b. cond (nat_lt 0 u && b) None (Some (next + u))) (not_less 1000001 (next + u) (omega (arith, k.0))) ∙ ap (λ b. cond b None (Some (next + u))) (and-false (nat_lt 0 u)) ∙ ap (λ m. Some (next + m)) (sym k.0)
     go (inr k) = absurd (omega (arith, k.0))

@@ -2,13 +2,13 @@
 use Rattle.std.proofs.Common.{◌≡◌, ◌≢◌, ℕ, suc, ◌+◌, ◌<◌, ◌≤◌, ◌&&◌, List, [], ◌∷◌, length, drop, slice_get, Some, Bool, true, false, refl, sym, ap, ◌∙◌, arith}
 use Rattle.std.specs.Cmp.Lexicographic.{pointwise}
 use Rattle.std.proofs.lemmas.List.{drop_all}
+use Rattle.std.proofs.Math.Bool.{and-false}
 use Rattle.cell_names.specs.contracts.frame.PointPartialEq.TheImpl as points
 use Rattle.imp_flow.specs.declared.node.Leave.{Leave}
 use Rattle.imp_flow.specs.contracts.node.LeavePartialEq.TheImpl as leaves
 use Rattle.imp_flow.specs.Changed.{last_of, same_leaves}
 use Rattle.imp_flow.proofs.ChangedLeaves.{there}
 use Rattle.imp_flow.proofs.LeaveLemmas.{drop_item}
-use Rattle.plain_values.proofs.Cases.{and_false}
 
 and_swap : (a b c : Bool) → (a && (b && c)) ≡ (b && (a && c))
 and_swap true b c = refl
@@ -23,7 +23,7 @@ not_as_long : (ls ks : List Leave) → length ks ≢ length ls → pointwise lea
 not_as_long [] [] h = absurd (h refl)
 not_as_long [] (k ∷ ks) h = refl
 not_as_long (l ∷ ls) [] h = refl
-not_as_long (l ∷ ls) (k ∷ ks) h = ap (λ b. leaves.ghosts.eq l k && b) (not_as_long ls ks (λ e. h (ap suc e))) ∙ and_false (leaves.ghosts.eq l k)
+not_as_long (l ∷ ls) (k ∷ ks) h = ap (λ b. leaves.ghosts.eq l k && b) (not_as_long ls ks (λ e. h (ap suc e))) ∙ and-false (leaves.ghosts.eq l k)
 
 pub leaves_apart : (ls ks : List Leave) → length ks ≢ length ls → same_leaves ls ks ≡ false
 leaves_apart [] [] h = absurd (h refl)
@@ -32,7 +32,7 @@ leaves_apart (l ∷ ls) [] h = refl
 leaves_apart (l ∷ ls) (k ∷ ks) h =
     let e = last_of l ls in
     let f = last_of k ks in
-    ap (λ b. points.ghosts.eq e.0.front f.0.front && b) (not_as_long e.1 f.1 (λ n. h (ap suc (sym (rest_length k ks) ∙ n ∙ rest_length l ls)))) ∙ and_false (points.ghosts.eq e.0.front f.0.front)
+    ap (λ b. points.ghosts.eq e.0.front f.0.front && b) (not_as_long e.1 f.1 (λ n. h (ap suc (sym (rest_length k ks) ∙ n ∙ rest_length l ls)))) ∙ and-false (points.ghosts.eq e.0.front f.0.front)
 
 pub leaves_end : (ls ks : List Leave) (i : ℕ) → length ls ≤ i → length ks ≡ length ls → same_leaves (drop i ls) (drop i ks) ≡ true
 leaves_end ls ks i h e = (λ j. same_leaves (drop_all i ls h j) (drop_all i ks (omega arith) j))

@@ -1,8 +1,9 @@
 -- Cases on tests, and what equal options hold.
-use Rattle.std.specs.Prelude.{ℕ, ◌≡◌, ◌≢◌, ◌==◌, ◌||◌, Bool, true, false, Some, None, Option, is_some, ◌&&◌}
+use Rattle.std.specs.Prelude.{ℕ, ◌≡◌, ◌≢◌, ◌==◌, ◌<◌, ◌||◌, nat_lt, nat_eq, Bool, true, false, Some, None, Option, is_some, if◌then◌else◌}
 use Rattle.std.proofs.Common.{refl, arith}
 use Rattle.std.proofs.lemmas.Bool.Decides.{nat_tests}
 use Rattle.std.proofs.lemmas.Bool.{or_parts}
+use Rattle.std.proofs.lemmas.Option.{same_Some}
 use Rattle.std.specs.Ordering.{is_eq}
 use Rattle.std.specs.declared.cmp.Ordering.{Ordering}
 use Rattle.std.specs.declared.cmp.Ordering.TheVariants.{Less, Equal, Greater}
@@ -24,9 +25,24 @@ or_first a b h = (or_parts a b h).0
 pub or_second : (a b : Bool) → (a || b) ≡ false → b ≡ false
 or_second a b h = (or_parts a b h).1
 
-pub and_false : (b : Bool) → (b && false) ≡ false
-and_false true = refl
-and_false false = refl
+-- what tests of numbers say
+pub less_of : (a b : ℕ) → nat_lt a b ≡ true → a < b
+less_of a b e = grind (arith, nat_tests)
+
+pub less_test : (a b : ℕ) → a < b → nat_lt a b ≡ true
+less_test a b h = grind (arith, nat_tests)
+
+pub equal_test : (a b : ℕ) → a ≡ b → nat_eq a b ≡ true
+equal_test a b e = grind (arith, nat_tests)
+
+-- an option that a test gives has its item, and the test is true
+pub given_item : {A : Type 0} (b : Bool) (x y : A) → (if b then Some x else None) ≡ Some y → x ≡ y
+given_item true x y e = same_Some x y e
+given_item false x y e = absurd cc
+
+pub given_test : {A : Type 0} (b : Bool) (x y : A) → (if b then Some x else None) ≡ Some y → b ≡ true
+given_test true x y e = refl
+given_test false x y e = absurd cc
 
 pub none_of : {A : Type 0} (o : Option A) → is_some o ≡ false → o ≡ None
 none_of None e = refl
