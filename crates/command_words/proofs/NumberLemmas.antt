@@ -3,18 +3,11 @@ use Rattle.std.proofs.Common.{◌≡◌, ℕ, ◌<◌, ◌≤◌, ◌^◌, ◌&&
 use Rattle.std.specs.Prelude.{decimal}
 use Rattle.std.specs.Str.{bytes_eq}
 use Rattle.std.specs.Str.Parse.{digits_value, ParsesUnsigned}
-use Rattle.std.proofs.lemmas.Bool.{and_parts, false≢true}
+use Rattle.std.proofs.lemmas.Bool.{and_parts, true≢false, not-false}
 use Rattle.std.proofs.lemmas.Bool.Decides.{nat_tests}
 use Rattle.std.proofs.lemmas.Slice.Eq.{bytes_eq-Decides}
 use Rattle.std.proofs.lemmas.Fmt.{decimal_is_IsNumeral, parse-decimal}
 use Rattle.command_words.specs.Values.{number_in}
-
-true≢false : true ≡ false → ⊥
-true≢false e = false≢true (sym e)
-
-not_false : (b : Bool) → false ≡ not b → b ≡ true
-not_false true e = refl
-not_false false e = absurd (false≢true e)
 
 pub number_is : (least most n : ℕ) (text : List ℕ) → n < 2 ^ 64 → text ≡ decimal n → least ≤ n → n ≤ most → number_in least most text ≡ Some n
 unfolding number_in
@@ -54,4 +47,4 @@ pub written_otherwise : (written text : List ℕ) → true ≡ not (bytes_eq wri
 written_otherwise written text other same = absurd (true≢false (other ∙ ap not ((bytes_eq-Decides written text).1 same)))
 
 pub written_so : (written text : List ℕ) → false ≡ not (bytes_eq written text) → written ≡ text
-written_so written text is = (bytes_eq-Decides written text).0 (not_false (bytes_eq written text) is)
+written_so written text is = (bytes_eq-Decides written text).0 (not-false (bytes_eq written text) (sym is))

@@ -1,8 +1,8 @@
 -- Steps keep well-formedness, and well-formed configurations go on until main is done.
 use Rattle.std.specs.Prelude.{◌≡◌, ◌≢◌, ℕ, suc, ◌-◌, ◌<◌, List, [], ◌∷◌, length, slice_get, Option, Some, None, Bool, true, false, ◌||◌, ◌⊎◌, ◌≤◌, get_or}
 use Rattle.std.proofs.Common.{refl, sym, ap, ◌∙◌, subst, inl, inr, arith}
-use Rattle.std.proofs.lemmas.Option.{slice_get_within, slice_get_cases}
-use Rattle.std.proofs.lemmas.Bool.{or_left, or_right}
+use Rattle.std.proofs.lemmas.Option.{slice_get_within, slice_get_cases, same_Some}
+use Rattle.std.proofs.lemmas.Bool.{or_left, or_right, false≢true}
 use Rattle.imp_slots.specs.Plain.{Layout, Guard, Invoke, Code, Stop, Simple, If, While, Call, Break, Routine}
 use Rattle.imp_slots.specs.Fits.{breaks, fits_invoke, FitsCode, IsChecked}
 use Rattle.concrete_sem.specs.Values.{Variables, Heap, Attempt, Gives, Faults, LacksInput}
@@ -139,13 +139,13 @@ module _ (program : List Routine) (checked : IsChecked program) where
   keeps_return h p v q (In s u (Done n (Some i) w) ∷ below) x d e =
       let m = from_match (slice_get program s) (λ r. Awaits r.code (Done n (Some i) w) p) x.stacked.1 in
       let k = callee s m.0 m.1 n i p m.2.0 m.2.1 in
-      let same : x.routine ≡ k.routine = some_same x.routine k.routine (sym x.at ∙ k.at) in
+      let same : x.routine ≡ k.routine = same_Some x.routine k.routine (sym x.at ∙ k.at) in
       let l : x.routine.layout ≡ i.entering.layout = ap (λ (r : Routine). r.layout) same ∙ k.layout in
       let r1 = subst (λ l. IsProper h (v ∷ u ∷ variables_of below) (l ∷ layout_at (slice_get program s) ∷ layouts_of program below)) l x.proper in
       let r2 = subst (λ o. IsProper h (v ∷ u ∷ variables_of below) (i.entering.layout ∷ layout_at o ∷ layouts_of program below)) m.1 r1 in
       let r3 = returns_keep i m.0.layout (layouts_of program below) h u v (variables_of below) k.fits r2 in
       let y = from_match (slice_get program s) (λ r. IsWork s r.code (Done n (Some i) w)) x.rest.0 in
-      let z : m.0 ≡ y.0 = some_same m.0 y.0 (sym m.1 ∙ y.1) in
+      let z : m.0 ≡ y.0 = same_Some m.0 y.0 (sym m.1 ∙ y.1) in
       well _ d e
       (closed h s (back i.returning u v) (Done n (Some i) w) below
       (record {
@@ -156,9 +156,6 @@ module _ (program : List Routine) (checked : IsChecked program) where
         rest = x.rest.1;
         proper = r3;
       }))
-    where
-      some_same : (a b : Routine) → Some a ≡ Some b → a ≡ b
-      some_same a b e = cc
 
   keeps_test : (h : Heap) (p : ℕ) (v : Variables) (n : ℕ) (g : Guard) (b : Code) (w : Work) (below : List Frame) → Top h p v (Test n g b w) below → (t : Bool) → IsWellFormed program (turn p below h v n g b w t)
   keeps_test h p v n g b w below x true =
@@ -177,7 +174,7 @@ module _ (program : List Routine) (checked : IsChecked program) where
   keeps_call h p v u n i q r w below x g None o d e = absurd cc
   keeps_call h p v u n i q r w below x g (Some c) o d e =
       let k = callee p x.routine x.at n i q r x.work.0 in
-      let same : c ≡ k.routine = some_same c k.routine (sym o ∙ k.at) in
+      let same : c ≡ k.routine = same_Some c k.routine (sym o ∙ k.at) in
       let l : i.entering.layout ≡ c.layout = sym k.layout ∙ ap (λ (r : Routine). r.layout) (sym same) in
       let r1 = passing_keeps i x.routine.layout (layouts_of program below) h v u (variables_of below) k.fits g x.proper in
       let r2 = subst (λ l. IsProper h (u ∷ v ∷ variables_of below) (l ∷ x.routine.layout ∷ layouts_of program below)) l r1 in
@@ -191,17 +188,11 @@ module _ (program : List Routine) (checked : IsChecked program) where
         routine = c;
         at = o;
         stacked = (not_last q p k.earlier long, to_match (slice_get program p) (λ r2. Awaits r2.code (Done n (Some i) (push r w)) q) x.routine x.at (r, x.work.0), same_stack p v v (Do (Call n i q r) w) (Done n (Some i) (push r w)) below x.stacked);
-        work = push_work q c.code c.code (Ret q) whole (λ b. absurd (false_not (sym kc.fits.no_break ∙ b))) refl;
+        work = push_work q c.code c.code (Ret q) whole (λ b. absurd (false≢true (sym kc.fits.no_break ∙ b))) refl;
         rest = (to_match (slice_get program p) (λ r2. IsWork p r2.code (Done n (Some i) (push r w))) x.routine x.at d1, x.rest);
         proper = r3;
       }))
     where
-      some_same : (a b : Routine) → Some a ≡ Some b → a ≡ b
-      some_same a b e = cc
-
-      false_not : false ≡ true → ⊥
-      false_not e = cc
-
       not_last : (q p : ℕ) → q < p → p < length program → suc q ≢ length program
       not_last q p a b = λ e. omega arith
 
@@ -312,13 +303,7 @@ start_is_well_formed program checked inputs words =
       routine = l.0;
       at = l.1;
       stacked = omega arith;
-      work = push_work (main program) l.0.code l.0.code (Ret (main program)) whole (λ b. absurd (false_not (sym k.fits.no_break ∙ b))) refl;
+      work = push_work (main program) l.0.code l.0.code (Ret (main program)) whole (λ b. absurd (false≢true (sym k.fits.no_break ∙ b))) refl;
       rest = tt;
       proper = start_keeps l.0.layout inputs words;
     }))
-  where
-    false_not : false ≡ true → ⊥
-    false_not e = cc
-
-pub gives_same : {A : Type 0} {a b : A} → Gives a ≡ Gives b → a ≡ b
-gives_same h = cc

@@ -3,9 +3,9 @@ use Rattle.std.specs.Prelude.{◌≡◌, ℕ, zero, suc, ◌<◌, ◌≤◌, nat
 use Rattle.std.specs.List.{AllZip}
 use Rattle.std.proofs.Common.{refl, sym, ap, ◌∙◌, subst, inl, inr, arith}
 use Rattle.std.proofs.lemmas.Bool.Decides.{nat_tests}
-use Rattle.std.proofs.lemmas.List.Elements.{All-set, All-append, All-replicate, All-nil, All-cons}
+use Rattle.std.proofs.lemmas.List.Elements.{All-set, All-append, All-replicate, All-nil, All-cons, All-tail}
 use Rattle.std.proofs.lemmas.List.{length-set, length-append, length-replicate}
-use Rattle.std.proofs.lemmas.Option.{slice_get_within, get_or_from_slice_get, same_Some}
+use Rattle.std.proofs.lemmas.Option.{same_Some}
 use Rattle.imp_slots.specs.Plain.{Numeric, Layout, Effect, Skip, Assert, SetInt, Input, ReadElement, ReadItem, MakeArray, CopyArray, WriteElement, SetNull, MakeCell, CopyLink, ReadNext, WriteNext, WriteItem, Argument, IntArgument, ArrayArgument, LinkArgument, Returning, NumericResult, LinkResult}
 use Rattle.imp_slots.specs.Fits.{is_kind, is_int, is_array, is_link, is_side, fits_term, fits_effect, fits_arguments, fits_returning, fits_invoke}
 use Rattle.analysis_words.specs.declared.fault.FaultKind.{FaultKind}
@@ -17,7 +17,8 @@ use Rattle.concrete_sem.specs.Passing.{first_number, first_link, first_variables
 use Rattle.concrete_sem.specs.Proper.{IsLink, IsCell, IsNumber, AreVariables, AreFrames, IsProper}
 use Rattle.concrete_sem.specs.Keeping.{EffectsKeep, PassingKeeps, ReturnsKeep, LastAloneKeeps, StartKeeps}
 use Rattle.std.proofs.lemmas.Bool.{and_parts, or_cases}
-use Rattle.concrete_sem.proofs.Numbers.{given, gives_inj, is_word_zero, slot_of, array_is_words, numbers_kept, at_slot, value_word}
+use Rattle.concrete_sem.proofs.Numbers.{given, is_word_zero, slot_of, array_is_words, numbers_kept, at_slot, value_word, gives_same}
+use Rattle.plain_values.proofs.Lists.{all_at}
 
 -- Slots set to values of their kinds.
 int_kept : (n : ℕ) (l : Layout) (v : Variables) (x : ℕ) (z : ℤ) → AreVariables n l v → is_int l x ≡ true → IsWord z → AreVariables n l (with_number v x (Int z))
@@ -87,9 +88,6 @@ cell_added h c vs ls p i =
     }
 
 -- What is read.
-read_is : {A : Type 0} (P : A → Type 0) (xs : List A) (k : ℕ) (x : A) → All P xs → slice_get xs k ≡ Some x → P x
-read_is P xs k x a e = subst P (get_or_from_slice_get xs k x x e) (a k x (slice_get_within xs k x e))
-
 pub given_some : {A : Type 0} (k : FaultKind) (o : Option A) (x : A) → given_or k o ≡ Gives x → o ≡ Some x
 given_some k None x e = absurd cc
 given_some k (Some y) x e = cc
@@ -98,10 +96,10 @@ cell_is : (n : ℕ) (cells : List Cell) (q : Option ℕ) (c : ℕ × Cell) → A
 cell_is n cells None c a e = absurd cc
 cell_is n cells (Some k) c a e =
     let t = given (given_or Null (slice_get cells k)) (λ c. Gives (k, c)) c e in
-    subst (λ (c : ℕ × Cell). IsCell n c.1) (gives_inj _ _ t.gives) (read_is (IsCell n) cells k t.value a (given_some Null _ t.value t.was))
+    subst (λ (c : ℕ × Cell). IsCell n c.1) (gives_same t.gives) (all_at (IsCell n) cells k t.value a (given_some Null _ t.value t.was))
 
 pub element_is : (zs : List ℤ) (i z : ℤ) → All IsWord zs → element zs i ≡ Gives z → IsWord z
-element_is zs (pos k) z a e = read_is IsWord zs k z a (given_some Index _ z e)
+element_is zs (pos k) z a e = all_at IsWord zs k z a (given_some Index _ z e)
 element_is zs (negsuc k) z a e = absurd cc
 
 record IsArray (zs : List ℤ) : Type 0 where
@@ -111,7 +109,7 @@ record IsArray (zs : List ℤ) : Type 0 where
 array_of_if : (c : Bool) (n : ℕ) (zs : List ℤ) → nat_le n 1000000 ≡ c → (if c then Gives (replicate n (pos 0)) else Faults Length) ≡ Gives zs → IsArray zs
 array_of_if true n zs k e =
     let s : n ≤ 1000000 = grind (arith, nat_tests) in
-    subst IsArray (gives_inj _ _ e) (record { short = rw length-replicate s; words = All-replicate IsWord n (pos 0) is_word_zero })
+    subst IsArray (gives_same e) (record { short = rw length-replicate s; words = All-replicate IsWord n (pos 0) is_word_zero })
 array_of_if false n zs k e = absurd cc
 
 new_is : (n : ℤ) (zs : List ℤ) → new_array n ≡ Gives zs → IsArray zs
@@ -119,7 +117,7 @@ new_is (pos n) zs e = array_of_if (nat_le n 1000000) n zs refl e
 new_is (negsuc n) zs e = absurd cc
 
 set_if : (c : Bool) (zs ys : List ℤ) (k : ℕ) (z : ℤ) → IsArray zs → IsWord z → (if c then Gives (slice_set zs k z) else Faults Index) ≡ Gives ys → IsArray ys
-set_if true zs ys k z a w e = subst IsArray (gives_inj _ _ e) (record { short = rw length-set a.short; words = All-set IsWord zs k z w a.words })
+set_if true zs ys k z a w e = subst IsArray (gives_same e) (record { short = rw length-set a.short; words = All-set IsWord zs k z w a.words })
 set_if false zs ys k z a w e = absurd cc
 
 set_is : (zs ys : List ℤ) (i z : ℤ) → IsArray zs → IsWord z → with_element zs i z ≡ Gives ys → IsArray ys
@@ -134,7 +132,7 @@ module _ (l : Layout) (ls : List Layout) (vs : List Variables) where
   Fine x = IsProper x.0 (x.1 ∷ vs) (l ∷ ls)
 
   fine : (x y : Heap × Variables) → Gives x ≡ Gives y → Fine x → Fine y
-  fine x y e p = subst Fine (gives_inj x y e) p
+  fine x y e p = subst Fine (gives_same e) p
 
   input_kept : (cells : List Cell) (inputs : List ℤ) (v : Variables) (x : ℕ) (y : Heap × Variables) → is_int l x ≡ true → take_input cells inputs v x ≡ Gives y → IsProper (record { cells = cells; inputs = inputs }) (v ∷ vs) (l ∷ ls) → Fine y
   input_kept cells [] v x y f e p = absurd cc
@@ -230,13 +228,10 @@ over_length [] ys = refl
 over_length (x ∷ xs) [] = refl
 over_length (x ∷ xs) (y ∷ ys) = ap suc (over_length xs ys)
 
-rest_of : {A : Type 0} (P : A → Type 0) (x : A) (xs : List A) → All P (x ∷ xs) → All P xs
-rest_of P x xs a k d h = a (suc k) d (omega arith)
-
 over_all : {A : Type 0} (P : A → Type 0) (xs ys : List A) → All P xs → All P ys → All P (over xs ys)
 over_all P [] ys a b = b
 over_all P (x ∷ xs) [] a b = All-nil P
-over_all P (x ∷ xs) (y ∷ ys) a b = All-cons P x (over xs ys) (a 0 x (omega arith)) (over_all P xs ys (rest_of P x xs a) (rest_of P y ys b))
+over_all P (x ∷ xs) (y ∷ ys) a b = All-cons P x (over xs ys) (a 0 x (omega arith)) (over_all P xs ys (All-tail P x xs a) (All-tail P y ys b))
 
 record FitPassed (cells : ℕ) (ns : List Numeric) (p : Variables) : Type 0 where
   numbers : FitsFirst ns p.numbers
@@ -250,27 +245,27 @@ more_numbers k c (n ∷ ns) p m e i f =
     record { numbers = (subst (λ n. IsNumber n m) (same_Some _ _ (sym s.1)) (i s.0 s.2), f.numbers); links = f.links }
 
 passed_fit : (c : ℕ) (l : Layout) (v : Variables) (list : List Argument) (ns : List Numeric) (ls : List (List ℕ)) (p : Variables) → AreVariables c l v → fits_arguments l list ns ls ≡ true → passed v list ≡ Gives p → FitPassed c ns p
-passed_fit c l v [] ns ls p a f e = subst (FitPassed c ns) (gives_inj _ _ e) (record { numbers = tt; links = All-nil (IsLink c) })
+passed_fit c l v [] ns ls p a f e = subst (FitPassed c ns) (gives_same e) (record { numbers = tt; links = All-nil (IsLink c) })
 passed_fit c l v (IntArgument e ∷ more) ns ls p a f g =
     let t = given (value_of v e) (λ z. andthen (passed v more) (λ p. Gives (record p { numbers = Int z ∷ p.numbers }))) p g in
     let u = given (passed v more) (λ p. Gives (record p { numbers = Int t.value ∷ p.numbers })) p t.gives in
     let k = and_parts (is_kind false (slice_get ns 0)) (fits_term l e && fits_arguments l more (drop 1 ns) ls) f in
     let j = and_parts (fits_term l e) (fits_arguments l more (drop 1 ns) ls) k.1 in
-    subst (FitPassed c ns) (gives_inj _ _ u.gives)
+    subst (FitPassed c ns) (gives_same u.gives)
     (more_numbers false c ns u.value (Int t.value) k.0 (λ n i. (i, value_word c l v a e j.0 t.value t.was)) (passed_fit c l v more (drop 1 ns) ls u.value a j.1 u.was))
 passed_fit c l v (ArrayArgument x ∷ more) ns ls p a f g =
     let u = given (passed v more) (λ p. Gives (record p { numbers = Array (array_at v x) ∷ p.numbers })) p g in
     let k = and_parts (is_kind true (slice_get ns 0)) (is_array l x && fits_arguments l more (drop 1 ns) ls) f in
     let j = and_parts (is_array l x) (fits_arguments l more (drop 1 ns) ls) k.1 in
     let r = array_is c l v x a j.0 in
-    subst (FitPassed c ns) (gives_inj _ _ u.gives)
+    subst (FitPassed c ns) (gives_same u.gives)
     (more_numbers true c ns u.value (Array (array_at v x)) k.0 (λ n i. (i, r.short, r.words)) (passed_fit c l v more (drop 1 ns) ls u.value a j.1 u.was))
 passed_fit c l v (LinkArgument q ∷ more) ns ls p a f g =
     let u = given (passed v more) (λ p. Gives (record p { links = side_at v q ∷ p.links })) p g in
     let k = and_parts (nat_lt 0 (length ls)) (is_side l q && fits_arguments l more ns (drop 1 ls)) f in
     let j = and_parts (is_side l q) (fits_arguments l more ns (drop 1 ls)) k.1 in
     let r = passed_fit c l v more ns (drop 1 ls) u.value a j.1 u.was in
-    subst (FitPassed c ns) (gives_inj _ _ u.gives)
+    subst (FitPassed c ns) (gives_same u.gives)
     (record { numbers = r.numbers; links = All-cons (IsLink c) (side_at v q) u.value.links (side_is c l v q a) r.links })
 
 -- The values with which variables start.
@@ -312,7 +307,7 @@ passing_keeps i l ls h v u vs f g p =
       count = over_length t.value.links (map first_link ks) ∙ first_length ks;
       links = over_all (IsLink c) t.value.links (map first_link ks) r.links (first_links c ks);
     } in
-    record { cells = p.cells; inputs = p.inputs; frames = (subst (AreVariables c i.entering.layout) (gives_inj _ _ t.gives) a, p.frames) }
+    record { cells = p.cells; inputs = p.inputs; frames = (subst (AreVariables c i.entering.layout) (gives_same t.gives) a, p.frames) }
 
 taken_kept : (c : ℕ) (k l : Layout) (v d : Variables) (to from : ℕ) (b : Bool) → is_kind b (slice_get k.numbers from) ≡ true → is_kind b (slice_get l.numbers to) ≡ true → AreVariables c k d → AreVariables c l v → AreVariables c l (with_number v to (number_at d from))
 taken_kept c k l v d to from b e f a r =

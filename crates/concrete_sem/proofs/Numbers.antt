@@ -1,11 +1,11 @@
 -- What is evaluated in variables of a layout is an integer of 64 bits.
-use Rattle.std.specs.Prelude.{◌≡◌, ℕ, zero, suc, ◌^◌, ◌<◌, ◌≤◌, ℤ, pos, negsuc, ◌+ℤ◌, ◌-ℤ◌, ◌*ℤ◌, neg_ℤ, unsigned_abs, int_div, int_rem, List, [], ◌∷◌, length, slice_get, slice_index_or, slice_set, Option, Some, None, Bool, true, false, not, if◌then◌else◌, All}
+use Rattle.std.specs.Prelude.{◌≡◌, ℕ, zero, suc, ◌^◌, ◌<◌, ◌≤◌, ℤ, pos, negsuc, ◌+ℤ◌, ◌-ℤ◌, ◌*ℤ◌, neg_ℤ, unsigned_abs, int_div, int_rem, List, [], ◌∷◌, length, slice_get, slice_index_or, slice_set, Option, Some, None, Bool, true, false, if◌then◌else◌, All}
 use Rattle.std.specs.List.{AllZip}
 use Rattle.std.specs.Int.{w64}
 use Rattle.std.specs.Ordering.{int_eq}
 use Rattle.std.proofs.Common.{refl, sym, subst, arith}
 use Rattle.std.proofs.lemmas.Int.{rem_below, fits_signed_from_abs}
-use Rattle.std.proofs.lemmas.Bool.{and_parts, ltb-true}
+use Rattle.std.proofs.lemmas.Bool.{and_parts, ltb-true, not-true}
 use Rattle.imp_slots.specs.Plain.{Numeric, Layout, Term, Literal, Slot, Length, Negative, Binary}
 use Rattle.imp_slots.specs.Fits.{is_kind, fits_term}
 use Rattle.imp_syntax.specs.declared.words.Operator.{Operator}
@@ -15,6 +15,9 @@ use Rattle.analysis_words.specs.declared.fault.FaultKind.TheVariants.{Overflow, 
 use Rattle.concrete_sem.specs.Values.{Number, Int, Array, Variables, Attempt, Gives, Faults, LacksInput, andthen, is_word, IsWord, as_int, as_array, number_at}
 use Rattle.concrete_sem.specs.Evaluation.{word, quotient, combine, value_of}
 use Rattle.concrete_sem.specs.Proper.{IsNumber, AreVariables}
+
+pub gives_same : {A : Type 0} {a b : A} → Gives a ≡ Gives b → a ≡ b
+gives_same h = cc
 
 -- an attempt that gave something
 pub record Given {A B : Type 0} (o : Attempt A) (f : A → Attempt B) (b : B) : Type 0 where
@@ -27,9 +30,6 @@ given (Gives a) f b e = record { value = a; was = refl; gives = e }
 given (Faults k) f b e = absurd cc
 given LacksInput f b e = absurd cc
 
-pub gives_inj : {A : Type 0} (a b : A) → Gives a ≡ Gives b → a ≡ b
-gives_inj a b e = cc
-
 pub word_of : (z : ℤ) → is_word z ≡ true → IsWord z
 word_of (pos n) e = record { sfits = ltb-true n (2 ^ 63) e }
 word_of (negsuc n) e = record { sfits = ltb-true n (2 ^ 63) e }
@@ -38,7 +38,7 @@ pub is_word_zero : IsWord (pos 0)
 is_word_zero = word_of (pos 0) refl
 
 word_if : (c : Bool) (x z : ℤ) (k : FaultKind) → is_word x ≡ c → (if c then Gives x else Faults k) ≡ Gives z → IsWord z
-word_if true x z k i e = subst IsWord (gives_inj x z e) (word_of x i)
+word_if true x z k i e = subst IsWord (gives_same e) (word_of x i)
 word_if false x z k i e = absurd cc
 
 pub word_gives : (x z : ℤ) → word x ≡ Gives z → IsWord z
@@ -70,18 +70,14 @@ combine_gives Multiply x y z f g e = word_gives (x *ℤ y) z e
 combine_gives Divide x y z f g e = (quotient_by (int_eq y (pos 0)) x y z e).1
 combine_gives Remainder x y z f g e =
     let t = given (quotient x y) (λ q. Gives (int_rem x y)) z e in
-    subst IsWord (gives_inj _ _ t.gives) (rem_word x y g (not_zero y (quotient_by (int_eq y (pos 0)) x y t.value t.was).0))
+    subst IsWord (gives_same t.gives) (rem_word x y g (not_zero y (quotient_by (int_eq y (pos 0)) x y t.value t.was).0))
 
 -- Slots of a kind hold values of that kind.
 pub slot_of : (k : Bool) (o : Option Numeric) → is_kind k o ≡ true → (n : Numeric) × (o ≡ Some n) × (n.is_array ≡ k)
 slot_of true None e = absurd cc
 slot_of false None e = absurd cc
 slot_of true (Some n) e = (n, refl, e)
-slot_of false (Some n) e = (n, refl, flip n.is_array e)
-  where
-    flip : (b : Bool) → not b ≡ true → b ≡ false
-    flip true e = absurd cc
-    flip false e = refl
+slot_of false (Some n) e = (n, refl, not-true n.is_array e)
 
 pub int_is_word : (k : Numeric) (m : Number) → IsNumber k m → IsWord (as_int m)
 int_is_word k (Int z) f = f.1
@@ -120,11 +116,11 @@ length_word n h = record { sfits = small n h }
 
 pub value_word : (cells : ℕ) (l : Layout) (v : Variables) → AreVariables cells l v → (e : Term) → fits_term l e ≡ true → (z : ℤ) → value_of v e ≡ Gives z → IsWord z
 unfolding value_of fits_term
-value_word cells l v a (Literal n) f z g = subst IsWord (gives_inj (pos n) z g) (word_of (pos n) f)
+value_word cells l v a (Literal n) f z g = subst IsWord (gives_same g) (word_of (pos n) f)
 value_word cells l v a (Slot x) f z g =
-    let s = at_slot cells l v false x a f in subst IsWord (gives_inj _ z g) (int_is_word s.0 _ s.2)
+    let s = at_slot cells l v false x a f in subst IsWord (gives_same g) (int_is_word s.0 _ s.2)
 value_word cells l v a (Length x) f z g =
-    let s = at_slot cells l v true x a f in subst IsWord (gives_inj _ z g) (length_word _ (array_is_words s.0 _ s.2).0)
+    let s = at_slot cells l v true x a f in subst IsWord (gives_same g) (length_word _ (array_is_words s.0 _ s.2).0)
 value_word cells l v a (Negative e) f z g =
     let t = given (value_of v e) (λ x. word (neg_ℤ x)) z g in word_gives (neg_ℤ t.value) z t.gives
 value_word cells l v a (Binary o x y) f z g =

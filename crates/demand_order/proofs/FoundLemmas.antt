@@ -1,25 +1,11 @@
 -- The inputs of a name that were found so far.
-use Rattle.std.proofs.Common.{◌≡◌, ℕ, zero, suc, ◌<◌, ◌≤◌, true, List, [], ◌∷◌, ◌++◌, length, map, take, drop, Option, Some, None, is_some, slice_get, refl, ap, ◌∙◌, arith, length-append, take_all}
+use Rattle.std.proofs.Common.{◌≡◌, ℕ, zero, suc, ◌<◌, true, List, [], ◌∷◌, ◌++◌, length, map, take, drop, Option, Some, None, is_some, slice_get, refl, ap, ◌∙◌, arith, length-append, take_all}
 use Rattle.demand_order.specs.Store.{has, first_absent}
 use Rattle.demand_order.specs.Found.{AreFound, Grown}
-use Rattle.demand_order.proofs.OrderLemmas.{by_bool}
-use Rattle.std.proofs.lemmas.List.{map_push}
-
-split_at : {T : Type 0} (xs : List T) (k : ℕ) (x : T) → slice_get xs k ≡ Some x → (k < length xs) × (drop k xs ≡ x ∷ drop (suc k) xs) × (take (suc k) xs ≡ take k xs ++ x ∷ [])
-split_at [] k x h = cc
-split_at (y ∷ ys) zero x h = let e : y ≡ x = cc in (omega arith, ap (λ v. v ∷ ys) e, ap (λ v. v ∷ []) e)
-split_at (y ∷ ys) (suc k) x h = let r = split_at ys k x h in (omega (arith, r.0), r.1, ap (λ v. y ∷ v) r.2)
-
-split_none : {T : Type 0} (xs : List T) (k : ℕ) → slice_get xs k ≡ None → length xs ≤ k
-split_none [] k h = omega arith
-split_none (y ∷ ys) zero h = cc
-split_none (y ∷ ys) (suc k) h = let r : length ys ≤ k = split_none ys k h in omega arith
-
-drop_end : {T : Type 0} (xs : List T) (k : ℕ) → length xs ≤ k → drop k xs ≡ []
-drop_end [] zero h = refl
-drop_end [] (suc k) h = refl
-drop_end (x ∷ xs) zero h = absurd (omega arith)
-drop_end (x ∷ xs) (suc k) h = drop_end xs k (omega arith)
+use Rattle.std.proofs.lemmas.List.{map_push, drop_all}
+use Rattle.plain_values.proofs.Cases.{by_bool}
+use Rattle.plain_values.proofs.Lists.{drop_next, take_next, none_past}
+use Rattle.std.proofs.lemmas.Option.{slice_get_within}
 
 -- where the first n have cells, the first that has none is among the rest
 absent-rest : {T V : Type 0} (get : T → Option V) (xs : List T) (n : ℕ) → first_absent get (take n xs) ≡ None → first_absent get xs ≡ first_absent get (drop n xs)
@@ -61,22 +47,21 @@ found-stays value old new xs found f g = record { within = f.within; values = f.
 module _ {T V : Type 0} (value : T → V) (get : T → Option V) (xs : List T) (found : List V) (f : AreFound value get xs found) where
   pub found-step : (x : T) (v : V) → slice_get xs (length found) ≡ Some x → get x ≡ Some v → v ≡ value x → AreFound value get xs (found ++ v ∷ [])
   found-step x v at held is =
-      let r = split_at xs (length found) x at in
+      let next = take_next xs (length found) x at in
       let len : length (found ++ v ∷ []) ≡ suc (length found) = omega (arith, length-append found (v ∷ [])) in
       record {
-        within = let lt : length found < length xs = r.0 in omega arith;
+        within = let lt : length found < length xs = slice_get_within xs (length found) x at in omega arith;
         values =
-            rw (len, r.2, map_push value (take (length found) xs) x)
+            rw (len, next, map_push value (take (length found) xs) x)
             (ap (λ w. w ++ v ∷ []) f.values ∙ ap (λ w. map value (take (length found) xs) ++ w ∷ []) is);
-        there = rw (len, r.2) (absent-push get (take (length found) xs) x f.there (ap is_some held));
+        there = rw (len, next) (absent-push get (take (length found) xs) x f.there (ap is_some held));
       }
 
   pub found-missing : (x : T) → slice_get xs (length found) ≡ Some x → get x ≡ None → first_absent get xs ≡ Some x
   found-missing x at held =
-      let r = split_at xs (length found) x at in
-      absent-rest get xs (length found) f.there ∙ ap (first_absent get) r.1 ∙ rw held refl
+      absent-rest get xs (length found) f.there ∙ ap (first_absent get) (drop_next xs (length found) x at) ∙ rw held refl
 
   pub found-all : slice_get xs (length found) ≡ None → (first_absent get xs ≡ None) × (found ≡ map value xs)
   found-all at =
-      let h = split_none xs (length found) at in
-      (absent-rest get xs (length found) f.there ∙ ap (first_absent get) (drop_end xs (length found) h), f.values ∙ ap (map value) (take_all (length found) xs h))
+      let h = none_past xs (length found) at in
+      (absent-rest get xs (length found) f.there ∙ ap (first_absent get) (drop_all (length found) xs h), f.values ∙ ap (map value) (take_all (length found) xs h))

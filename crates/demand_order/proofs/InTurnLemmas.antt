@@ -3,14 +3,13 @@ use Rattle.std.proofs.Common.{◌≡◌, ℕ, zero, suc, Bool, true, false, ◌|
 use Rattle.demand_order.specs.Order.{System, IsAcyclic, member, seen, visit, fill, fill_all}
 use Rattle.demand_order.specs.OrderLaws.{IsDistinct, Needed, IsClosed}
 use Rattle.demand_order.specs.InTurn.{missing_in_turn, all_demanded}
-use Rattle.demand_order.proofs.OrderLemmas.{by_bool, or_assoc, not_both, member-append, visit-seen, visit-new}
+use Rattle.demand_order.proofs.OrderLemmas.{not_both, member-append, visit-seen, visit-new}
 use Rattle.demand_order.proofs.OrderLawProofs.{order-distinct, order-needed, needed-seen}
 use Rattle.demand_order.proofs.TheoremProofs.{ceiling, below}
 use Rattle.std.proofs.lemmas.Bool.{or_cases}
-
-fold-append : {A B : Type 0} (g : B → A → B) (d : B) (xs ys : List A) → fold g d (xs ++ ys) ≡ fold g (fold g d xs) ys
-fold-append g d [] ys = refl
-fold-append g d (x ∷ xs) ys = fold-append g (g d x) xs ys
+use Rattle.plain_values.proofs.Cases.{by_bool}
+use Rattle.std.proofs.Math.Bool.{or_assoc}
+use Rattle.std.proofs.lemmas.List.Sums.{fold-append}
 
 module _ {T : Type 0} (s : System T) (law : IsAcyclic s) (kept : T → Bool) (first : List T) where
   -- what was kept, and what was filled first

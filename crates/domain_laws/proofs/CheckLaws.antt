@@ -22,10 +22,7 @@ use Rattle.domain_laws.specs.Claims.{ChecksTo, FailsCheck}
 use Rattle.std.proofs.lemmas.Option.{slice_get_within}
 use Rattle.plain_values.proofs.Lists.{none_past}
 use Rattle.concrete_sem.proofs.Keeps.{link_is, given_some}
-
-not_not : (b : Bool) → not (not b) ≡ b
-not_not true = refl
-not_not false = refl
+use Rattle.std.proofs.Math.Bool.{not-not}
 
 lt-not_le : (x y : ℤ) → int_le y x ≡ not (int_lt x y)
 lt-not_le x y = grind (arith, ints)
@@ -36,7 +33,7 @@ le-not_lt x y = grind (arith, ints)
 -- the opposite relation holds exactly where the relation does not
 pub relates-opposite : (r : Relation) (x y : ℤ) → relates (opposite r) x y ≡ not (relates r x y)
 relates-opposite Equal x y = refl
-relates-opposite NotEqual x y = sym (not_not (int_eq x y))
+relates-opposite NotEqual x y = sym (not-not (int_eq x y))
 relates-opposite Less x y = lt-not_le x y
 relates-opposite AtMost x y = le-not_lt x y
 relates-opposite Greater x y = lt-not_le y x

@@ -12,7 +12,8 @@ use Rattle.domain_laws.specs.Checks.{Check, check_of, checked_guard, opposite, p
 use Rattle.domain_laws.specs.Guards.{assumed, verdict_on, verdict_by, Compares, Tells}
 use Rattle.domain_laws.specs.Claims.{same_truth}
 use Rattle.domain_laws.proofs.CheckLaws.{andthen-gives, relates-opposite}
-use Rattle.concrete_sem.proofs.Forms.{gives_same}
+use Rattle.concrete_sem.proofs.Numbers.{gives_same}
+use Rattle.std.proofs.Math.Bool.{not-not}
 
 not-gives : (m : Attempt Bool) (b : Bool) → andthen m (λ x. Gives (not x)) ≡ Gives b → m ≡ Gives (not b)
 not-gives (Gives true) b h = ap (λ x. Gives (not x)) (gives_same h)
@@ -152,10 +153,6 @@ module _ {S : Type 0} (assume : Guard → Bool → S → S) (is_empty : S → Bo
   pub verdict_by-safe : (e : Effect) (c : Check) (s : S) → check_of e ≡ Some c → verdict_by assume is_empty (Does e) s ≡ Safe → is_empty (assume (checked_guard c) false s) ≡ true
   verdict_by-safe e c s k h = verdict-safe c s (subst (λ o. verdict_on assume is_empty o s ≡ Safe) k h)
 
-not_not : (b : Bool) → not (not b) ≡ b
-not_not true = refl
-not_not false = refl
-
 -- the second side of && and ||, by the truth value of the first
 and_true : (m n : Attempt Bool) (b c : Bool) → (m ≡ Gives c → n ≡ Gives c) → (if b then m else Gives false) ≡ Gives c → (if b then n else Gives false) ≡ Gives c
 and_true m n true c f h = f h
@@ -182,8 +179,8 @@ positive-truth v (Compare r x y) false c t =
     (λ i. andthen (a.1 i) (λ x. andthen (d.1 i) (λ y. Gives (relates (opposite r) x y)))) ∙ ap Gives (relates-opposite r a.0 d.0 ∙ ap not (gives_same d.2))
 positive-truth v (CompareLinks equal p q) true c t = t
 positive-truth v (CompareLinks true p q) false c t = ap (λ b. Gives (not b)) (gives_same t)
-positive-truth v (CompareLinks false p q) false c t = ap Gives (sym (not_not (same_link (side_at v p) (side_at v q))) ∙ ap not (gives_same t))
-positive-truth v (Not g) true c t = positive-truth v g false (not c) (not-gives (truth_of v g) c t) ∙ ap Gives (not_not c)
+positive-truth v (CompareLinks false p q) false c t = ap Gives (sym (not-not (same_link (side_at v p) (side_at v q))) ∙ ap not (gives_same t))
+positive-truth v (Not g) true c t = positive-truth v g false (not c) (not-gives (truth_of v g) c t) ∙ ap Gives (not-not c)
 positive-truth v (Not g) false c t = positive-truth v g true (not c) (not-gives (truth_of v g) c t)
 positive-truth v (And g h) true c t =
     let a = andthen-gives (truth_of v g) (λ b. if b then truth_of v h else Gives false) c t in

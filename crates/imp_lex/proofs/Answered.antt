@@ -1,7 +1,7 @@
 -- The answer of a text, as a function, and that the relations say the same.
-use Rattle.std.proofs.Common.{◌≡◌, ℕ, zero, suc, ◌+◌, ◌-◌, ◌<◌, List, [], ◌∷◌, ◌++◌, length, drop, take, refl, sym, ap, ◌∙◌, arith, append_assoc, length-drop}
+use Rattle.std.proofs.Common.{◌≡◌, ℕ, zero, suc, ◌+◌, ◌<◌, List, [], ◌∷◌, ◌++◌, length, drop, refl, sym, ap, ◌∙◌, arith, append_assoc, length-drop}
 use Rattle.std.specs.Prelude.{Ok, Err}
-use Rattle.std.proofs.lemmas.List.{append-nil, drop-drop, take_all}
+use Rattle.std.proofs.lemmas.List.{append-nil, drop-drop}
 use Rattle.imp_lex.specs.declared.token.Kind.{Kind}
 use Rattle.imp_lex.specs.declared.token.Token.{Token}
 use Rattle.imp_lex.specs.declared.error.Fault.{Fault}
@@ -120,7 +120,3 @@ refuses text found at fault e so_far = so_far ∙ ap (behind found) (stepped at 
 
 pub all_found : (text : List ℕ) (found : List Token) (at : ℕ) → front_of (drop at text) ≡ p.End → HasFound text found at → answer_of 0 text ≡ Ok found
 all_found text found at e so_far = so_far ∙ ap (behind found) (stepped at (drop at text) p.End e) ∙ ap Ok (append-nil found)
-
--- the slice from a place on
-pub slice_from : (text : List ℕ) (at : ℕ) → take (length text - at) (drop at text) ≡ drop at text
-slice_from text at = take_all (length text - at) (drop at text) (omega (arith, length-drop at text))

@@ -15,13 +15,13 @@ use Rattle.shape_steps.proofs.Graphs.{IsGraph-forget, IsGraph-push, IsGraph-pop,
 use Rattle.shape_steps.proofs.Concrete.{slot-node, slot-ok, Covers-enter, Covers-pop, Covers-last, Covers-leave}
 use Rattle.listseg_meaning.specs.State.{Segments, Top, Graphs}
 use Rattle.listseg_meaning.specs.Operations.{each, init, link_arguments, entered, enter, returned, leave, shed}
-use Rattle.listseg_meaning.specs.Covers.{main_first, counts}
+use Rattle.listseg_meaning.specs.Covers.{main_first}
 use Rattle.listseg_meaning.proofs.Frames.{set_last-push, last_of-push, slot_of-push, remove-push, set_last-counts, push-counts, pop-counts, last-counts}
 use Rattle.listseg_meaning.proofs.Fitting.{Framed, FitsGraph, FitsState, each-fits}
 use Rattle.listseg_meaning.proofs.Covering.{Describes, each-describes}
 use Rattle.listseg_meaning.proofs.Links.{side-is}
 use Rattle.concrete_sem.proofs.Keeps.{over_length}
-use Rattle.concrete_sem.proofs.Forms.{gives_same}
+use Rattle.concrete_sem.proofs.Numbers.{gives_same}
 
 -- one graph for each
 only : (ns : List ℕ) (f : Shape → Shape) (g x : Shape) → Framed ns (f g) → In x (f g ∷ []) → Framed ns x

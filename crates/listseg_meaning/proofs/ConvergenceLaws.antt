@@ -1,11 +1,10 @@
 -- A join keeps its left side, or adds a graph, or is Top.
-use Rattle.std.proofs.Common.{◌≡◌, ℕ, ◌+◌, ◌-◌, ◌<◌, ◌≤◌, true, cond, List, [], ◌∷◌, ◌⊎◌, inl, inr, length, refl, sym, ap, subst, arith}
+use Rattle.std.proofs.Common.{◌≡◌, ℕ, ◌+◌, ◌-◌, ◌<◌, ◌≤◌, cond, List, [], ◌∷◌, ◌⊎◌, inl, inr, length, refl, sym, ap, subst, arith}
 use Rattle.std.specs.Prelude.{nat_le}
 use Rattle.std.specs.Ordering.{match_ordering}
 use Rattle.std.specs.declared.cmp.Ordering.{Ordering}
 use Rattle.std.specs.declared.cmp.Ordering.TheVariants.{Less, Equal, Greater}
 use Rattle.std.proofs.lemmas.Bool.{cases_Bool}
-use Rattle.std.proofs.lemmas.Bool.Decides.{nat_tests}
 use Rattle.shape_graph.specs.Shape.{Shape}
 use Rattle.shape_graph.specs.Order.{shape_cmp}
 use Rattle.listseg_meaning.specs.State.{Segments, Top, Graphs}
@@ -13,7 +12,7 @@ use Rattle.listseg_meaning.specs.Sets.{put, union, most, capped}
 use Rattle.listseg_meaning.specs.Operations.{join}
 use Rattle.listseg_meaning.specs.Covers.{counts}
 use Rattle.listseg_meaning.specs.Convergence.{changes_left, JoiningEnds, WideningEnds}
-use Rattle.listseg_meaning.proofs.Fitting.{FitsState, fits-state}
+use Rattle.listseg_meaning.proofs.Fitting.{FitsState, fits-state, few-is}
 
 put-cases : (g h : Shape) (hs : List Shape) (o : Ordering) → (put g hs ≡ hs) ⊎ (length (put g hs) ≡ length hs + 1)
     → (match_ordering o (g ∷ h ∷ hs) (h ∷ hs) (h ∷ put g hs) ≡ h ∷ hs) ⊎ (length (match_ordering o (g ∷ h ∷ hs) (h ∷ hs) (h ∷ put g hs)) ≡ length (h ∷ hs) + 1)
@@ -41,9 +40,6 @@ union-grows gs (h ∷ hs) =
       | inl e ↦ subst (λ v. (union v hs ≡ gs) ⊎ (length gs < length (union v hs))) (sym e) (union-grows gs hs)
       | inr e ↦ inr (let l = union-le (put h gs) hs in omega arith)
     ]
-
-few-is : (n : ℕ) → nat_le n most ≡ true → n ≤ 64
-few-is n h = grind (arith, nat_tests)
 
 capped-grows : (gs hs : List Shape) → length gs ≤ 64 → (hs ≡ gs) ⊎ (length gs < length hs) → (capped hs ≡ Graphs gs) ⊎ (changes_left (capped hs) < 65 - length gs)
 unfolding capped

@@ -11,8 +11,9 @@ use Rattle.shape_steps.specs.Steps.{AnyCovers}
 use Rattle.listseg_meaning.specs.State.{Segments, Top, Graphs}
 use Rattle.listseg_meaning.specs.Sets.{union, most, capped}
 use Rattle.listseg_meaning.specs.Operations.{collected, each, kept, join}
-use Rattle.listseg_meaning.proofs.Members.{union-left, union-right, In-map, In-flat_map, In-filter}
+use Rattle.listseg_meaning.proofs.Members.{union-left, union-right, In-flat_map, In-filter}
 use Rattle.listseg_meaning.proofs.Fitting.{Framed, FitsState}
+use Rattle.shape_graph.proofs.Lists.{In-map}
 
 -- the state describes the links
 abbrev pub Describes : List (List (Option ℕ)) → List (Option ℕ) → Segments → Type 0

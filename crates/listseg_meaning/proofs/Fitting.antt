@@ -16,7 +16,7 @@ use Rattle.listseg_meaning.specs.Sets.{union, rises, most, capped}
 use Rattle.listseg_meaning.specs.Operations.{collected, each, kept}
 use Rattle.listseg_meaning.specs.Covers.{counts, fits_graph, fit_graphs, fits}
 use Rattle.listseg_meaning.proofs.Members.{union-from, In-from_map, In-from_flat_map, In-from_filter}
-use Rattle.listseg_meaning.proofs.Rising.{union-rises, filter-rises}
+use Rattle.listseg_meaning.proofs.Rising.{union_rises, filter_rises}
 
 -- a graph of frames with these numbers of slots
 pub record Framed (ns : List ℕ) (g : Shape) : Type 0 where
@@ -61,10 +61,10 @@ fit-graphs : (ls : List Layout) (gs : List Shape) → ((g : Shape) → In g gs �
 fit-graphs ls [] f = refl
 fit-graphs ls (k ∷ ks) f = and_from (fits_graph ls k) (fit_graphs ls ks) (fits-graph ls k (f k (inl refl))) (fit-graphs ls ks (λ g i. f g (inr i)))
 
-few-is : (n : ℕ) → nat_le n most ≡ true → n ≤ 64
+pub few-is : (n : ℕ) → nat_le n most ≡ true → n ≤ 64
 few-is n h = grind (arith, nat_tests)
 
-is-few : (n : ℕ) → n ≤ 64 → nat_le n most ≡ true
+pub is-few : (n : ℕ) → n ≤ 64 → nat_le n most ≡ true
 is-few n h = grind (arith, nat_tests)
 
 -- the test of fitting, as a fact
@@ -108,7 +108,7 @@ fold-fits ns g f = record {
 
 collected-fits : (ns : List ℕ) (gs : List Shape) → ((g : Shape) → In g gs → Framed ns g) → FitsState ns (collected gs)
 collected-fits ns gs f =
-    capped-fits ns (union [] (map fold_of gs)) (union-rises [] (map fold_of gs) refl)
+    capped-fits ns (union [] (map fold_of gs)) (union_rises [] (map fold_of gs) refl)
     (λ x i. elim (union-from x [] (map fold_of gs) i) [
       | inl j ↦ absurd j
       | inr j ↦ (let r = In-from_map fold_of x gs j in subst (FitsGraph ns) (sym r.2) (fold-fits ns r.0 (f r.0 r.1)))
@@ -131,6 +131,6 @@ pub kept-fits : (ns : List ℕ) (test : Shape → Bool) (s : Segments) → FitsS
 kept-fits ns test Top h = tt
 kept-fits ns test (Graphs gs) h = record {
   few = (let a = filter-few test gs in let b = h.few in omega arith);
-  rise = filter-rises test gs h.rise;
+  rise = filter_rises test gs h.rise;
   each_fits = λ g i. h.each_fits g (In-from_filter test g gs i);
 }

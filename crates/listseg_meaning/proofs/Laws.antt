@@ -13,7 +13,7 @@ use Rattle.domain_laws.proofs.CheckLaws.{FitsCheck, check-failed, check-fits}
 use Rattle.domain_laws.proofs.GuardLaws.{verdict_by-dead, verdict_by-safe}
 use Rattle.domain_laws.specs.Laws.{Fitting, Laws, KeepsDead}
 use Rattle.listseg_meaning.specs.State.{Segments, Top, Graphs}
-use Rattle.listseg_meaning.specs.Operations.{init, compare, compare_links, join, assume, stepped, each, does, post, enter, leave, shed, check, dead, widen}
+use Rattle.listseg_meaning.specs.Operations.{init, compare, compare_links, join, assume, stepped, each, does, post, enter, leave, shed, check, dead}
 use Rattle.listseg_meaning.specs.Sets.{capped}
 use Rattle.listseg_meaning.specs.Covers.{main_first, nexts, counts, covers, fits}
 use Rattle.listseg_meaning.specs.Domain.{segments}

@@ -19,7 +19,7 @@ use Rattle.listseg_meaning.specs.Sets.{union}
 use Rattle.listseg_meaning.specs.Operations.{agrees, compare, compare_links, join, assume}
 use Rattle.listseg_meaning.specs.Covers.{main_first}
 use Rattle.listseg_meaning.proofs.Members.{union-from}
-use Rattle.listseg_meaning.proofs.Rising.{union-rises}
+use Rattle.listseg_meaning.proofs.Rising.{union_rises}
 use Rattle.listseg_meaning.proofs.Frames.{slot_of-push}
 use Rattle.listseg_meaning.proofs.Fitting.{FitsState, capped-fits, kept-fits}
 use Rattle.listseg_meaning.proofs.Covering.{Describes, kept-describes, join-left, join-right}
@@ -72,7 +72,7 @@ unfolding join
 join-fits ns Top t f h = tt
 join-fits ns (Graphs gs) Top f h = tt
 join-fits ns (Graphs gs) (Graphs hs) f h =
-    capped-fits ns (union gs hs) (union-rises gs hs f.rise) (λ g i. elim (union-from g gs hs i) [ inl j ↦ f.each_fits g j | inr j ↦ h.each_fits g j ])
+    capped-fits ns (union gs hs) (union_rises gs hs f.rise) (λ g i. elim (union-from g gs hs i) [ inl j ↦ f.each_fits g j | inr j ↦ h.each_fits g j ])
 
 pub compares : (ns : List ℕ) (l : Layout) → Compares compare compare_links join l (FitsState ns)
 compares ns l = record {

@@ -60,11 +60,6 @@ union-push gs [] h = refl
 union-push gs (i ∷ is) h = union-push (put i gs) is h
 
 -- members of a list that a function made
-pub In-map : {X Y : Type 0} (f : X → Y) (x : X) (xs : List X) → In x xs → In (f x) (map f xs)
-In-map f x [] i = absurd i
-In-map f x (y ∷ ys) (inl e) = inl (ap f e)
-In-map f x (y ∷ ys) (inr i) = inr (In-map f x ys i)
-
 pub In-from_map : {X Y : Type 0} (f : X → Y) (y : Y) (xs : List X) → In y (map f xs) → (x : X) × In x xs × (y ≡ f x)
 In-from_map f y [] i = absurd i
 In-from_map f y (x ∷ xs) (inl e) = (x, inl refl, e)

@@ -41,13 +41,13 @@ step g h hs Less e r p = and_from (is_lt (shape_cmp g h)) (rises (h ∷ hs)) (be
 step g h hs Equal e r p = r
 step g h hs Greater e r p = put-behind h g hs (above g h e) r p
 
-pub put-rises : (g : Shape) (gs : List Shape) → rises gs ≡ true → rises (put g gs) ≡ true
-put-rises g [] r = refl
-put-rises g (h ∷ hs) r = step g h hs (shape_cmp g h) refl r (put-rises g hs (tail-rises h hs r))
+pub put_rises : (g : Shape) (gs : List Shape) → rises gs ≡ true → rises (put g gs) ≡ true
+put_rises g [] r = refl
+put_rises g (h ∷ hs) r = step g h hs (shape_cmp g h) refl r (put_rises g hs (tail-rises h hs r))
 
-pub union-rises : (gs hs : List Shape) → rises gs ≡ true → rises (union gs hs) ≡ true
-union-rises gs [] r = r
-union-rises gs (h ∷ hs) r = union-rises (put h gs) hs (put-rises h gs r)
+pub union_rises : (gs hs : List Shape) → rises gs ≡ true → rises (union gs hs) ≡ true
+union_rises gs [] r = r
+union_rises gs (h ∷ hs) r = union_rises (put h gs) hs (put_rises h gs r)
 
 -- what is below the first of a rising list is below the first of what is sifted from it
 over : (g h : Shape) (hs : List Shape) → is_lt (shape_cmp g h) ≡ true → rises (h ∷ hs) ≡ true → rises (g ∷ hs) ≡ true
@@ -71,6 +71,6 @@ first : (test : Shape → Bool) (g : Shape) (gs : List Shape) (b : Bool) → ris
 first test g gs true r later = filter-behind test g gs r
 first test g gs false r later = later (tail-rises g gs r)
 
-pub filter-rises : (test : Shape → Bool) (gs : List Shape) → rises gs ≡ true → rises (filter test gs) ≡ true
-filter-rises test [] r = refl
-filter-rises test (g ∷ gs) r = first test g gs (test g) r (filter-rises test gs)
+pub filter_rises : (test : Shape → Bool) (gs : List Shape) → rises gs ≡ true → rises (filter test gs) ≡ true
+filter_rises test [] r = refl
+filter_rises test (g ∷ gs) r = first test g gs (test g) r (filter_rises test gs)

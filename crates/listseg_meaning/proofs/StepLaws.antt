@@ -24,7 +24,8 @@ use Rattle.listseg_meaning.proofs.Fitting.{FitsState}
 use Rattle.listseg_meaning.proofs.Covering.{Describes, each-describes}
 use Rattle.listseg_meaning.proofs.Links.{assume-describes}
 use Rattle.listseg_meaning.proofs.StepFits.{stepped-framed, past_check-fits}
-use Rattle.concrete_sem.proofs.Forms.{gives_same}
+use Rattle.concrete_sem.proofs.Numbers.{gives_same}
+use Rattle.std.proofs.lemmas.Option.{same_Some}
 
 next_of : Cell → Option ℕ
 next_of c = c.next
@@ -42,18 +43,12 @@ cell-is cells (Some k) c h = by (slice_get cells k) refl h
 get-next : (cells : List Cell) (k : ℕ) (c : Cell) → slice_get cells k ≡ Some c → slice_get (map (λ (d : Cell). d.next) cells) k ≡ Some c.next
 get-next [] zero c h = cc
 get-next [] (suc k) c h = cc
-get-next (d ∷ ds) zero c h = let e : d ≡ c = some-same h in ap (λ (y : Cell). Some y.next) e
-  where
-    some-same : {a b : Cell} → Some a ≡ Some b → a ≡ b
-    some-same h = cc
+get-next (d ∷ ds) zero c h = let e : d ≡ c = same_Some d c h in ap (λ (y : Cell). Some y.next) e
 get-next (d ∷ ds) (suc k) c h = get-next ds k c h
 
 set-self : (xs : List (Option ℕ)) (k : ℕ) (w : Option ℕ) → slice_get xs k ≡ Some w → set xs k w ≡ xs
 set-self [] k w h = refl
-set-self (x ∷ xs) zero w h = let e : x ≡ w = some-same h in ap (λ y. y ∷ xs) (sym e)
-  where
-    some-same : {a b : Option ℕ} → Some a ≡ Some b → a ≡ b
-    some-same h = cc
+set-self (x ∷ xs) zero w h = let e : x ≡ w = same_Some x w h in ap (λ y. y ∷ xs) (sym e)
 set-self (x ∷ xs) (suc k) w h = ap (λ v. x ∷ v) (set-self xs k w h)
 
 module _ (ns : List ℕ) (h : Heap) (v : Variables) (vs : List Variables) (x : Heap × Variables) where

@@ -1,18 +1,15 @@
 -- Ranges with equal ends, and what a cut leaves.
-use Rattle.std.proofs.Common.{◌≡◌, ℤ, Bool, true, false, Option, Some, None, IfSome, int_le, refl, sym, ap, ◌∙◌, ◌≤ℤ◌, ◌<ℤ◌, arith, FitsSigned, subst}
+use Rattle.std.proofs.Common.{◌≡◌, ℤ, true, false, Option, Some, None, IfSome, int_le, refl, sym, ap, ◌∙◌, ◌≤ℤ◌, ◌<ℤ◌, arith, FitsSigned, subst}
 use Rattle.std.proofs.lemmas.Int.{ints, clamps}
 use Rattle.std.specs.Int.{int_max, int_min, w64}
 use Rattle.num_bounds.specs.Bounds.{Bounds, Within, IsPart, IsRange, least, greatest}
 use Rattle.num_bounds.specs.Meaning.{Covers, IsMeet}
 use Rattle.num_bounds.specs.Operations.{between, cut_of, word}
+use Rattle.plain_values.proofs.Cases.{by_bool}
 
 -- ranges with the same ends are the same
 pub same_ends : {a b : Bounds} → a.lo ≡ b.lo → a.hi ≡ b.hi → a ≡ b
 same_ends p q = λ i. record { lo = p i; hi = q i }
-
-pub by_bool : {P : Type 0} (b : Bool) → (b ≡ true → P) → (b ≡ false → P) → P
-by_bool true f g = f refl
-by_bool false f g = g refl
 
 pub le-true : (a b : ℤ) → int_le a b ≡ true → a ≤ℤ b
 le-true a b h = grind (arith, ints)
@@ -73,8 +70,3 @@ cut-meet b lo hi z = (only, λ w. cut-covers b lo hi z w.0 w.1 w.2)
         let to : z ≤ℤ int_min b.hi hi = w.1 in
         ((omega (arith, ints, clamps), omega (arith, ints, clamps)), omega (arith, ints, clamps), omega (arith, ints, clamps)))
         (λ t. absurd (subst (λ (r : Option Bounds). Covers r z) (between-none (int_max b.lo lo) (int_min b.hi hi) t) h))
-
--- a fact of each number that is left of a range
-pub left-all : (r : Option Bounds) (P : Bounds → Type 0) (Q : Bounds → Type 0) → ((b : Bounds) → P b → Q b) → IfSome r P → IfSome r Q
-left-all None P Q f h = tt
-left-all (Some b) P Q f h = f b h

@@ -5,7 +5,8 @@ use Rattle.std.specs.Int.{int_min}
 use Rattle.num_bounds.specs.Bounds.{Bounds, Within, IsPart}
 use Rattle.num_bounds.specs.Meaning.{CoversResults, CoversNegations, IsTaken, IsAllTaken, IsAllNegated}
 use Rattle.num_bounds.specs.Operations.{word, sums, differences, negations}
-use Rattle.num_bounds.proofs.Ends.{word-covers, word-part, left-all}
+use Rattle.num_bounds.proofs.Ends.{word-covers, word-part}
+use Rattle.std.proofs.lemmas.Option.{IfSome_then}
 
 pub sums-sound : (a b : Bounds) → CoversResults ◌+ℤ◌ a b (word (sums a b))
 sums-sound a b x y p q f = word-covers (sums a b) (x +ℤ y) (omega (arith, ints, p.0, q.0), omega (arith, ints, p.1, q.1)) f
@@ -43,11 +44,11 @@ part-within : (a b : Bounds) (z : ℤ) → IsPart a b → Within z a → Within 
 part-within a b z p w = (omega (arith, ints, p.0, w.0), omega (arith, ints, p.1, w.1))
 
 pub sums-best : (a b : Bounds) → a.lo ≤ℤ a.hi → b.lo ≤ℤ b.hi → IsAllTaken ◌+ℤ◌ a b (word (sums a b))
-sums-best a b p q = left-all (word (sums a b)) (λ r. IsPart r (sums a b)) (λ r. (z : ℤ) → Within z r → IsTaken ◌+ℤ◌ a b z) (λ r part z w. sum-taken a b p q z (part-within r (sums a b) z part w)) (word-part (sums a b))
+sums-best a b p q = IfSome_then (word (sums a b)) {P = λ r. IsPart r (sums a b)} {Q = λ r. (z : ℤ) → Within z r → IsTaken ◌+ℤ◌ a b z} (word-part (sums a b)) (λ r part z w. sum-taken a b p q z (part-within r (sums a b) z part w))
 
 pub differences-best : (a b : Bounds) → a.lo ≤ℤ a.hi → b.lo ≤ℤ b.hi → IsAllTaken ◌-ℤ◌ a b (word (differences a b))
-differences-best a b p q = left-all (word (differences a b)) (λ r. IsPart r (differences a b)) (λ r. (z : ℤ) → Within z r → IsTaken ◌-ℤ◌ a b z) (λ r part z w. difference-taken a b p q z (part-within r (differences a b) z part w)) (word-part (differences a b))
+differences-best a b p q = IfSome_then (word (differences a b)) {P = λ r. IsPart r (differences a b)} {Q = λ r. (z : ℤ) → Within z r → IsTaken ◌-ℤ◌ a b z} (word-part (differences a b)) (λ r part z w. difference-taken a b p q z (part-within r (differences a b) z part w))
 
 pub negations-best : (a : Bounds) → IsAllNegated a (word (negations a))
-negations-best a = left-all (word (negations a)) (λ r. IsPart r (negations a)) (λ r. (z : ℤ) → Within z r → (x : ℤ) × Within x a × (neg_ℤ x ≡ z))
-    (λ r part z w. let v = part-within r (negations a) z part w in (neg_ℤ z, (omega (arith, ints, v.1), omega (arith, ints, v.0)), omega (arith, ints))) (word-part (negations a))
+negations-best a = IfSome_then (word (negations a)) {P = λ r. IsPart r (negations a)} {Q = λ r. (z : ℤ) → Within z r → (x : ℤ) × Within x a × (neg_ℤ x ≡ z)} (word-part (negations a))
+    (λ r part z w. let v = part-within r (negations a) z part w in (neg_ℤ z, (omega (arith, ints, v.1), omega (arith, ints, v.0)), omega (arith, ints)))

@@ -7,7 +7,7 @@ use Rattle.analysis_words.specs.declared.fault.FaultKind.TheVariants.{Length as 
 use Rattle.concrete_sem.specs.Values.{Variables, Heap, Gives, Faults}
 use Rattle.concrete_sem.specs.Effects.{new_array, with_element}
 use Rattle.numeric_slots.specs.Measures.{longest}
-use Rattle.concrete_sem.proofs.Forms.{gives_same}
+use Rattle.concrete_sem.proofs.Numbers.{gives_same}
 
 -- a claim that holds goes on
 pub held : (b : Bool) (m n : Heap × Variables) → (if b then Gives m else Faults Failed) ≡ Gives n → Gives m ≡ Gives n

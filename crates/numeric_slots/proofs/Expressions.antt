@@ -24,7 +24,7 @@ use Rattle.numeric_slots.specs.Measures.{measure}
 use Rattle.numeric_slots.specs.Ranges.{if_range, operation, range_by}
 use Rattle.numeric_slots.proofs.Slots.{slot-measure, length-measure}
 use Rattle.numeric_slots.proofs.Words.{word-gives, quotient-gives}
-use Rattle.concrete_sem.proofs.Forms.{gives_same}
+use Rattle.concrete_sem.proofs.Numbers.{gives_same}
 
 covers-same : (r : Option Bounds) (w z : ℤ) → w ≡ z → Covers r z → Covers r w
 covers-same r w z e h = subst (λ x. Covers r x) (sym e) h

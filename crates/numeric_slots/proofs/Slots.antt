@@ -1,20 +1,22 @@
 -- What the numeric slots of a frame hold, and what they measure.
-use Rattle.std.proofs.Common.{◌≡◌, refl, sym, ap, ◌∙◌, ℕ, zero, suc, ◌≤◌, ℤ, pos, Bool, true, false, not, List, [], ◌∷◌, length, slice_get, slice_index_or, Some}
+use Rattle.std.proofs.Common.{◌≡◌, refl, sym, ap, ◌∙◌, ℕ, zero, suc, ◌≤◌, ℤ, pos, Bool, true, false, List, [], ◌∷◌, length, slice_get, slice_index_or, Some, None}
 use Rattle.std.specs.List.{AllZip}
 use Rattle.imp_slots.specs.Plain.{Numeric, Layout}
 use Rattle.imp_slots.specs.Fits.{is_kind}
 use Rattle.concrete_sem.specs.Values.{Number, Int, Array, Variables, Gives, as_int, as_array, number_at, IsWord}
 use Rattle.concrete_sem.specs.Proper.{IsNumber}
 use Rattle.numeric_slots.specs.Measures.{measure}
-use Rattle.concrete_sem.proofs.Forms.{gives_same}
+use Rattle.concrete_sem.proofs.Numbers.{gives_same}
+use Rattle.std.proofs.lemmas.Bool.{not-true}
 
 pub kind-is : (b : Bool) (k : Numeric) → is_kind b (Some k) ≡ true → k.is_array ≡ b
 kind-is true k h = h
-kind-is false k h = by k.is_array h
-  where
-    by : (c : Bool) → not c ≡ true → c ≡ false
-    by true e = cc
-    by false e = refl
+kind-is false k h = not-true k.is_array h
+
+-- what is no slot has no kind
+pub kind-none : (b : Bool) → is_kind b None ≡ true → ⊥
+kind-none true h = cc
+kind-none false h = cc
 
 -- what an int slot holds, and an array slot
 pub int-at : (ks : List Numeric) (ns : List Number) (x : ℕ) → AllZip IsNumber ks ns → is_kind false (slice_get ks x) ≡ true → (z : ℤ) × (slice_index_or ns x (Int (pos 0)) ≡ Int z) × IsWord z

@@ -5,8 +5,7 @@ use Rattle.std.specs.Ordering.{int_eq}
 use Rattle.analysis_words.specs.declared.fault.FaultKind.TheVariants.{Overflow, Zero}
 use Rattle.concrete_sem.specs.Values.{Gives, Faults, is_word, IsWord}
 use Rattle.concrete_sem.specs.Evaluation.{word as word_of, quotient}
-use Rattle.concrete_sem.proofs.Numbers.{word_of as word-fits}
-use Rattle.concrete_sem.proofs.Forms.{gives_same}
+use Rattle.concrete_sem.proofs.Numbers.{word_of as word-fits, gives_same}
 
 -- what gives a word gives the number itself, which is one
 pub word-gives : (z w : ℤ) → word_of z ≡ Gives w → (w ≡ z) × IsWord z

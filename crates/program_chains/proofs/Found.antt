@@ -12,6 +12,7 @@ use Rattle.imp_slots.specs.Plain.{Layout, Invoke, Code, Stop, Simple, If, While,
 use Rattle.imp_slots.specs.Fits.{FitsCall, FitsCode, FitInTurn, Absent, Distinct, routine_numbers, IsChecked}
 use Rattle.program_chains.specs.Chains.{calls_to, extended, through, chains_within, has, holder_from, named_from}
 use Rattle.program_chains.specs.Claims.{ChainsAreThroughCallers, PlacesAreFound}
+use Rattle.std.proofs.lemmas.Bool.{false≢true}
 
 -- A number of one list that stands once in both is none of the other.
 not_in : (n : ℕ) (ks ms : List ℕ) → Absent n (ks ++ ms) → has n ms ≡ true → ⊥
@@ -53,15 +54,12 @@ holds_at n k (x ∷ rs) (suc p) r d e h =
     ∙ holds_at n (suc k) rs p r (right_once (code_numbers x.code) (routine_numbers rs) d) e h ∙ ap Some j
 
 -- Names.
-false_not : false ≡ true → ⊥
-false_not e = cc
-
 by_name : (x y : List ℕ) (P : Bool → Type 0) → (x ≡ y → P true) → (x ≢ y → P false) → P (bytes_eq x y)
 by_name x y P t f = go (bytes_eq x y) refl
   where
     go : (c : Bool) → bytes_eq x y ≡ c → P c
     go true e = t ((bytes_eq-Decides x y).0 e)
-    go false e = f (λ i. let k = (bytes_eq-Decides x y).1 i in false_not (sym e ∙ k))
+    go false e = f (λ i. let k = (bytes_eq-Decides x y).1 i in false≢true (sym e ∙ k))
 
 absent_name : (x : List ℕ) (rs : List Routine) (p : ℕ) (r : Routine) → Absent x (map (λ (r : Routine). r.name) rs) → slice_get rs p ≡ Some r → x ≢ r.name
 absent_name x [] p r a e = absurd cc
@@ -96,7 +94,7 @@ callee_before before l i q (Some c) e f = slice_get_within before q c e
 not_before : (before : List Routine) (l : Layout) (i : Invoke) (q p : ℕ) → FitsCall l i (slice_get before q) → p ≡ q → length before ≤ p → ⊥
 not_before before l i q p f e h = let k : q < length before = callee_before before l i q (slice_get before q) refl f in omega arith
 
-called_earlier : (before : List Routine) (l : Layout) (p : ℕ) (c : Code) → FitsCode before l c → length before ≤ p → calls_to p c ≡ []
+pub called_earlier : (before : List Routine) (l : Layout) (p : ℕ) (c : Code) → FitsCode before l c → length before ≤ p → calls_to p c ≡ []
 called_earlier before l p Stop f h = refl
 called_earlier before l p (Simple n e r) f h = called_earlier before l p r f.1 h
 called_earlier before l p (If n g t e r) f h = rw (called_earlier before l p t f.1 h, called_earlier before l p e f.2 h, called_earlier before l p r f.3 h) refl

@@ -2,12 +2,12 @@
 use Rattle.std.specs.Prelude.{◌≡◌, ℕ, zero, suc, ◌^◌, ◌<◌, nat_lt, ℤ, pos, negsuc, neg_ℤ, int_lt, ◌<ℤ◌, FitsSigned, List, [], ◌∷◌, ◌++◌, Bool, true, false, ◌&&◌, if◌then◌else◌, slice_get, drop, length, Option, Some, None}
 use Rattle.std.specs.Int.{w64}
 use Rattle.std.proofs.Common.{refl, arith}
-use Rattle.std.proofs.lemmas.Int.{ints}
 use Rattle.std.proofs.lemmas.Bool.{and_parts, ltb-true}
 use Rattle.imp_slots.specs.Plain.{Numeric, Layout, Term, Literal, Slot, Length, Negative, Binary, Guard, Compare, CompareLinks, Not, And, Or, Effect, Skip, Assert, SetInt, Input, ReadElement, ReadItem, MakeArray, CopyArray, WriteElement, SetNull, MakeCell, CopyLink, ReadNext, WriteNext, WriteItem, Argument, IntArgument, ArrayArgument, LinkArgument, Invoke, Code, Stop, Simple, If, While, Call, Break, Routine}
 use Rattle.imp_slots.specs.Fits.{is_kind, is_int, is_array, is_link, is_side, fits_term, fits_guard, fits_effect, fits_arguments, fits_returning, fits_invoke, FitsCall, FitsCode}
 use Rattle.program_chains.specs.Marks.{term_literals, guard_literals, effect_literals, argument_literals, literals, with_mark, marks_of, IsRising}
 use Rattle.program_chains.specs.Claims.{MarksRise}
+use Rattle.plain_values.proofs.Integers.{lower_of}
 
 -- each is ltb-true 2^63
 abbrev Small : List ℕ → Type 0
@@ -95,9 +95,6 @@ head_word : (x : ℤ) (xs : List ℤ) → IsRising (x ∷ xs) → IsWord x
 head_word x [] r = r
 head_word x (y ∷ ys) r = r.0
 
-is_below : (x y : ℤ) → int_lt x y ≡ true → x <ℤ y
-is_below x y e = grind (arith, ints)
-
 -- behind a smaller first mark
 behind : (x z : ℤ) (ys : List ℤ) → IsWord z → x <ℤ z → IsRising (x ∷ ys) → IsRising (with_mark z ys) → IsRising (x ∷ with_mark z ys)
 behind x z [] w h r k = (r, h, w)
@@ -113,8 +110,8 @@ rest_rises x [] r = tt
 rest_rises x (y ∷ ys) r = r.2
 
 with_by : (z x : ℤ) (xs : List ℤ) (b c : Bool) → int_lt z x ≡ b → int_lt x z ≡ c → IsWord z → IsRising (x ∷ xs) → IsRising (with_mark z xs) → IsRising (if b then z ∷ x ∷ xs else if c then x ∷ with_mark z xs else x ∷ xs)
-with_by z x xs true c e f w r k = (w, is_below z x e, r)
-with_by z x xs false true e f w r k = behind x z xs w (is_below x z f) r k
+with_by z x xs true c e f w r k = (w, lower_of z x e, r)
+with_by z x xs false true e f w r k = behind x z xs w (lower_of x z f) r k
 with_by z x xs false false e f w r k = r
 
 with_rises : (z : ℤ) (xs : List ℤ) → IsWord z → IsRising xs → IsRising (with_mark z xs)
@@ -129,7 +126,7 @@ neg_word zero h = record { sfits = h }
 neg_word (suc n) h = record { sfits = omega arith }
 
 marks_rise_of : (ns : List ℕ) → Small ns → IsRising (marks_of ns)
-marks_rise_of [] s = (record { sfits = omega arith }, is_below (negsuc 0) (pos 0) refl, (record { sfits = omega arith }, is_below (pos 0) (pos 1) refl, record { sfits = omega arith }))
+marks_rise_of [] s = (record { sfits = omega arith }, lower_of (negsuc 0) (pos 0) refl, (record { sfits = omega arith }, lower_of (pos 0) (pos 1) refl, record { sfits = omega arith }))
 marks_rise_of (n ∷ ns) s = with_rises (pos n) (with_mark (neg_ℤ (pos n)) (marks_of ns)) (pos_word n s.0) (with_rises (neg_ℤ (pos n)) (marks_of ns) (neg_word n s.0) (marks_rise_of ns s.1))
 
 pub marks_rise : MarksRise

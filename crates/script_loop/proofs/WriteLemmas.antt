@@ -1,12 +1,8 @@
 -- Pieces of a write join to a prefix of the whole, and counts of faults that rose stay so.
 use Rattle.std.proofs.Common.{◌≡◌, ℕ, ◌+◌, ◌-◌, ◌≤◌, ◌++◌, inl, inr, List, length, take, drop, Option, Some, IfSome, append_assoc, sym, ◌∙◌, ap, arith}
 use Rattle.std.proofs.Math.Seq.{take-add}
-use Rattle.std.proofs.lemmas.List.{take_all, length-drop}
 use Rattle.io_edge.specs.Outside.{Rose}
-
--- the rest of a piece, as the code takes it
-pub rest_of : (piece : List ℕ) (at : ℕ) → take (length piece - at) (drop at piece) ≡ drop at piece
-rest_of piece at = take_all (length piece - at) (drop at piece) (omega (arith, length-drop at piece))
+use Rattle.plain_values.proofs.Lists.{rest_whole}
 
 -- after `at` bytes of the piece, n more were taken
 pub took_more : (told told' : Option (List ℕ)) (taken piece : List ℕ) (at n : ℕ) →
@@ -15,7 +11,7 @@ pub took_more : (told told' : Option (List ℕ)) (taken piece : List ℕ) (at n 
     told' ≡ Some (taken ++ take (at + n) piece)
 took_more told told' taken piece at n before takes =
     let now : told' ≡ Some ((taken ++ take at piece) ++ take n (take (length piece - at) (drop at piece))) = rw before at takes in
-    now ∙ ap (λ xs. Some ((taken ++ take at piece) ++ take n xs)) (rest_of piece at)
+    now ∙ ap (λ xs. Some ((taken ++ take at piece) ++ take n xs)) (rest_whole piece at)
     ∙ ap Some (append_assoc taken (take at piece) (take n (drop at piece)) ∙ ap (λ xs. taken ++ xs) (sym (take-add at n piece)))
 
 -- a count that rose after a point has risen since an earlier one

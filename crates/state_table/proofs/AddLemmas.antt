@@ -1,21 +1,16 @@
 -- A state that is added has its first place, or the end.
-use Rattle.std.proofs.Common.{◌≡◌, ℕ, zero, suc, ◌+◌, Bool, true, false, List, [], ◌∷◌, length, Some, slice_get, ◌⊎◌, inl, inr, ⊎_elim, refl, sym, ap, ◌∙◌, arith}
+use Rattle.std.proofs.Common.{◌≡◌, ℕ, zero, suc, Bool, true, false, List, [], ◌∷◌, length, Some, slice_get, ◌⊎◌, inl, inr, ⊎_elim, refl, sym, ap, ◌∙◌, one-add}
 use Rattle.std.specs.Cmp.{IsEquivalence}
 use Rattle.std.specs.List.{list_any, position_or_len}
 use Rattle.plain_values.proofs.Cases.{by_bool}
 use Rattle.state_table.specs.Numbers.{with_state, TellsApart, Adds}
-
-apart : {A : Type 0} (b : Bool) → b ≡ true → b ≡ false → A
-apart b h k = cc
+use Rattle.state_table.proofs.NumberLemmas.{apart}
 
 -- the first place that passes, or none
 abbrev First : {T : Type 0} → (T → Bool) → List T → Type 0
 First {T} test xs =
     ((s : T) × (slice_get xs (position_or_len test xs) ≡ Some s) × (test s ≡ true) × (list_any test xs ≡ true))
     ⊎ (((m : ℕ) (s : T) → slice_get xs m ≡ Some s → test s ≡ false) × (position_or_len test xs ≡ length xs) × (list_any test xs ≡ false))
-
-one_more : (n : ℕ) → 1 + n ≡ suc n
-one_more n = omega arith
 
 fails_on : {T : Type 0} (test : T → Bool) (x : T) (xs : List T) → test x ≡ false → ((m : ℕ) (s : T) → slice_get xs m ≡ Some s → test s ≡ false) → (m : ℕ) (s : T) → slice_get (x ∷ xs) m ≡ Some s → test s ≡ false
 fails_on test x xs f h zero s e = let is : x ≡ s = cc in ap test (sym is) ∙ f
@@ -27,8 +22,8 @@ first {T} test (x ∷ xs) =
     by_bool (test x)
     (λ t. inl (x, rw t refl, t, rw t refl))
     (λ f. ⊎_elim
-    (λ h. inl (h.0, rw (f, one_more) h.1, h.2, rw f h.3))
-    (λ h. inr (fails_on test x xs f h.0, rw (f, one_more) (ap suc h.1), rw f h.2))
+    (λ h. inl (h.0, rw (f, one-add) h.1, h.2, rw f h.3))
+    (λ h. inr (fails_on test x xs f h.0, rw (f, one-add) (ap suc h.1), rw f h.2))
     (first test xs))
 
 -- a state that is added has its first place, or the end

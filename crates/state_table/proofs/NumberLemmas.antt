@@ -1,10 +1,11 @@
 -- Numbers of a list without equal states, and of the list with one state more.
-use Rattle.std.proofs.Common.{◌≡◌, ℕ, zero, suc, Bool, true, false, List, [], ◌∷◌, ◌++◌, Some, slice_get, refl, sym, ap, ◌∙◌, subst}
+use Rattle.std.proofs.Common.{◌≡◌, ℕ, zero, suc, Bool, true, false, List, [], ◌∷◌, Some, slice_get, refl, sym, ap, ◌∙◌, subst}
 use Rattle.std.specs.Cmp.{IsEquivalence}
 use Rattle.std.specs.List.{IsDistinct, AllByRecursion, list_any}
 use Rattle.std.proofs.lemmas.Map.Keys.{IsDistinct-head, IsDistinct-tail}
 use Rattle.plain_values.proofs.Cases.{by_bool}
 use Rattle.state_table.specs.Numbers.{with_state, KeepsNumbers, AreOnce}
+use Rattle.plain_values.proofs.Lists.{get_front}
 
 -- what holds of all holds at each place
 at_place : {T : Type 0} (P : T → Type 0) (xs : List T) → AllByRecursion P xs → (n : ℕ) (t : T) → slice_get xs n ≡ Some t → P t
@@ -12,7 +13,7 @@ at_place P [] h n t at = cc
 at_place P (x ∷ xs) h zero t at = let e : x ≡ t = cc in subst P e h.0
 at_place P (x ∷ xs) h (suc n) t at = at_place P xs h.1 n t at
 
-apart : {A : Type 0} (b : Bool) → b ≡ true → b ≡ false → A
+pub apart : {A : Type 0} (b : Bool) → b ≡ true → b ≡ false → A
 apart b h k = cc
 
 pub distinct-once : {T : Type 0} (eq : T → T → Bool) → IsEquivalence eq → (xs : List T) → IsDistinct eq xs → AreOnce eq xs
@@ -28,14 +29,8 @@ distinct-once eq law (x ∷ xs) d (suc m) zero s t p q e =
     apart (eq s t) e (law.symm s t ∙ ap (λ y. eq y s) (sym is) ∙ h)
 distinct-once eq law (x ∷ xs) d (suc m) (suc n) s t p q e = ap suc (distinct-once eq law xs (IsDistinct-tail eq x xs d) m n s t p q e)
 
--- places stay where something is put at the end
-pub append-keeps : {T : Type 0} (xs ys : List T) → KeepsNumbers xs (xs ++ ys)
-append-keeps [] ys n s at = cc
-append-keeps (x ∷ xs) ys zero s at = at
-append-keeps (x ∷ xs) ys (suc n) s at = append-keeps xs ys n s at
-
 pub with_state-keeps : {T : Type 0} (eq : T → T → Bool) (states : List T) (state : T) → KeepsNumbers states (with_state eq states state)
 with_state-keeps eq states state =
     by_bool (list_any (eq state) states)
     (λ t. rw t (λ n s at. at))
-    (λ t. rw t (append-keeps states (state ∷ [])))
+    (λ t. rw t (get_front states (state ∷ [])))

@@ -1,7 +1,8 @@
 use Rattle.std.proofs.Common.{◌<◌, ◌-◌, ◌+◌, ◌++◌, ◌∙◌, Some, length, take, drop, sym, ap, arith, append-nil}
 use Rattle.std.proofs.lemmas.List.{take_all, length-drop, take-append-drop}
-use Rattle.script_loop.proofs.WriteLemmas.{took_more, rest_of, rose_since}
+use Rattle.script_loop.proofs.WriteLemmas.{took_more, rose_since}
 use Rattle.script_loop.proofs.write.write_all.Goals as goal
+use Rattle.plain_values.proofs.Lists.{rest_whole}
 
 pub loop-at-init : goal.loop-at-init
 loop-at-init g c = record {
@@ -14,7 +15,7 @@ pub loop-at-preserved : goal.loop-at-preserved
 loop-at-preserved g c =
     let call = c.in-Ok.ensures {u = tt} in
     record {
-      within = let bound = rw (rest_of c.args.piece.now c.loop-at.at) at call.within in omega (arith, length-drop c.loop-at.at c.args.piece.now);
+      within = let bound = rw (rest_whole c.args.piece.now c.loop-at.at) at call.within in omega (arith, length-drop c.loop-at.at c.args.piece.now);
       rises = omega arith;
       written = λ taken told. took_more _ _ taken c.args.piece.now c.loop-at.at c.in-Ok.count (c.loop-at.invariant.written taken told) call.takes;
     }
@@ -29,7 +30,7 @@ returns-in_default-clause-prefix g c = λ taken told. record {
 
 pub returns-in_default-clause-failed : goal.returns-in_default-clause-failed
 returns-in_default-clause-failed g c =
-    let some : 0 < length (take (length c.args.piece.now - c.loop-at.at) (drop c.loop-at.at c.args.piece.now)) = rw (rest_of c.args.piece.now c.loop-at.at) (omega (arith, length-drop c.loop-at.at c.args.piece.now)) in
+    let some : 0 < length (take (length c.args.piece.now - c.loop-at.at) (drop c.loop-at.at c.args.piece.now)) = rw (rest_whole c.args.piece.now c.loop-at.at) (omega (arith, length-drop c.loop-at.at c.args.piece.now)) in
     rose_since _ _ _ c.loop-at.invariant.rises ((c.in-Ok.ensures {u = tt}).nothing_taken (omega arith) some)
 
 pub returns-in_default-clause-never_falls : goal.returns-in_default-clause-never_falls
