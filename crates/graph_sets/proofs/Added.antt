@@ -8,7 +8,8 @@ use Rattle.std.proofs.lemmas.List.{append_cancel_left, drop_all, length-append, 
 use Rattle.shape_graph.specs.Shape.{Shape}
 use Rattle.shape_graph.specs.Order.{shape_cmp, shape_total}
 use Rattle.listseg_meaning.specs.Sets.{union, rises}
-use Rattle.graph_sets.proofs.Merged.{left_union, both_union, right_union, place_first, drop_rises, none_left}
+use Rattle.graph_sets.proofs.Merged.{left_union, both_union, right_union, drop_rises, none_left}
+use Rattle.plain_values.proofs.Lists.{drop_item}
 
 -- none is added in front of these places
 abbrev pub IsKept : (gs hs : List Shape) (p q : ℕ) → Type 0
@@ -32,7 +33,7 @@ module _ (gs hs : List Shape) (p q : ℕ) (g h : Shape) (a : p < length gs) (b :
   pub one_missing : shape_cmp g h ≡ Greater → union gs hs ≡ gs → ⊥
   one_missing e same =
       let rest : union (drop p gs) (drop q hs) ≡ drop p gs = append_cancel_left (take p gs) (union (drop p gs) (drop q hs)) (drop p gs) (sym kept ∙ same ∙ sym (take-append-drop p gs)) in
-      let first : h ∷ union (drop p gs) (drop (q + 1) hs) ≡ g ∷ drop (p + 1) gs = sym (right_union gs hs p q g h a b x y r e) ∙ rest ∙ place_first gs p g a x in
+      let first : h ∷ union (drop p gs) (drop (q + 1) hs) ≡ g ∷ drop (p + 1) gs = sym (right_union gs hs p q g h a b x y r e) ∙ rest ∙ drop_item gs p g a x in
       let one : h ≡ g = cc in
       let tie : shape_cmp g h ≡ Equal = ap (shape_cmp g) one ∙ tied_itself shape_total g in
       cc

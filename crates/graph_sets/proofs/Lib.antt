@@ -2,4 +2,3 @@ pub mod Added
 pub mod Folds
 pub mod Halves
 pub mod Merged
-pub mod Placed

@@ -1,13 +1,14 @@
 -- The union with a rising list, by the first graphs of both.
-use Rattle.std.proofs.Common.{◌≡◌, ℕ, zero, suc, true, ◌+◌, ◌≤◌, ◌<◌, ◌⊎◌, inl, inr, ◌-◌, List, [], ◌∷◌, ◌++◌, length, take, drop, drop-cons, get_or, append_assoc, refl, sym, ◌∙◌, ap, subst, arith}
+use Rattle.std.proofs.Common.{◌≡◌, ℕ, zero, suc, true, ◌+◌, ◌≤◌, ◌<◌, ◌⊎◌, inl, inr, List, [], ◌∷◌, ◌++◌, length, drop, get_or, append_assoc, refl, sym, ◌∙◌, ap, subst}
 use Rattle.std.specs.Ordering.{match_ordering, ordering_reverse, is_lt}
 use Rattle.std.specs.declared.cmp.Ordering.TheVariants.{Less, Equal, Greater}
 use Rattle.std.proofs.lemmas.Bool.{and_parts}
-use Rattle.std.proofs.lemmas.List.{append-nil, drop_all, length-drop, take_all}
+use Rattle.std.proofs.lemmas.List.{append-nil, drop_all}
 use Rattle.shape_graph.specs.Shape.{Shape}
 use Rattle.shape_graph.specs.Order.{shape_cmp, shape_total, shape_cmp-same}
 use Rattle.listseg_meaning.specs.Sets.{put, union, rises}
 use Rattle.listseg_meaning.proofs.Rising.{less-is, tail-rises}
+use Rattle.plain_values.proofs.Lists.{drop_item}
 
 -- each of the graphs comes behind the first
 abbrev pub IsBelow : Shape → List Shape → Type 0
@@ -64,41 +65,31 @@ drop_rises zero hs r = r
 drop_rises (suc p) [] r = r
 drop_rises (suc p) (h ∷ hs) r = drop_rises p hs (tail-rises h hs r)
 
--- a list from a place on, by the graph there
-pub place_first : (gs : List Shape) (p : ℕ) (g : Shape) → p < length gs → g ≡ get_or gs p g → drop p gs ≡ g ∷ drop (p + 1) gs
-place_first gs p g a x =
-    let next : suc p ≡ p + 1 = omega arith in
-    drop-cons gs p g a ∙ (λ k. sym x k ∷ drop (next k) gs)
-
 -- two lists, of which the right one rises, from a place of each on, by the graphs there
 module _ (gs hs : List Shape) (p q : ℕ) (g h : Shape) (a : p < length gs) (b : q < length hs) (x : g ≡ get_or gs p g) (y : h ≡ get_or hs q h) (r : rises hs ≡ true) where
   right-rises : rises (h ∷ drop (q + 1) hs) ≡ true
-  right-rises = subst (λ v. rises v ≡ true) (place_first hs q h b y) (drop_rises q hs r)
+  right-rises = subst (λ v. rises v ≡ true) (drop_item hs q h b y) (drop_rises q hs r)
 
   pub left_union : shape_cmp g h ≡ Less → union (drop p gs) (drop q hs) ≡ g ∷ union (drop (p + 1) gs) (drop q hs)
   left_union e =
-      let right = place_first hs q h b y in
-      (λ k. union (place_first gs p g a x k) (right k)) ∙ left_first g h (drop (p + 1) gs) (drop (q + 1) hs) right-rises e ∙
+      let right = drop_item hs q h b y in
+      (λ k. union (drop_item gs p g a x k) (right k)) ∙ left_first g h (drop (p + 1) gs) (drop (q + 1) hs) right-rises e ∙
       (λ k. g ∷ union (drop (p + 1) gs) (sym right k))
 
   pub both_union : shape_cmp g h ≡ Equal → union (drop p gs) (drop q hs) ≡ g ∷ union (drop (p + 1) gs) (drop (q + 1) hs)
   both_union e =
-      (λ k. union (place_first gs p g a x k) (place_first hs q h b y k)) ∙ same_first g h (drop (p + 1) gs) (drop (q + 1) hs) right-rises e
+      (λ k. union (drop_item gs p g a x k) (drop_item hs q h b y k)) ∙ same_first g h (drop (p + 1) gs) (drop (q + 1) hs) right-rises e
 
   pub right_union : shape_cmp g h ≡ Greater → union (drop p gs) (drop q hs) ≡ h ∷ union (drop p gs) (drop (q + 1) hs)
   right_union e =
-      let left = place_first gs p g a x in
-      (λ k. union (left k) (place_first hs q h b y k)) ∙ right_first g h (drop (p + 1) gs) (drop (q + 1) hs) right-rises e ∙
+      let left = drop_item gs p g a x in
+      (λ k. union (left k) (drop_item hs q h b y k)) ∙ right_first g h (drop (p + 1) gs) (drop (q + 1) hs) right-rises e ∙
       (λ k. h ∷ union (sym left k) (drop (q + 1) hs))
 
 -- one graph more behind those that are there
 pub pushed : (done added more all : List Shape) (g copy : Shape) → copy ≡ g → added ≡ done ++ copy ∷ [] → all ≡ g ∷ more → added ++ more ≡ done ++ all
 pushed done added more all g copy c a e =
     ap (λ v. v ++ more) a ∙ append_assoc done (copy ∷ []) more ∙ (λ k. done ++ c k ∷ more) ∙ ap (λ v. done ++ v) (sym e)
-
--- what a slice from a place on has
-pub rest_is : (gs : List Shape) (p : ℕ) → take (length gs - p) (drop p gs) ≡ drop p gs
-rest_is gs p = take_all (length gs - p) (drop p gs) (omega (arith, length-drop p gs))
 
 -- where one of the lists is gone through, what is left of both is the union
 pub left_over : (gs hs : List Shape) (p q : ℕ) → (length gs ≤ p) ⊎ (length hs ≤ q) → rises hs ≡ true → drop p gs ++ drop q hs ≡ union (drop p gs) (drop q hs)

@@ -76,7 +76,7 @@ impl GraphSet {
     }
 
     /// Puts a graph in its place, unless it is there. It fails for want of memory alone, and then the set stays.
-    #[tactic(auto, using(crate::proofs::Placed::put_rises))]
+    #[tactic(auto, using(listseg_meaning::proofs::Rising::put_rises))]
     pub fn put(&mut self, graph: FoldedGraph) -> Result<(), Memory>
         ensures put { OnOk result (self.new ≡ sets.put graph self.old) }
         ensures unchanged { OnErr result (self.new ≡ self.old) }
@@ -98,7 +98,7 @@ impl GraphSet {
     }
 
     /// The graphs of both sets. It fails for want of memory alone.
-    #[tactic(auto, using(crate::proofs::Placed::union_rises))]
+    #[tactic(auto, using(listseg_meaning::proofs::Rising::union_rises))]
     pub fn union(&self, alloc: Global, other: &GraphSet) -> Result<GraphSet, Memory>
         ensures union { IfOk result (λ set. set ≡ sets.union self.now other.now) }
     {

@@ -15,16 +15,16 @@ use Rattle.num_bounds.specs.Operations.{single}
 use Rattle.num_bounds.specs.Meaning.{Covers}
 use Rattle.numeric_slots.specs.Measures.{measure}
 use Rattle.numeric_slots.specs.Ranges.{if_range}
-use Rattle.numeric_slots.proofs.Slots.{array-at, kind-is}
+use Rattle.numeric_slots.proofs.Slots.{array-at, kind-is, kind-none}
 use Rattle.interval_meaning.specs.State.{Intervals, Empty, Within}
 use Rattle.interval_meaning.specs.Ranges.{range_at, with_range, range_of}
 use Rattle.interval_meaning.specs.Operations.{filled, init, in_front, argument_ranges, entered, enter, returned, leave}
 use Rattle.interval_meaning.specs.Covers.{Holds}
-use Rattle.interval_meaning.proofs.SlotLaws.{FitsSlot, FitsRange, range-fits, at-fits, at-kind, at-holds, set-fits, set-holds, kind-none}
+use Rattle.interval_meaning.proofs.SlotLaws.{FitsSlot, FitsRange, range-fits, at-fits, at-kind, at-holds, set-fits, set-holds}
 use Rattle.interval_meaning.proofs.RangeLaws.{range_of-covers, range_of-range}
 use Rattle.interval_meaning.proofs.CompareLaws.{FitsState, Describes}
 use Rattle.interval_meaning.specs.declared.slot_range.SlotRange.{SlotRange}
-use Rattle.concrete_sem.proofs.Forms.{gives_same}
+use Rattle.concrete_sem.proofs.Numbers.{gives_same}
 
 -- ranges that fit the first slots of a layout
 abbrev FitFirst : List Numeric → List Bounds → Type 0

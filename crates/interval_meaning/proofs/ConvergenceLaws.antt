@@ -15,9 +15,7 @@ use Rattle.interval_meaning.proofs.WidenLaws.{mark_below-bounds, mark_above-boun
 use Rattle.interval_meaning.specs.declared.slot_range.SlotRange.{SlotRange}
 use Rattle.interval_meaning.specs.Convergence.{low_falls, high_rises, slot_changes, slots_changes, most_changes, changes_left, WideningEnds}
 use Rattle.num_bounds.proofs.Ends.{le-false}
-
-lt-true : (a b : ℤ) → int_lt a b ≡ true → a <ℤ b
-lt-true a b h = grind (arith, ints)
+use Rattle.plain_values.proofs.Integers.{lower_of}
 
 true-lt : (a b : ℤ) → a <ℤ b → int_lt a b ≡ true
 true-lt a b h = grind (arith, ints)
@@ -45,12 +43,12 @@ low_falls-most [] e z = let h = one_if-most (int_lt e.lo z) in omega arith
 low_falls-most (m ∷ ms) e z = let h = one_if-most (int_lt e.lo m && int_lt m z) in let k = low_falls-most ms e z in omega arith
 
 low_falls-mono : (ms : List ℤ) (e : Bounds) (w z : ℤ) → w ≤ℤ z → low_falls ms e w ≤ low_falls ms e z
-low_falls-mono [] e w z h = one_if-le (int_lt e.lo w) (int_lt e.lo z) (λ t. let a : e.lo <ℤ w = lt-true e.lo w t in let b : e.lo <ℤ z = omega (arith, ints) in true-lt e.lo z b)
+low_falls-mono [] e w z h = one_if-le (int_lt e.lo w) (int_lt e.lo z) (λ t. let a : e.lo <ℤ w = lower_of e.lo w t in let b : e.lo <ℤ z = omega (arith, ints) in true-lt e.lo z b)
 low_falls-mono (m ∷ ms) e w z h =
     let k = low_falls-mono ms e w z h in
     let j = one_if-le (int_lt e.lo m && int_lt m w) (int_lt e.lo m && int_lt m z) (λ t.
     let p = and_parts (int_lt e.lo m) (int_lt m w) t in
-    let a : m <ℤ w = lt-true m w p.1 in
+    let a : m <ℤ w = lower_of m w p.1 in
     let b : m <ℤ z = omega (arith, ints) in
     and_from (int_lt e.lo m) (int_lt m z) p.0 (true-lt m z b)) in
     omega arith
@@ -59,14 +57,14 @@ low_falls-positive : (ms : List ℤ) (e : Bounds) (z : ℤ) → e.lo <ℤ z → 
 low_falls-positive [] e z h = rw (true-lt e.lo z h) (omega arith)
 low_falls-positive (m ∷ ms) e z h = let k = low_falls-positive ms e z h in omega arith
 
+never : (a b : Bool) → (a ≡ true → b ≡ true → ⊥) → (a && b) ≡ false
+never true true f = absurd (f refl refl)
+never true false f = refl
+never false b f = refl
+
 low_falls-zero : (ms : List ℤ) (e : Bounds) → low_falls ms e e.lo ≡ 0
 low_falls-zero [] e = let no : int_lt e.lo e.lo ≡ false = grind (arith, ints) in rw no refl
-low_falls-zero (m ∷ ms) e = let no : (int_lt e.lo m && int_lt m e.lo) ≡ false = never (int_lt e.lo m) (int_lt m e.lo) (λ p q. let a : e.lo <ℤ m = lt-true e.lo m p in let b : m <ℤ e.lo = lt-true m e.lo q in omega (arith, ints)) in let k = low_falls-zero ms e in rw no (omega arith)
-  where
-    never : (a b : Bool) → (a ≡ true → b ≡ true → ⊥) → (a && b) ≡ false
-    never true true f = absurd (f refl refl)
-    never true false f = refl
-    never false b f = refl
+low_falls-zero (m ∷ ms) e = let no : (int_lt e.lo m && int_lt m e.lo) ≡ false = never (int_lt e.lo m) (int_lt m e.lo) (λ p q. let a : e.lo <ℤ m = lower_of e.lo m p in let b : m <ℤ e.lo = lower_of m e.lo q in omega (arith, ints)) in let k = low_falls-zero ms e in rw no (omega arith)
 
 low_falls-strict : (ms : List ℤ) (e : Bounds) (w z : ℤ) → Member w ms → e.lo <ℤ w → w <ℤ z → low_falls ms e w < low_falls ms e z
 low_falls-strict [] e w z k h j = absurd k
@@ -75,7 +73,7 @@ low_falls-strict (m ∷ ms) e w z k h j =
     let rest = low_falls-mono ms e w z le in
     let here = one_if-le (int_lt e.lo m && int_lt m w) (int_lt e.lo m && int_lt m z) (λ t.
     let p = and_parts (int_lt e.lo m) (int_lt m w) t in
-    let a : m <ℤ w = lt-true m w p.1 in
+    let a : m <ℤ w = lower_of m w p.1 in
     let b : m <ℤ z = omega (arith, ints) in
     and_from (int_lt e.lo m) (int_lt m z) p.0 (true-lt m z b)) in
     elim k [
@@ -121,7 +119,7 @@ low-falls ms e l r p t q =
     ]
   where
     at_mark : (w : ℤ) (b : Bool) → int_lt e.lo w ≡ b → Member w ms → w ≤ℤ r → e.lo ≤ℤ w → low_falls ms e w < low_falls ms e l
-    at_mark w true t s h k = let a : e.lo <ℤ w = lt-true e.lo w t in let b : w <ℤ l = omega (arith, ints) in low_falls-strict ms e w l s a b
+    at_mark w true t s h k = let a : e.lo <ℤ w = lower_of e.lo w t in let b : w <ℤ l = omega (arith, ints) in low_falls-strict ms e w l s a b
     at_mark w false t s h k =
         let same : w ≡ e.lo = grind (arith, ints) in
         let up : e.lo <ℤ l = omega (arith, ints) in
@@ -134,12 +132,12 @@ high_rises-most [] e z = let h = one_if-most (int_lt z e.hi) in omega arith
 high_rises-most (m ∷ ms) e z = let h = one_if-most (int_lt m e.hi && int_lt z m) in let k = high_rises-most ms e z in omega arith
 
 high_rises-mono : (ms : List ℤ) (e : Bounds) (w z : ℤ) → z ≤ℤ w → high_rises ms e w ≤ high_rises ms e z
-high_rises-mono [] e w z h = one_if-le (int_lt w e.hi) (int_lt z e.hi) (λ t. let a : w <ℤ e.hi = lt-true w e.hi t in let b : z <ℤ e.hi = omega (arith, ints) in true-lt z e.hi b)
+high_rises-mono [] e w z h = one_if-le (int_lt w e.hi) (int_lt z e.hi) (λ t. let a : w <ℤ e.hi = lower_of w e.hi t in let b : z <ℤ e.hi = omega (arith, ints) in true-lt z e.hi b)
 high_rises-mono (m ∷ ms) e w z h =
     let k = high_rises-mono ms e w z h in
     let j = one_if-le (int_lt m e.hi && int_lt w m) (int_lt m e.hi && int_lt z m) (λ t.
     let p = and_parts (int_lt m e.hi) (int_lt w m) t in
-    let a : w <ℤ m = lt-true w m p.1 in
+    let a : w <ℤ m = lower_of w m p.1 in
     let b : z <ℤ m = omega (arith, ints) in
     and_from (int_lt m e.hi) (int_lt z m) p.0 (true-lt z m b)) in
     omega arith
@@ -150,12 +148,7 @@ high_rises-positive (m ∷ ms) e z h = let k = high_rises-positive ms e z h in o
 
 high_rises-zero : (ms : List ℤ) (e : Bounds) → high_rises ms e e.hi ≡ 0
 high_rises-zero [] e = let no : int_lt e.hi e.hi ≡ false = grind (arith, ints) in rw no refl
-high_rises-zero (m ∷ ms) e = let no : (int_lt m e.hi && int_lt e.hi m) ≡ false = never (int_lt m e.hi) (int_lt e.hi m) (λ p q. let a : m <ℤ e.hi = lt-true m e.hi p in let b : e.hi <ℤ m = lt-true e.hi m q in omega (arith, ints)) in let k = high_rises-zero ms e in rw no (omega arith)
-  where
-    never : (a b : Bool) → (a ≡ true → b ≡ true → ⊥) → (a && b) ≡ false
-    never true true f = absurd (f refl refl)
-    never true false f = refl
-    never false b f = refl
+high_rises-zero (m ∷ ms) e = let no : (int_lt m e.hi && int_lt e.hi m) ≡ false = never (int_lt m e.hi) (int_lt e.hi m) (λ p q. let a : m <ℤ e.hi = lower_of m e.hi p in let b : e.hi <ℤ m = lower_of e.hi m q in omega (arith, ints)) in let k = high_rises-zero ms e in rw no (omega arith)
 
 high_rises-strict : (ms : List ℤ) (e : Bounds) (w z : ℤ) → Member w ms → w <ℤ e.hi → z <ℤ w → high_rises ms e w < high_rises ms e z
 high_rises-strict [] e w z k h j = absurd k
@@ -164,7 +157,7 @@ high_rises-strict (m ∷ ms) e w z k h j =
     let rest = high_rises-mono ms e w z le in
     let here = one_if-le (int_lt m e.hi && int_lt w m) (int_lt m e.hi && int_lt z m) (λ t.
     let p = and_parts (int_lt m e.hi) (int_lt w m) t in
-    let a : w <ℤ m = lt-true w m p.1 in
+    let a : w <ℤ m = lower_of w m p.1 in
     let b : z <ℤ m = omega (arith, ints) in
     and_from (int_lt m e.hi) (int_lt z m) p.0 (true-lt z m b)) in
     elim k [
@@ -210,7 +203,7 @@ high-rises ms e l r p t q =
     ]
   where
     at_mark : (w : ℤ) (b : Bool) → int_lt w e.hi ≡ b → Member w ms → r ≤ℤ w → w ≤ℤ e.hi → high_rises ms e w < high_rises ms e l
-    at_mark w true t s h k = let a : w <ℤ e.hi = lt-true w e.hi t in let b : l <ℤ w = omega (arith, ints) in high_rises-strict ms e w l s a b
+    at_mark w true t s h k = let a : w <ℤ e.hi = lower_of w e.hi t in let b : l <ℤ w = omega (arith, ints) in high_rises-strict ms e w l s a b
     at_mark w false t s h k =
         let same : w ≡ e.hi = grind (arith, ints) in
         let up : l <ℤ e.hi = omega (arith, ints) in

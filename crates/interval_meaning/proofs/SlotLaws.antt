@@ -1,5 +1,5 @@
 -- Slots that fit a layout, and slots that hold the values of a frame.
-use Rattle.std.proofs.Common.{◌≡◌, refl, sym, ◌∙◌, ℕ, zero, suc, ℤ, pos, ◌≤ℤ◌, int_le, Bool, true, false, ◌&&◌, List, [], ◌∷◌, slice_get, slice_index_or, slice_set, None, arith}
+use Rattle.std.proofs.Common.{◌≡◌, refl, sym, ◌∙◌, ℕ, zero, suc, pos, ◌≤ℤ◌, int_le, Bool, true, false, ◌&&◌, List, [], ◌∷◌, slice_get, slice_index_or, slice_set, arith}
 use Rattle.std.proofs.lemmas.Int.{ints}
 use Rattle.std.proofs.lemmas.Bool.{and_parts, and_from}
 use Rattle.std.specs.List.{AllZip}
@@ -8,18 +8,12 @@ use Rattle.imp_slots.specs.Fits.{is_kind}
 use Rattle.concrete_sem.specs.Values.{Number, Int}
 use Rattle.num_bounds.specs.Bounds.{Bounds, IsRange, Within as Lies}
 use Rattle.numeric_slots.specs.Measures.{measure}
-use Rattle.numeric_slots.proofs.Slots.{kind-is}
-use Rattle.interval_meaning.specs.State.{bool_same}
+use Rattle.numeric_slots.proofs.Slots.{kind-is, kind-none}
+use Rattle.interval_meaning.specs.State.{bool_same, bool_equal}
 use Rattle.interval_meaning.specs.Ranges.{extremes, slot_at, range_at, with_range, full}
 use Rattle.interval_meaning.specs.Covers.{Holds, fits_slot, fits_slots}
 use Rattle.interval_meaning.specs.declared.slot_range.SlotRange.{SlotRange}
 use Rattle.num_bounds.proofs.Ends.{le-true, true-le}
-
-same-true : (a b : Bool) → bool_same a b ≡ true → a ≡ b
-same-true true true h = refl
-same-true true false h = cc
-same-true false true h = cc
-same-true false false h = refl
 
 true-same : (a b : Bool) → a ≡ b → bool_same a b ≡ true
 true-same true true h = refl
@@ -42,7 +36,7 @@ fits_slot-true k s h =
     let p = and_parts (bool_same k.is_array s.is_array) (int_le e.lo s.range.lo && (int_le s.range.lo s.range.hi && int_le s.range.hi e.hi)) h in
     let q = and_parts (int_le e.lo s.range.lo) (int_le s.range.lo s.range.hi && int_le s.range.hi e.hi) p.1 in
     let r = and_parts (int_le s.range.lo s.range.hi) (int_le s.range.hi e.hi) q.1 in
-    (same-true k.is_array s.is_array p.0, record { low = le-true e.lo s.range.lo q.0; ordered = le-true s.range.lo s.range.hi r.0; high = le-true s.range.hi e.hi r.1 })
+    (bool_equal k.is_array s.is_array p.0, record { low = le-true e.lo s.range.lo q.0; ordered = le-true s.range.lo s.range.hi r.0; high = le-true s.range.hi e.hi r.1 })
 
 true-fits_slot : (k : Numeric) (s : SlotRange) → FitsSlot k s → fits_slot k s ≡ true
 true-fits_slot k s h =
@@ -84,10 +78,6 @@ at-fits [] (r ∷ rs) x h = absurd h
 at-fits (k ∷ ks) [] x h = absurd h
 at-fits (k ∷ ks) (r ∷ rs) zero h = h.0.1
 at-fits (k ∷ ks) (r ∷ rs) (suc x) h = at-fits ks rs x h.1
-
-pub kind-none : (b : Bool) → is_kind b None ≡ true → ⊥
-kind-none true h = cc
-kind-none false h = cc
 
 -- and that of the layout
 pub at-kind : (b : Bool) (ks : List Numeric) (rs : List SlotRange) (x : ℕ) → AllZip FitsSlot ks rs → is_kind b (slice_get ks x) ≡ true → (slot_at rs x).is_array ≡ b

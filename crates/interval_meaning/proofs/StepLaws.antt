@@ -31,7 +31,8 @@ use Rattle.interval_meaning.proofs.RangeLaws.{range_of-covers, range_of-range}
 use Rattle.interval_meaning.proofs.CompareLaws.{FitsState, Describes, after-fits, needs-fits, needs-describes, assume-fits, assume-describes}
 use Rattle.interval_meaning.specs.declared.slot_range.SlotRange.{SlotRange}
 use Rattle.concrete_sem.proofs.Keeps.{element_is}
-use Rattle.concrete_sem.proofs.Forms.{gives_same}
+use Rattle.concrete_sem.proofs.Numbers.{gives_same}
+use Rattle.plain_values.proofs.Lists.{all_at}
 
 -- A slot of this kind gets a range that fits the kind.
 kind-set : (b : Bool) (l : Layout) (rs : List SlotRange) (x : ℕ) (r : Bounds) → is_kind b (slice_get l.numbers x) ≡ true → FitsRange b r → AllZip FitsSlot l.numbers rs → AllZip FitsSlot l.numbers (with_range rs x r)
@@ -85,23 +86,13 @@ post-fits l (Does e) s f h = after-fits l (past_check assume (check_of e) s) (do
 word-lies : (z : ℤ) → IsWord z → Lies z full
 word-lies z h = (omega (arith, ints), omega (arith, ints))
 
-get-all : (P : ℤ → Type 0) (zs : List ℤ) (k : ℕ) (z : ℤ) → All P zs → slice_get zs k ≡ Some z → P z
-get-all P [] k z h e = cc
-get-all P (y ∷ ys) zero z h e = let w : y ≡ z = cc in subst P w (h 0 y (omega arith))
-get-all P (y ∷ ys) (suc k) z h e = get-all P ys k z (λ j d lt. h (suc j) d (omega arith)) e
-
-get-cell : (P : Cell → Type 0) (zs : List Cell) (k : ℕ) (z : Cell) → All P zs → slice_get zs k ≡ Some z → P z
-get-cell P [] k z h e = cc
-get-cell P (y ∷ ys) zero z h e = let w : y ≡ z = cc in subst P w (h 0 y (omega arith))
-get-cell P (y ∷ ys) (suc k) z h e = get-cell P ys k z (λ j d lt. h (suc j) d (omega arith)) e
-
 cell-word : (cells : List Cell) (n : ℕ) (l : Option ℕ) (c : ℕ × Cell) → All (IsCell n) cells → cell_of cells l ≡ Gives c → IsWord c.1.item
 cell-word cells n None c h e = cc
 cell-word cells n (Some k) c h e = by (slice_get cells k) refl e
   where
     by : (o : Option Cell) → slice_get cells k ≡ o → andthen (given_or Null o) (λ d. Gives (k, d)) ≡ Gives c → IsWord c.1.item
     by None p q = cc
-    by (Some d) p q = let w : (k, d) ≡ c = gives_same q in subst (λ (y : ℕ × Cell). IsWord y.1.item) w (get-cell (IsCell n) cells k d h p).0
+    by (Some d) p q = let w : (k, d) ≡ c = gives_same q in subst (λ (y : ℕ × Cell). IsWord y.1.item) w (all_at (IsCell n) cells k d h p).0
 
 array-words : (ks : List Numeric) (ns : List Number) (a : ℕ) → AllZip IsNumber ks ns → All IsWord (as_array (slice_index_or ns a (Int (pos 0))))
 array-words [] [] a h = λ k d lt. absurd (omega arith)

@@ -15,6 +15,7 @@ use Rattle.interval_meaning.proofs.SlotLaws.{FitsSlot, FitsRange}
 use Rattle.interval_meaning.proofs.CompareLaws.{FitsState, Describes, zip-fits, zip-left, zip-right}
 use Rattle.interval_meaning.specs.declared.slot_range.SlotRange.{SlotRange}
 use Rattle.num_bounds.proofs.Ends.{le-true}
+use Rattle.plain_values.proofs.Integers.{between}
 
 -- the mark below is not above, and within the extremes
 pub mark_below-bounds : (ms : List ℤ) (e : Bounds) (z : ℤ) → e.lo ≤ℤ z → z ≤ℤ e.hi → (e.lo ≤ℤ mark_below ms e z) × (mark_below ms e z ≤ℤ z)
@@ -94,11 +95,9 @@ widen_range-fits ms b l r h k =
     let c : l.lo ≤ℤ l.hi = h.ordered in
     let d : l.hi ≤ℤ (widen_range ms (extremes b) l r).hi = w.left_high in
     record { low = w.low; ordered = between (widen_range ms (extremes b) l r).lo l.lo l.hi (widen_range ms (extremes b) l r).hi a c d; high = w.high }
-  where
-    between : (w x y z : ℤ) → w ≤ℤ x → x ≤ℤ y → y ≤ℤ z → w ≤ℤ z
-    between w x y z p q r = omega (arith, ints)
 
-outside : (z l h m n : ℤ) → l ≤ℤ m → n ≤ℤ h → m ≤ℤ z → z ≤ℤ n → (l ≤ℤ z) × (z ≤ℤ h)
+-- what lies between two ends lies between ends outside of them
+pub outside : (z l h m n : ℤ) → l ≤ℤ m → n ≤ℤ h → m ≤ℤ z → z ≤ℤ n → (l ≤ℤ z) × (z ≤ℤ h)
 outside z l h m n p q r s = (omega (arith, ints), omega (arith, ints))
 
 same-kind : (k : Numeric) (r s : SlotRange) → FitsSlot k r → FitsSlot k s → FitsRange r.is_array s.range

@@ -39,7 +39,7 @@ abbrev pub bool_same : Bool → Bool → Bool
 bool_same true b = b
 bool_same false b = not b
 
-bool_equal : (a b : Bool) → bool_same a b ≡ true → a ≡ b
+pub bool_equal : (a b : Bool) → bool_same a b ≡ true → a ≡ b
 bool_equal true true h = refl
 bool_equal true false h = cc
 bool_equal false true h = cc

@@ -1,8 +1,9 @@
 use Rattle.std.proofs.Common.{◌≡◌, ◌≤◌, ◌⊎◌, inl, inr, ◌++◌, append_assoc, drop, length, sym, ◌∙◌, ap, subst, arith}
 use Rattle.std.specs.Prelude.{OnOk}
-use Rattle.graph_sets.proofs.Merged.{left_union, both_union, right_union, pushed, left_over, rest_is}
+use Rattle.graph_sets.proofs.Merged.{left_union, both_union, right_union, pushed, left_over}
 use Rattle.graph_sets.proofs.merging.merge.Goals.{then-loop-left_place-test+else-right_place-right, else-loop-left_place-test}
 use Rattle.graph_sets.proofs.merging.merge.Goals as goal
+use Rattle.plain_values.proofs.Lists.{rest_whole}
 
 pub loop-left_place-preserved-in-Less : goal.loop-left_place-preserved-in-Less
 loop-left_place-preserved-in-Less c = record {
@@ -47,8 +48,8 @@ returns c =
     let right = drop c.loop-left_place.right_place c.args.right.now in
     record {
       merged = subst (λ x. OnOk c.append-2.result (c.append-2.new.graphs.items ≡ x))
-          ((λ k. c.in_ok-append.ensures.added k ++ rest_is c.args.right.now c.loop-left_place.right_place k) ∙
-          ap (λ v. (c.loop-left_place.graphs.items ++ v) ++ right) (rest_is c.args.left.now c.loop-left_place.left_place) ∙
+          ((λ k. c.in_ok-append.ensures.added k ++ rest_whole c.args.right.now c.loop-left_place.right_place k) ∙
+          ap (λ v. (c.loop-left_place.graphs.items ++ v) ++ right) (rest_whole c.args.left.now c.loop-left_place.left_place) ∙
           append_assoc c.loop-left_place.graphs.items left right ∙
           ap (λ v. c.loop-left_place.graphs.items ++ v)
           (left_over c.args.left.now c.args.right.now c.loop-left_place.left_place c.loop-left_place.right_place ended c.requires.rises) ∙
