@@ -1,8 +1,8 @@
 -- Closing as a function: it is an answer of the six steps.
-use Rattle.std.specs.Prelude.{◌≡◌, ℕ, ◌<◌, ◌≤◌, ◌+◌, ◌*◌, ◌^◌, ℤ, pos, negsuc, neg_ℤ, int_lt, ◌≤ℤ◌, ◌<ℤ◌, Option, Some, None, Bool, true, false, ◌||◌, if◌then◌else◌, List, [], ◌∷◌, ◌++◌, length, refl, ◌⊎◌}
+use Rattle.std.specs.Prelude.{◌≡◌, ℕ, ◌<◌, ◌≤◌, ◌+◌, ◌*◌, ◌^◌, ℤ, pos, negsuc, neg_ℤ, int_lt, ◌≤ℤ◌, ◌<ℤ◌, Option, Some, None, Bool, true, false, if◌then◌else◌, List, [], ◌∷◌, ◌++◌, length, refl}
 use Rattle.std.proofs.Common.{arith, sym, suc, zero, subst, inl, inr, add-one}
 use Rattle.std.proofs.lemmas.Int.{ints}
-use Rattle.std.proofs.lemmas.Bool.{cases_lt, or_parts}
+use Rattle.std.proofs.lemmas.Bool.{cases_lt, or_parts, or_cases}
 use Rattle.dbm_close.proofs.LawLemmas.{close-kinds, close-limited, close-meaning, close-unique}
 use Rattle.dbm_close.proofs.RoundLemmas.{negative-path, sound-from_diagonal, weights-from_walks}
 use Rattle.dbm_close.proofs.StrongLemmas.{cut-coherent, strengthened-coherent, tightened-coherent}
@@ -24,16 +24,13 @@ use Rattle.dbm_core.specs.Limits.{IsZeroAtMost}
 use Rattle.dbm_core.specs.Nodes.{IsCoherent, flip}
 use Rattle.dbm_core.specs.Tables.{matrix_of}
 use Rattle.dbm_core.specs.Weights.{AtMost, add_weight}
+use Rattle.plain_values.proofs.Integers.{lower_of}
 
 -- ---- tests
 
-or-true : (a b : Bool) → a || b ≡ true → (a ≡ true) ⊎ (b ≡ true)
-or-true true b e = inl refl
-or-true false b e = inr e
-
 pub some_below-true : (n : ℕ) (p : ℕ → Bool) → some_below n p ≡ true → (i : ℕ) × ((i < n) × (p i ≡ true))
 some_below-true zero p e = absurd (let f : ⊥ = cc in f)
-some_below-true (suc n) p e = elim (or-true (p n) (some_below n p) e) [
+some_below-true (suc n) p e = elim (or_cases (p n) (some_below n p) e) [
   | inl f ↦ (n, (omega arith, f))
   | inr f ↦ let q : (i : ℕ) × ((i < n) × (p i ≡ true)) = some_below-true n p f in let l : q.0 < n = q.1.0 in (q.0, (omega arith, q.1.1))
 ]
@@ -47,15 +44,12 @@ some_below-false (suc n) p e i l =
       | inr k ↦ let f : n ≡ i = omega arith in subst (λ j. p j ≡ false) f q.0
     ]
 
-lt-true : (x z : ℤ) → int_lt x z ≡ true → x <ℤ z
-lt-true x z e = grind (arith, ints)
-
 lt-false : (x z : ℤ) → int_lt x z ≡ false → z ≤ℤ x
 lt-false x z e = grind (arith, ints)
 
 less-true : (a : Option ℤ) (z y : ℤ) → ((x : ℤ) → x <ℤ z → x ≤ℤ y) → is_less a z ≡ true → AtMost a (Some y)
 less-true None z y f e = absurd (let g : ⊥ = cc in g)
-less-true (Some x) z y f e = f x (lt-true x z e)
+less-true (Some x) z y f e = f x (lower_of x z e)
 
 less-false : (a : Option ℤ) (z : ℤ) → is_less a z ≡ false → AtMost (Some z) a
 less-false None z e = tt
@@ -149,7 +143,7 @@ low-false n u e i j hi hj = less-false (u i j) (neg_ℤ (pos (2 ^ 64)))
 ranges-true : (kinds : List Bool) (r : ℕ → ℕ → Option ℤ) → some_below (length kinds) (λ k. int_lt (slot_high kinds r k) (slot_low kinds r k)) ≡ true → HasEmptyRange kinds r
 ranges-true kinds r e =
     let p = some_below-true (length kinds) (λ k. int_lt (slot_high kinds r k) (slot_low kinds r k)) e in
-    (p.0, (p.1.0, lt-true (slot_high kinds r p.0) (slot_low kinds r p.0) p.1.1))
+    (p.0, (p.1.0, lower_of (slot_high kinds r p.0) (slot_low kinds r p.0) p.1.1))
 
 ranges-false : (kinds : List Bool) (r : ℕ → ℕ → Option ℤ) → some_below (length kinds) (λ k. int_lt (slot_high kinds r k) (slot_low kinds r k)) ≡ false → HasNoEmptyRange kinds r
 ranges-false kinds r e k l = lt-false (slot_high kinds r k) (slot_low kinds r k) (some_below-false (length kinds) (λ k. int_lt (slot_high kinds r k) (slot_low kinds r k)) e k l)

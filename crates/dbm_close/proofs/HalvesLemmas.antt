@@ -70,6 +70,9 @@ even_down-mono a b p = rw (even-halves a, even-halves b) (add_weight-mono (half 
 abbrev pub half_own : (ℕ → ℕ → Option ℤ) → ℕ → ℕ → Option ℤ
 half_own s i j = add_weight (half (s i (flip i))) (half (s (flip j) j))
 
+pub plain : (s : ℕ → ℕ → Option ℤ) (i j : ℕ) → (j ≡ flip i → ⊥) → tightened s i j ≡ s i j
+plain s i j e = rw (ne_eqb j (flip i) e) refl
+
 pub single_down : (s : ℕ → ℕ → Option ℤ) (i j : ℕ) → j ≡ flip i → tightened s i j ≡ even_down (s i j)
 single_down s i j e = rw (eq-eqb j (flip i) e) refl
 
@@ -90,13 +93,10 @@ pub strong-cases : (s : ℕ → ℕ → Option ℤ) (P : Option ℤ → Type 0) 
 strong-cases s P i j p q = least-cases P (tightened s i j) (half (add_weight (tightened s i (flip i)) (tightened s (flip j) j)))
     (elim (cases_eq j (flip i)) [
       | inl e ↦ subst P (sym (single e)) q
-      | inr e ↦ subst P (sym (plain e)) p
+      | inr e ↦ subst P (sym (plain s i j e)) p
     ])
     (subst P (sym (strong-halves s i j)) q)
   where
-    plain : (j ≡ flip i → ⊥) → tightened s i j ≡ s i j
-    plain e = rw (ne_eqb j (flip i) e) refl
-
     single : j ≡ flip i → tightened s i j ≡ half_own s i j
     single e = single_down s i j e ∙ even-halves (s i j)
         ∙ ap (λ k. add_weight (half (s i k)) (half (s i j))) e

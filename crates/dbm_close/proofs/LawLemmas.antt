@@ -23,6 +23,8 @@ use Rattle.dbm_core.specs.Limits.{AreWithin, IsWithin}
 use Rattle.dbm_core.specs.Nodes.{flip, is_single}
 use Rattle.dbm_core.specs.Valuations.{IsSatisfiedBy, Meets, node_value}
 use Rattle.dbm_core.specs.Weights.{AtMost, add_weight, least}
+use Rattle.plain_values.proofs.Integers.{crossed}
+use Rattle.dbm_close.proofs.HalvesLemmas.{single_down}
 
 zero_weight : (a : Option ℤ) → AtMost a (Some (pos 0)) → AtMost (Some (pos 0)) a → a ≡ Some (pos 0)
 zero_weight None p q = absurd p
@@ -310,9 +312,6 @@ half_sum (Some y) (Some z) x e =
     twice : (k l y z x : ℤ) → k +ℤ k ≡ y → l +ℤ l ≡ z → y +ℤ z ≡ x → (k +ℤ l) +ℤ (k +ℤ l) ≡ x
     twice k l y z x p q r = omega (arith, ints)
 
-single_down : (s : ℕ → ℕ → Option ℤ) (i j : ℕ) → j ≡ flip i → tightened s i j ≡ even_down (s i j)
-single_down s i j e = rw (eq-eqb j (flip i) e) refl
-
 pub halves-exact : HalvesAreExact
 halves-exact s i j x e = half_sum (s i (flip i)) (s (flip j) j) x
     (sym (ap (λ v. add_weight v (tightened s (flip j) j)) (single_down s i (flip i) refl)
@@ -356,10 +355,7 @@ not_both m r (inr (s, e)) (t, f) = cause e.cause
     cause (inr (inl z)) = let y : IsTooLow (nodes m) (strong t) = too_low-agree (nodes m) (strong s) (strong t) (strong-agree (length m.kinds) s t same) z in
         let p : neg_ℤ (pos (2 ^ 64)) ≤ℤ negsuc (2 ^ 64) = between (strong t y.0 y.1) (neg_ℤ (pos (2 ^ 64))) (negsuc (2 ^ 64)) (f.in_range y.0 y.1 y.2.0 y.2.1) y.2.2 in omega (arith, ints)
     cause (inr (inr z)) = let y : HasEmptyRange m.kinds (closed_entry t) = empty_range-agree m.kinds (closed_entry s) (closed_entry t) (closed-agree (length m.kinds) s t same) z in
-        crossed (slot_low m.kinds (closed_entry t) y.0) (slot_high m.kinds (closed_entry t) y.0) (f.ranges y.0 y.1.0) y.1.1
-      where
-        crossed : (a b : ℤ) → a ≤ℤ b → b <ℤ a → ⊥
-        crossed a b p q = omega (arith, ints)
+        crossed (slot_high m.kinds (closed_entry t) y.0) (slot_low m.kinds (closed_entry t) y.0) y.1.1 (f.ranges y.0 y.1.0)
 
 -- a matrix has one close
 pub close-unique : (m : HalfMatrix) (c d : Closed) → IsCloseOf m c → IsCloseOf m d → c ≡ d

@@ -13,6 +13,7 @@ use Rattle.dbm_core.specs.Operations.{is_pair, lower_at, lower_pair, lowered}
 use Rattle.dbm_core.proofs.WeightLemmas.{least-left, AtMost-refl}
 use Rattle.dbm_core.specs.Limits.{AreAtMost}
 use Rattle.dbm_core.specs.Weights.{AtMost, least}
+use Rattle.std.proofs.Math.Bool.{or-true}
 
 pub same_place : (i j a b : ℕ) → j < row_width i → b < row_width a → row_start i + j ≡ row_start a + b → (i ≡ a) × (j ≡ b)
 same_place i j a b p q e = elim (cases_lt i a) [
@@ -55,12 +56,8 @@ hits i j a b = elim (cases_eq i a) [
 pub either_first : (i j k l a b : ℕ) → i ≡ a → j ≡ b → (eqb a i && eqb b j) || (eqb a k && eqb b l) ≡ true
 either_first i j k l a b p q = rw (eq-eqb a i (sym p), eq-eqb b j (sym q)) refl
 
-pub or_true : (p : Bool) → p || true ≡ true
-or_true true = refl
-or_true false = refl
-
 pub either_second : (i j k l a b : ℕ) → k ≡ a → l ≡ b → (eqb a i && eqb b j) || (eqb a k && eqb b l) ≡ true
-either_second i j k l a b p q = rw (eq-eqb a k (sym p), eq-eqb b l (sym q)) (or_true (eqb a i && eqb b j))
+either_second i j k l a b p q = rw (eq-eqb a k (sym p), eq-eqb b l (sym q)) (or-true (eqb a i && eqb b j))
 
 both_false : (i j a b : ℕ) → ((i ≡ a) × (j ≡ b) → ⊥) → eqb a i && eqb b j ≡ false
 both_false i j a b n = elim (cases_eq a i) [

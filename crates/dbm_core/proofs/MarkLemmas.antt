@@ -7,6 +7,7 @@ use Rattle.dbm_core.specs.Weights.{AtMost, least}
 use Rattle.dbm_core.proofs.WeightLemmas.{least-assoc, least-cases}
 use Rattle.dbm_core.specs.Limits.{IsWithin}
 use Rattle.dbm_core.specs.Operations.{mark_value, next_mark, IsNextMark, NextMarkIsLeast}
+use Rattle.plain_values.proofs.Integers.{crossed, at_most, equal_at_most}
 
 pub by_order : (P : Bool → Type 0) (x y : ℤ) → (x <ℤ y → P true) → (y ≤ℤ x → P false) → P (int_lt x y)
 by_order P x y p q = go (int_lt x y) refl
@@ -15,16 +16,7 @@ by_order P x y p q = go (int_lt x y) refl
     go true e = p (grind (arith, ints))
     go false e = q (grind (arith, ints))
 
-pub apart : (a b : ℤ) → a <ℤ b → b ≤ℤ a → ⊥
-apart a b p q = omega (arith, ints)
-
-at_most : (a b c : ℤ) → a ≤ℤ b → b ≤ℤ c → a ≤ℤ c
-at_most a b c p q = omega (arith, ints)
-
-same : (a b : ℤ) → a ≡ b → a ≤ℤ b
-same a b e = omega (arith, ints)
-
-under : (a b : ℤ) → a <ℤ b → a ≤ℤ b
+pub under : (a b : ℤ) → a <ℤ b → a ≤ℤ b
 under a b p = omega (arith, ints)
 
 -- a mark that is less than the bound in front changes nothing
@@ -38,7 +30,7 @@ skipped m ms d x (Some v) h l = (
   (
     h.1.0,
     λ k i q. elim i [
-      | inl e ↦ absurd (apart (mark_value d m) x l (subst (λ t. x ≤ℤ mark_value d t) e q))
+      | inl e ↦ absurd (crossed (mark_value d m) x l (subst (λ t. x ≤ℤ mark_value d t) e q))
       | inr j ↦ h.1.1 k j q
     ],
   ),
@@ -51,8 +43,8 @@ kept m ms d x None h l = (
   (
     l,
     λ k i q. elim i [
-      | inl e ↦ same (mark_value d m) (mark_value d k) (ap (mark_value d) (sym e))
-      | inr j ↦ absurd (apart (mark_value d k) x (h k j) q)
+      | inl e ↦ equal_at_most (mark_value d m) (mark_value d k) (ap (mark_value d) (sym e))
+      | inr j ↦ absurd (crossed (mark_value d k) x (h k j) q)
     ],
   ),
 )
@@ -62,7 +54,7 @@ kept m ms d x (Some w) h l = by_order (λ b. IsNextMark (m ∷ ms) d x (Some (co
       (
         h.1.0,
         λ k i q. elim i [
-          | inl e ↦ at_most w (mark_value d m) (mark_value d k) (under w (mark_value d m) p) (same (mark_value d m) (mark_value d k) (ap (mark_value d) (sym e)))
+          | inl e ↦ at_most w (mark_value d m) (mark_value d k) (under w (mark_value d m) p) (equal_at_most (mark_value d m) (mark_value d k) (ap (mark_value d) (sym e)))
           | inr j ↦ h.1.1 k j q
         ],
       ),
@@ -72,7 +64,7 @@ kept m ms d x (Some w) h l = by_order (λ b. IsNextMark (m ∷ ms) d x (Some (co
       (
         l,
         λ k i q. elim i [
-          | inl e ↦ same (mark_value d m) (mark_value d k) (ap (mark_value d) (sym e))
+          | inl e ↦ equal_at_most (mark_value d m) (mark_value d k) (ap (mark_value d) (sym e))
           | inr j ↦ at_most (mark_value d m) w (mark_value d k) p (h.1.1 k j q)
         ],
       ),

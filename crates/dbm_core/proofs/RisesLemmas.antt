@@ -1,6 +1,6 @@
 -- Each entry that a widening changes can rise once less often.
 use Rattle.std.specs.Prelude.{◌≡◌, ℕ, ◌<◌, ◌≤◌, ◌+◌, ◌*◌, ℤ, ◌≤ℤ◌, ◌<ℤ◌, Option, Some, None, Bool, cond, int_lt, List, [], ◌∷◌, length, count_by, ◌⊎◌, refl}
-use Rattle.std.proofs.Common.{arith, ap, sym, subst, inl, inr, suc, zero}
+use Rattle.std.proofs.Common.{arith, ap, sym, subst, inl, inr, suc, zero, add-le-add, add-lt-add_of_le_of_lt}
 use Rattle.std.proofs.lemmas.Int.{ints}
 use Rattle.std.proofs.lemmas.Bool.{cases_lt}
 use Rattle.std.proofs.lemmas.List.Sums.{sum_by-cons, count_by-le-length}
@@ -8,7 +8,7 @@ use Rattle.dbm_core.specs.Half.{HalfMatrix, IsMatrix, HasEntries, entry, nodes}
 use Rattle.dbm_core.specs.Nodes.{is_single}
 use Rattle.dbm_core.specs.Operations.{mark_value, next_mark, widen_bound, widened, IsMark, IsNextMark}
 use Rattle.dbm_core.specs.Rises.{sum_below, bound_rises, rises}
-use Rattle.dbm_core.proofs.MarkLemmas.{by_order, next_mark-is-least}
+use Rattle.dbm_core.proofs.MarkLemmas.{by_order, next_mark-is-least, under}
 use Rattle.dbm_core.proofs.SameLemmas.{entries-determine}
 
 -- how many marks are above x
@@ -27,10 +27,7 @@ above-mono : (ms : List ℤ) (d : Bool) (x y : ℤ) → x ≤ℤ y → above ms 
 above-mono [] d x y l = omega arith
 above-mono (m ∷ ms) d x y l = rw (above-cons m ms d x) (rw (above-cons m ms d y)
     (let p : cond (int_lt y (mark_value d m)) 1 0 ≤ cond (int_lt x (mark_value d m)) 1 0 = one_more x y (mark_value d m) l in
-    let q : above ms d y ≤ above ms d x = above-mono ms d x y l in both (cond (int_lt y (mark_value d m)) 1 0) (cond (int_lt x (mark_value d m)) 1 0) (above ms d y) (above ms d x) p q))
-  where
-    both : (a b c e : ℕ) → a ≤ b → c ≤ e → a + c ≤ b + e
-    both a b c e p q = omega arith
+    let q : above ms d y ≤ above ms d x = above-mono ms d x y l in add-le-add p q))
 
 -- the mark v itself is above x, and not above v
 above-less : (ms : List ℤ) (d : Bool) (x m : ℤ) → IsMark ms m → x <ℤ mark_value d m → above ms d (mark_value d m) < above ms d x
@@ -40,21 +37,12 @@ above-less (k ∷ ks) d x m (inl e) l = subst (λ t. above (k ∷ ks) d (mark_va
     (here (mark_value d k) x (above ks d (mark_value d k)) (above ks d x) (subst (λ t. x <ℤ mark_value d t) e l)
     (above-mono ks d x (mark_value d k) (under x (mark_value d k) (subst (λ t. x <ℤ mark_value d t) e l))))))
   where
-    under : (a b : ℤ) → a <ℤ b → a ≤ℤ b
-    under a b p = omega (arith, ints)
-
     here : (v x : ℤ) (a b : ℕ) → x <ℤ v → a ≤ b → cond (int_lt v v) 1 0 + a < cond (int_lt x v) 1 0 + b
     here v x a b l h = by_order (λ t. cond t 1 0 + a < cond (int_lt x v) 1 0 + b) v v (λ p. absurd (omega (arith, ints)))
         (λ p. by_order (λ t. 0 + a < cond t 1 0 + b) x v (λ q. omega arith) (λ q. absurd (omega (arith, ints))))
 above-less (k ∷ ks) d x m (inr j) l = rw (above-cons k ks d x) (rw (above-cons k ks d (mark_value d m))
-    (both (cond (int_lt (mark_value d m) (mark_value d k)) 1 0) (cond (int_lt x (mark_value d k)) 1 0) (above ks d (mark_value d m)) (above ks d x)
+    (add-lt-add_of_le_of_lt
     (one_more x (mark_value d m) (mark_value d k) (under x (mark_value d m) l)) (above-less ks d x m j l)))
-  where
-    under : (a b : ℤ) → a <ℤ b → a ≤ℤ b
-    under a b p = omega (arith, ints)
-
-    both : (a b c e : ℕ) → a ≤ b → c < e → a + c < b + e
-    both a b c e p q = omega arith
 
 -- a widened bound is the old one, or can rise less often
 bound_rises-widened : (ms : List ℤ) (d : Bool) (a b : Option ℤ) → (widen_bound ms d a b ≡ a) ⊎ (bound_rises ms d (widen_bound ms d a b) < bound_rises ms d a)

@@ -8,16 +8,16 @@ use Rattle.dbm_core.specs.Nodes.{IsOfSlot, flip}
 use Rattle.dbm_core.specs.Operations.{forgotten, joined}
 use Rattle.dbm_core.specs.Weights.{greatest}
 
+pub neither : (q i j : ℕ) → (i / 2 ≡ q → ⊥) → (j / 2 ≡ q → ⊥) → IsOfSlot q i j → ⊥
+neither q i j e f (inl g) = e g
+neither q i j e f (inr g) = f g
+
 -- whether a pair is of the slot
 pub of_slot : (q i j : ℕ) → IsOfSlot q i j ⊎ (IsOfSlot q i j → ⊥)
 of_slot q i j = elim (cases_eq (i / 2) q) [
   | inl e ↦ inl (inl e)
-  | inr e ↦ elim (cases_eq (j / 2) q) [ inl f ↦ inl (inr f) | inr f ↦ inr (neither e f) ]
+  | inr e ↦ elim (cases_eq (j / 2) q) [ inl f ↦ inl (inr f) | inr f ↦ inr (neither q i j e f) ]
 ]
-  where
-    neither : (i / 2 ≡ q → ⊥) → (j / 2 ≡ q → ⊥) → IsOfSlot q i j → ⊥
-    neither e f (inl g) = e g
-    neither e f (inr g) = f g
 
 -- the entry of a kept pair
 abbrev at : List (Option ℤ) → ℕ → ℕ → Option ℤ
@@ -105,14 +105,10 @@ forgotten-updated q o m changed rest i j hi w = elim (cases_eq (i / 2) q) [
   | inl e ↦ changed i j hi w (inl e) ∙ sym (rw (eq-eqb (i / 2) q e) refl)
   | inr e ↦ elim (cases_eq (j / 2) q) [
     | inl f ↦ changed i j hi w (inr f) ∙ sym (rw (eq-eqb (j / 2) q f, ne_eqb (i / 2) q e) refl)
-    | inr f ↦ rest i j hi w (neither e f) ∙ sym (rw (ne_eqb (i / 2) q e, ne_eqb (j / 2) q f) (same (eqb i j)))
+    | inr f ↦ rest i j hi w (neither q i j e f) ∙ sym (rw (ne_eqb (i / 2) q e, ne_eqb (j / 2) q f) (same (eqb i j)))
   ]
 ]
   where
-    neither : (i / 2 ≡ q → ⊥) → (j / 2 ≡ q → ⊥) → IsOfSlot q i j → ⊥
-    neither e f (inl g) = e g
-    neither e f (inr g) = f g
-
     same : (b : Bool) → cond b (entry o i j) (entry o i j) ≡ entry o i j
     same true = refl
     same false = refl

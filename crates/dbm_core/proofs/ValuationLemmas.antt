@@ -12,6 +12,7 @@ use Rattle.dbm_core.specs.Nodes.{flip}
 use Rattle.dbm_core.specs.Operations.{unbounded, forgotten, lowered}
 use Rattle.dbm_core.specs.Valuations.{node_value, Meets, IsSatisfiedBy, Covers, Frees, AgreeButAt, AddsBound}
 use Rattle.dbm_core.specs.Weights.{AtMost}
+use Rattle.plain_values.proofs.Integers.{neg_twice}
 
 pub node_value-even : (x : ℕ → ℤ) (i : ℕ) → i % 2 ≡ 0 → node_value x i ≡ x (i / 2)
 unfolding node_value
@@ -21,15 +22,12 @@ pub node_value-odd : (x : ℕ → ℤ) (i : ℕ) → i % 2 ≡ 1 → node_value 
 unfolding node_value
 node_value-odd x i e = let n : i % 2 ≡ 0 → ⊥ = λ (f : i % 2 ≡ 0). omega arith in rw (ne_eqb (i % 2) 0 n) refl
 
-neg_neg : (y : ℤ) → neg_ℤ (neg_ℤ y) ≡ y
-neg_neg y = omega (arith, ints)
-
 pub node_value-flip : (x : ℕ → ℤ) (i : ℕ) → node_value x (flip i) ≡ neg_ℤ (node_value x i)
 node_value-flip x i = elim (parity i) [
   | inl e ↦ let o : (i + 1) % 2 ≡ 1 = omega arith in let d : (i + 1) / 2 ≡ i / 2 = omega arith in
       ap (node_value x) (flip-even i e) ∙ node_value-odd x (i + 1) o ∙ ap (λ k. neg_ℤ (x k)) d ∙ sym (ap neg_ℤ (node_value-even x i e))
   | inr e ↦ let o : (i - 1) % 2 ≡ 0 = omega arith in let d : (i - 1) / 2 ≡ i / 2 = omega arith in
-      ap (node_value x) (flip-odd i e) ∙ node_value-even x (i - 1) o ∙ ap x d ∙ sym (ap neg_ℤ (node_value-odd x i e) ∙ neg_neg (x (i / 2)))
+      ap (node_value x) (flip-odd i e) ∙ node_value-even x (i - 1) o ∙ ap x d ∙ neg_twice (x (i / 2)) ∙ sym (ap neg_ℤ (node_value-odd x i e))
 ]
 
 -- the two nodes of slot k

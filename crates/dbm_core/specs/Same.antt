@@ -9,6 +9,7 @@ use Rattle.std.specs.Cmp.{IsEquivalence, decided}
 use Rattle.std.proofs.Common.{ap, ◌∙◌}
 use Rattle.std.proofs.lemmas.Bool.Decides.{Decides-int_eq}
 use Rattle.std.proofs.lemmas.Slice.Eq.{slice_eq-Decides}
+use Rattle.std.proofs.lemmas.Bool.{and_parts, and_from}
 
 -- what `==` answers
 abbrev pub same_matrix : HalfMatrix → HalfMatrix → Bool
@@ -30,22 +31,15 @@ bound_Decides (Some x) (Some y) = (λ e. ap Some ((Decides-int_eq x y).0 e), λ 
 pub bools_Decide : (a b : List Bool) → Decides (pointwise beq a b) (a ≡ b)
 bools_Decide a b = slice_eq-Decides bool_Decides a b (pointwise beq a b) refl
 
-and-both : (p q : Bool) → p && q ≡ true → (p ≡ true) × (q ≡ true)
-and-both true q e = (refl, e)
-and-both false q e = absurd (let f : ⊥ = cc in f)
-
-and-true : (p q : Bool) → p ≡ true → q ≡ true → p && q ≡ true
-and-true p q e f = rw (e, f) refl
-
 -- equal is identical
 pub same_matrix-Decides : (a b : HalfMatrix) → Decides (same_matrix a b) (a ≡ b)
 same_matrix-Decides a b = (
-  (λ e. let p : (pointwise beq a.kinds b.kinds ≡ true) × (pointwise (option_eq int_eq) a.kept b.kept ≡ true) = and-both (pointwise beq a.kinds b.kinds) (pointwise (option_eq int_eq) a.kept b.kept) e in
+  (λ e. let p : (pointwise beq a.kinds b.kinds ≡ true) × (pointwise (option_eq int_eq) a.kept b.kept ≡ true) = and_parts (pointwise beq a.kinds b.kinds) (pointwise (option_eq int_eq) a.kept b.kept) e in
       let k : a.kinds ≡ b.kinds = (slice_eq-Decides bool_Decides a.kinds b.kinds (pointwise beq a.kinds b.kinds) refl).0 p.0 in
       let n : a.kept ≡ b.kept = (slice_eq-Decides bound_Decides a.kept b.kept (pointwise (option_eq int_eq) a.kept b.kept) refl).0 p.1 in
       let make : List Bool → List (Option ℤ) → HalfMatrix = λ k n. record { kinds = k; kept = n } in
       ap (λ k. make k a.kept) k ∙ ap (λ n. make b.kinds n) n),
-  (λ e. and-true (pointwise beq a.kinds b.kinds) (pointwise (option_eq int_eq) a.kept b.kept)
+  (λ e. and_from (pointwise beq a.kinds b.kinds) (pointwise (option_eq int_eq) a.kept b.kept)
       ((slice_eq-Decides bool_Decides a.kinds b.kinds (pointwise beq a.kinds b.kinds) refl).1 (ap (λ (m : HalfMatrix). m.kinds) e))
       ((slice_eq-Decides bound_Decides a.kept b.kept (pointwise (option_eq int_eq) a.kept b.kept) refl).1 (ap (λ (m : HalfMatrix). m.kept) e))),
 )

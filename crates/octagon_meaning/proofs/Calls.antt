@@ -27,7 +27,7 @@ use Rattle.dbm_close.specs.Laws.{AreInSlots}
 use Rattle.dbm_close.specs.declared.closed.Closed.{Closed}
 use Rattle.numeric_slots.specs.Measures.{measure}
 use Rattle.numeric_slots.specs.Ranges.{if_range}
-use Rattle.numeric_slots.proofs.Slots.{slot-measure, length-measure}
+use Rattle.numeric_slots.proofs.Slots.{slot-measure, length-measure, kind-none}
 use Rattle.octagon_meaning.specs.declared.source.Source.{Source}
 use Rattle.octagon_meaning.specs.declared.source.Source.TheVariants.{FromSlot, InRange}
 use Rattle.octagon_meaning.specs.Covers.{values}
@@ -39,7 +39,7 @@ use Rattle.octagon_meaning.proofs.Fitting.{Ready, FitsMatrix, FitsState, Describ
 use Rattle.octagon_meaning.proofs.Matrices.{table-ready, table-satisfied, range-ready, range-satisfied, without-ready, without-satisfied}
 use Rattle.octagon_meaning.proofs.Ranges.{AreProper, proper, range_at-covers, range_of-covers}
 use Rattle.octagon_meaning.proofs.Steps.{others-agree, set-value}
-use Rattle.concrete_sem.proofs.Forms.{gives_same}
+use Rattle.concrete_sem.proofs.Numbers.{gives_same}
 
 -- ---- all slots 0
 
@@ -132,10 +132,6 @@ module _ (l : Layout) (m : HalfMatrix) (v : Variables) (numbers : AllZip IsNumbe
   passed-numbers : (p u : Variables) → Gives p ≡ Gives u → (o : Option (List Source)) (ks : List Numeric) → ArgumentsFrom (values v) o ks p.numbers → ArgumentsFrom (values v) o ks u.numbers
   passed-numbers p u e o ks h = let w : p ≡ u = gives_same e in subst (λ (y : Variables). ArgumentsFrom (values v) o ks y.numbers) w h
 
-  kind-none : (b : Bool) → is_kind b None ≡ true → ⊥
-  kind-none true h = cc
-  kind-none false h = cc
-
   arguments-from : (args : List Argument) (ks : List Numeric) (links : List (List ℕ)) (u : Variables) → fits_arguments l args ks links ≡ true → passed v args ≡ Gives u → ArgumentsFrom (values v) (sources m args) ks u.numbers
   arguments-from [] ks links u f g = passed-numbers (record { numbers = []; links = [] }) u g (Some []) ks tt
   arguments-from (IntArgument e ∷ more) [] links u f g = absurd (kind-none false (and_parts (is_kind false None) (fits_term l e && fits_arguments l more [] links) f).0)
@@ -224,7 +220,7 @@ meet-ready kinds m k [] h = h
 meet-ready kinds m k (FromSlot x ∷ ss) h = meet-ready kinds m (k + 1) ss h
 meet-ready kinds m k (InRange r ∷ ss) h = meet-ready kinds (meets_range m k r) (k + 1) ss (range-ready kinds m k r h)
 
-next : (j k : ℕ) → k + 1 + j ≡ k + suc j
+pub next : (j k : ℕ) → k + 1 + j ≡ k + suc j
 next j k = omega arith
 
 meet-satisfied : (kinds : List Bool) (m : HalfMatrix) (x y : ℕ → ℤ) (k : ℕ) (ss : List Source) → Ready kinds m → IsSatisfiedBy m y → ((j : ℕ) → HasSource x (slice_get ss j) (y (k + j))) → IsSatisfiedBy (meet_sources m k ss) y

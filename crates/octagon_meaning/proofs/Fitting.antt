@@ -26,6 +26,7 @@ use Rattle.imp_slots.specs.Plain.{Numeric, Layout}
 use Rattle.octagon_meaning.specs.Covers.{fits_matrix, in_limits}
 use Rattle.octagon_meaning.specs.Operations.{kinds_of}
 use Rattle.octagon_meaning.specs.States.{after, closed}
+use Rattle.plain_values.proofs.Cases.{equal_test}
 
 -- a matrix of these kinds that can be closed
 pub record Ready (kinds : List Bool) (m : HalfMatrix) : Type 0 where
@@ -117,9 +118,6 @@ true-zero a e = rw e refl
 pub eq-true : (a b : ℕ) → nat_eq a b ≡ true → a ≡ b
 eq-true a b h = grind (arith, nat_tests)
 
-true-eq : (a b : ℕ) → a ≡ b → nat_eq a b ≡ true
-true-eq a b h = grind (arith, nat_tests)
-
 pub kinds_few : (ks : List Numeric) → length (kinds_of ks) ≤ 16
 kinds_few ks = omega (arith, length-take 16 (map (λ (k : Numeric). k.is_array) ks))
 
@@ -144,7 +142,7 @@ fits_matrix-true l m h =
 pub true-fits_matrix : (l : Layout) (m : HalfMatrix) → FitsMatrix (kinds_of l.numbers) m → fits_matrix l m ≡ true
 true-fits_matrix l m h =
     and_from (pointwise beq m.kinds (kinds_of l.numbers)) _ ((bools_Decide m.kinds (kinds_of l.numbers)).1 h.same_kinds)
-    (and_from (nat_eq (length m.kept) (2 * (length m.kinds * (length m.kinds + 1)))) _ (true-eq (length m.kept) (2 * (length m.kinds * (length m.kinds + 1))) h.matrix.fits)
+    (and_from (nat_eq (length m.kept) (2 * (length m.kinds * (length m.kinds + 1)))) _ (equal_test (length m.kept) (2 * (length m.kinds * (length m.kinds + 1))) h.matrix.fits)
     (and_from (not (some_below (nodes m) (λ i. not (option_eq int_eq (entry m i i) (Some (pos 0)))))) _
     (not_from_false _ (some_below-none (nodes m) (λ i. not (option_eq int_eq (entry m i i) (Some (pos 0)))) (λ i l. not_from_true _ (true-zero (entry m i i) (h.diagonal i l)))))
     (not_from_false _ (some_below-none (nodes m) (λ i. some_below (nodes m) (λ j. not (in_limits (entry m i j)))) (λ i hi. some_below-none (nodes m) (λ j. not (in_limits (entry m i j))) (λ j hj. not_from_true _ (h.limits i j hi hj)))))))

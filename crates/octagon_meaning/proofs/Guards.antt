@@ -42,6 +42,8 @@ use Rattle.octagon_meaning.specs.States.{closed}
 use Rattle.octagon_meaning.proofs.Fitting.{Ready, FitsMatrix, FitsState, Describes, fits-ready, close-fits, close-describes, closed-fits, closed-describes, after-fits, after-describes}
 use Rattle.octagon_meaning.proofs.Matrices.{HasValue, form_value, table-ready, difference-ready, difference-satisfied, most-ready, most-satisfied, least-ready, least-satisfied}
 use Rattle.octagon_meaning.proofs.Ranges.{AreProper, proper, range_at-covers, range_of-covers, form_of-value}
+use Rattle.std.proofs.lemmas.Bool.{or_from}
+use Rattle.plain_values.proofs.Integers.{at_most as at_most_of, between, equal_at_most}
 
 -- ---- joins
 
@@ -202,14 +204,8 @@ most_matrix-satisfied kinds m x (Some f) (Some g) l r y z h s d e p q le = diffe
   where
     apart : (f g y z : ℤ) → f ≡ y → g ≡ z → y ≤ℤ z → (f -ℤ g) ≤ℤ pos 0
     apart f g y z d e lt = omega (arith, ints)
-most_matrix-satisfied kinds m x (Some f) None l r y z h s d e p q le = most-satisfied kinds m (Some f) r.hi y x h s d (along y z r.hi le q.1)
-  where
-    along : (y z h : ℤ) → y ≤ℤ z → z ≤ℤ h → y ≤ℤ h
-    along y z h lt q = omega (arith, ints)
-most_matrix-satisfied kinds m x None b l r y z h s d e p q le = least-satisfied kinds m b l.lo z x h s e (along l.lo y z p.0 le)
-  where
-    along : (y z h : ℤ) → y ≤ℤ z → z ≤ℤ h → y ≤ℤ h
-    along y z h lt q = omega (arith, ints)
+most_matrix-satisfied kinds m x (Some f) None l r y z h s d e p q le = most-satisfied kinds m (Some f) r.hi y x h s d (at_most_of y z r.hi le q.1)
+most_matrix-satisfied kinds m x None b l r y z h s d e p q le = least-satisfied kinds m b l.lo z x h s e (at_most_of l.lo y z p.0 le)
 
 if_empty-fits : (kinds : List Bool) (b : Bool) (s : Closed) → FitsState kinds s → FitsState kinds (if b then Empty else s)
 if_empty-fits kinds true s h = tt
@@ -261,25 +257,16 @@ module _ (kinds : List Bool) (x : ℕ → ℤ) (slots : AreInSlots kinds x) wher
       along : (u y z w : ℤ) → u ≤ℤ y → y <ℤ z → z ≤ℤ w → u <ℤ w
       along u y z w p q r = omega (arith, ints)
 
-  along : (u y z w : ℤ) → u ≤ℤ y → y ≤ℤ z → z ≤ℤ w → u ≤ℤ w
-  along u y z w p q r = omega (arith, ints)
-
   at_most-describes : (m : HalfMatrix) (a b : Option Form) (l r : Bounds) (y z : ℤ) → Ready kinds m → IsSatisfiedBy m x → HasValue x a y → HasValue x b z → Lies y l → Lies z r → y ≤ℤ z → Describes x (at_most m a b l r)
-  at_most-describes m a b l r y z h s d e p q le = if_empty-describes x (int_lt r.hi l.lo) (close_of (at_most_matrix m a b l r)) (not_below l.lo r.hi (along l.lo y z r.hi p.0 le q.1))
+  at_most-describes m a b l r y z h s d e p q le = if_empty-describes x (int_lt r.hi l.lo) (close_of (at_most_matrix m a b l r)) (not_below l.lo r.hi (between l.lo y z r.hi p.0 le q.1))
       (close-describes kinds (at_most_matrix m a b l r) x (most_matrix-ready kinds m a b l r h) slots (most_matrix-satisfied kinds m x a b l r y z h s d e p q le))
-
-  both_false : (a b : Bool) → a ≡ false → b ≡ false → (a || b) ≡ false
-  both_false a b e f = rw (e, f) refl
-
-  same_le : (y z : ℤ) → y ≡ z → y ≤ℤ z
-  same_le y z e = omega (arith, ints)
 
   equal-describes : (m : HalfMatrix) (a b : Option Form) (l r : Bounds) (y z : ℤ) → Ready kinds m → IsSatisfiedBy m x → HasValue x a y → HasValue x b z → Lies y l → Lies z r → y ≡ z → Describes x (equal m a b l r)
   equal-describes m a b l r y z h s d e p q same = if_empty-describes x (int_lt r.hi l.lo || int_lt l.hi r.lo) (close_of (at_most_matrix (at_most_matrix m a b l r) b a r l))
-      (both_false (int_lt r.hi l.lo) (int_lt l.hi r.lo) (not_below l.lo r.hi (along l.lo y z r.hi p.0 (same_le y z same) q.1)) (not_below r.lo l.hi (along r.lo z y l.hi q.0 (same_le z y (sym same)) p.1)))
+      (or_from (int_lt r.hi l.lo) (int_lt l.hi r.lo) (not_below l.lo r.hi (between l.lo y z r.hi p.0 (equal_at_most y z same) q.1)) (not_below r.lo l.hi (between r.lo z y l.hi q.0 (equal_at_most z y (sym same)) p.1)))
       (close-describes kinds (at_most_matrix (at_most_matrix m a b l r) b a r l) x (most_matrix-ready kinds (at_most_matrix m a b l r) b a r l (most_matrix-ready kinds m a b l r h)) slots
       (most_matrix-satisfied kinds (at_most_matrix m a b l r) x b a r l z y (most_matrix-ready kinds m a b l r h)
-      (most_matrix-satisfied kinds m x a b l r y z h s d e p q (same_le y z same)) e d q p (same_le z y (sym same))))
+      (most_matrix-satisfied kinds m x a b l r y z h s d e p q (equal_at_most y z same)) e d q p (equal_at_most z y (sym same))))
 
   either_way : (y z : ℤ) → y ≢ z → (y <ℤ z) ⊎ (z <ℤ y)
   either_way y z n = by (int_lt y z) refl

@@ -24,6 +24,7 @@ use Rattle.octagon_meaning.specs.declared.form.Form.TheVariants.{Constant, Node}
 use Rattle.octagon_meaning.specs.Forms.{slot_form}
 use Rattle.octagon_meaning.specs.Matrices.{assigned, carried, is_beyond, meets_end, meets_range, shift, shifted, side_at_least, side_at_most, turned, with_bound, with_difference, with_equation, with_greatest, without}
 use Rattle.octagon_meaning.proofs.Fitting.{Ready}
+use Rattle.plain_values.proofs.Integers.{neg_twice}
 
 -- the value of a form under the values x
 abbrev pub form_value : (ℕ → ℤ) → Form → ℤ
@@ -115,7 +116,7 @@ end-satisfied kinds m i c x h s l = if_satisfied (is_beyond m.kinds i c) m (with
 pub range-ready : (kinds : List Bool) (m : HalfMatrix) (k : ℕ) (r : Bounds) → Ready kinds m → Ready kinds (meets_range m k r)
 range-ready kinds m k r h = end-ready kinds (meets_end m (2 * k) r.hi) (2 * k + 1) (neg_ℤ r.lo) (end-ready kinds m (2 * k) r.hi h)
 
-negative-below : (y lo : ℤ) → lo ≤ℤ y → neg_ℤ y ≤ℤ neg_ℤ lo
+pub negative-below : (y lo : ℤ) → lo ≤ℤ y → neg_ℤ y ≤ℤ neg_ℤ lo
 negative-below y lo h = omega (arith, ints)
 
 pub range-satisfied : (kinds : List Bool) (m : HalfMatrix) (k : ℕ) (r : Bounds) (x : ℕ → ℤ) → Ready kinds m → IsSatisfiedBy m x → Lies (x k) r → IsSatisfiedBy (meets_range m k r) x
@@ -170,9 +171,6 @@ turned-flip k i a = ap (λ b. if b && not (eqb (i % 2) 0) then flip (flip a) els
     by true = refl
     by false = refl
 
-negated_twice : (c : ℤ) → c ≡ neg_ℤ (neg_ℤ c)
-negated_twice c = omega (arith, ints)
-
 pub shift-flip : (k : ℕ) (c : ℤ) (a : ℕ) → shift k c (flip a) ≡ neg_ℤ (shift k c a)
 shift-flip k c a =
     ap (λ b. if b then (if eqb (flip a % 2) 0 then c else neg_ℤ c) else pos 0) (eqb-half a k)
@@ -181,7 +179,7 @@ shift-flip k c a =
   where
     by : (b e : Bool) → (if b then (if not e then c else neg_ℤ c) else pos 0) ≡ neg_ℤ (if b then (if e then c else neg_ℤ c) else pos 0)
     by true true = refl
-    by true false = negated_twice c
+    by true false = neg_twice c
     by false e = refl
 
 pub turned-below : (k i a n : ℕ) → a < 2 * n → turned k i a < 2 * n

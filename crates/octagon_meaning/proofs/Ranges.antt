@@ -33,7 +33,7 @@ use Rattle.octagon_meaning.specs.Operations.{kinds_of}
 use Rattle.octagon_meaning.specs.Ranges.{range_at, range_of}
 use Rattle.octagon_meaning.proofs.Fitting.{FitsMatrix}
 use Rattle.octagon_meaning.proofs.Matrices.{HasValue, form_value, slot-value}
-use Rattle.concrete_sem.proofs.Forms.{gives_same}
+use Rattle.concrete_sem.proofs.Numbers.{gives_same}
 
 -- ---- the values of slots
 

@@ -18,6 +18,8 @@ use Rattle.octagon_meaning.specs.declared.form.Form.TheVariants.{Constant, Node}
 use Rattle.octagon_meaning.specs.Claims.{FormsAreSmall, IsSmallForm}
 use Rattle.octagon_meaning.specs.Forms.{combined_form, form_of, if_form, negated, slot_form, sum_form}
 use Rattle.octagon_meaning.specs.Ranges.{range_at, range_of}
+use Rattle.plain_values.proofs.Integers.{at_most}
+use Rattle.octagon_meaning.proofs.Matrices.{negative-below}
 
 -- the greatest value of a node of m; the least of it is the negative of the greatest of the other node
 abbrev node_high : HalfMatrix → ℕ → ℤ
@@ -71,10 +73,7 @@ between-part m lo hi a b (Some (Constant c)) p q h = by (int_le a b)
 between-part m lo hi a b (Some (Node i c)) p q h = by (int_le a b)
   where
     by : (t : Bool) → FollowsIf m (if t then Some (record { lo = a; hi = b }) else None) (Some (Node i c))
-    by true = (along (node_low m i +ℤ c) lo a h.0 p, along b hi (node_high m i +ℤ c) q h.1)
-      where
-        along : (x y z : ℤ) → x ≤ℤ y → y ≤ℤ z → x ≤ℤ z
-        along x y z p q = omega (arith, ints)
+    by true = (at_most (node_low m i +ℤ c) lo a h.0 p, at_most b hi (node_high m i +ℤ c) q h.1)
     by false = tt
 
 word-follows : (m : HalfMatrix) (r : Bounds) (o : Option Form) → FollowsIf m (Some r) o → FollowsIf m (word r) o
@@ -102,10 +101,7 @@ sum-follows m r s (Node i c) (Constant d) p q = (low (node_low m i) c r.lo d s.l
 sum-follows m r s (Node i c) (Node j d) p q = tt
 
 negated-follows : (m : HalfMatrix) (r : Bounds) (f : Form) → Follows m r f → Follows m (negations r) (negated f)
-negated-follows m r (Constant c) p = (turn r.hi c p.1, turn c r.lo p.0)
-  where
-    turn : (x y : ℤ) → x ≤ℤ y → neg_ℤ y ≤ℤ neg_ℤ x
-    turn x y h = omega (arith, ints)
+negated-follows m r (Constant c) p = (negative-below c r.hi p.1, negative-below r.lo c p.0)
 negated-follows m r (Node i c) p = (
   low (node_high m (flip (flip i))) (node_high m i) c r.hi (ap (node_high m) (flip-flip i)) p.1,
   high (node_high m (flip i)) c r.lo p.0,

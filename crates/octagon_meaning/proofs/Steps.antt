@@ -35,7 +35,7 @@ use Rattle.octagon_meaning.proofs.Fitting.{Ready, FitsMatrix, FitsState, Describ
 use Rattle.octagon_meaning.proofs.Guards.{assume-fits, assume-describes, needs-fits, needs-describes}
 use Rattle.octagon_meaning.proofs.Matrices.{assigned-ready, assigned-satisfied, range-ready, range-satisfied, without-ready, without-satisfied, slot-value}
 use Rattle.octagon_meaning.proofs.Ranges.{proper, range_at-covers, range_of-covers, form_of-value}
-use Rattle.concrete_sem.proofs.Forms.{gives_same}
+use Rattle.concrete_sem.proofs.Numbers.{gives_same}
 
 -- ---- states that fit
 
