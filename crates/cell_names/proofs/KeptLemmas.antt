@@ -1,5 +1,5 @@
 -- What the functions of Names owe, over the steps and names that are kept.
-use Rattle.std.proofs.Common.{◌≡◌, ℕ, zero, suc, ◌≤◌, ◌<◌, List, [], ◌∷◌, ◌++◌, length, map, Option, Some, None, slice_get, IfSome, ◌⊎◌, ⊎_elim, inl, inr, refl, sym, ap, ap₂, ◌∙◌, subst, arith, length-append}
+use Rattle.std.proofs.Common.{◌≡◌, ℕ, suc, ◌≤◌, ◌<◌, List, [], ◌∷◌, ◌++◌, length, map, Option, Some, None, slice_get, ⊎_elim, inl, inr, refl, sym, ap, ap₂, ◌∙◌, subst, arith, length-append}
 use Rattle.std.specs.Option.{option_map}
 use Rattle.std.proofs.lemmas.List.{length-map, map-append}
 use Rattle.std.proofs.lemmas.Option.{slice_get-map, same_Some}
@@ -8,30 +8,19 @@ use Rattle.cell_names.specs.declared.path.Step.{Step}
 use Rattle.cell_names.specs.declared.path.Name.{Name}
 use Rattle.cell_names.specs.Paths.{CellName, or_root, path_at, paths_of, name_in}
 use Rattle.cell_names.specs.Known.{Known, known_of, IsOnce, Adds, IsKept}
-use Rattle.cell_names.proofs.PathLemmas.{path_by, path-of-step, path-of-root, paths_of-length, path_at-kept, paths_from-append, append-keeps}
+use Rattle.cell_names.proofs.PathLemmas.{path_by, path-of-step, path-of-root, paths_of-length, path_at-kept, paths_from-append}
 use Rattle.cell_names.proofs.OnceLemmas.{step-of-path, paths-once, names-same}
-use Rattle.plain_values.proofs.Lists.{get_some}
+use Rattle.plain_values.proofs.Lists.{get_some, get_pushed, get_front}
 
 abbrev pub step_of : ℕ → Frame → Step
 step_of before frame = record { before = before; frame = frame }
-
-pub if_some : {A : Type 0} (P Q : A → Type 0) → ((x : A) → P x → Q x) → (r : Option A) → IfSome r P → IfSome r Q
-if_some P Q f None h = h
-if_some P Q f (Some x) h = f x h
-
--- what stands in a list with one thing more at its end
-snoc-at : {A : Type 0} (xs : List A) (x : A) (k : ℕ) (y : A) → slice_get (xs ++ x ∷ []) k ≡ Some y → (slice_get xs k ≡ Some y) ⊎ ((k ≡ length xs) × (x ≡ y))
-snoc-at [] x zero y at = inr (refl, same_Some x y at)
-snoc-at [] x (suc k) y at = cc
-snoc-at (z ∷ xs) x zero y at = inl at
-snoc-at (z ∷ xs) x (suc k) y at = ⊎_elim (λ a. inl a) (λ a. inr (ap suc a.0, a.1)) (snoc-at xs x k y at)
 
 -- what holds of all and of one thing more holds of all behind it
 all-added : {A : Type 0} (P : A → Type 0) (xs ys : List A) (x : A) (n : ℕ) → Adds xs ys x n → P x → ((k : ℕ) (y : A) → slice_get xs k ≡ Some y → P y) → (k : ℕ) (y : A) → slice_get ys k ≡ Some y → P y
 all-added P xs ys x n added here all k y at =
     ⊎_elim
     (λ a. all k y (ap (λ v. slice_get v k) (sym a.1) ∙ at))
-    (λ a. ⊎_elim (λ b. all k y b) (λ b. subst P b.1 here) (snoc-at xs x k y (ap (λ v. slice_get v k) (sym a.2) ∙ at)))
+    (λ a. ⊎_elim (λ b. all k y b) (λ b. subst P b.1 here) (get_pushed xs x k y (ap (λ v. slice_get v k) (sym a.2) ∙ at)))
     added
 
 map-places : {A B : Type 0} (f g : A → B) (xs : List A) → ((n : ℕ) (x : A) → slice_get xs n ≡ Some x → f x ≡ g x) → map f xs ≡ map g xs
@@ -112,7 +101,7 @@ module _ (steps : List Step) (names : List Name) (kept : IsKept steps names) whe
         steps_once = o;
         names_once = kept.names_once;
         names_within = (λ k y at. let l : y.path ≤ length steps = kept.names_within k y at in omega (arith, l, length-append steps (s ∷ [])));
-        steps_within = (λ k y at. ⊎_elim (λ b. kept.steps_within k y b) (λ b. let e : y.before ≡ s.before = ap (λ (z : Step). z.before) (sym b.1) in omega (arith, e, b.0, low)) (snoc-at steps s k y at));
+        steps_within = (λ k y at. ⊎_elim (λ b. kept.steps_within k y b) (λ b. let e : y.before ≡ s.before = ap (λ (z : Step). z.before) (sym b.1) in omega (arith, e, b.0, low)) (get_pushed steps s k y at));
       }) once)
       added
 
@@ -133,7 +122,7 @@ module _ (steps : List Step) (names : List Name) (kept : IsKept steps names) whe
       (λ a. subst (λ v. map (name_in (paths_of v)) names ≡ map (name_in ps) names) (sym a.2)
       (map-places (name_in (paths_of (steps ++ s ∷ []))) (name_in ps) names
       (λ k x at. ap (λ w. let c : CellName = record { path = w; point = x.point } in c)
-      (ap (λ v. path_at v x.path) (paths_from-append ([] ∷ []) steps s) ∙ sym (path_at-kept ps (ps ++ path_by ps s ∷ []) (append-keeps ps (path_by ps s ∷ [])) x.path (name-within x k at))))))
+      (ap (λ v. path_at v x.path) (paths_from-append ([] ∷ []) steps s) ∙ sym (path_at-kept ps (ps ++ path_by ps s ∷ []) (get_front ps (path_by ps s ∷ [])) x.path (name-within x k at))))))
       added
 
   pub root-path : path_at ps 0 ≡ []

@@ -5,18 +5,7 @@ use Rattle.cell_names.specs.declared.path.Step.{Step}
 use Rattle.cell_names.specs.Paths.{or_root, path_at, paths_from, paths_of}
 use Rattle.cell_names.specs.Known.{KeepsNumbers, StepsWithin}
 use Rattle.std.proofs.lemmas.Option.{same_Some}
-use Rattle.plain_values.proofs.Lists.{get_some}
-
--- places stay where something is put at the end
-pub append-keeps : {A : Type 0} (xs ys : List A) → KeepsNumbers xs (xs ++ ys)
-append-keeps [] ys n s at = cc
-append-keeps (x ∷ xs) ys zero s at = at
-append-keeps (x ∷ xs) ys (suc n) s at = append-keeps xs ys n s at
-
--- what is put at the end stands there
-pub append-last : {A : Type 0} (xs : List A) (y : A) → slice_get (xs ++ y ∷ []) (length xs) ≡ Some y
-append-last [] y = refl
-append-last (x ∷ xs) y = append-last xs y
+use Rattle.plain_values.proofs.Lists.{get_some, get_front, get_last}
 
 -- the path that a step makes
 abbrev pub path_by : List (List Frame) → Step → List Frame
@@ -32,7 +21,7 @@ paths_from-length paths (x ∷ xs) = omega (arith, paths_from-length (paths ++ p
 
 pub paths_from-keeps : (paths : List (List Frame)) (steps : List Step) → KeepsNumbers paths (paths_from paths steps)
 paths_from-keeps paths [] n w at = at
-paths_from-keeps paths (x ∷ xs) n w at = paths_from-keeps (paths ++ path_by paths x ∷ []) xs n w (append-keeps paths (path_by paths x ∷ []) n w at)
+paths_from-keeps paths (x ∷ xs) n w at = paths_from-keeps (paths ++ path_by paths x ∷ []) xs n w (get_front paths (path_by paths x ∷ []) n w at)
 
 -- the path at a place that is kept is the same
 pub path_at-kept : (old new : List (List Frame)) → KeepsNumbers old new → (n : ℕ) → n < length old → path_at old n ≡ path_at new n
@@ -47,8 +36,8 @@ step-path paths (x ∷ xs) zero s at h =
     let is : x ≡ s = same_Some x s at in
     let more : List (List Frame) = paths ++ path_by paths x ∷ [] in
     let e : length paths ≡ length paths + 0 = omega arith in
-    let last : slice_get (paths_from more xs) (length paths) ≡ Some (path_by paths x) = paths_from-keeps more xs (length paths) (path_by paths x) (append-last paths (path_by paths x)) in
-    let old : path_at paths s.before ≡ path_at (paths_from more xs) s.before = path_at-kept paths (paths_from more xs) (λ n w q. paths_from-keeps more xs n w (append-keeps paths (path_by paths x ∷ []) n w q)) s.before (omega (arith, h)) in
+    let last : slice_get (paths_from more xs) (length paths) ≡ Some (path_by paths x) = paths_from-keeps more xs (length paths) (path_by paths x) (get_last paths (path_by paths x)) in
+    let old : path_at paths s.before ≡ path_at (paths_from more xs) s.before = path_at-kept paths (paths_from more xs) (λ n w q. paths_from-keeps more xs n w (get_front paths (path_by paths x ∷ []) n w q)) s.before (omega (arith, h)) in
     ap (λ n. slice_get (paths_from more xs) n) (sym e) ∙ last ∙ ap (λ y. Some (path_by paths y)) is ∙ ap (λ w. Some (s.frame ∷ w)) old
 step-path paths (x ∷ xs) (suc k) s at h =
     let more : List (List Frame) = paths ++ path_by paths x ∷ [] in

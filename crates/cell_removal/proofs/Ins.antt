@@ -1,13 +1,13 @@
 -- Items of lists.
-use Rattle.std.proofs.Common.{◌≡◌, ℕ, zero, suc, ◌<◌, ◌⊎◌, List, [], ◌∷◌, ◌++◌, length, take, Some, slice_get, Bool, true, false, ◌||◌, nat_eq, refl, sym, ap, ◌∙◌, inl, inr, arith}
+use Rattle.std.proofs.Common.{◌≡◌, ℕ, zero, suc, ◌<◌, ◌⊎◌, List, [], ◌∷◌, ◌++◌, take, Some, slice_get, Bool, true, false, ◌||◌, nat_eq, refl, sym, ap, ◌∙◌, inl, inr, arith}
 use Rattle.std.specs.Bool.{Decides}
 use Rattle.std.specs.List.{list_any}
 use Rattle.std.proofs.lemmas.Bool.Decides.{nat_tests}
-use Rattle.plain_values.proofs.Cases.{by_bool}
+use Rattle.plain_values.proofs.Cases.{by_bool, equal_test}
 use Rattle.daig_graph.specs.Held.{IsIn}
-use Rattle.daig_graph.proofs.Cases.{nat_eq-true}
 use Rattle.std.proofs.lemmas.Bool.{or_cases}
 use Rattle.std.proofs.lemmas.Option.{same_Some}
+use Rattle.plain_values.proofs.Lists.{get_front}
 
 module _ {A : Type 0} where
   pub in_none : {P : Type 0} (x : A) → IsIn [] x → P
@@ -26,13 +26,8 @@ module _ {A : Type 0} where
       go zero e = inl (same_Some y x e)
       go (suc n) e = inr (n, e)
 
-  pub get_left : (xs ys : List A) (i : ℕ) (x : A) → slice_get xs i ≡ Some x → slice_get (xs ++ ys) i ≡ Some x
-  get_left [] ys i x e = absurd cc
-  get_left (y ∷ xs) ys zero x e = e
-  get_left (y ∷ xs) ys (suc i) x e = get_left xs ys i x e
-
   pub in_left : (x : A) (xs ys : List A) → IsIn xs x → IsIn (xs ++ ys) x
-  in_left x xs ys m = (m.0, get_left xs ys m.0 x m.1)
+  in_left x xs ys m = (m.0, get_front xs ys m.0 x m.1)
 
   pub in_right : (x : A) (xs ys : List A) → IsIn ys x → IsIn (xs ++ ys) x
   in_right x [] ys m = m
@@ -55,13 +50,6 @@ module _ {A : Type 0} where
         | inl l ↦ inl l
         | inr r ↦ elim (in_cases x y [] r) [ inl e ↦ inr e | inr n ↦ in_none x n ]
       ]
-
-  -- by places
-  pub get_pushed : (xs : List A) (y : A) (i : ℕ) (x : A) → slice_get (xs ++ y ∷ []) i ≡ Some x → (slice_get xs i ≡ Some x) ⊎ ((i ≡ length xs) × (y ≡ x))
-  get_pushed [] y zero x e = inr (refl, same_Some y x e)
-  get_pushed [] y (suc i) x e = absurd cc
-  get_pushed (z ∷ xs) y zero x e = inl e
-  get_pushed (z ∷ xs) y (suc i) x e = elim (get_pushed xs y i x e) [ inl p ↦ inl p | inr q ↦ inr (ap suc q.0, q.1) ]
 
   -- what stands in front of a place
   pub in_take : (xs : List A) (i j : ℕ) (x : A) → j < i → slice_get xs j ≡ Some x → IsIn (take i xs) x
@@ -95,7 +83,7 @@ not_any n (x ∷ xs) h m = go (not_any n xs) (nat_eq n x) refl h (in_cases n x x
     go : (list_any (nat_eq n) xs ≡ false → IsIn xs n → ⊥) → (b : Bool) → nat_eq n x ≡ b → (b || list_any (nat_eq n) xs) ≡ false → (x ≡ n) ⊎ IsIn xs n → ⊥
     go rest true e k c = cc
     go rest false e k (inl q) =
-        let t : nat_eq n x ≡ true = nat_eq-true n x (sym q) in
+        let t : nat_eq n x ≡ true = equal_test n x (sym q) in
         let u : true ≡ false = sym t ∙ e in
         cc
     go rest false e k (inr r) = rest k r

@@ -4,15 +4,15 @@ use Rattle.std.proofs.lemmas.List.Sums.{fold_more}
 use Rattle.std.specs.FinMap.{get, remove}
 use Rattle.daig_graph.specs.Cells.{Filled, IsUnused}
 use Rattle.daig_graph.specs.Held.{IsIn}
-use Rattle.daig_graph.proofs.Cases.{same_number}
 use Rattle.daig_graph.proofs.Maps.{get-remove-here, get-remove-other}
 use Rattle.cell_removal.specs.Removal.{Cells, without, IsOrder, RestStays}
 use Rattle.cell_removal.proofs.Ins.{in_none, in_first, in_more, in_cases, in_or_not, in_take, taken}
+use Rattle.std.proofs.lemmas.Bool.{cases_eq}
 
 module _ {V : Type 0} where
   one_less : (cells : Cells V) (x n : ℕ) → get cells n ≡ None → get (remove cells x) n ≡ None
   one_less cells x n h =
-      elim (same_number n x) [
+      elim (cases_eq n x) [
         | inl e ↦ subst (λ k. get (remove cells x) k ≡ None) (sym e) (get-remove-here cells x)
         | inr ne ↦ get-remove-other cells x n ne ∙ h
       ]

@@ -1,13 +1,15 @@
 -- Depth first along the users of cells: what holds of the stack, its bottom first.
-use Rattle.std.proofs.Common.{◌≡◌, ℕ, zero, suc, ◌<◌, ◌≤◌, ◌+◌, ◌-◌, ◌*◌, ◌⊎◌, List, [], ◌∷◌, ◌++◌, length, map, Some, IsSome, slice_get, refl, sym, ap, subst, ◌∙◌, inl, inr, arith, length-append}
+use Rattle.std.proofs.Common.{◌≡◌, ℕ, ◌<◌, ◌≤◌, ◌+◌, ◌-◌, ◌*◌, ◌⊎◌, List, [], ◌∷◌, ◌++◌, length, map, Some, IsSome, slice_get, refl, sym, ap, subst, ◌∙◌, inl, inr, arith, length-append}
 use Rattle.std.proofs.lemmas.List.{map-append, length-map}
 use Rattle.std.specs.FinMap.{get, len}
 use Rattle.daig_graph.specs.Held.{IsIn}
 use Rattle.daig_graph.specs.declared.graph.Use.{Use}
 use Rattle.cell_removal.specs.declared.planning.Open.{Open}
 use Rattle.cell_removal.specs.Removal.{Cells, Uses, LeadsTo, itself, through, IsOrder, Adds, IsFirst}
-use Rattle.cell_removal.proofs.Ins.{in_none, in_first, in_more, in_cases, in_left, in_either, in_last, in_pushed, get_left, get_pushed}
+use Rattle.cell_removal.proofs.Ins.{in_none, in_first, in_more, in_cases, in_left, in_either, in_last, in_pushed}
 use Rattle.cell_removal.proofs.Pigeons.{Differ, differ_both, differ_once, no_more_than}
+use Rattle.plain_values.proofs.Lists.{get_front, get_pushed}
+use Rattle.std.proofs.lemmas.Option.{slice_get_within}
 
 abbrev pub cells_of : List Open → List ℕ
 cells_of stack = map (λ (o : Open). o.cell) stack
@@ -196,17 +198,12 @@ module _ {V : Type 0} (cells : Cells V) (rank : ℕ → ℕ) where
         once m n x (inr a) (inr b) = a.0 ∙ sym b.0
 
         first : (i x y : ℕ) → Uses cells y x → (slice_get planned i ≡ Some x) ⊎ ((i ≡ length planned) × (o.cell ≡ x)) → (j : ℕ) × (j < i) × (slice_get (planned ++ o.cell ∷ []) j ≡ Some y)
-        first i x y u (inl a) = let f = g.order.users_first i x y a u in (f.0, f.1, get_left planned (o.cell ∷ []) f.0 y f.2)
+        first i x y u (inl a) = let f = g.order.users_first i x y a u in (f.0, f.1, get_front planned (o.cell ∷ []) f.0 y f.2)
         first i x y u (inr b) =
             let m = all_users done y (subst (Uses cells y) (sym b.1) u) in
-            let lt : m.0 < length planned = within planned m.0 y m.1 in
+            let lt : m.0 < length planned = slice_get_within planned m.0 y m.1 in
             let e : i ≡ length planned = b.0 in
-            (m.0, omega arith, get_left planned (o.cell ∷ []) m.0 y m.1)
-          where
-            within : (xs : List ℕ) (k z : ℕ) → slice_get xs k ≡ Some z → k < length xs
-            within [] k z e = absurd cc
-            within (x ∷ xs) zero z e = omega arith
-            within (x ∷ xs) (suc k) z e = let h : k < length xs = within xs k z e in omega arith
+            (m.0, omega arith, get_front planned (o.cell ∷ []) m.0 y m.1)
 
     pub grows_less : ((u : Use) → IsIn o.users u → IsIn planned u.cell) → Growing cell old (planned ++ o.cell ∷ []) stack
     grows_less done = record {

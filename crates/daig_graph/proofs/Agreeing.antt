@@ -7,15 +7,15 @@ use Rattle.daig_graph.specs.declared.graph.Use.{Use}
 use Rattle.daig_graph.specs.Held.{Held, held}
 use Rattle.daig_graph.specs.Cells.{Filled, IsUnused, AreCells}
 use Rattle.daig_graph.specs.Agrees.{Agrees, filled}
-use Rattle.daig_graph.proofs.Cases.{none-some, some-inj}
+use Rattle.daig_graph.proofs.Cases.{none-some}
 use Rattle.daig_graph.proofs.Maps.{cell_map, map-none, map-some}
-use Rattle.std.proofs.lemmas.Option.{slice_get_within}
+use Rattle.std.proofs.lemmas.Option.{slice_get_within, same_Some}
 use Rattle.plain_values.proofs.Lists.{get_some}
 
 module _ {V : Type 0} (slots : List (Option (Cell V))) (keys : ℕ → Option ℕ) (owned : Held ℕ) (uses : Held Use) (agrees : Agrees (λ k. get_or slots k None) keys owned uses) where
   -- a number has one key
   pub one_key : (j k : ℕ) (c d : Cell V) → get_or slots j None ≡ Some c → get_or slots k None ≡ Some d → c.number ≡ d.number → j ≡ k
-  one_key j k c d e f same = some-inj (sym (agrees.key_back j c e) ∙ ap keys same ∙ agrees.key_back k d f)
+  one_key j k c d e f same = same_Some _ _ (sym (agrees.key_back j c e) ∙ ap keys same ∙ agrees.key_back k d f)
 
   pub get-number : (k : ℕ) (c : Cell V) → get_or slots k None ≡ Some c → get (cell_map slots) c.number ≡ Some (filled c)
   get-number k c e = map-some slots c.number k c e refl (λ j d f s. one_key j k d c f e s)
@@ -53,14 +53,14 @@ module _ {V : Type 0} (slots : List (Option (Cell V))) (keys : ℕ → Option �
       let below = slice_get_within c.uses.items i u at in
       let x = get_some c.inputs.items i (omega (arith, below, agrees.as_many k c e)) in
       let h = agrees.use_there k i x.0 c e x.1 in
-      let same : h.0 ≡ u = some-inj (sym h.1 ∙ at) in
+      let same : h.0 ≡ u = same_Some _ _ (sym h.1 ∙ at) in
       (x.0, x.1, ap (held uses) (sym same) ∙ h.2)
 
   pub uses-once : (k : ℕ) (c : Cell V) → get_or slots k None ≡ Some c → (m n u : ℕ) → slice_get c.uses.items m ≡ Some u → slice_get c.uses.items n ≡ Some u → m ≡ n
   uses-once k c e m n u a b =
       let p = use-at k m u c e a in
       let q = use-at k n u c e b in
-      ap (λ h. h.1.place) (some-inj (sym p.2 ∙ q.2))
+      ap (λ h. h.1.place) (same_Some _ _ (sym p.2 ∙ q.2))
 
   pub uses-there : (k : ℕ) (c : Cell V) → get_or slots k None ≡ Some c → (i u : ℕ) → slice_get c.uses.items i ≡ Some u → IsSome (held uses u)
   uses-there k c e i u a = let p = use-at k i u c e a in let P : Option (ℕ × Use) → Type 0 = IsSome in subst P (sym p.2) refl

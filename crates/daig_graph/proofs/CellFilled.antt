@@ -6,10 +6,11 @@ use Rattle.daig_graph.specs.Held.{Held, held, Puts}
 use Rattle.daig_graph.specs.Uses.{Links}
 use Rattle.std.specs.FinMap.{get, insert}
 use Rattle.daig_graph.specs.Agrees.{Agrees, filled}
-use Rattle.daig_graph.proofs.Cases.{same_number, none-some, some-inj}
+use Rattle.daig_graph.proofs.Cases.{none-some}
 use Rattle.daig_graph.proofs.Agreeing.{get-number, get-absent, get-key}
 use Rattle.daig_graph.proofs.Maps.{cell_map, insert-is}
-use Rattle.std.proofs.lemmas.Option.{slice_get_within}
+use Rattle.std.proofs.lemmas.Option.{slice_get_within, same_Some}
+use Rattle.std.proofs.lemmas.Bool.{cases_eq}
 
 module _ {V : Type 0} (cells new_cells : ℕ → Option (Cell V)) (keys new_keys : ℕ → Option ℕ) (owned new_owned : Held ℕ) (uses new_uses : Held Use) (key : ℕ) (n : Cell V) where
   pub record Fills : Type 0 where
@@ -40,14 +41,14 @@ module _ {V : Type 0} (cells new_cells : ℕ → Option (Cell V)) (keys new_keys
 
     was : (k : ℕ) (c : Cell V) → new_cells k ≡ Some c → Was k c
     unfolding Was
-    was k c e = elim (same_number k key) [
-      | inl same ↦ inl (same, some-inj (sym f.here ∙ ap new_cells (sym same) ∙ e))
+    was k c e = elim (cases_eq k key) [
+      | inl same ↦ inl (same, same_Some _ _ (sym f.here ∙ ap new_cells (sym same) ∙ e))
       | inr ne ↦ inr (sym (f.others k ne) ∙ e)
     ]
 
     key_there : (q k : ℕ) → new_keys q ≡ Some k → (c : Cell V) × (new_cells k ≡ Some c) × (c.number ≡ q)
-    key_there q k e = elim (same_number q n.number) [
-      | inl same ↦ let is : key ≡ k = some-inj (sym f.keyed ∙ ap new_keys (sym same) ∙ e) in (n, ap new_cells (sym is) ∙ f.here, sym same)
+    key_there q k e = elim (cases_eq q n.number) [
+      | inl same ↦ let is : key ≡ k = same_Some _ _ (sym f.keyed ∙ ap new_keys (sym same) ∙ e) in (n, ap new_cells (sym is) ∙ f.here, sym same)
       | inr ne ↦ let h = agrees.key_there q k (sym (f.keys_same q ne) ∙ e) in (h.0, still k h.0 h.1, h.2)
     ]
 
@@ -69,9 +70,9 @@ module _ {V : Type 0} (cells new_cells : ℕ → Option (Cell V)) (keys new_keys
     ]
 
     own_back : (p o m : ℕ) → held new_owned p ≡ Some (o, m) → (k : ℕ) × (c : Cell V) × (new_cells k ≡ Some c) × (c.number ≡ m) × (c.own ≡ p)
-    own_back p o m e = elim (same_number p n.own) [
+    own_back p o m e = elim (cases_eq p n.own) [
       | inl same ↦
-          let is = some-inj (sym f.owns.here ∙ ap (held new_owned) (sym same) ∙ e) in
+          let is = same_Some _ _ (sym f.owns.here ∙ ap (held new_owned) (sym same) ∙ e) in
           (key, n, f.here, ap (λ a. a.1) is, sym same)
       | inr ne ↦
           let h = agrees.own_back p o m (sym (f.owns.others p ne) ∙ e) in
@@ -116,7 +117,7 @@ module _ {V : Type 0} (cells new_cells : ℕ → Option (Cell V)) (keys new_keys
         keyed_still h = (h.0, f.keys_same x (other_number x h.0 h.1) ∙ h.1)
 
     placed : (q k : ℕ) → new_keys q ≡ Some k → q < new_uses.places
-    placed q k e = elim (same_number q n.number) [
+    placed q k e = elim (cases_eq q n.number) [
       | inl same ↦ omega (arith, same, f.place, f.places)
       | inr ne ↦ omega (arith, f.places, agrees.placed q k (sym (f.keys_same q ne) ∙ e))
     ]

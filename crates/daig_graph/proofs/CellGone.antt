@@ -6,10 +6,10 @@ use Rattle.daig_graph.specs.Held.{Held, held, Takes}
 use Rattle.daig_graph.specs.Uses.{Unlinks}
 use Rattle.std.specs.FinMap.{get, remove}
 use Rattle.daig_graph.specs.Agrees.{Agrees}
-use Rattle.daig_graph.proofs.Cases.{none-some, some-inj}
+use Rattle.daig_graph.proofs.Cases.{none-some}
 use Rattle.daig_graph.proofs.Agreeing.{get-number, get-absent, get-key}
 use Rattle.daig_graph.proofs.Maps.{cell_map, remove-is}
-use Rattle.std.proofs.lemmas.Option.{slice_get_within}
+use Rattle.std.proofs.lemmas.Option.{slice_get_within, same_Some}
 use Rattle.plain_values.proofs.Lists.{get_some}
 
 module _ {V : Type 0} (cells new_cells : ℕ → Option (Cell V)) (keys new_keys : ℕ → Option ℕ) (owned new_owned : Held ℕ) (uses new_uses : Held Use) (key : ℕ) (r : Cell V) where
@@ -33,11 +33,11 @@ module _ {V : Type 0} (cells new_cells : ℕ → Option (Cell V)) (keys new_keys
     was k c e = sym (m.others k (left k c e)) ∙ e
 
     same_key : (k : ℕ) (c : Cell V) → cells k ≡ Some c → c.number ≡ r.number → k ≡ key
-    same_key k c e same = some-inj (sym (agrees.key_back k c e) ∙ ap keys same ∙ agrees.key_back key r m.there)
+    same_key k c e same = same_Some _ _ (sym (agrees.key_back k c e) ∙ ap keys same ∙ agrees.key_back key r m.there)
 
     -- a cell of another number is left
     stays : (k : ℕ) (c : Cell V) → cells k ≡ Some c → c.number ≢ r.number → new_cells k ≡ Some c
-    stays k c e ne = m.others k (λ same. ne (ap (λ o. o.number) (some-inj (sym e ∙ ap cells same ∙ m.there)))) ∙ e
+    stays k c e ne = m.others k (λ same. ne (ap (λ o. o.number) (same_Some _ _ (sym e ∙ ap cells same ∙ m.there)))) ∙ e
 
     key_there : (q k : ℕ) → new_keys q ≡ Some k → (c : Cell V) × (new_cells k ≡ Some c) × (c.number ≡ q)
     key_there q k e =
@@ -54,13 +54,13 @@ module _ {V : Type 0} (cells new_cells : ℕ → Option (Cell V)) (keys new_keys
     own_there k c e =
         let h = was k c e in
         let own = agrees.own_there k c h in
-        m.owns.others c.own (λ same. left k c e (same_key k c h (ap (λ a. a.1) (some-inj (sym own ∙ ap (held owned) same ∙ agrees.own_there key r m.there))))) ∙ own
+        m.owns.others c.own (λ same. left k c e (same_key k c h (ap (λ a. a.1) (same_Some _ _ (sym own ∙ ap (held owned) same ∙ agrees.own_there key r m.there))))) ∙ own
 
     own_back : (p o n : ℕ) → held new_owned p ≡ Some (o, n) → (k : ℕ) × (c : Cell V) × (new_cells k ≡ Some c) × (c.number ≡ n) × (c.own ≡ p)
     own_back p o n e =
         let ne : p ≢ r.own = λ same. none-some (sym m.owns.gone ∙ ap (held new_owned) (sym same) ∙ e) in
         let h = agrees.own_back p o n (sym (m.owns.others p ne) ∙ e) in
-        let other : h.0 ≢ key = λ same. ne (sym h.4 ∙ ap (λ c. c.own) (some-inj (sym h.2 ∙ ap cells same ∙ m.there))) in
+        let other : h.0 ≢ key = λ same. ne (sym h.4 ∙ ap (λ c. c.own) (same_Some _ _ (sym h.2 ∙ ap cells same ∙ m.there))) in
         (h.0, h.1, m.others h.0 other ∙ h.2, h.3, h.4)
 
     as_many : (k : ℕ) (c : Cell V) → new_cells k ≡ Some c → length c.uses.items ≡ length c.inputs.items
@@ -72,7 +72,7 @@ module _ {V : Type 0} (cells new_cells : ℕ → Option (Cell V)) (keys new_keys
         let below = slice_get_within r.uses.items i u at in
         let x = get_some r.inputs.items i (omega (arith, below, agrees.as_many key r m.there)) in
         let h = agrees.use_there key i x.0 r m.there x.1 in
-        let same : h.0 ≡ u = some-inj (sym h.1 ∙ at) in
+        let same : h.0 ≡ u = same_Some _ _ (sym h.1 ∙ at) in
         (x.0, ap (held uses) (sym same) ∙ h.2)
 
     use_there : (k i x : ℕ) (c : Cell V) → new_cells k ≡ Some c → slice_get c.inputs.items i ≡ Some x → (u : ℕ) × (slice_get c.uses.items i ≡ Some u) × (held new_uses u ≡ Some (x, record { cell = c.number; place = i }))
@@ -81,7 +81,7 @@ module _ {V : Type 0} (cells new_cells : ℕ → Option (Cell V)) (keys new_keys
         let u = agrees.use_there k i x c h s in
         let other : (j : ℕ) → j < length r.uses.items → slice_get r.uses.items j ≢ Some u.0 = λ j l at.
         let own = own_use j u.0 at in
-        left k c e (same_key k c h (ap (λ a. a.1.cell) (some-inj (sym u.2 ∙ own.1)))) in
+        left k c e (same_key k c h (ap (λ a. a.1.cell) (same_Some _ _ (sym u.2 ∙ own.1)))) in
         (u.0, u.1, m.unlinks.others u.0 other ∙ u.2)
 
     use_back : (u x : ℕ) (y : Use) → held new_uses u ≡ Some (x, y) → (k : ℕ) × (c : Cell V) × (new_cells k ≡ Some c) × (c.number ≡ y.cell) × (slice_get c.uses.items y.place ≡ Some u) × (slice_get c.inputs.items y.place ≡ Some x)
@@ -89,7 +89,7 @@ module _ {V : Type 0} (cells new_cells : ℕ → Option (Cell V)) (keys new_keys
         let other : (j : ℕ) → j < length r.uses.items → slice_get r.uses.items j ≢ Some u = λ j l at. none-some (sym (m.unlinks.gone j u l at) ∙ e) in
         let b = agrees.use_back u x y (sym (m.unlinks.others u other) ∙ e) in
         let ne : b.0 ≢ key = λ same.
-        let at = ap (λ c. slice_get c.uses.items y.place) (some-inj (sym m.there ∙ ap cells (sym same) ∙ b.2)) ∙ b.4 in
+        let at = ap (λ c. slice_get c.uses.items y.place) (same_Some _ _ (sym m.there ∙ ap cells (sym same) ∙ b.2)) ∙ b.4 in
         other y.place (slice_get_within r.uses.items y.place u at) at in
         (b.0, b.1, m.others b.0 ne ∙ b.2, b.3, b.4, b.5)
 
@@ -120,5 +120,5 @@ map-remove {V} slots new_slots keys new_keys owned new_owned uses new_uses key r
     others next q ne None e = get-absent new_slots new_keys new_owned new_uses next q (m.keys_same q ne ∙ e) ∙ sym (get-absent slots keys owned uses agrees q e)
     others next q ne (Some k) e =
         let old = get-key slots keys owned uses agrees q k e in
-        let other : k ≢ key = λ same. ne (sym old.2 ∙ ap (λ c. c.number) (some-inj (sym old.1 ∙ ap (λ j. get_or slots j None) same ∙ m.there))) in
+        let other : k ≢ key = λ same. ne (sym old.2 ∙ ap (λ c. c.number) (same_Some _ _ (sym old.1 ∙ ap (λ j. get_or slots j None) same ∙ m.there))) in
         ap (get (cell_map new_slots)) (sym old.2) ∙ get-number new_slots new_keys new_owned new_uses next k old.0 (m.others k other ∙ old.1) ∙ sym old.3

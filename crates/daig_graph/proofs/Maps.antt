@@ -7,10 +7,14 @@ use Rattle.std.specs.FinMap.{FinMap, get, insert, remove, from_entries, len, get
 use Rattle.daig_graph.specs.declared.graph.Cell.{Cell}
 use Rattle.daig_graph.specs.Agrees.{filled, filled_cells}
 use Rattle.daig_graph.specs.Cells.{Filled}
-use Rattle.daig_graph.proofs.Cases.{same_number, nat_eq-true, nat_eq-false, none-some, some-inj}
+use Rattle.daig_graph.proofs.Cases.{nat_eq-false, none-some}
+use Rattle.std.proofs.lemmas.Option.{same_Some}
+use Rattle.std.proofs.lemmas.Bool.{cases_eq}
+use Rattle.plain_values.proofs.Cases.{equal_test}
+use Rattle.std.proofs.Math.Nat.{suc_inj}
 
 pub tied : (q k : ℕ) → q ≡ k → eq_by_cmp nat_cmp q k ≡ true
-tied q k e = unsigned_tied q k ∙ nat_eq-true q k e
+tied q k e = unsigned_tied q k ∙ equal_test q k e
 
 pub apart : (q k : ℕ) → q ≢ k → eq_by_cmp nat_cmp q k ≡ false
 apart q k e = unsigned_tied q k ∙ nat_eq-false q k e
@@ -29,13 +33,13 @@ module _ {X : Type 0} (m : FinMap nat_cmp X) where
   get-remove-other k q ne = get-remove nat_cmp_total m k q ∙ ap (λ b. cond b None (get m q)) (apart q k ne)
 
   pub insert-is : (n : FinMap nat_cmp X) (k : ℕ) (v : X) → get n k ≡ Some v → ((q : ℕ) → q ≢ k → get n q ≡ get m q) → n ≡ insert m k v
-  insert-is n k v here others = same_map nat_cmp_total nat_cmp-IsAntisymmetric n (insert m k v) (λ q. elim (same_number q k) [
+  insert-is n k v here others = same_map nat_cmp_total nat_cmp-IsAntisymmetric n (insert m k v) (λ q. elim (cases_eq q k) [
     | inl same ↦ ap (get n) same ∙ here ∙ sym (ap (get (insert m k v)) same ∙ get-insert-here k v)
     | inr ne ↦ others q ne ∙ sym (get-insert-other k v q ne)
   ])
 
   pub remove-is : (n : FinMap nat_cmp X) (k : ℕ) → get n k ≡ None → ((q : ℕ) → q ≢ k → get n q ≡ get m q) → n ≡ remove m k
-  remove-is n k here others = same_map nat_cmp_total nat_cmp-IsAntisymmetric n (remove m k) (λ q. elim (same_number q k) [
+  remove-is n k here others = same_map nat_cmp_total nat_cmp-IsAntisymmetric n (remove m k) (λ q. elim (cases_eq q k) [
     | inl same ↦ ap (get n) same ∙ here ∙ sym (ap (get (remove m k)) same ∙ get-remove-here k)
     | inr ne ↦ others q ne ∙ sym (get-remove-other k q ne)
   ])
@@ -55,19 +59,13 @@ module _ {V : Type 0} where
       → ((j : ℕ) (d : Cell V) → get_or slots j None ≡ Some d → d.number ≡ n → j ≡ k) → get (cell_map slots) n ≡ Some (filled c)
   map-some [] n k c e is once = none-some e
   map-some (None ∷ slots) n zero c e is once = none-some e
-  map-some (None ∷ slots) n (suc k) c e is once = map-some slots n k c e is (λ j d f s. suc-inj (once (suc j) d f s))
-    where
-      suc-inj : {a b : ℕ} → suc a ≡ suc b → a ≡ b
-      suc-inj e = omega (arith, e)
+  map-some (None ∷ slots) n (suc k) c e is once = map-some slots n k c e is (λ j d f s. suc_inj (once (suc j) d f s))
   map-some (Some d ∷ slots) n zero c e is once =
-      let same : d ≡ c = some-inj e in
+      let same : d ≡ c = same_Some _ _ e in
       ap (get (cell_map (Some d ∷ slots))) (sym is) ∙ ap (λ o. get (insert (cell_map slots) o.number (filled o)) c.number) same ∙ get-insert-here (cell_map slots) c.number (filled c)
   map-some (Some d ∷ slots) n (suc k) c e is once =
       get-insert-other (cell_map slots) d.number (filled d) n (λ s. absurd (omega (arith, once zero d refl (sym s))))
-      ∙ map-some slots n k c e is (λ j o f s. suc-inj (once (suc j) o f s))
-    where
-      suc-inj : {a b : ℕ} → suc a ≡ suc b → a ≡ b
-      suc-inj e = omega (arith, e)
+      ∙ map-some slots n k c e is (λ j o f s. suc_inj (once (suc j) o f s))
 
   -- each number once: as many cells as entries
   pub map-len : (slots : List (Option (Cell V))) → ((j k : ℕ) (c d : Cell V) → get_or slots j None ≡ Some c → get_or slots k None ≡ Some d → c.number ≡ d.number → j ≡ k) → len (cell_map slots) ≡ count_by is_some slots

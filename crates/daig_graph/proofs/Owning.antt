@@ -7,19 +7,19 @@ use Rattle.daig_graph.specs.declared.graph.Use.{Use}
 use Rattle.daig_graph.specs.Held.{Held, held, IsIn, IsOnce, AreItems}
 use Rattle.daig_graph.specs.Agrees.{Agrees, filled}
 use Rattle.daig_graph.specs.Cells.{Filled, IsUse, IsOwned}
-use Rattle.daig_graph.proofs.Cases.{some-inj}
 use Rattle.daig_graph.proofs.Agreeing.{get-number, get-key, key-get}
 use Rattle.daig_graph.proofs.Maps.{cell_map}
+use Rattle.std.proofs.lemmas.Option.{same_Some}
 
 -- an item of a list of entries is that of an entry at the same place
 entry-at : {T : Type 0} (es : List (ℕ × T)) (n : ℕ) (x : T) → slice_get (map (λ e. e.1) es) n ≡ Some x → (k : ℕ) × (slice_get es n ≡ Some (k, x))
 entry-at [] n x h = cc
-entry-at (e ∷ es) zero x h = let same : e.1 ≡ x = some-inj h in (e.0, ap (λ y. Some (e.0, y)) same)
+entry-at (e ∷ es) zero x h = let same : e.1 ≡ x = same_Some _ _ h in (e.0, ap (λ y. Some (e.0, y)) same)
 entry-at (e ∷ es) (suc n) x h = entry-at es n x h
 
 item-at : {T : Type 0} (es : List (ℕ × T)) (n k : ℕ) (x : T) → slice_get es n ≡ Some (k, x) → slice_get (map (λ e. e.1) es) n ≡ Some x
 item-at [] n k x h = cc
-item-at (e ∷ es) zero k x h = ap (λ p. Some p.1) (some-inj h)
+item-at (e ∷ es) zero k x h = ap (λ p. Some p.1) (same_Some _ _ h)
 item-at (e ∷ es) (suc n) k x h = item-at es n k x h
 
 module _ {T : Type 0} (lists : Held T) (list : ℕ) (items : List T) (are : AreItems lists list items) where
@@ -52,7 +52,7 @@ module _ {V : Type 0} (slots : List (Option (Cell V))) (keys : ℕ → Option �
       let e2 = ap (λ m. get m n) v_is ∙ e in
       let k = key-get slots keys owned uses agrees n (ap (λ o. is_some o) e2) in
       let h = get-key slots keys owned uses agrees n k.0 k.1 in
-      (k.0, h.0, h.1, h.2, some-inj (sym h.3 ∙ e2))
+      (k.0, h.0, h.1, h.2, same_Some _ _ (sym h.3 ∙ e2))
 
   pub owned-once : (list : ℕ) (items : List ℕ) → AreItems owned list items → IsOnce items
   owned-once list items are = items-once owned list items are one
@@ -61,8 +61,8 @@ module _ {V : Type 0} (slots : List (Option (Cell V))) (keys : ℕ → Option �
       one j k x a b =
           let p = agrees.own_back j list x a in
           let q = agrees.own_back k list x b in
-          let same = some-inj (sym (agrees.key_back p.0 p.1 p.2) ∙ ap keys (p.3 ∙ sym q.3) ∙ agrees.key_back q.0 q.1 q.2) in
-          sym p.4 ∙ ap (λ c. c.own) (some-inj (sym p.2 ∙ ap (λ i. get_or slots i None) same ∙ q.2)) ∙ q.4
+          let same = same_Some _ _ (sym (agrees.key_back p.0 p.1 p.2) ∙ ap keys (p.3 ∙ sym q.3) ∙ agrees.key_back q.0 q.1 q.2) in
+          sym p.4 ∙ ap (λ c. c.own) (same_Some _ _ (sym p.2 ∙ ap (λ i. get_or slots i None) same ∙ q.2)) ∙ q.4
 
   pub owned-cells : (list : ℕ) (items : List ℕ) → AreItems owned list items → (x : ℕ) → IsIn items x ↔ IsOwned v list x
   owned-cells list items are x = (to, from)
@@ -73,7 +73,7 @@ module _ {V : Type 0} (slots : List (Option (Cell V))) (keys : ℕ → Option �
           let p = agrees.own_back k.0 list x k.1 in (
             filled p.1,
             ap (get v) (sym p.3) ∙ there p.0 p.1 p.2,
-            ap (λ a. a.0) (some-inj (sym (agrees.own_there p.0 p.1 p.2) ∙ ap (held owned) p.4 ∙ k.1)),
+            ap (λ a. a.0) (same_Some _ _ (sym (agrees.own_there p.0 p.1 p.2) ∙ ap (held owned) p.4 ∙ k.1)),
           )
 
       from : IsOwned v list x → IsIn items x
@@ -88,8 +88,8 @@ module _ {V : Type 0} (slots : List (Option (Cell V))) (keys : ℕ → Option �
       one j k x a b =
           let p = agrees.use_back j list x a in
           let q = agrees.use_back k list x b in
-          let same = some-inj (sym (agrees.key_back p.0 p.1 p.2) ∙ ap keys (p.3 ∙ sym q.3) ∙ agrees.key_back q.0 q.1 q.2) in
-          some-inj (sym p.4 ∙ ap (λ c. slice_get c.uses.items x.place) (some-inj (sym p.2 ∙ ap (λ i. get_or slots i None) same ∙ q.2)) ∙ q.4)
+          let same = same_Some _ _ (sym (agrees.key_back p.0 p.1 p.2) ∙ ap keys (p.3 ∙ sym q.3) ∙ agrees.key_back q.0 q.1 q.2) in
+          same_Some _ _ (sym p.4 ∙ ap (λ c. slice_get c.uses.items x.place) (same_Some _ _ (sym p.2 ∙ ap (λ i. get_or slots i None) same ∙ q.2)) ∙ q.4)
 
   pub uses-cells : (list : ℕ) (items : List Use) → AreItems uses list items → (u : Use) → IsIn items u ↔ IsUse v list u
   uses-cells list items are u = (to, from)

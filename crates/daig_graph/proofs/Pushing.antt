@@ -2,7 +2,10 @@
 use Rattle.std.proofs.Common.{◌≡◌, ◌≢◌, ℕ, suc, ◌<◌, cond, Option, Some, None, nat_eq, refl, sym, ap, ◌∙◌, arith, ◌⊎◌, inl, inr}
 use Rattle.daig_graph.specs.declared.pool.Member.{Member}
 use Rattle.daig_graph.specs.Linked.{AreLinked, held_at}
-use Rattle.daig_graph.proofs.Cases.{same_number, has_number, nat_eq-true, nat_eq-false, none-some, some-inj}
+use Rattle.daig_graph.proofs.Cases.{has_number, nat_eq-false, none-some}
+use Rattle.std.proofs.lemmas.Option.{same_Some}
+use Rattle.std.proofs.lemmas.Bool.{cases_eq}
+use Rattle.plain_values.proofs.Cases.{equal_test}
 
 module _ {T : Type 0} (old new : ℕ → Option (Member T)) (firsts new_firsts : ℕ → Option ℕ) (list key : ℕ) (item : T) where
   abbrev pub put_member : Member T
@@ -46,18 +49,18 @@ module _ {T : Type 0} (old new : ℕ → Option (Member T)) (firsts new_firsts :
 
     was : (k : ℕ) (m : Member T) → new k ≡ Some m → Was k m
     unfolding Was
-    was k m e = elim (same_number k key) [
-      | inl same ↦ inl (same, some-inj (sym e ∙ ap new same ∙ p.here))
+    was k m e = elim (cases_eq k key) [
+      | inl same ↦ inl (same, same_Some _ _ (sym e ∙ ap new same ∙ p.here))
       | inr ne ↦ elim (has_number (firsts list) k) [
         | inl f ↦ let there = linked.first list k f in
-            inr (inl (record { was = there.0; at = there.1; first = f; is = some-inj (sym e ∙ p.after k there.0 f there.1) }))
+            inr (inl (record { was = there.0; at = there.1; first = f; is = same_Some _ _ (sym e ∙ p.after k there.0 f there.1) }))
         | inr f ↦ inr (inr (sym (p.others k ne f) ∙ e, f))
       ]
     ]
 
     next_first : (l k : ℕ) → new_firsts l ≡ Some k → (m : Member T) × (new k ≡ Some m) × (m.list ≡ l) × (m.before ≡ None)
-    next_first l k e = elim (same_number l list) [
-      | inl same ↦ let k_is : key ≡ k = some-inj (sym p.head ∙ ap new_firsts (sym same) ∙ e) in (put_member, ap new (sym k_is) ∙ p.here, sym same, refl)
+    next_first l k e = elim (cases_eq l list) [
+      | inl same ↦ let k_is : key ≡ k = same_Some _ _ (sym p.head ∙ ap new_firsts (sym same) ∙ e) in (put_member, ap new (sym k_is) ∙ p.here, sym same, refl)
       | inr ne ↦
           let there = linked.first l k (sym (p.heads l ne) ∙ e) in
           let b = became k there.0 there.1 in (
@@ -67,7 +70,7 @@ module _ {T : Type 0} (old new : ℕ → Option (Member T)) (firsts new_firsts :
             elim b.before_is [
               | inl h ↦ h ∙ there.3
               | inr h ↦ let own = linked.first list k h.0 in
-                  absurd (ne (sym there.2 ∙ ap (λ o. o.list) (some-inj (sym there.1 ∙ own.1)) ∙ own.2))
+                  absurd (ne (sym there.2 ∙ ap (λ o. o.list) (same_Some _ _ (sym there.1 ∙ own.1)) ∙ own.2))
             ],
           )
     ]
@@ -87,9 +90,9 @@ module _ {T : Type 0} (old new : ℕ → Option (Member T)) (firsts new_firsts :
     next_back k j m e some = elim (was k m e) [
       | inl h ↦ none-some (sym (ap (λ o. o.before) h.1) ∙ some)
       | inr (inl h) ↦
-          let j_is : key ≡ j = some-inj (sym (ap (λ o. o.before) h.is) ∙ some) in
+          let j_is : key ≡ j = same_Some _ _ (sym (ap (λ o. o.before) h.is) ∙ some) in
           let own = linked.first list k h.first in
-          (put_member, ap new (sym j_is) ∙ p.here, sym own.2 ∙ ap (λ o. o.list) (some-inj (sym own.1 ∙ h.at)) ∙ sym (ap (λ o. o.list) h.is), h.first)
+          (put_member, ap new (sym j_is) ∙ p.here, sym own.2 ∙ ap (λ o. o.list) (same_Some _ _ (sym own.1 ∙ h.at)) ∙ sym (ap (λ o. o.list) h.is), h.first)
       | inr (inr h) ↦
           let n = linked.back k j m h.0 some in
           let b = became j n.0 n.1 in
@@ -100,7 +103,7 @@ module _ {T : Type 0} (old new : ℕ → Option (Member T)) (firsts new_firsts :
     kept_before : (k j : ℕ) (m : Member T) (e : old j ≡ Some m) → m.before ≡ Some k → (became j m e).to.before ≡ Some k
     kept_before k j m e some = elim (became j m e).before_is [
       | inl h ↦ h ∙ some
-      | inr h ↦ let own = linked.first list j h.0 in none-some (sym own.3 ∙ ap (λ o. o.before) (some-inj (sym own.1 ∙ e)) ∙ some)
+      | inr h ↦ let own = linked.first list j h.0 in none-some (sym own.3 ∙ ap (λ o. o.before) (same_Some _ _ (sym own.1 ∙ e)) ∙ some)
     ]
 
     behind : (k j : ℕ) (m m2 : Member T) → old k ≡ Some m → m2.list ≡ m.list → m.next ≡ Some j → (n : Member T) × (new j ≡ Some n) × (n.list ≡ m2.list) × (n.before ≡ Some k)
@@ -125,7 +128,7 @@ module _ {T : Type 0} (old new : ℕ → Option (Member T)) (firsts new_firsts :
 
     rank-new : (k : ℕ) → k ≡ key → next_rank k ≡ linked.peak
     unfolding next_rank
-    rank-new k e = ap (λ b. cond b linked.peak (linked.rank k)) (nat_eq-true k key e)
+    rank-new k e = ap (λ b. cond b linked.peak (linked.rank k)) (equal_test k key e)
 
     rank-old : (k : ℕ) → k ≢ key → next_rank k ≡ linked.rank k
     unfolding next_rank

@@ -2,7 +2,9 @@
 use Rattle.std.proofs.Common.{◌≡◌, ◌≢◌, ℕ, ◌<◌, Option, Some, None, refl, sym, ap, ◌∙◌, subst, arith, ◌⊎◌, inl, inr}
 use Rattle.daig_graph.specs.declared.pool.Member.{Member}
 use Rattle.daig_graph.specs.Linked.{AreLinked, held_at}
-use Rattle.daig_graph.proofs.Cases.{same_number, has_number, none-some, some-inj}
+use Rattle.daig_graph.proofs.Cases.{has_number, none-some}
+use Rattle.std.proofs.lemmas.Option.{same_Some}
+use Rattle.std.proofs.lemmas.Bool.{cases_eq}
 
 module _ {T : Type 0} (old new : ℕ → Option (Member T)) (firsts new_firsts : ℕ → Option ℕ) (key : ℕ) (r : Member T) where
   pub record Removed : Type 0 where
@@ -19,13 +21,13 @@ module _ {T : Type 0} (old new : ℕ → Option (Member T)) (firsts new_firsts :
     pub next_of_before : (k : ℕ) (m : Member T) → r.before ≡ Some k → old k ≡ Some m → (m.next ≡ Some key) × (m.list ≡ r.list)
     next_of_before k m b e =
         let n = linked.back key k r there b in
-        let same : n.0 ≡ m = some-inj (sym n.1 ∙ e) in
+        let same : n.0 ≡ m = same_Some _ _ (sym n.1 ∙ e) in
         (sym (ap (λ o. o.next) same) ∙ n.3, sym (ap (λ o. o.list) same) ∙ n.2)
 
     pub before_of_next : (k : ℕ) (m : Member T) → r.next ≡ Some k → old k ≡ Some m → (m.before ≡ Some key) × (m.list ≡ r.list)
     before_of_next k m b e =
         let n = linked.ahead key k r there b in
-        let same : n.0 ≡ m = some-inj (sym n.1 ∙ e) in
+        let same : n.0 ≡ m = same_Some _ _ (sym n.1 ∙ e) in
         (sym (ap (λ o. o.before) same) ∙ n.3, sym (ap (λ o. o.list) same) ∙ n.2)
 
     -- nothing stands in front of it and behind it
@@ -56,12 +58,12 @@ module _ {T : Type 0} (old new : ℕ → Option (Member T)) (firsts new_firsts :
     is_before : (k : ℕ) (m : Member T) → old k ≡ Some m → m.next ≡ Some key → r.before ≡ Some k
     is_before k m e a =
         let n = linked.ahead k key m e a in
-        ap (λ o. o.before) (some-inj (sym p.there ∙ n.1)) ∙ n.3
+        ap (λ o. o.before) (same_Some _ _ (sym p.there ∙ n.1)) ∙ n.3
 
     is_next : (k : ℕ) (m : Member T) → old k ≡ Some m → m.before ≡ Some key → r.next ≡ Some k
     is_next k m e b =
         let n = linked.back k key m e b in
-        ap (λ o. o.next) (some-inj (sym p.there ∙ n.1)) ∙ n.3
+        ap (λ o. o.next) (same_Some _ _ (sym p.there ∙ n.1)) ∙ n.3
 
     became : (k : ℕ) (m : Member T) → k ≢ key → old k ≡ Some m → (to : Member T) × (new k ≡ Some to) × Became k m to
     became k m ne e = elim (has_number r.before k) [
@@ -106,18 +108,18 @@ module _ {T : Type 0} (old new : ℕ → Option (Member T)) (firsts new_firsts :
     was_there k m e None h = none-some (sym h ∙ sym (p.others k (left k m e) (λ b. let n = linked.back key k r p.there b in none-some (sym h ∙ n.1)) (λ a. let n = linked.ahead key k r p.there a in none-some (sym h ∙ n.1))) ∙ e)
     was_there k m e (Some was) h =
         let b = became k was (left k m e) h in
-        let same : b.0 ≡ m = some-inj (sym b.1 ∙ e) in
+        let same : b.0 ≡ m = same_Some _ _ (sym b.1 ∙ e) in
         let P : Member T → Type 0 = Became k was in
         (was, h, subst P same b.2)
 
     next_first : (l k : ℕ) → new_firsts l ≡ Some k → (m : Member T) × (new k ≡ Some m) × (m.list ≡ l) × (m.before ≡ None)
-    next_first l k e = by (r.before) refl (same_number l r.list)
+    next_first l k e = by (r.before) refl (cases_eq l r.list)
       where
         kept : (r.before ≡ None → l ≢ r.list) → (m : Member T) × (new k ≡ Some m) × (m.list ≡ l) × (m.before ≡ None)
         kept other =
             let there = linked.first l k (sym (p.heads l other) ∙ e) in
             let ne : k ≢ key = λ same.
-            let is : there.0 ≡ r = some-inj (sym there.1 ∙ ap old same ∙ p.there) in
+            let is : there.0 ≡ r = same_Some _ _ (sym there.1 ∙ ap old same ∙ p.there) in
             other (sym (ap (λ o. o.before) is) ∙ there.3) (sym there.2 ∙ ap (λ o. o.list) is) in
             let b = became k there.0 ne there.1 in (
               b.0,
@@ -147,7 +149,7 @@ module _ {T : Type 0} (old new : ℕ → Option (Member T)) (firsts new_firsts :
           | inr h ↦
               let first = linked.front k w.0 w.1 (sym h.0 ∙ none) in
               p.heads w.0.list (λ b same.
-              left k m e (some-inj (sym first ∙ ap firsts same ∙ linked.front key r p.there b))) ∙ first
+              left k m e (same_Some _ _ (sym first ∙ ap firsts same ∙ linked.front key r p.there b))) ∙ first
         ]
 
     -- what stands in front of a member that is left has it behind itself
@@ -158,7 +160,7 @@ module _ {T : Type 0} (old new : ℕ → Option (Member T)) (firsts new_firsts :
           b.1,
           b.2.list_same,
           elim b.2.next_is [
-            | inl h ↦ absurd (nk (some-inj (sym a ∙ h.1)))
+            | inl h ↦ absurd (nk (same_Some _ _ (sym a ∙ h.1)))
             | inr h ↦ h.0 ∙ a
           ],
         )
@@ -186,7 +188,7 @@ module _ {T : Type 0} (old new : ℕ → Option (Member T)) (firsts new_firsts :
           b.1,
           b.2.list_same,
           elim b.2.before_is [
-            | inl h ↦ absurd (nk (some-inj (sym a ∙ h.1)))
+            | inl h ↦ absurd (nk (same_Some _ _ (sym a ∙ h.1)))
             | inr h ↦ h.0 ∙ a
           ],
         )

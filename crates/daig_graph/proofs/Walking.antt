@@ -7,7 +7,9 @@ use Rattle.daig_graph.specs.Held.{IsIn}
 use Rattle.std.specs.List.{IsDistinct, AllByRecursion, list_any}
 use Rattle.std.proofs.lemmas.List.{length-map}
 use Rattle.std.proofs.lemmas.Map.Steps.{length-le_from_distinct_below}
-use Rattle.daig_graph.proofs.Cases.{none-some, some-inj, nat_eq-false, same_number}
+use Rattle.daig_graph.proofs.Cases.{none-some, nat_eq-false}
+use Rattle.std.proofs.lemmas.Option.{same_Some}
+use Rattle.std.proofs.lemmas.Bool.{cases_eq}
 
 module _ {T : Type 0} (members : ℕ → Option (Member T)) where
   pub walk-at : (at : Option ℕ) (es : List (ℕ × T)) → IsWalk members at es → (i : ℕ) (p : ℕ × T) → slice_get es i ≡ Some p → (m : Member T) × (members p.0 ≡ Some m) × (m.item ≡ p.1)
@@ -20,12 +22,12 @@ module _ {T : Type 0} (members : ℕ → Option (Member T)) where
   walk-next at [] w i p e m h j n = cc
   walk-next at (q ∷ es) w zero p e m h j n =
       let same : q ≡ p = cc in
-      let is : w.0 ≡ m = some-inj (sym w.2 ∙ ap (λ r. members r.0) same ∙ h) in
+      let is : w.0 ≡ m = same_Some _ _ (sym w.2 ∙ ap (λ r. members r.0) same ∙ h) in
       starts es (ap (λ o. o.next) is ∙ n) w.4
     where
       starts : (es : List (ℕ × T)) {o : Option ℕ} → o ≡ Some j → IsWalk members o es → (x : T) × (slice_get es zero ≡ Some (j, x))
       starts [] e v = none-some (sym v ∙ e)
-      starts (r ∷ rest) e v = let key : r.0 ≡ j = some-inj (sym v.1 ∙ e) in (r.1, ap (λ k. Some (k, r.1)) key)
+      starts (r ∷ rest) e v = let key : r.0 ≡ j = same_Some _ _ (sym v.1 ∙ e) in (r.1, ap (λ k. Some (k, r.1)) key)
   walk-next at (q ∷ es) w (suc i) p e m h j n = walk-next w.0.next es w.4 i p e m h j n
 
   module _ {firsts : ℕ → Option ℕ} (linked : AreLinked members firsts) where
@@ -54,7 +56,7 @@ module _ {T : Type 0} (members : ℕ → Option (Member T)) where
     walk-list l at (q ∷ es) w h zero p e m s = let same : q ≡ p = cc in h p.0 m (w.1 ∙ ap (λ r. Some r.0) same) s
     walk-list l at (q ∷ es) w h (suc i) p e m s =
         walk-list l w.0.next es w.4
-        (λ k n a b. let f = linked.ahead q.0 k w.0 w.2 a in ap (λ o. o.list) (some-inj (sym b ∙ f.1)) ∙ f.2 ∙ h q.0 w.0 w.1 w.2)
+        (λ k n a b. let f = linked.ahead q.0 k w.0 w.2 a in ap (λ o. o.list) (same_Some _ _ (sym b ∙ f.1)) ∙ f.2 ∙ h q.0 w.0 w.1 w.2)
         i p e m s
 
     -- ranks fall along it
@@ -88,7 +90,7 @@ module _ {T : Type 0} (members : ℕ → Option (Member T)) where
       where
         starts : (es : List (ℕ × T)) {o : Option ℕ} → o ≡ Some k → IsWalk members o es → (x : T) × IsIn es (k, x)
         starts [] f v = none-some (sym v ∙ f)
-        starts (r ∷ rest) f v = let key : r.0 ≡ k = some-inj (sym v.1 ∙ f) in (r.1, (zero, ap (λ a. Some (a, r.1)) key))
+        starts (r ∷ rest) f v = let key : r.0 ≡ k = same_Some _ _ (sym v.1 ∙ f) in (r.1, (zero, ap (λ a. Some (a, r.1)) key))
     walk_up l es w k m e s higher (Some j) b =
         let up = linked.back k j m e b in
         let met = higher j up.0 up.1 (up.2 ∙ s) (linked.falls j k up.0 up.1 up.3) in
@@ -117,7 +119,7 @@ module _ {T : Type 0} (members : ℕ → Option (Member T)) where
       where
         keys_below : (at : Option ℕ) (es : List (ℕ × T)) → IsWalk members at es → (q : ℕ) → list_any (eqb q) (map (λ p. p.0) es) ≡ true → q < n
         keys_below at [] w q h = absurd (cc)
-        keys_below at (p ∷ es) w q h = elim (same_number q p.0) [
+        keys_below at (p ∷ es) w q h = elim (cases_eq q p.0) [
           | inl same ↦ omega (arith, within p.0 w.0 w.2, same)
           | inr ne ↦ keys_below w.0.next es w.4 q (rw (nat_eq-false q p.0 ne) at h)
         ]
@@ -138,7 +140,7 @@ module _ {T : Type 0} (members : ℕ → Option (Member T)) where
   walk-is (suc n) None (p ∷ es) w l = none-some w.1
   walk-is (suc n) (Some k) [] w l = none-some (sym w)
   walk-is (suc n) (Some k) (p ∷ es) w l =
-      let key : k ≡ p.0 = some-inj w.1 in
+      let key : k ≡ p.0 = same_Some _ _ w.1 in
       ap (λ o. at_member k o (walk n members)) (ap members key ∙ w.2)
       ∙ ap (λ r. (k, w.0.item) ∷ r) (walk-is n w.0.next es w.4 (omega (arith, l)))
       ∙ ap (λ a. (a, w.0.item) ∷ es) key
@@ -151,7 +153,7 @@ module _ {T : Type 0} (members : ℕ → Option (Member T)) where
       let here : walk (suc n) members (Some k) ≡ (k, m.item) ∷ walk n members m.next = ap (λ o. at_member k o (walk n members)) h in
       let P : List (ℕ × T) → Type 0 = IsWalk members (Some k) in
       let v = subst P here w in
-      let is : v.0 ≡ m = some-inj (sym v.2 ∙ h) in
+      let is : v.0 ≡ m = same_Some _ _ (sym v.2 ∙ h) in
       let Q : Member T → Type 0 = λ o. IsWalk members o.next (walk n members m.next) in
       let on = subst Q is v.4 in
       let same : walk (suc n) members m.next ≡ walk n members m.next = walk-is (suc n) m.next (walk n members m.next) on (omega (arith, length-walk n m.next)) in

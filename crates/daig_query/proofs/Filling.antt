@@ -16,7 +16,6 @@ use Rattle.imp_flow.specs.Plans.{Plan}
 use Rattle.memo_table.specs.Results.{AreResults}
 use Rattle.daig_graph.specs.Cells.{AreCells, Filled}
 use Rattle.daig_graph.proofs.Maps.{get-insert-here, get-insert-other}
-use Rattle.daig_graph.proofs.Cases.{same_number}
 use Rattle.daig_query.specs.declared.held.Held.{Held}
 use Rattle.imp_flow.specs.declared.row.Row.{Row}
 use Rattle.daig_query.specs.declared.opening.Open.{Open}
@@ -30,7 +29,7 @@ use Rattle.daig_query.specs.Opened.{name_of, IsReady, Puts, Computes}
 use Rattle.named_cells.proofs.Same.{same_is}
 use Rattle.daig_query.proofs.Growing.{keeps_same, grows_trans}
 use Rattle.named_cells.proofs.Numbers.{number_there, filled_number, numbers_of, member_at}
-use Rattle.std.proofs.lemmas.Bool.{or_cases, or_right, or_left}
+use Rattle.std.proofs.lemmas.Bool.{or_cases, or_right, or_left, cases_eq as same_number}
 use Rattle.std.proofs.lemmas.Option.{same_Some}
 use Rattle.plain_values.proofs.Lists.{get_some}
 use mathlib.Core.Bool.{or-false}

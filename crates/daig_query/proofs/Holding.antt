@@ -7,7 +7,6 @@ use Rattle.domain_laws.specs.Operations.{Operations}
 use Rattle.cell_names.specs.Known.{IsOnce}
 use Rattle.cell_names.specs.Paths.{CellName}
 use Rattle.daig_graph.specs.Cells.{Filled}
-use Rattle.daig_graph.proofs.Cases.{same_number}
 use Rattle.daig_graph.proofs.Maps.{get-remove-here, get-remove-other}
 use Rattle.imp_flow.specs.Plans.{Plan}
 use Rattle.memo_table.specs.Results.{AreResults}
@@ -19,6 +18,7 @@ use Rattle.daig_query.specs.Kept.{kept, IsValue}
 use Rattle.daig_query.specs.Right.{found, IsCellOf, IsRight}
 use Rattle.daig_query.specs.Claims.{Lessens}
 use Rattle.daig_query.proofs.Found.{stored}
+use Rattle.std.proofs.lemmas.Bool.{cases_eq as same_number}
 
 -- a cell that is left was there
 pub removed_less : {V : Type 0} (m : FinMap nat_cmp V) (k n : ℕ) (v : V) → get (remove m k) n ≡ Some v → get m n ≡ Some v

@@ -31,7 +31,7 @@ use Rattle.daig_query.proofs.Stepping.{place_same, placed_same}
 use Rattle.daig_query.proofs.Stacked.{names_stay, open_ready}
 use Rattle.daig_query.proofs.Starting.{stacked_front}
 use Rattle.imp_flow.proofs.EnteredLemmas.{get_front}
-use Rattle.demand_order.proofs.RunLemmas.{take_start}
+use Rattle.std.proofs.Math.Seq.{take-append_seam as take_start}
 
 module _ {S : Type 0} (dom : Operations S) (plan : Plan) where
   -- the top is open

@@ -28,7 +28,7 @@ use Rattle.daig_query.proofs.Growing.{grows_trans, filled_same}
 use Rattle.daig_query.proofs.Stacked.{has_kept, stack_waits, targets_kept, name_at}
 use Rattle.daig_query.proofs.Running.{cells_of, system, wanted, Runs, left, missing_is, runs_same, runs_push, push_smaller, runs_leave, runs_end, top_more, fill_less, runs_fill}
 use Rattle.std.proofs.lemmas.Option.{same_Some}
-use Rattle.demand_order.proofs.RunLemmas.{take_start}
+use Rattle.std.proofs.Math.Seq.{take-append_seam as take_start}
 
 module _ {S : Type 0} (dom : Operations S) (plan : Plan) (ts : List Target) where
   -- A run began over the store `first`, and has come to another, with a walk.

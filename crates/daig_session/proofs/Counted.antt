@@ -3,14 +3,13 @@ use Rattle.std.proofs.Common.{◌≡◌, ◌≢◌, ◌⊎◌, ℕ, ◌+◌, tru
 use Rattle.std.specs.Ordering.{nat_cmp}
 use Rattle.std.specs.Cmp.{nat_cmp_total}
 use Rattle.std.specs.FinMap.{FinMap, get, insert, remove, empty, len, get-empty, len-empty, len-insert, same_map, nat_cmp-IsAntisymmetric}
-use Rattle.std.proofs.lemmas.Bool.{or_left, or_right, or_cases}
+use Rattle.std.proofs.lemmas.Bool.{or_left, or_right, or_cases, cases_eq as same_number}
 use Rattle.domain_laws.specs.Operations.{Operations}
 use Rattle.cell_names.specs.Known.{IsOnce}
 use Rattle.cell_names.specs.Paths.{CellName}
 use Rattle.demand_order.specs.Order.{member}
 use Rattle.demand_order.specs.OrderLaws.{IsDistinct}
 use Rattle.daig_graph.specs.Cells.{Filled}
-use Rattle.daig_graph.proofs.Cases.{same_number}
 use Rattle.daig_graph.proofs.Maps.{get-remove-here, get-remove-other, insert-is}
 use Rattle.imp_flow.specs.Plans.{Plan}
 use Rattle.named_cells.specs.Same.{same_name}

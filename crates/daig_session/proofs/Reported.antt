@@ -16,7 +16,7 @@ use Rattle.cell_names.specs.Paths.{CellName}
 use Rattle.cell_rows.specs.Targets.{Target, demanded, targets}
 use Rattle.demand_order.specs.InTurn.{missing_in_turn}
 use Rattle.demand_order.specs.Order.{System, fill_all, member, seen}
-use Rattle.demand_order.proofs.OrderLemmas.{member-append, or_assoc}
+use Rattle.demand_order.proofs.OrderLemmas.{member-append}
 use Rattle.demand_laws.specs.Claims.{names_of}
 use Rattle.demand_laws.specs.Reports as reports
 use Rattle.demand_laws.specs.Reports.{check_targets}
@@ -36,6 +36,7 @@ use Rattle.daig_session.specs.Turns.{Questions}
 use Rattle.daig_session.proofs.Answering.{work_both}
 use Rattle.daig_session.proofs.Asked.{asked_answered}
 use mathlib.Core.Bool.{or-false}
+use Rattle.std.proofs.Math.Bool.{or_assoc}
 
 take_within : {A : Type 0} (xs ys : List A) (n : ℕ) → (k : ℕ) × (take k (xs ++ ys) ≡ take n xs)
 take_within xs ys zero = (0, refl)

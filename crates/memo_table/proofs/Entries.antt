@@ -40,18 +40,15 @@ module _ {S : Type 0} (dom : Operations S) (operations : List Operation) (states
 Stays : {S : Type 0} → Option S → Option S → Type 0
 Stays {S} o later = (s : S) → o ≡ Some s → later ≡ Some s
 
-none-some : {A P : Type 0} {x : A} → None ≡ Some x → P
-none-some e = absurd (cc)
-
 one-stays : {S : Type 0} (f : S → S) (l later : Option S) (s : S) → Stays l later → option_map f l ≡ Some s → option_map f later ≡ Some s
 unfolding Stays
-one-stays f None later s h e = none-some e
+one-stays f None later s h e = absurd cc
 one-stays f (Some x) later s h e = ap (option_map f) (h x refl) ∙ e
 
 both-stays : {S : Type 0} (f : S → S → S) (l later_l r later_r : Option S) (s : S) → Stays l later_l → Stays r later_r → both f l r ≡ Some s → both f later_l later_r ≡ Some s
 unfolding Stays
-both-stays f None later_l r later_r s h k e = none-some e
-both-stays f (Some x) later_l None later_r s h k e = none-some e
+both-stays f None later_l r later_r s h k e = absurd cc
+both-stays f (Some x) later_l None later_r s h k e = absurd cc
 both-stays f (Some x) later_l (Some y) later_r s h k e = ap₂ (both f) (h x refl) (k y refl) ∙ e
 
 result-stays : {S : Type 0} (dom : Operations S) (o : Operation) (l later_l r later_r : Option S) (s : S) → Stays l later_l → Stays r later_r → result_of dom o l r ≡ Some s → result_of dom o later_l later_r ≡ Some s

@@ -6,11 +6,11 @@ use Rattle.std.proofs.lemmas.Option.{slice_get-get_or, slice_get_within, same_So
 use Rattle.indexmap.specs.IndexSet.{insert_key}
 use Rattle.std.proofs.lemmas.Bool.Decides.{nat_tests}
 use Rattle.plain_values.proofs.Cases.{by_bool}
-use Rattle.plain_values.proofs.Lists.{take_item}
+use Rattle.plain_values.proofs.Lists.{take_item, get_front as get_left, get_pushed}
 use Rattle.daig_graph.specs.Cells.{AreCells, Filled}
 use Rattle.daig_graph.specs.Held.{IsIn, IsOnce}
 use Rattle.cell_removal.specs.Removal.{Cells}
-use Rattle.cell_removal.proofs.Ins.{in_none, in_any, not_any, in_left, in_last, in_pushed, get_left, get_pushed}
+use Rattle.cell_removal.proofs.Ins.{in_none, in_any, not_any, in_left, in_last, in_pushed}
 use Rattle.cell_removal.proofs.Pigeons.{differ_once, no_more_than}
 use Rattle.why_cells.specs.Reached.{Reached, seed, input, AreReached, Joins}
 use Rattle.why_slice.proofs.Putting.{same_get}

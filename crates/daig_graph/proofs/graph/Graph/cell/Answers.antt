@@ -3,9 +3,9 @@ use Rattle.std.specs.FinMap.{get}
 use Rattle.daig_graph.specs.Agrees.{filled}
 use Rattle.daig_graph.specs.Cells.{AreCells}
 use Rattle.daig_graph.specs.Keys.{key_at}
-use Rattle.daig_graph.proofs.Cases.{some-inj}
 use Rattle.daig_graph.proofs.Agreeing.{get-key, get-absent, closed-cells}
 use Rattle.daig_graph.proofs.graph.Graph.cell.Goals as goal
+use Rattle.std.proofs.lemmas.Option.{same_Some}
 
 key-is : (g : _) (c : goal.After-get-in-Some g) → key_at c.self.inside.keys c.args.number ≡ Some c.in-Some.key
 key-is g c = sym c.get.ensures.key ∙ sym c.in-Some.ensures.key
@@ -17,7 +17,7 @@ returns-in-Some-clause-filled g c =
 
 copied-some : {A : Type 0} (r : Option (Bor A)) (x : A) (P : A → Type 0) → option_copied r ≡ Some x → P x → IfSome r (λ b. P b.now)
 copied-some None x P e p = tt
-copied-some (Some b) x P e p = subst P (sym (some-inj e)) p
+copied-some (Some b) x P e p = subst P (sym (same_Some _ _ e)) p
 
 pub returns-in-Some-clause-cells : goal.returns-in-Some-clause-cells
 returns-in-Some-clause-cells g c =

@@ -4,12 +4,13 @@ use Rattle.std.specs.FinMap.{FinMap, remove, get as cell_at}
 use Rattle.slab.specs.Slab.{get}
 use Rattle.daig_graph.specs.Uses.{Unlinks}
 use Rattle.daig_graph.specs.Cells.{Filled, IsUnused}
-use Rattle.daig_graph.proofs.Cases.{some-inj, none-some}
+use Rattle.daig_graph.proofs.Cases.{none-some}
 use Rattle.daig_graph.proofs.Agreeing.{key-get, uses-there, uses-once, unused-cells}
 use Rattle.daig_graph.specs.Keys.{key_at}
 use Rattle.daig_graph.proofs.KeySet.{set-here, set-others, key-below}
 use Rattle.daig_graph.proofs.CellGone.{Empties, agrees-remove, map-remove}
 use Rattle.daig_graph.proofs.graph.Graph.remove.Goals as goal
+use Rattle.std.proofs.lemmas.Option.{same_Some}
 
 pub returns-in_default : goal.returns-in_default
 returns-in_default g c =
@@ -20,7 +21,7 @@ returns-in_default g c =
 number-is : (g : _) (c : goal.Joined-removed-3 g) → c.remove-removed.result.number ≡ c.args.cell
 number-is g c =
     let h = c.self.invariant.key_there c.args.cell c.in-Some.key (sym c.get.ensures.key ∙ sym c.in-Some.ensures.key) in
-    ap (λ o. o.number) (some-inj (sym c.remove-removed.ensures.value ∙ h.1)) ∙ h.2
+    ap (λ o. o.number) (same_Some _ _ (sym c.remove-removed.ensures.value ∙ h.1)) ∙ h.2
 
 pub unlink-requires-clause-there : goal.unlink-requires-clause-there
 unlink-requires-clause-there g c i u at =
