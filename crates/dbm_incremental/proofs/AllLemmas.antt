@@ -49,17 +49,14 @@ step_bound k = 2 ^ 70 * 16 ^ k
 pub step_bound-next : (k : ℕ) → 16 * step_bound k ≡ step_bound (k + 1)
 step_bound-next k = omega (arith, ap (λ m. 16 ^ m) (add-one k) ∙ pow-suc 16 k)
 
+sixteen_positive : 0 < 16
+sixteen_positive = omega arith
+
 pub step_bound-room : (k : ℕ) → k ≤ 4 → step_bound k ≤ 2 ^ 86
-step_bound-room k l = let p : 16 ^ k ≤ 16 ^ 4 = pow-le-pow_right some l in omega arith
-  where
-    some : 0 < 16
-    some = omega arith
+step_bound-room k l = let p : 16 ^ k ≤ 16 ^ 4 = pow-le-pow_right sixteen_positive l in omega arith
 
 pub step_bound-least : (k : ℕ) → 2 ^ 70 ≤ step_bound k
-step_bound-least k = let l : 0 ≤ k = omega arith in let p : 16 ^ 0 ≤ 16 ^ k = pow-le-pow_right some l in omega arith
-  where
-    some : 0 < 16
-    some = omega arith
+step_bound-least k = let l : 0 ≤ k = omega arith in let p : 16 ^ 0 ≤ 16 ^ k = pow-le-pow_right sixteen_positive l in omega arith
 
 pub IsLoweredSoFar-next : (d : ℕ → ℕ → Option ℤ) (h : ℕ) (bs : List Bound) (k : ℕ) (s t w : ℕ → ℕ → Option ℤ) → k < length bs → IsLoweredSoFar d (2 * h) bs (drop k bs) s w →
     AreSoundWeights (lowered w (get_or bs k no_bound).row (get_or bs k no_bound).column (get_or bs k no_bound).bound) (2 * h) t →

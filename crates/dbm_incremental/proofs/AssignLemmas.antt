@@ -20,9 +20,10 @@ use Rattle.dbm_incremental.proofs.TriangleLemmas.{IsReached, reached-edge}
 use Rattle.dbm_incremental.specs.ClosedMatrices.{IsStrong}
 use Rattle.dbm_incremental.specs.Equations.{equated, stand_node, stand_shift, stood_entry}
 use Rattle.dbm_incremental.specs.Triangles.{AreSoundWeights}
-use Rattle.dbm_incremental.proofs.StandLemmas.{apart-even, apart-odd, by_node, flip-out, neg-twice, neg-zero, node-even, node-odd, node-other, reached-self, shift-even, shift-odd, shift-other, stood, stood-inside, stood-out, stood-strong, stood-weights}
+use Rattle.dbm_incremental.proofs.StandLemmas.{apart-even, apart-odd, by_node, flip-out, neg-zero, node-even, node-odd, node-other, reached-self, shift-even, shift-odd, shift-other, stood, stood-inside, stood-out, stood-strong, stood-weights}
 use Rattle.dbm_close.proofs.SlotLemmas.{even-flip}
 use Rattle.dbm_core.proofs.ValuationLemmas.{lowered-here}
+use Rattle.plain_values.proofs.Integers.{neg_twice}
 
 -- entries from a node to one that stands for the same
 stood-edge : (d : ℕ → ℕ → Option ℤ) (n : ℕ) (o : ℕ → ℕ) (p : ℕ → ℤ) (i j k : ℕ) (z : ℤ) → HasZeroDiagonal n d → k < n → o i ≡ k → o j ≡ k → p j -ℤ p i ≡ z → AtMost (stood d o p i j) (Some z)
@@ -113,7 +114,7 @@ equation-weights d h q y c hq hy ye yo s = stood-weights w d h o p strong (stood
         (subst (λ z. IsReached w (2 * h) (2 * q) y (Some (neg_ℤ z))) (sym (shift-even q c)) (reached-edge w (2 * h) (2 * q) y (Some (neg_ℤ c)) hy from_even)))
         (λ hi. subst (λ k. IsReached w (2 * h) (2 * q + 1) k (Some (neg_ℤ (p (2 * q + 1))))) (sym (node-odd q y))
         (subst (λ z. IsReached w (2 * h) (2 * q + 1) (flip y) (Some (neg_ℤ z))) (sym (shift-odd q c))
-        (subst (λ z. IsReached w (2 * h) (2 * q + 1) (flip y) (Some z)) (neg-twice c) (reached-edge w (2 * h) (2 * q + 1) (flip y) (Some c) fy from_odd))))
+        (subst (λ z. IsReached w (2 * h) (2 * q + 1) (flip y) (Some z)) (neg_twice c) (reached-edge w (2 * h) (2 * q + 1) (flip y) (Some c) fy from_odd))))
         (λ i e g hi. subst (λ k. IsReached w (2 * h) i k (Some (neg_ℤ (p i)))) (sym (node-other q y i e g)) (reached-self w (2 * h) i (neg_ℤ (p i)) (ap neg_ℤ (shift-other q c i e g) ∙ sym neg-zero)))
 
     back : (i : ℕ) → i < 2 * h → IsReached w (2 * h) (o i) i (Some (p i))
@@ -154,7 +155,7 @@ equation-weights d h q y c hq hy ye yo s = stood-weights w d h o p strong (stood
         (below-lowered f (stood d o p) (2 * h) y (2 * q) c (stood-below d h q y c s.diagonal strong)
         (stood-edge d (2 * h) o p y (2 * q) y c s.diagonal hy same (node-even q y) (minus (p (2 * q)) (p y) no_shift ∙ shift-even q c))
         (subst (λ k. AtMost (stood d o p k (flip y)) (Some c)) (sym (even-flip q))
-        (stood-edge d (2 * h) o p (2 * q + 1) (flip y) (flip y) c s.diagonal fy (node-odd q y) same_flip (from_zero (p (2 * q + 1)) (p (flip y)) no_shift_flip ∙ ap neg_ℤ (shift-odd q c) ∙ sym (neg-twice c)))))
+        (stood-edge d (2 * h) o p (2 * q + 1) (flip y) (flip y) c s.diagonal fy (node-odd q y) same_flip (from_zero (p (2 * q + 1)) (p (flip y)) no_shift_flip ∙ ap neg_ℤ (shift-odd q c) ∙ sym (neg_twice c)))))
         (stood-edge d (2 * h) o p (2 * q) y y (neg_ℤ c) s.diagonal hy (node-even q y) same (from_zero (p (2 * q)) (p y) no_shift ∙ ap neg_ℤ (shift-even q c)))
         (subst (λ k. AtMost (stood d o p (flip y) k) (Some (neg_ℤ c))) (sym (even-flip q))
         (stood-edge d (2 * h) o p (flip y) (2 * q + 1) (flip y) (neg_ℤ c) s.diagonal fy same_flip (node-odd q y) (minus (p (2 * q + 1)) (p (flip y)) no_shift_flip ∙ shift-odd q c)))

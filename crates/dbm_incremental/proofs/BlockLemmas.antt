@@ -14,6 +14,7 @@ use Rattle.dbm_incremental.proofs.MoveLemmas.{blocks-triangular}
 use Rattle.dbm_incremental.proofs.TriangleLemmas.{own-weights}
 use Rattle.dbm_incremental.specs.Far.{IsBelowHalf, SmallIsWhole}
 use Rattle.dbm_incremental.specs.Triangles.{AreSoundWeights, IsTriangular}
+use Rattle.std.proofs.Math.Bool.{or-true}
 
 -- within the two nodes of one slot the triangle law says that its range is not empty
 pub single-triangles : (w : ℕ → ℕ → Option ℤ) (n q : ℕ) → HasZeroDiagonal n w → AtMost (Some (pos 0)) (add_weight (w (2 * q) (2 * q + 1)) (w (2 * q + 1) (2 * q))) →
@@ -64,13 +65,9 @@ ranged-weights w d n q zero t same own = own-weights w n diagonal (blocks-triang
         same i j hi hj (λ g. e (in_block i g.1.0 ∙ sym (in_block j g.1.1)))
         ∙ forgotten-free d q i j (λ g. e (ap block g)) (some_in (cases_eq (i / 2) q) (cases_eq (j / 2) q))
       where
-        or_true : (p : Bool) → p || true ≡ true
-        or_true true = refl
-        or_true false = refl
-
         some_in : (i / 2 ≡ q) ⊎ (i / 2 ≡ q → ⊥) → (j / 2 ≡ q) ⊎ (j / 2 ≡ q → ⊥) → in_slot q i || in_slot q j ≡ true
         some_in (inl a) b = rw (eq-eqb (i / 2) q a) refl
-        some_in (inr a) (inl b) = ap (λ v. in_slot q i || v) (eq-eqb (j / 2) q b) ∙ or_true (in_slot q i)
+        some_in (inr a) (inl b) = ap (λ v. in_slot q i || v) (eq-eqb (j / 2) q b) ∙ or-true (in_slot q i)
         some_in (inr a) (inr b) = absurd (e (out_block i a ∙ sym (out_block j b)))
 
     outside : (i j : ℕ) → i < n → j < n → (i / 2 ≡ q → ⊥) → (j / 2 ≡ q → ⊥) → w i j ≡ d i j

@@ -1,7 +1,7 @@
 -- Closing a closed matrix gives it again, and what keeps a matrix closed.
 use Rattle.std.specs.Prelude.{◌≡◌, ℕ, ◌<◌, ◌*◌, ◌^◌, ℤ, pos, neg_ℤ, ◌≤ℤ◌, Option, Some, None, Bool, true, false, cond, int_lt, List, length, refl}
 use Rattle.std.proofs.Common.{arith, ap, sym, ◌∙◌, subst, inl, inr}
-use Rattle.std.proofs.lemmas.Bool.{cases_eq, ne_eqb}
+use Rattle.std.proofs.lemmas.Bool.{cases_eq}
 use Rattle.std.proofs.lemmas.Int.{ints}
 use Rattle.dbm_close.proofs.LawLemmas.{least-diagonal}
 use Rattle.dbm_close.proofs.StrongLemmas.{no_empty_range-agree}
@@ -19,7 +19,7 @@ use Rattle.dbm_core.specs.Nodes.{flip}
 use Rattle.dbm_core.specs.Weights.{AtMost, add_weight}
 use Rattle.dbm_incremental.proofs.ExistLemmas.{walked-weights}
 use Rattle.dbm_incremental.proofs.InsertLemmas.{weights-coherent}
-use Rattle.dbm_close.proofs.HalvesLemmas.{even_down-mono, half-mono, own-single, strong-entry}
+use Rattle.dbm_close.proofs.HalvesLemmas.{even_down-mono, half-mono, own-single, strong-entry, plain}
 use Rattle.dbm_incremental.proofs.TightLemmas.{strong-strong}
 use Rattle.dbm_incremental.proofs.TriangleLemmas.{triangle-walk, triangles-from_weights, weights-below}
 use Rattle.dbm_incremental.specs.ClosedMatrices.{IsClosed, IsStrong}
@@ -59,7 +59,7 @@ pub strong-above : (u s : ℕ → ℕ → Option ℤ) (k : ℕ) → IsStrong (2 
 strong-above u s k h l i j hi hj = least-greatest (u i j) (tightened s i j) (half (add_weight (tightened s i (flip i)) (tightened s (flip j) j)))
     (elim (cases_eq j (flip i)) [
       | inl e ↦ subst (λ x. AtMost (u i x) (tightened s i x)) (sym e) (tightened-above u s (2 * k) h l i hi fi)
-      | inr e ↦ subst (λ v. AtMost (u i j) v) (sym (plain e)) (l i j hi hj)
+      | inr e ↦ subst (λ v. AtMost (u i j) v) (sym (plain s i j e)) (l i j hi hj)
     ])
     (AtMost-trans (u i j) (half (add_weight (u i (flip i)) (u (flip j) j))) (half (add_weight (tightened s i (flip i)) (tightened s (flip j) j))) (h.halves i j hi hj)
     (half-mono (add_weight (u i (flip i)) (u (flip j) j)) (add_weight (tightened s i (flip i)) (tightened s (flip j) j))
@@ -70,9 +70,6 @@ strong-above u s k h l i j hi hj = least-greatest (u i j) (tightened s i j) (hal
 
     fj : flip j < 2 * k
     fj = flip-below j k hj
-
-    plain : (j ≡ flip i → ⊥) → tightened s i j ≡ s i j
-    plain e = rw (ne_eqb j (flip i) e) refl
 
 -- a closed matrix is its own closing
 pub closed-close : (m : HalfMatrix) → IsClosed m → IsCloseOf m (Matrix m)

@@ -1,8 +1,8 @@
 -- What keeps a matrix closed, and its triangle law.
-use Rattle.std.specs.Prelude.{◌≡◌, ℕ, ◌*◌, ◌/◌, ◌^◌, ◌||◌, ℤ, pos, neg_ℤ, ◌≤ℤ◌, Option, Some, None, Bool, true, false, cond, eqb, List, length, slice_index_or, ◌⊎◌, ◌+◌, refl}
+use Rattle.std.specs.Prelude.{◌≡◌, ℕ, ◌*◌, ◌/◌, ◌^◌, ◌||◌, ℤ, pos, neg_ℤ, ◌≤ℤ◌, Option, Some, None, Bool, true, false, cond, eqb, List, length, slice_index_or, ◌+◌, refl}
 use Rattle.std.specs.Int.{int_div_euclid, int_min, int_max}
 use Rattle.std.proofs.Common.{arith, ap, sym, ◌∙◌, subst, inl, inr}
-use Rattle.std.proofs.lemmas.Bool.{cases_eq, eq-eqb, ne_eqb}
+use Rattle.std.proofs.lemmas.Bool.{cases_eq, eq-eqb, ne_eqb, or_cases}
 use Rattle.std.proofs.lemmas.Int.{ints, clamps}
 use Rattle.dbm_close.specs.Close.{HasNoEmptyRange, IsNotTooLow, slot_high, slot_low}
 use Rattle.dbm_close.specs.Steps.{cut, even_down, extreme_high, extreme_low, half, range_high, range_low}
@@ -18,7 +18,8 @@ use Rattle.dbm_close.proofs.HalvesLemmas.{half-mono}
 use Rattle.dbm_incremental.specs.ClosedMatrices.{IsClosed, IsStrong, IsWhole}
 use Rattle.dbm_incremental.specs.Triangles.{IsTriangular}
 use Rattle.dbm_core.proofs.LimitLemmas.{greatest-left, greatest-right, greatest-cases}
-use Rattle.dbm_core.proofs.LowerLemmas.{or_true}
+use Rattle.std.proofs.Math.Bool.{or-true}
+use Rattle.plain_values.proofs.Integers.{between}
 
 greatest-least : (a b c : Option ℤ) → AtMost a c → AtMost b c → AtMost (greatest a b) c
 greatest-least a b None p q = tt
@@ -87,13 +88,10 @@ low-mono array (Some x) (Some y) p = below (extreme_low array) (int_div_euclid x
 -- greater entries leave no slot's range empty
 pub ranges-more : (kinds : List Bool) (f g : ℕ → ℕ → Option ℤ) → AreAtMost (2 * length kinds) f g → HasNoEmptyRange kinds f → HasNoEmptyRange kinds g
 ranges-more kinds f g l p k hk =
-    three (slot_low kinds g k) (slot_low kinds f k) (slot_high kinds f k) (slot_high kinds g k)
+    between (slot_low kinds g k) (slot_low kinds f k) (slot_high kinds f k) (slot_high kinds g k)
     (low-mono (slice_index_or kinds k false) (f (2 * k) (2 * k + 1)) (g (2 * k) (2 * k + 1)) (l (2 * k) (2 * k + 1) (omega arith) (omega arith)))
     (p k hk)
     (high-mono (slice_index_or kinds k false) (f (2 * k + 1) (2 * k)) (g (2 * k + 1) (2 * k)) (l (2 * k + 1) (2 * k) (omega arith) (omega arith)))
-  where
-    three : (a b c d : ℤ) → a ≤ℤ b → b ≤ℤ c → c ≤ℤ d → a ≤ℤ d
-    three a b c d p q r = omega (arith, ints)
 
 -- the join of closed matrices is closed
 pub join-closed : (a b r : HalfMatrix) → b.kinds ≡ a.kinds → IsClosed a → IsClosed b → HasEntries a.kinds (joined a b) r → IsClosed r
@@ -176,12 +174,8 @@ forgotten-triangular d n q o t i k j hi hk hj = by_ends (in_slot q i || in_slot 
     open_first n e = subst (λ v. AtMost (f i j) (add_weight v (f k j))) (sym (forgotten-free d q i k n (ap (λ p. p || in_slot q k) e))) tt
 
     open_last : (k ≡ j → ⊥) → in_slot q j ≡ true → AtMost (f i j) (add_weight (f i k) (f k j))
-    open_last n e = subst (λ v. AtMost (f i j) (add_weight (f i k) v)) (sym (forgotten-free d q k j n (ap (λ p. in_slot q k || p) e ∙ or_true (in_slot q k))))
+    open_last n e = subst (λ v. AtMost (f i j) (add_weight (f i k) v)) (sym (forgotten-free d q k j n (ap (λ p. in_slot q k || p) e ∙ or-true (in_slot q k))))
         (subst (λ v. AtMost (f i j) v) (sym (none_right (f i k))) tt)
-
-    either : (p r : Bool) → p || r ≡ true → (p ≡ true) ⊎ (r ≡ true)
-    either true r e = inl refl
-    either false r e = inr e
 
     by_ends : (b : Bool) → in_slot q i || in_slot q j ≡ b → AtMost (f i j) (add_weight (f i k) (f k j))
     by_ends false e = subst (λ v. AtMost v (add_weight (f i k) (f k j))) (sym (forgotten-kept d q i j e))
@@ -190,7 +184,7 @@ forgotten-triangular d n q o t i k j hi hk hj = by_ends (in_slot q i || in_slot 
       | inl m ↦ first m
       | inr m ↦ elim (cases_eq k j) [
         | inl l ↦ last l
-        | inr l ↦ elim (either (in_slot q i) (in_slot q j) e) [ inl x ↦ open_first m x | inr x ↦ open_last l x ]
+        | inr l ↦ elim (or_cases (in_slot q i) (in_slot q j) e) [ inl x ↦ open_first m x | inr x ↦ open_last l x ]
       ]
     ]
 
@@ -216,7 +210,7 @@ forgotten-halves d q i j p = by_ends (in_slot q i) (in_slot q j) refl refl
     by_ends : (a b : Bool) → in_slot q i ≡ a → in_slot q j ≡ b → AtMost (f i j) (half (add_weight (f i (flip i)) (f (flip j) j)))
     by_ends true b e g = subst (λ v. AtMost (f i j) (half (add_weight v (f (flip j) j)))) (sym (forgotten-free d q i (flip i) (flip-other i) (ap (λ p. p || in_slot q (flip i)) e))) tt
     by_ends false true e g = subst (λ v. AtMost (f i j) (half (add_weight (f i (flip i)) v)))
-        (sym (forgotten-free d q (flip j) j (λ x. flip-other j (sym x)) (ap (λ p. in_slot q (flip j) || p) g ∙ or_true (in_slot q (flip j)))))
+        (sym (forgotten-free d q (flip j) j (λ x. flip-other j (sym x)) (ap (λ p. in_slot q (flip j) || p) g ∙ or-true (in_slot q (flip j)))))
         (subst (λ v. AtMost (f i j) (half v)) (sym (none_right (f i (flip i)))) tt)
     by_ends false false e g = subst (λ v. AtMost v (half (add_weight (f i (flip i)) (f (flip j) j)))) (sym (forgotten-kept d q i j (rw (e, g) refl)))
         (AtMost-trans (d i j) (half (add_weight (d i (flip i)) (d (flip j) j))) (half (add_weight (f i (flip i)) (f (flip j) j))) p

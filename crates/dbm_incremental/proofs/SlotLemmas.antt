@@ -9,7 +9,7 @@ use Rattle.dbm_close.specs.Finish.{IsFinishedBut}
 use Rattle.dbm_close.specs.Steps.{cut, even_down, half, range_high, range_low, tightened}
 use Rattle.dbm_core.proofs.HalfLemmas.{HasEntries-from_kept}
 use Rattle.dbm_core.proofs.NodeLemmas.{flip-below, flip-flip, flip-half}
-use Rattle.dbm_core.proofs.SlotLemmas.{of_slot}
+use Rattle.dbm_core.proofs.SlotLemmas.{of_slot, neither}
 use Rattle.dbm_core.proofs.WeightLemmas.{AtMost-both, AtMost-refl, AtMost-trans}
 use Rattle.dbm_core.specs.Half.{HalfMatrix, HasEntries, IsMatrix, entry, nodes, row_width}
 use Rattle.dbm_core.specs.Nodes.{IsOfSlot, flip, is_single}
@@ -19,6 +19,7 @@ use Rattle.dbm_incremental.proofs.MoveLemmas.{whole-strong}
 use Rattle.dbm_incremental.proofs.StandLemmas.{node-other, shift-other, stood-strong}
 use Rattle.dbm_incremental.specs.ClosedMatrices.{IsClosed, IsStrong, IsWhole}
 use Rattle.dbm_incremental.specs.Equations.{stand_node, stand_shift, stood_entry}
+use Rattle.dbm_incremental.proofs.TightLemmas.{halves_below}
 
 cut-twice : (a : Option ℤ) → cut (cut a) ≡ cut a
 cut-twice None = refl
@@ -39,22 +40,15 @@ halves-sound (Some x) None p q h = tt
 halves-sound (Some x) (Some y) p q h =
     let e : x -ℤ int_rem_euclid x (pos 2) ≡ x = cc in
     let f : y -ℤ int_rem_euclid y (pos 2) ≡ y = cc in
-    both (halved x) (halved y) x y (sym e ∙ even-number x) (sym f ∙ even-number y) h
-  where
-    both : (k l y z : ℤ) → y ≡ k +ℤ k → z ≡ l +ℤ l → pos 0 ≤ℤ (y +ℤ z) → pos 0 ≤ℤ (k +ℤ l)
-    both k l y z p q r = omega (arith, ints)
-
-apart : (q i j : ℕ) → (i / 2 ≡ q → ⊥) → (j / 2 ≡ q → ⊥) → IsOfSlot q i j → ⊥
-apart q i j n m (inl e) = n e
-apart q i j n m (inr e) = m e
+    halves_below (halved x) (halved y) x y (sym e ∙ even-number x) (sym f ∙ even-number y) h
 
 flip-apart : (q i : ℕ) → (i / 2 ≡ q → ⊥) → flip i / 2 ≡ q → ⊥
 flip-apart q i n e = n (sym (flip-half i) ∙ e)
 
 pub finished-but : (m : HalfMatrix) (f : ℕ → ℕ → Option ℤ) (q : ℕ) → IsClosed m → IsWhole m → ((i j : ℕ) → i < nodes m → j < nodes m → (IsOfSlot q i j → ⊥) → f i j ≡ entry m i j) → IsFinishedBut q m.kinds f
 finished-but m f q c w same = record {
-  consistent = λ i hi n. subst (λ v. AtMost (Some (pos 0)) (add_weight (half v) (half (f (flip i) i)))) (sym (same i (flip i) hi (fl i hi) (apart q i (flip i) n (flip-apart q i n))))
-      (subst (λ v. AtMost (Some (pos 0)) (add_weight (half (entry m i (flip i))) (half v))) (sym (same (flip i) i (fl i hi) hi (apart q (flip i) i (flip-apart q i n) n)))
+  consistent = λ i hi n. subst (λ v. AtMost (Some (pos 0)) (add_weight (half v) (half (f (flip i) i)))) (sym (same i (flip i) hi (fl i hi) (neither q i (flip i) n (flip-apart q i n))))
+      (subst (λ v. AtMost (Some (pos 0)) (add_weight (half (entry m i (flip i))) (half v))) (sym (same (flip i) i (fl i hi) hi (neither q (flip i) i (flip-apart q i n) n)))
       (halves-sound (entry m i (flip i)) (entry m (flip i) i) (s.evens i hi)
       (subst (λ k. even_down (entry m (flip i) k) ≡ entry m (flip i) k) (flip-flip i) (s.evens (flip i) (fl i hi)))
       (subst (λ v. AtMost v (add_weight (entry m i (flip i)) (entry m (flip i) i))) (s.diagonal i hi) (s.triangles i (flip i) i hi (fl i hi) hi))));
@@ -78,9 +72,9 @@ finished-but m f q c w same = record {
 
     agree : (i j : ℕ) → i < nodes m → j < nodes m → (i / 2 ≡ q → ⊥) → (j / 2 ≡ q → ⊥) → strong f i j ≡ strong (entry m) i j
     agree i j hi hj n k =
-        ap (λ x. least x (half (add_weight (tightened f i (flip i)) (tightened f (flip j) j)))) (tight i j (same i j hi hj (apart q i j n k)))
-        ∙ ap (λ x. least (tightened (entry m) i j) (half (add_weight x (tightened f (flip j) j)))) (tight i (flip i) (same i (flip i) hi (fl i hi) (apart q i (flip i) n (flip-apart q i n))))
-        ∙ ap (λ x. least (tightened (entry m) i j) (half (add_weight (tightened (entry m) i (flip i)) x))) (tight (flip j) j (same (flip j) j (fl j hj) hj (apart q (flip j) j (flip-apart q j k) k)))
+        ap (λ x. least x (half (add_weight (tightened f i (flip i)) (tightened f (flip j) j)))) (tight i j (same i j hi hj (neither q i j n k)))
+        ∙ ap (λ x. least (tightened (entry m) i j) (half (add_weight x (tightened f (flip j) j)))) (tight i (flip i) (same i (flip i) hi (fl i hi) (neither q i (flip i) n (flip-apart q i n))))
+        ∙ ap (λ x. least (tightened (entry m) i j) (half (add_weight (tightened (entry m) i (flip i)) x))) (tight (flip j) j (same (flip j) j (fl j hj) hj (neither q (flip j) j (flip-apart q j k) k)))
 
     strong-is : (i j : ℕ) → i < nodes m → j < nodes m → (IsOfSlot q i j → ⊥) → strong f i j ≡ entry m i j
     strong-is i j hi hj n = agree i j hi hj (λ e. n (inl e)) (λ e. n (inr e)) ∙ strong-same (entry m) (length m.kinds) s i j hi hj
@@ -89,7 +83,7 @@ finished-but m f q c w same = record {
     cut-same i j hi hj = ap cut (c.1.entries i j hi hj) ∙ cut-twice (c.0 i j) ∙ sym (c.1.entries i j hi hj)
 
     own : (i j k : ℕ) → k < length m.kinds → i / 2 ≡ k → j / 2 ≡ k → (k ≡ q → ⊥) → closed_entry f i j ≡ entry m i j
-    own i j k hk e g n = ap cut (strong-is i j (omega arith) (omega arith) (apart q i j (λ h. n (sym e ∙ h)) (λ h. n (sym g ∙ h)))) ∙ cut-same i j (omega arith) (omega arith)
+    own i j k hk e g n = ap cut (strong-is i j (omega arith) (omega arith) (neither q i j (λ h. n (sym e ∙ h)) (λ h. n (sym g ∙ h)))) ∙ cut-same i j (omega arith) (omega arith)
 
 -- ---- an equation
 
@@ -99,6 +93,14 @@ outside-even q i n e = n (omega arith)
 outside-odd : (q i : ℕ) → (i / 2 ≡ q → ⊥) → i ≡ 2 * q + 1 → ⊥
 outside-odd q i n e = n (omega arith)
 
+-- a weight with no shift added
+pub nothing_added : (v : Option ℤ) → add_weight v (Some (pos 0 -ℤ pos 0)) ≡ v
+nothing_added None = refl
+nothing_added (Some v) = ap Some (zero-more v)
+  where
+    zero-more : (v : ℤ) → v +ℤ (pos 0 -ℤ pos 0) ≡ v
+    zero-more v = omega (arith, ints)
+
 -- the bounds on other slots stay
 pub stood-rest : (d : ℕ → ℕ → Option ℤ) (q y : ℕ) (c : ℤ) (i j : ℕ) → (IsOfSlot q i j → ⊥) → stood_entry d q y c i j ≡ d i j
 stood-rest d q y c i j n =
@@ -106,7 +108,7 @@ stood-rest d q y c i j n =
     ∙ ap (λ a. add_weight (d i a) (Some (stand_shift q c j -ℤ stand_shift q c i))) (node-other q y j je jo)
     ∙ ap (λ a. add_weight (d i j) (Some (a -ℤ stand_shift q c i))) (shift-other q c j je jo)
     ∙ ap (λ a. add_weight (d i j) (Some (pos 0 -ℤ a))) (shift-other q c i ie io)
-    ∙ nothing (d i j)
+    ∙ nothing_added (d i j)
   where
     ie : i ≡ 2 * q → ⊥
     ie = outside-even q i (λ e. n (inl e))
@@ -119,13 +121,6 @@ stood-rest d q y c i j n =
 
     jo : j ≡ 2 * q + 1 → ⊥
     jo = outside-odd q j (λ e. n (inr e))
-
-    zero-more : (v : ℤ) → v +ℤ (pos 0 -ℤ pos 0) ≡ v
-    zero-more v = omega (arith, ints)
-
-    nothing : (v : Option ℤ) → add_weight v (Some (pos 0 -ℤ pos 0)) ≡ v
-    nothing None = refl
-    nothing (Some v) = ap Some (zero-more v)
 
 pub stood-updated : (m u : HalfMatrix) (q y : ℕ) (c : ℤ) → y < nodes m → IsStrong (nodes m) (entry m) → IsMatrix u → u.kinds ≡ m.kinds →
     ((i j : ℕ) → i < nodes m → j < row_width i → IsOfSlot q i j → entry u i j ≡ stood_entry (entry m) q y c i j) →

@@ -16,6 +16,7 @@ use Rattle.dbm_incremental.specs.ClosedMatrices.{IsStrong}
 use Rattle.dbm_incremental.specs.Equations.{stand_node, stand_shift}
 use Rattle.dbm_incremental.specs.Triangles.{AreSoundWeights}
 use Rattle.dbm_close.proofs.SlotLemmas.{even-flip, odd-flip}
+use Rattle.plain_values.proofs.Integers.{neg_twice}
 
 -- ---- an equation: each node i stands for o i plus p i
 
@@ -79,16 +80,13 @@ stand_node-flip q y = by_node (λ i. stand_node q y (flip i) ≡ flip (stand_nod
     (ap (stand_node q y) (odd-flip q) ∙ node-even q y ∙ sym (flip-flip y) ∙ ap flip (sym (node-odd q y)))
     (λ i e f. node-other q y (flip i) (flip-out q i e f).0 (flip-out q i e f).1 ∙ ap flip (sym (node-other q y i e f)))
 
-pub neg-twice : (c : ℤ) → c ≡ neg_ℤ (neg_ℤ c)
-neg-twice c = omega (arith, ints)
-
 pub neg-zero : pos 0 ≡ neg_ℤ (pos 0)
 neg-zero = omega (arith, ints)
 
 pub stand_shift-flip : (q : ℕ) (c : ℤ) (i : ℕ) → stand_shift q c (flip i) ≡ neg_ℤ (stand_shift q c i)
 stand_shift-flip q c = by_node (λ i. stand_shift q c (flip i) ≡ neg_ℤ (stand_shift q c i)) q
     (ap (stand_shift q c) (even-flip q) ∙ shift-odd q c ∙ ap neg_ℤ (sym (shift-even q c)))
-    (ap (stand_shift q c) (odd-flip q) ∙ shift-even q c ∙ neg-twice c ∙ ap neg_ℤ (sym (shift-odd q c)))
+    (ap (stand_shift q c) (odd-flip q) ∙ shift-even q c ∙ neg_twice c ∙ ap neg_ℤ (sym (shift-odd q c)))
     (λ i e f. shift-other q c (flip i) (flip-out q i e f).0 (flip-out q i e f).1 ∙ neg-zero ∙ ap neg_ℤ (sym (shift-other q c i e f)))
 
 pub stood-strong : (d : ℕ → ℕ → Option ℤ) (h q y : ℕ) (c : ℤ) → y < 2 * h → IsStrong (2 * h) d → IsStrong (2 * h) (stood d (stand_node q y) (stand_shift q c))

@@ -24,13 +24,13 @@ half-step (Some p) (Some x) (Some q) h = below p x q (halved p) (halved q) h (ha
     below : (p x q h k : ℤ) → p ≤ℤ (x +ℤ (q +ℤ x)) → (h +ℤ h) ≤ℤ p → q ≤ℤ ((k +ℤ k) +ℤ pos 1) → h ≤ℤ (x +ℤ k)
     below p x q h k a b c = omega (arith, ints)
 
+pub halves_below : (k l y z : ℤ) → y ≡ k +ℤ k → z ≡ l +ℤ l → pos 0 ≤ℤ (y +ℤ z) → pos 0 ≤ℤ (k +ℤ l)
+halves_below k l y z p q r = omega (arith, ints)
+
 not_negative : (a b : Option ℤ) → AtMost (Some (pos 0)) (add_weight (even_down a) (even_down b)) → AtMost (Some (pos 0)) (add_weight (half a) (half b))
 not_negative None b h = tt
 not_negative (Some x) None h = tt
-not_negative (Some x) (Some y) h = below (halved x) (halved y) (x -ℤ int_rem_euclid x (pos 2)) (y -ℤ int_rem_euclid y (pos 2)) (even-number x) (even-number y) h
-  where
-    below : (k l y z : ℤ) → y ≡ k +ℤ k → z ≡ l +ℤ l → pos 0 ≤ℤ (y +ℤ z) → pos 0 ≤ℤ (k +ℤ l)
-    below k l y z p q r = omega (arith, ints)
+not_negative (Some x) (Some y) h = halves_below (halved x) (halved y) (x -ℤ int_rem_euclid x (pos 2)) (y -ℤ int_rem_euclid y (pos 2)) (even-number x) (even-number y) h
 
 front : (p q r v : Option ℤ) → AtMost p (add_weight q r) → AtMost (add_weight p v) (add_weight q (add_weight r v))
 front p q r v h = subst (λ x. AtMost (add_weight p v) x) (add_weight-assoc q r v) (add_weight-mono p (add_weight q r) v v h (AtMost-refl v))

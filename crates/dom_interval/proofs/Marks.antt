@@ -1,10 +1,11 @@
 -- The nearest mark, by going through the marks once.
-use Rattle.std.proofs.Common.{◌≡◌, refl, ap, sym, ◌∙◌, ℕ, zero, suc, ◌≤◌, ◌+◌, ◌<◌, pos, get_or, drop, drop-cons, add-one, length, ℤ, ◌≤ℤ◌, int_le, Bool, true, false, ◌&&◌, List, [], ◌∷◌, arith, if◌then◌else◌}
+use Rattle.std.proofs.Common.{◌≡◌, refl, ap, sym, ◌∙◌, ℕ, suc, ◌≤◌, ◌+◌, ◌<◌, pos, get_or, drop, drop-cons, add-one, length, ℤ, ◌≤ℤ◌, int_le, Bool, true, false, ◌&&◌, List, [], ◌∷◌, arith, if◌then◌else◌}
 use Rattle.std.proofs.lemmas.Int.{ints, clamps}
 use Rattle.std.proofs.lemmas.Bool.{and_parts}
 use Rattle.std.specs.Int.{int_max, int_min}
 use Rattle.num_bounds.specs.Bounds.{Bounds}
 use Rattle.interval_meaning.specs.Widening.{mark_below, mark_above, better_below, better_above}
+use Rattle.std.proofs.lemmas.List.{drop_all}
 
 below-base : (ms : List ℤ) (e : Bounds) (z : ℤ) → int_min e.lo z ≤ℤ mark_below ms e z
 below-base [] e z = omega (arith, ints)
@@ -42,12 +43,6 @@ above_step ms e z best i h = rw (drop-cons ms i (pos 0), add-one) (by (get_or ms
 
 pub above_first : (ms : List ℤ) (e : Bounds) (z : ℤ) → int_min (int_max e.hi z) (mark_above ms e z) ≡ mark_above ms e z
 above_first ms e z = let h = above-base ms e z in omega (arith, ints, clamps)
-
-drop_past : (ms : List ℤ) (i : ℕ) → length ms ≤ i → drop i ms ≡ []
-drop_past [] zero h = refl
-drop_past [] (suc i) h = refl
-drop_past (m ∷ ms) zero h = absurd (omega arith)
-drop_past (m ∷ ms) (suc i) h = drop_past ms i (omega arith)
 
 -- The loops: the best of the marks so far with the best of the others is the best of all.
 pub record BestBelow (ms : List ℤ) (e : Bounds) (z best : ℤ) (i : ℕ) : Type 0 where
@@ -130,12 +125,12 @@ best_above-first ms e z best q = record { told = ap (λ x. int_min x (mark_above
 
 pub best_below-last : (ms : List ℤ) (e : Bounds) (z best : ℤ) (i : ℕ) → length ms ≤ i → BestBelow ms e z best i → best ≡ mark_below ms e z
 best_below-last ms e z best i h w =
-    let told = ap (λ xs. int_max best (mark_below xs e z)) (sym (drop_past ms i h)) ∙ w.told in
+    let told = ap (λ xs. int_max best (mark_below xs e z)) (sym (drop_all i ms h)) ∙ w.told in
     let same : best ≡ int_max best (int_min e.lo z) = omega (arith, ints, clamps, w.low) in
     same ∙ told
 
 pub best_above-last : (ms : List ℤ) (e : Bounds) (z best : ℤ) (i : ℕ) → length ms ≤ i → BestAbove ms e z best i → best ≡ mark_above ms e z
 best_above-last ms e z best i h w =
-    let told = ap (λ xs. int_min best (mark_above xs e z)) (sym (drop_past ms i h)) ∙ w.told in
+    let told = ap (λ xs. int_min best (mark_above xs e z)) (sym (drop_all i ms h)) ∙ w.told in
     let same : best ≡ int_min best (int_max e.hi z) = omega (arith, ints, clamps, w.high) in
     same ∙ told

@@ -1,20 +1,17 @@
 -- Going through graphs, one after another.
 use Rattle.std.proofs.Common.{◌≡◌, ℕ, ◌+◌, ◌<◌, List, [], ◌∷◌, ◌++◌, map, length, get_or, take, refl, sym, ◌∙◌, ap}
 use Rattle.std.specs.List.{flat_map}
-use Rattle.std.proofs.lemmas.List.{map-append, append-nil, append_assoc, take_more}
+use Rattle.std.proofs.lemmas.List.{map-append, append-nil, take_more}
 use Rattle.plain_values.proofs.Lists.{take_item}
 use Rattle.shape_graph.specs.Shape.{Shape}
 use Rattle.shape_graph.proofs.Function.{fold_of}
 use Rattle.listseg_meaning.specs.Sets.{put, union}
 use Rattle.listseg_meaning.proofs.Members.{union-push}
+use Rattle.std.proofs.lemmas.Grind.{flat_map-append}
 
 union-append : (gs xs ys : List Shape) → union gs (xs ++ ys) ≡ union (union gs xs) ys
 union-append gs [] ys = refl
 union-append gs (x ∷ xs) ys = union-append (put x gs) xs ys
-
-flat_map-append : (f : Shape → List Shape) (xs ys : List Shape) → flat_map f (xs ++ ys) ≡ flat_map f xs ++ flat_map f ys
-flat_map-append f [] ys = refl
-flat_map-append f (x ∷ xs) ys = ap (λ v. f x ++ v) (flat_map-append f xs ys) ∙ sym (append_assoc (f x) (flat_map f xs) (flat_map f ys))
 
 -- the graphs so far, and those of one more
 pub next : (f : Shape → List Shape) (gs : List Shape) (g : Shape) → union [] (map fold_of (flat_map f (gs ++ g ∷ []))) ≡ union (union [] (map fold_of (flat_map f gs))) (map fold_of (f g))

@@ -45,7 +45,7 @@ fn agreeing(
 }
 
 // The state of the graphs in which the sides are as the comparison says: the state itself, where all are.
-#[tactic(auto, using(crate::proofs::Assumed::kept_rise))]
+#[tactic(auto, using(listseg_meaning::proofs::Rising::filter_rises))]
 fn kept_where(
     alloc: Global,
     equal: bool,

@@ -15,14 +15,9 @@ use Rattle.imp_parse.specs.Limits.{role_of, next, exceeds, too_deep}
 use Rattle.imp_parse.specs.Answer.{Fits, IsTokenAnswer}
 use Rattle.imp_parse.specs.Judged.{Gives, finished, cut, judged}
 use Rattle.imp_parse.proofs.Exact.{SameFirst, Reader, Explained, Exact}
+use Rattle.std.proofs.Math.Seq.{take-take}
 
 -- ---- lists
-
-take_take : (i m : ℕ) (l : List Kind) → i ≤ m → take i (take m l) ≡ take i l
-take_take zero m l le = refl
-take_take (suc i) zero l le = absurd (omega arith)
-take_take (suc i) (suc m) [] le = refl
-take_take (suc i) (suc m) (x ∷ l) le = ap (λ (q : List Kind). x ∷ q) (take_take i m l (omega arith))
 
 -- ---- the first token too deep
 
@@ -79,7 +74,7 @@ module _ {A : Type 0} (G : Language A) where
   opens_front ts j o = (drop j ts ++ o.0, o.1, subst (λ (q : List Kind). G q o.1) (ap (λ (q : List Kind). q ++ o.0) (sym (take-append-drop j ts)) ∙ append_assoc (take j ts) (drop j ts) o.0) o.2)
 
   pub opens_less : (ts : List Kind) (i j : ℕ) → i ≤ j → Opens G (take j ts) → Opens G (take i ts)
-  opens_less ts i j le o = subst (λ (q : List Kind). Opens G q) (take_take i j ts le) (opens_front (take j ts) i o)
+  opens_less ts i j le o = subst (λ (q : List Kind). Opens G q) (take-take i j ts le) (opens_front (take j ts) i o)
 
   pub tree_opens : (ts : List Kind) (a : A) → G ts a → Opens G ts
   tree_opens ts a g = ([], a, subst (λ (q : List Kind). G q a) (sym (append-nil ts)) g)
@@ -110,8 +105,8 @@ module _ {A : Type 0} (G : Language A) where
       let len : length (take m ts) ≡ m = length-take-le m ts le in
       record {
         within = omega arith;
-        begun = subst (λ (q : List Kind). Opens G q) (take_take i m ts (omega arith)) k.begun;
-        wrong = λ h o. k.wrong (omega arith) (subst (λ (q : List Kind). Opens G q) (sym (take_take (i + 1) m ts (omega arith))) o);
+        begun = subst (λ (q : List Kind). Opens G q) (take-take i m ts (omega arith)) k.begun;
+        wrong = λ h o. k.wrong (omega arith) (subst (λ (q : List Kind). Opens G q) (sym (take-take (i + 1) m ts (omega arith))) o);
         short = λ h a g. absurd (omega arith);
       }
 

@@ -1,6 +1,6 @@
 -- Where a configuration stands.
 use Rattle.std.specs.Prelude.{◌≡◌, ℕ, suc, ◌-◌, List, [], ◌∷◌, length, slice_get, Option, Some, None, option_map}
-use Rattle.std.proofs.Common.{refl, sym, ap, ◌∙◌, arith}
+use Rattle.std.proofs.Common.{refl, sym, ap, ◌∙◌, sub-one}
 use Rattle.imp_syntax.specs.declared.edit.Location.TheVariants.{Before, End}
 use Rattle.imp_slots.specs.Plain.{Code, Routine}
 use Rattle.imp_slots.specs.BlockViews.{before_code, code_of, number_of}
@@ -26,12 +26,6 @@ item_stands program (Do first rest) w = ap (option_map Before) (first_is first.n
 item_stands program (Done n call) w = refl
 item_stands program (Test n cond body) w = refl
 
-less : (n : ℕ) → suc n - 1 ≡ n
-less n = omega arith
-
-minus : (n : ℕ) → suc (suc n) - 1 ≡ suc n
-minus n = omega arith
-
 -- no work stands at the end of its procedure
 end_map : (o : Option Routine) → option_map (λ (r : Routine). End r.name) o ≡ end_location o
 end_map None = refl
@@ -45,13 +39,13 @@ pub last_stands : (program : List Routine) (items : List Item) (i : Item) (w : W
 last_stands program [] i w at = absurd (cc)
 last_stands program (x ∷ []) i w at = let is : x ≡ i = cc in ap (λ y. location_of program (put y w)) is ∙ item_stands program i w
 last_stands program (x ∷ y ∷ items) i w at =
-    last_stands program (y ∷ items) i (put x w) (ap (λ k. slice_get (y ∷ items) k) (less (length items)) ∙ ap (λ k. slice_get (x ∷ y ∷ items) k) (sym (minus (length items))) ∙ at)
+    last_stands program (y ∷ items) i (put x w) (ap (λ k. slice_get (y ∷ items) k) (sub-one (suc (length items))) ∙ ap (λ k. slice_get (x ∷ y ∷ items) k) (sym (sub-one (suc (suc (length items))))) ∙ at)
 
 some_last : (x : Item) (items : List Item) → (i : Item) × (slice_get (x ∷ items) (length (x ∷ items) - 1) ≡ Some i)
 some_last x [] = (x, refl)
 some_last x (y ∷ items) =
     let r : (i : Item) × (slice_get (y ∷ items) (length (y ∷ items) - 1) ≡ Some i) = some_last y items in
-    (r.0, ap (λ k. slice_get (x ∷ y ∷ items) k) (minus (length items)) ∙ ap (λ k. slice_get (y ∷ items) k) (sym (less (length items))) ∙ r.1)
+    (r.0, ap (λ k. slice_get (x ∷ y ∷ items) k) (sub-one (suc (suc (length items)))) ∙ ap (λ k. slice_get (y ∷ items) k) (sym (sub-one (suc (length items)))) ∙ r.1)
 
 -- without a last item there is no work
 pub none_stands : (program : List Routine) (items : List Item) (p : ℕ) → slice_get items (length items - 1) ≡ None → location_of program (work_of p items) ≡ end_location (slice_get program p)

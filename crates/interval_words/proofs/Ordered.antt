@@ -16,7 +16,7 @@ use Rattle.interval_meaning.specs.Domain.{intervals}
 use Rattle.interval_meaning.specs.declared.slot_range.SlotRange.{SlotRange}
 use Rattle.interval_meaning.proofs.SlotLaws.{FitsSlot, fits_slots-true}
 use Rattle.interval_meaning.proofs.CompareLaws.{FitsState, Describes, join-left, join-right}
-use Rattle.interval_meaning.proofs.WidenLaws.{widen-left, widen-right}
+use Rattle.interval_meaning.proofs.WidenLaws.{widen-left, widen-right, outside}
 use Rattle.interval_words.specs.Words.{slots_leq, leq}
 use Rattle.interval_meaning.proofs.Laws.{fits-state}
 use Rattle.num_bounds.proofs.Ends.{le-true, true-le}
@@ -27,10 +27,7 @@ slot_leq r q = int_le q.range.lo r.range.lo && int_le r.range.hi q.range.hi
 slot_below : (r q : SlotRange) (n : Number) → slot_leq r q ≡ true → Holds r n → Holds q n
 slot_below r q n e h =
     let p = and_parts (int_le q.range.lo r.range.lo) (int_le r.range.hi q.range.hi) e in
-    between (measure n) q.range.lo q.range.hi r.range.lo r.range.hi (le-true q.range.lo r.range.lo p.0) (le-true r.range.hi q.range.hi p.1) h.0 h.1
-  where
-    between : (z l h m n : ℤ) → l ≤ℤ m → n ≤ℤ h → m ≤ℤ z → z ≤ℤ n → (l ≤ℤ z) × (z ≤ℤ h)
-    between z l h m n p q r s = (omega (arith, ints), omega (arith, ints))
+    outside (measure n) q.range.lo q.range.hi r.range.lo r.range.hi (le-true q.range.lo r.range.lo p.0) (le-true r.range.hi q.range.hi p.1) h.0 h.1
 
 slots_below : (ks : List Numeric) (rs qs : List SlotRange) (ns : List Number) → AllZip FitsSlot ks rs → AllZip FitsSlot ks qs → slots_leq rs qs ≡ true → AllZip Holds rs ns → AllZip Holds qs ns
 slots_below [] [] [] ns f g e h = h

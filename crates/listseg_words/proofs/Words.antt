@@ -18,7 +18,7 @@ use Rattle.listseg_meaning.specs.Covers.{counts, fits, fits_graph, fit_graphs}
 use Rattle.listseg_meaning.specs.Domain.{segments}
 use Rattle.listseg_meaning.specs.Sets.{most, rises}
 use Rattle.listseg_meaning.specs.State.{Segments, Top, Graphs}
-use Rattle.listseg_meaning.proofs.Fitting.{FitGraphs, FitsGraph, fits-state}
+use Rattle.listseg_meaning.proofs.Fitting.{FitGraphs, FitsGraph, fits-state, is-few}
 use Rattle.listseg_words.specs.Words.{graph_told, told, number_of, word_at, after_frames, after_atoms, graph_of, fits_counts, graph_if, before, graphs_of, if_told, if_rises, state_of}
 use Rattle.listseg_words.proofs.Back.{All-fit, graphs-back, number-back}
 use Rattle.listseg_words.proofs.Small.{small-graphs, text-long}
@@ -115,10 +115,7 @@ graphs-exact ls (suc k) ws gs e =
 
 graphs-fit : (ls : List Layout) (k : ℕ) (gs : List Shape) → k ≤ 64 → AreGraphs ls k gs → rises gs ≡ true → fits (Graphs gs) ls ≡ true
 unfolding fits
-graphs-fit ls k gs few h r = and_from (nat_le (length gs) most) (rises gs && fit_graphs ls gs) (test (length gs) (let e = h.many in omega (arith, e))) (and_from (rises gs) (fit_graphs ls gs) r h.fit)
-  where
-    test : (n : ℕ) → n ≤ 64 → nat_le n most ≡ true
-    test n h = grind (arith, nat_tests)
+graphs-fit ls k gs few h r = and_from (nat_le (length gs) most) (rises gs && fit_graphs ls gs) (is-few (length gs) (let e = h.many in omega (arith, e))) (and_from (rises gs) (fit_graphs ls gs) r h.fit)
 
 rises_exact : (ls : List Layout) (k : ℕ) (ws : List (Option ℤ)) (o : Option (List Shape)) (s : Segments) → k ≤ 64 → ((gs : List Shape) → o ≡ Some gs → AreGraphs ls k gs) → if_rises ws o ≡ Some s → IsTold ls ws s
 rises_exact ls k ws None s few h e = absurd cc

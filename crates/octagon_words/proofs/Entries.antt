@@ -5,7 +5,6 @@ use Rattle.std.specs.Option.{option_eq}
 use Rattle.std.specs.Ordering.{int_eq}
 use Rattle.std.proofs.Common.{refl, sym, ap, ◌∙◌, arith, suc, zero}
 use Rattle.std.proofs.lemmas.Bool.{and_parts, and_from}
-use Rattle.std.proofs.lemmas.Bool.Decides.{nat_tests}
 use Rattle.std.proofs.lemmas.Int.{ints}
 use Rattle.dbm_core.specs.Limits.{HasZeroDiagonal}
 use Rattle.dbm_core.specs.Nodes.{IsCoherent, flip}
@@ -15,6 +14,8 @@ use Rattle.octagon_meaning.specs.Covers.{in_limits}
 use Rattle.octagon_words.specs.Words.{is_entry, are_entries, word_at}
 use Rattle.octagon_words.proofs.Below.{pairs-true, true-pairs}
 use Rattle.octagon_meaning.proofs.Fitting.{eq-true}
+use Rattle.plain_values.proofs.Cases.{equal_test}
+use Rattle.plain_values.proofs.Integers.{lower_of}
 
 -- the table of these words is that of a state
 pub record AreEntries (ws : List (Option ℤ)) (n : ℕ) : Type 0 where
@@ -22,12 +23,6 @@ pub record AreEntries (ws : List (Option ℤ)) (n : ℕ) : Type 0 where
   pub limits : (i j : ℕ) → i < n → j < n → in_limits (word_at ws n i j) ≡ true
   pub coherent : IsCoherent (word_at ws n) n
   pub diagonal : HasZeroDiagonal n (word_at ws n)
-
-same-place : (i : ℕ) → nat_eq i i ≡ true
-same-place i = grind (arith, nat_tests)
-
-place-equal : (i j : ℕ) → i ≡ j → nat_eq i j ≡ true
-place-equal i j h = grind (arith, nat_tests)
 
 -- where the first is true, so is the second
 either : (a b : Bool) → (not a || b) ≡ true → a ≡ true → b ≡ true
@@ -45,33 +40,30 @@ entries-true ws n h =
       size = eq-true (length ws) (n * n) p.0;
       limits = λ i j hi hj. (and_parts _ _ (pairs-true n (is_entry ws n) p.1 i j hi hj)).0;
       coherent = λ i j hi hj. (word_Decides (word_at ws n i j) (word_at ws n (flip j) (flip i))).0 (and_parts _ _ (and_parts _ _ (pairs-true n (is_entry ws n) p.1 i j hi hj)).1).0;
-      diagonal = λ i hi. (word_Decides (word_at ws n i i) (Some (pos 0))).0 (either (nat_eq i i) (option_eq int_eq (word_at ws n i i) (Some (pos 0))) (and_parts _ _ (and_parts _ _ (pairs-true n (is_entry ws n) p.1 i i hi hi)).1).1 (same-place i));
+      diagonal = λ i hi. (word_Decides (word_at ws n i i) (Some (pos 0))).0 (either (nat_eq i i) (option_eq int_eq (word_at ws n i i) (Some (pos 0))) (and_parts _ _ (and_parts _ _ (pairs-true n (is_entry ws n) p.1 i i hi hi)).1).1 (equal_test i i refl));
     }
 
 pub true-entries : (ws : List (Option ℤ)) (n : ℕ) → AreEntries ws n → are_entries ws n ≡ true
 true-entries ws n h =
-    and_from (nat_eq (length ws) (n * n)) _ (place-equal (length ws) (n * n) h.size)
+    and_from (nat_eq (length ws) (n * n)) _ (equal_test (length ws) (n * n) h.size)
     (true-pairs n (is_entry ws n) (λ i j hi hj.
     and_from (in_limits (word_at ws n i j)) _ (h.limits i j hi hj)
     (and_from (option_eq int_eq (word_at ws n i j) (word_at ws n (flip j) (flip i))) _ ((word_Decides (word_at ws n i j) (word_at ws n (flip j) (flip i))).1 (h.coherent i j hi hj))
     (neither (nat_eq i j) (option_eq int_eq (word_at ws n i j) (Some (pos 0))) (λ e.
     (word_Decides (word_at ws n i j) (Some (pos 0))).1 (ap (word_at ws n i) (sym (eq-true i j e)) ∙ h.diagonal i hi))))))
 
+pub above : (a b : ℤ) → not (int_lt a b) ≡ true → b ≤ℤ a
+above a b e = grind (arith, ints)
+
 -- bounds within the limits are small words
 pub limits-small : (o : Option ℤ) → in_limits o ≡ true → IsSmall o
 limits-small None h = tt
 limits-small (Some (pos n)) h =
     let p = and_parts (not (int_lt (pos n) (neg_ℤ (pos (2 ^ 64))))) (int_lt (pos n) (pos (2 ^ 64))) h in
-    let l : pos n <ℤ pos (2 ^ 64) = below (pos n) (pos (2 ^ 64)) p.1 in omega (arith, ints)
-  where
-    below : (a b : ℤ) → int_lt a b ≡ true → a <ℤ b
-    below a b e = grind (arith, ints)
+    let l : pos n <ℤ pos (2 ^ 64) = lower_of (pos n) (pos (2 ^ 64)) p.1 in omega (arith, ints)
 limits-small (Some (negsuc n)) h =
     let p = and_parts (not (int_lt (negsuc n) (neg_ℤ (pos (2 ^ 64))))) (int_lt (negsuc n) (pos (2 ^ 64))) h in
     let l : neg_ℤ (pos (2 ^ 64)) ≤ℤ negsuc n = above (negsuc n) (neg_ℤ (pos (2 ^ 64))) p.0 in omega (arith, ints)
-  where
-    above : (a b : ℤ) → not (int_lt a b) ≡ true → b ≤ℤ a
-    above a b e = grind (arith, ints)
 
 pub small-words : (f : ℕ → Option ℤ) (a n : ℕ) → ((q : ℕ) → a ≤ q → q < a + n → IsSmall (f q)) → AreSmall (map f (range_with_len a n))
 small-words f a zero h = tt

@@ -10,6 +10,7 @@ use Rattle.octagon_meaning.proofs.Fitting.{FitsMatrix}
 use Rattle.octagon_meaning.specs.Covers.{in_limits}
 use Rattle.octagon_words.specs.Words.{matrix_with, empty_of, bounded_of, kept_of}
 use Rattle.octagon_words.proofs.Words.{matrix_exact}
+use Rattle.octagon_words.proofs.Entries.{above}
 
 limits-within : (o : Option ℤ) → in_limits o ≡ true → IsWithin (2 ^ 64) o
 limits-within None h = tt
@@ -17,9 +18,6 @@ limits-within (Some x) h =
     let p = and_parts (not (int_lt x (neg_ℤ (pos (2 ^ 64))))) (int_lt x (pos (2 ^ 64))) h in
     (above x (neg_ℤ (pos (2 ^ 64))) p.0, below x (pos (2 ^ 64)) p.1)
   where
-    above : (a b : ℤ) → not (int_lt a b) ≡ true → b ≤ℤ a
-    above a b e = grind (arith, ints)
-
     below : (a b : ℤ) → int_lt a b ≡ true → a ≤ℤ b
     below a b e = grind (arith, ints)
 

@@ -14,6 +14,7 @@ use Rattle.imp_lex.specs.Kinds.{reserved_word, word_or_name, word_kind, number_k
 use Rattle.imp_lex.specs.Front.{front_of, taken, longest, run, is_blank, is_letter, is_digit, is_word, begins_comment}
 use Rattle.imp_lex.specs.Lexing.{IsLexed, done, skip, word, IsFaulty, here}
 use Rattle.imp_parse.specs.Kinds.{kinds}
+use Rattle.plain_values.proofs.Cases.{equal_test}
 
 -- a name or a number of the language, or another token
 abbrev pub IsGood : Kind → Type 0
@@ -92,12 +93,9 @@ all_four true false c d p q r s = absurd cc
 all_four true true false d p q r s = absurd cc
 all_four true true true false p q r s = absurd cc
 
-same_length : (m n : ℕ) → m ≡ n → (m == n) ≡ true
-same_length m n e = grind (arith, nat_tests)
-
 name_is : (b : ℕ) (bs : List ℕ) → is_letter b ≡ true → run is_word bs ≡ length bs → nat_le (length (b ∷ bs)) most_name_bytes ≡ true → reserved_word (b ∷ bs) ≡ None → is_name (b ∷ bs) ≡ true
 unfolding is_name
-name_is b bs letter all short none = all_four (is_letter b) (run is_word bs == length bs) (nat_le (length (b ∷ bs)) most_name_bytes) (is_none (reserved_word (b ∷ bs))) letter (same_length (run is_word bs) (length bs) all) short (rw none refl)
+name_is b bs letter all short none = all_four (is_letter b) (run is_word bs == length bs) (nat_le (length (b ∷ bs)) most_name_bytes) (is_none (reserved_word (b ∷ bs))) letter (equal_test (run is_word bs) (length bs) all) short (rw none refl)
 
 named_good : (b : ℕ) (bs : List ℕ) (short : Bool) (kind : Kind) → is_letter b ≡ true → run is_word bs ≡ length bs → nat_le (length (b ∷ bs)) most_name_bytes ≡ short → reserved_word (b ∷ bs) ≡ None → cond short (Some (k.Name (b ∷ bs))) None ≡ Some kind → IsGood kind
 named_good b bs true kind letter all short none e = let q : k.Name (b ∷ bs) ≡ kind = cc in subst IsGood q (name_is b bs letter all short none)

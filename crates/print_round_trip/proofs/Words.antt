@@ -1,5 +1,5 @@
 -- Printed names, reserved words and numbers are read back.
-use Rattle.std.proofs.Common.{◌≡◌, ℕ, suc, ◌+◌, ◌-◌, ◌*◌, ◌≤◌, ◌<◌, ◌^◌, ◌/◌, ◌%◌, Bool, true, false, cond, List, [], ◌∷◌, ◌++◌, length, drop, take, refl, sym, ap, subst, ◌∙◌, arith}
+use Rattle.std.proofs.Common.{◌≡◌, ℕ, suc, ◌+◌, ◌-◌, ◌*◌, ◌≤◌, ◌<◌, ◌^◌, ◌/◌, ◌%◌, Bool, true, false, cond, List, [], ◌∷◌, ◌++◌, length, drop, take, refl, sym, subst, ◌∙◌, arith}
 use Rattle.std.specs.Prelude.{not, ◌||◌, ◌&&◌, nat_eq, nat_le, Option, Some, None, is_none, ◌==◌, codes}
 use Rattle.std.specs.Fmt.{decimal}
 use Rattle.std.proofs.lemmas.Bool.Decides.{nat_tests}
@@ -15,6 +15,8 @@ use Rattle.imp_lex.specs.Front.{front_of, run, is_blank, is_letter, is_digit, is
 use Rattle.imp_lex.specs.Lexing.{word}
 use Rattle.imp_lex.specs.Names.{is_name}
 use Rattle.print_round_trip.proofs.Lexed.{Lexes, takes, Open, is_apart}
+use Rattle.std.proofs.Math.Seq.{take-append_seam, drop-append_seam}
+use Rattle.plain_values.proofs.Lists.{one_more}
 
 -- ---- runs
 
@@ -50,14 +52,6 @@ no_digit_on : (rest : List ℕ) → is_apart rest ≡ true → run is_digit rest
 no_digit_on [] e = refl
 no_digit_on (b ∷ rest) e = no_digit (suc (run is_digit rest)) (is_letter b) (is_digit b) e
 
-take_front : (xs rest : List ℕ) → take (length xs) (xs ++ rest) ≡ xs
-take_front [] rest = refl
-take_front (x ∷ xs) rest = ap (λ (q : List ℕ). x ∷ q) (take_front xs rest)
-
-drop_front : (xs rest : List ℕ) → drop (length xs) (xs ++ rest) ≡ rest
-drop_front [] rest = refl
-drop_front (x ∷ xs) rest = drop_front xs rest
-
 -- ---- words
 
 letter_no_blank : (b : ℕ) → is_letter b ≡ true → is_blank b ≡ false
@@ -76,8 +70,8 @@ letters b bs kind letter all is = record {
   on = λ rest more apart h.
       let count : run is_word (bs ++ rest) ≡ length bs = run_over is_word bs rest all (no_word_on rest apart) in
       let long : suc (length bs) ≡ 1 + length bs = omega arith in
-      let whole : take (1 + length bs) (b ∷ (bs ++ rest)) ≡ b ∷ bs = subst (λ (n : ℕ). take n (b ∷ (bs ++ rest)) ≡ b ∷ bs) long (take_front (b ∷ bs) rest) in
-      let left : drop (1 + length bs) (b ∷ (bs ++ rest)) ≡ rest = subst (λ (n : ℕ). drop n (b ∷ (bs ++ rest)) ≡ rest) long (drop_front (b ∷ bs) rest) in
+      let whole : take (1 + length bs) (b ∷ (bs ++ rest)) ≡ b ∷ bs = subst (λ (n : ℕ). take n (b ∷ (bs ++ rest)) ≡ b ∷ bs) long (take-append_seam (b ∷ bs) rest) in
+      let left : drop (1 + length bs) (b ∷ (bs ++ rest)) ≡ rest = subst (λ (n : ℕ). drop n (b ∷ (bs ++ rest)) ≡ rest) long (drop-append_seam (b ∷ bs) rest) in
       let blank = letter_no_blank b letter in
       let comment = letter_no_comment b (bs ++ rest) letter in
       takes (1 + length bs) kind (b ∷ (bs ++ rest)) (drop (1 + length bs) (b ∷ (bs ++ rest))) more
@@ -276,8 +270,8 @@ digits_open b bs kind digit all is = record {
   on = λ rest more apart h.
       let count : run is_digit (bs ++ rest) ≡ length bs = run_over is_digit bs rest all (no_digit_on rest apart) in
       let long : suc (length bs) ≡ 1 + length bs = omega arith in
-      let whole : take (1 + length bs) (b ∷ (bs ++ rest)) ≡ b ∷ bs = subst (λ (n : ℕ). take n (b ∷ (bs ++ rest)) ≡ b ∷ bs) long (take_front (b ∷ bs) rest) in
-      let left : drop (1 + length bs) (b ∷ (bs ++ rest)) ≡ rest = subst (λ (n : ℕ). drop n (b ∷ (bs ++ rest)) ≡ rest) long (drop_front (b ∷ bs) rest) in
+      let whole : take (1 + length bs) (b ∷ (bs ++ rest)) ≡ b ∷ bs = subst (λ (n : ℕ). take n (b ∷ (bs ++ rest)) ≡ b ∷ bs) long (take-append_seam (b ∷ bs) rest) in
+      let left : drop (1 + length bs) (b ∷ (bs ++ rest)) ≡ rest = subst (λ (n : ℕ). drop n (b ∷ (bs ++ rest)) ≡ rest) long (drop-append_seam (b ∷ bs) rest) in
       let blank = digit_no_blank b digit in
       let comment = digit_no_comment b (bs ++ rest) digit in
       let letter = digit_no_letter b digit in
@@ -298,10 +292,6 @@ value_behind so_far d (c ∷ ds) = value_behind (so_far * 10 + (c - 48)) d ds
 glyph_digit : (d : ℕ) → d < 10 → is_digit (48 + d) ≡ true
 glyph_digit d h = grind (arith, nat_tests)
 
-length_more : (bs : List ℕ) (d : ℕ) → length (bs ++ d ∷ []) ≡ suc (length bs)
-length_more [] d = refl
-length_more (b ∷ bs) d = ap suc (length_more bs d)
-
 run_more : (bs : List ℕ) (d : ℕ) → run is_digit bs ≡ length bs → is_digit d ≡ true → run is_digit (bs ++ d ∷ []) ≡ suc (length bs)
 run_more [] d all digit = rw digit refl
 run_more (b ∷ bs) d all digit =
@@ -317,7 +307,7 @@ more_digits n [] h g = absurd g
 more_digits n (b ∷ bs) h g =
     let small : n % 10 < 10 = omega arith in
     let value : value_on 0 (b ∷ bs) ≡ n / 10 = g.2 in
-    (g.0, run_more bs (48 + n % 10) g.1 (glyph_digit (n % 10) small) ∙ sym (length_more bs (48 + n % 10)), value_behind 0 (48 + n % 10) (b ∷ bs) ∙ (rw value (omega arith)))
+    (g.0, run_more bs (48 + n % 10) g.1 (glyph_digit (n % 10) small) ∙ sym (one_more bs (48 + n % 10)), value_behind 0 (48 + n % 10) (b ∷ bs) ∙ (rw value (omega arith)))
 
 pub decimal_writes : (n : ℕ) → n < 2 ^ 64 → Writes n (decimal n)
 decimal_writes n h = decimal_by_steps Writes one_digit more_digits n h
