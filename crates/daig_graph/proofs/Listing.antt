@@ -1,5 +1,5 @@
 -- The items of a list.
-use Rattle.std.proofs.Common.{◌≡◌, ℕ, zero, suc, ◌<◌, List, [], ◌∷◌, map, length, Option, Some, None, get_or, refl, sym, ap, ◌∙◌, subst, arith}
+use Rattle.std.proofs.Common.{◌≡◌, ℕ, suc, ◌<◌, List, [], ◌∷◌, map, length, Option, Some, None, get_or, refl, sym, ap, ◌∙◌, subst, arith}
 use Rattle.daig_graph.specs.declared.pool.Member.{Member}
 use Rattle.daig_graph.specs.Linked.{AreLinked, held_at}
 use Rattle.daig_graph.specs.Walks.{IsWalk, walk}
@@ -8,20 +8,16 @@ use Rattle.daig_graph.proofs.Cases.{none-some}
 use Rattle.daig_graph.proofs.Views.{held-get}
 use Rattle.daig_graph.proofs.Walking.{walk_of, walk-is, walk-length, walk-at, walk-list, walk-once, walk-all}
 use Rattle.std.proofs.lemmas.Option.{same_Some}
+use Rattle.plain_values.proofs.Lists.{get_within}
 
 module _ {T : Type 0} (slots : List (Option (Member T))) (firsts : ℕ → Option ℕ) (linked : AreLinked (λ k. get_or slots k None) firsts) (v : Held T) (v_is : v.slots ≡ map held_at slots) (list : ℕ) where
-  within : (slots : List (Option (Member T))) (k : ℕ) (m : Member T) → get_or slots k None ≡ Some m → k < length slots
-  within [] k m e = none-some e
-  within (o ∷ slots) zero m e = omega arith
-  within (o ∷ slots) (suc k) m e = omega (arith, within slots k m e)
-
   -- from the first member on
   pub own_walk : (es : List (ℕ × T)) × IsWalk (λ k. get_or slots k None) (firsts list) es
   own_walk = walk_of (λ k. get_or slots k None) linked (firsts list) (λ k e. let h = linked.first list k e in (h.0, h.1))
 
   pub walk-own : walk (length slots) (λ k. get_or slots k None) (firsts list) ≡ own_walk.0
   walk-own = walk-is (λ k. get_or slots k None) (length slots) (firsts list) own_walk.0 own_walk.1
-      (walk-length (λ k. get_or slots k None) linked (length slots) (within slots) (firsts list) own_walk.0 own_walk.1)
+      (walk-length (λ k. get_or slots k None) linked (length slots) (get_within slots) (firsts list) own_walk.0 own_walk.1)
 
   pub whole : IsWalk (λ k. get_or slots k None) (firsts list) (walk (length slots) (λ k. get_or slots k None) (firsts list))
   whole = let P : List (ℕ × T) → Type 0 = IsWalk (λ k. get_or slots k None) (firsts list) in subst P (sym walk-own) own_walk.1

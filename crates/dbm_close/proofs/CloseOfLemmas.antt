@@ -16,7 +16,7 @@ use Rattle.dbm_close.specs.Rounds.{through}
 use Rattle.dbm_close.specs.Steps.{tightened}
 use Rattle.dbm_close.specs.Walks.{AreLeastWeights, Below, HasNegativeWalk, HasNoNegativeWalk}
 use Rattle.dbm_core.proofs.HalfLemmas.{entry-coherent}
-use Rattle.dbm_core.proofs.NodeLemmas.{flip-below}
+use Rattle.dbm_core.proofs.NodeLemmas.{flip_below}
 use Rattle.dbm_core.proofs.TableLemmas.{tables-have_entries}
 use Rattle.dbm_core.proofs.WeightLemmas.{AtMost-both, AtMost-refl, AtMost-trans, add_weight-mono, least-cases, least-left}
 use Rattle.dbm_core.specs.Half.{HalfMatrix, HasEntries, IsMatrix, entry, nodes}
@@ -115,7 +115,7 @@ walk-one w b i j v u p q = AtMost-both v u
 
 walks-coherent : (w s : ℕ → ℕ → Option ℤ) (h : ℕ) → IsCoherent w (2 * h) → AreLeastWalks w (2 * h) (2 * h) s → IsCoherent s (2 * h)
 walks-coherent w s h c all i j hi hj = walk-one w (2 * h) i j (s i j) (s (flip j) (flip i)) (all i j hi hj)
-    (least-mirrored w h h c (omega arith) i j hi hj (s (flip j) (flip i)) (all (flip j) (flip i) (flip-below j h hj) (flip-below i h hi)))
+    (least-mirrored w h h c (omega arith) i j hi hj (s (flip j) (flip i)) (all (flip j) (flip i) (flip_below j h hj) (flip_below i h hi)))
 
 closed-coherent : (s : ℕ → ℕ → Option ℤ) (h : ℕ) → IsCoherent s (2 * h) → IsCoherent (closed_entry s) (2 * h)
 closed-coherent s h c = cut-coherent (strong s) (2 * h) (strengthened-coherent (tightened s) h (tightened-coherent s (2 * h) c))

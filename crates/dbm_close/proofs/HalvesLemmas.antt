@@ -9,7 +9,7 @@ use Rattle.dbm_close.specs.Close.{closed_entry, IsContradictory, IsNotContradict
 use Rattle.dbm_close.specs.Halves.{HasHalves, HasNegativeHalves, HasNoNegativeHalves, halved_bound}
 use Rattle.dbm_close.specs.Steps.{cut, even_down, half, tightened}
 use Rattle.dbm_core.proofs.HalfLemmas.{HasEntries-from_kept, entry-coherent}
-use Rattle.dbm_core.proofs.NodeLemmas.{flip-below, flip-flip}
+use Rattle.dbm_core.proofs.NodeLemmas.{flip_below, flip-flip}
 use Rattle.dbm_core.proofs.WeightLemmas.{AtMost-both, AtMost-refl, AtMost-trans, add_weight-mono, least-cases, least-greatest, least-left, least-right}
 use Rattle.dbm_core.specs.Half.{HalfMatrix, HasEntries, IsMatrix, entry, nodes, row_width}
 use Rattle.dbm_core.specs.Nodes.{flip, is_single}
@@ -162,12 +162,12 @@ fused-consistent s h z i hi =
 pub halved_bound-strong : (d : ℕ → ℕ → Option ℤ) (h : ℕ) (v : List (Option ℤ)) → HasHalves (2 * h) d v → (i j : ℕ) → i < 2 * h → j < 2 * h → halved_bound v i j (d i j) ≡ strong d i j
 halved_bound-strong d h v p i j hi hj =
     ap (λ x. least (d i j) (add_weight x (get_or v (flip j) None))) (p i hi)
-    ∙ ap (λ x. least (d i j) (add_weight (half (d i (flip i))) x)) (p (flip j) (flip-below j h hj) ∙ ap (λ k. half (d (flip j) k)) (flip-flip j))
+    ∙ ap (λ x. least (d i j) (add_weight (half (d i (flip i))) x)) (p (flip j) (flip_below j h hj) ∙ ap (λ k. half (d (flip j) k)) (flip-flip j))
     ∙ sym (strong-fused d i j)
 
 pub pair-halves : (d : ℕ → ℕ → Option ℤ) (h : ℕ) (v : List (Option ℤ)) → HasHalves (2 * h) d v → (i : ℕ) → i < 2 * h → add_weight (get_or v i None) (get_or v (flip i) None) ≡ add_weight (half (d i (flip i))) (half (d (flip i) i))
 pair-halves d h v p i hi = ap (λ x. add_weight x (get_or v (flip i) None)) (p i hi)
-    ∙ ap (λ x. add_weight (half (d i (flip i))) x) (p (flip i) (flip-below i h hi) ∙ ap (λ k. half (d (flip i) k)) (flip-flip i))
+    ∙ ap (λ x. add_weight (half (d i (flip i))) x) (p (flip i) (flip_below i h hi) ∙ ap (λ k. half (d (flip i) k)) (flip-flip i))
 
 pub halves-contradictory : (d : ℕ → ℕ → Option ℤ) (h : ℕ) (v : List (Option ℤ)) → HasHalves (2 * h) d v → HasNegativeHalves (2 * h) v → IsContradictory (2 * h) (tightened d)
 halves-contradictory d h v p (i, (hi, z)) = fused-contradictory d h i hi (subst (λ x. AtMost x (Some (negsuc 0))) (pair-halves d h v p i hi) z)

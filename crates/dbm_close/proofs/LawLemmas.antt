@@ -13,7 +13,7 @@ use Rattle.dbm_close.specs.Close.{HasEmptyRange, IsCloseOf, IsContradictory, IsN
 use Rattle.dbm_close.specs.Laws.{AreInSlots, HalvesAreExact, IsLimitedAnswer, IsMetBy, KeepsKinds, KeepsMeaning}
 use Rattle.dbm_close.specs.Steps.{cut, even_down, extreme_high, extreme_low, half, range_high, range_low, strengthened, tightened}
 use Rattle.dbm_close.specs.Walks.{Below, IsWalk, walk_end, walk_weight, AreLeastWeights, HasNegativeWalk, HasNoNegativeWalk}
-use Rattle.dbm_core.proofs.NodeLemmas.{flip-below, flip-flip, parity}
+use Rattle.dbm_core.proofs.NodeLemmas.{flip_below, flip-flip, parity}
 use Rattle.dbm_core.proofs.LimitLemmas.{IsLimited-entries}
 use Rattle.dbm_core.proofs.SameLemmas.{HasEntries-one}
 use Rattle.dbm_core.proofs.ValuationLemmas.{Meets-from_entries, node-negative, node-plain, node_value-even, node_value-flip, node_value-odd, zero_apart}
@@ -121,7 +121,7 @@ strong-sound t h x m i j hi hj =
     (half-bound (node_value x j -ℤ node_value x i) (add_weight (t i (flip i)) (t (flip j) j))
     (subst (λ v. AtMost (Some v) (add_weight (t i (flip i)) (t (flip j) j))) d
     (add_weight-mono (Some (node_value x (flip i) -ℤ node_value x i)) (t i (flip i)) (Some (node_value x j -ℤ node_value x (flip j))) (t (flip j) j)
-    (m i (flip i) hi (flip-below i h hi)) (m (flip j) j (flip-below j h hj) hj))))
+    (m i (flip i) hi (flip_below i h hi)) (m (flip j) j (flip_below j h hj) hj))))
   where
     d : (node_value x (flip i) -ℤ node_value x i) +ℤ (node_value x j -ℤ node_value x (flip j)) ≡ (node_value x j -ℤ node_value x i) +ℤ (node_value x j -ℤ node_value x i)
     d = let f : node_value x (flip i) ≡ neg_ℤ (node_value x i) = node_value-flip x i in let g : node_value x (flip j) ≡ neg_ℤ (node_value x j) = node_value-flip x j in omega (arith, ints)
@@ -131,7 +131,7 @@ contradictory-sound t h x m (i, (l, p)) =
     let q : AtMost (Some ((node_value x (flip i) -ℤ node_value x i) +ℤ (node_value x i -ℤ node_value x (flip i)))) (Some (negsuc 0)) =
     AtMost-trans (Some ((node_value x (flip i) -ℤ node_value x i) +ℤ (node_value x i -ℤ node_value x (flip i)))) (add_weight (t i (flip i)) (t (flip i) i)) (Some (negsuc 0))
     (add_weight-mono (Some (node_value x (flip i) -ℤ node_value x i)) (t i (flip i)) (Some (node_value x i -ℤ node_value x (flip i))) (t (flip i) i)
-    (m i (flip i) l (flip-below i h l)) (m (flip i) i (flip-below i h l) l)) p in
+    (m i (flip i) l (flip_below i h l)) (m (flip i) i (flip_below i h l) l)) p in
     omega (arith, ints, q)
 
 extremes : (array : Bool) (y : ℤ) → extreme_low array ≤ℤ y → y ≤ℤ extreme_high array → (neg_ℤ (pos (2 ^ 63)) ≤ℤ y) × (y ≤ℤ pos (2 ^ 63))

@@ -9,7 +9,7 @@ use Rattle.dbm_close.proofs.WalkLemmas.{IsWalk-path, walk_weight-path, path_weig
 use Rattle.dbm_close.specs.Rounds.{HasLeastWeights, IsDiagonalNegative, IsSlotNegative, IsSlotSound, round_entry, rounded, through}
 use Rattle.dbm_close.specs.Walks.{Below, AreLeastWeights, HasNegativeWalk, HasNoNegativeWalk}
 use Rattle.dbm_core.proofs.HalfLemmas.{entry-coherent, flip-kept}
-use Rattle.dbm_core.proofs.NodeLemmas.{flip-below, flip-odd, parity}
+use Rattle.dbm_core.proofs.NodeLemmas.{flip_below, flip-odd, parity}
 use Rattle.dbm_core.proofs.WeightLemmas.{AtMost-both, AtMost-trans, least-cases}
 use Rattle.dbm_core.specs.Half.{HalfMatrix, IsMatrix, entry, nodes, row_width}
 use Rattle.dbm_core.specs.Limits.{IsZeroAtMost, AreWithin, IsWithin}
@@ -53,7 +53,7 @@ pub round_entry-least : (w d e : ℕ → ℕ → Option ℤ) (h q : ℕ) → q <
 round_entry-least w d e h q l cw ce all s kept i j hi hj = elim (cases_lt j (row_width i)) [
   | inl p ↦ at_kept i j hi hj p
   | inr p ↦ rw (ce i j hi hj) (least-mirrored w h (q + 1) cw (omega arith) i j hi hj (e (flip j) (flip i))
-      (at_kept (flip j) (flip i) (flip-below j h hj) (flip-below i h hi) (flip-kept i j p)))
+      (at_kept (flip j) (flip i) (flip_below j h hj) (flip_below i h hi) (flip-kept i j p)))
 ]
   where
     r : AreLeastWalks w (2 * h) (2 * (q + 1)) (rounded d q)
@@ -64,7 +64,7 @@ round_entry-least w d e h q l cw ce all s kept i j hi hj = elim (cases_lt j (row
       | inl p ↦ let k : 2 * (i / 2) ≡ i = omega arith in
           rw k (r i i hi hi)
       | inr p ↦ let k : 2 * (i / 2) ≡ flip i = omega (arith, flip-odd i p) in
-          rw k (least-mirrored w h (q + 1) cw (omega arith) i i hi hi (rounded d q (flip i) (flip i)) (r (flip i) (flip i) (flip-below i h hi) (flip-below i h hi)))
+          rw k (least-mirrored w h (q + 1) cw (omega arith) i i hi hi (rounded d q (flip i) (flip i)) (r (flip i) (flip i) (flip_below i h hi) (flip_below i h hi)))
     ]
 
     at_kept : (i j : ℕ) → i < 2 * h → j < 2 * h → j < row_width i → IsLeastWalk w (2 * (q + 1)) i j (e i j)
@@ -120,7 +120,7 @@ pub round_entry-within : (d e : ℕ → ℕ → Option ℤ) (h q b : ℕ) → q 
     ((i j : ℕ) → i < 2 * h → j < row_width i → e i j ≡ round_entry d q i j) → AreWithin (2 * h) (2 * (2 * b)) e
 round_entry-within d e h q b l ce p kept i j hi hj = elim (cases_lt j (row_width i)) [
   | inl w ↦ at_kept i j hi hj w
-  | inr w ↦ rw (ce i j hi hj) (at_kept (flip j) (flip i) (flip-below j h hj) (flip-below i h hi) (flip-kept i j w))
+  | inr w ↦ rw (ce i j hi hj) (at_kept (flip j) (flip i) (flip_below j h hj) (flip_below i h hi) (flip-kept i j w))
 ]
   where
     at_kept : (i j : ℕ) → i < 2 * h → j < 2 * h → j < row_width i → IsWithin (2 * (2 * b)) (e i j)

@@ -8,7 +8,7 @@ use Rattle.dbm_close.proofs.StrongLemmas.{strengthened-coherent, tightened-coher
 use Rattle.dbm_close.specs.Close.{HasEmptyRange, HasNoEmptyRange, IsContradictory, IsNotContradictory, IsNotTooLow, IsTooLow, closed_entry, slot_high, slot_low, strong}
 use Rattle.dbm_close.specs.Halves.{HasHalves, HasLowPair, HasNoLowPair, halved_bound}
 use Rattle.dbm_close.specs.Steps.{cut, half, range_high, range_low, tightened}
-use Rattle.dbm_core.proofs.NodeLemmas.{flip-below, flip-even, flip-flip, flip-half, parity}
+use Rattle.dbm_core.proofs.NodeLemmas.{flip_below, flip-even, flip-flip, flip-half, parity}
 use Rattle.dbm_core.proofs.SlotLemmas.{of_slot}
 use Rattle.dbm_core.proofs.WeightLemmas.{add_weight-comm}
 use Rattle.dbm_core.specs.Half.{HalfMatrix, HasEntries, IsMatrix, entry, nodes, row_width}
@@ -82,7 +82,7 @@ slot-in_range kinds f r q c h l low rest i j hi hj = elim (of_slot q i j) [
     by : IsOfSlot q i j → AtMost (Some (neg_ℤ (pos (2 ^ 64)))) (strong f i j)
     by (inr e) = at_node i j hi (node-of j q e)
     by (inl e) = subst (λ x. AtMost (Some (neg_ℤ (pos (2 ^ 64)))) x) (sym (coherent i j hi hj))
-        (at_node (flip j) (flip i) (flip-below j (length kinds) hj) (node-of (flip i) q (flip-half i ∙ e)))
+        (at_node (flip j) (flip i) (flip_below j (length kinds) hj) (node-of (flip i) q (flip-half i ∙ e)))
 
 -- ---- step 6
 

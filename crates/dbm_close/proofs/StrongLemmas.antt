@@ -4,7 +4,7 @@ use Rattle.std.proofs.lemmas.Int.{ints}
 use Rattle.dbm_close.proofs.RoundLemmas.{AreWithin-more, IsWithin-add, IsWithin-more}
 use Rattle.dbm_close.specs.Close.{HasEmptyRange, HasNoEmptyRange, IsContradictory, IsTooLow, closed_entry, slot_high, slot_low, strong}
 use Rattle.dbm_close.specs.Steps.{cut, even_down, half, range_high, range_low, strengthened, tightened}
-use Rattle.dbm_core.proofs.NodeLemmas.{flip-below, flip-flip, single-flip}
+use Rattle.dbm_core.proofs.NodeLemmas.{flip_below, flip-flip, single-flip}
 use Rattle.dbm_core.proofs.WeightLemmas.{add_weight-comm, least-cases}
 use Rattle.dbm_core.specs.Half.{HalfMatrix, HasEntries, entry, nodes}
 use Rattle.dbm_core.specs.Limits.{AreWithin, IsWithin}
@@ -54,7 +54,7 @@ strengthened-within h b t p i j hi hj =
     least-cases (IsWithin (2 * b)) (t i j) (half (add_weight (t i (flip i)) (t (flip j) j)))
     (IsWithin-more b (2 * b) (t i j) (omega arith) (p i j hi hj))
     (half-within (2 * b) (add_weight (t i (flip i)) (t (flip j) j))
-    (IsWithin-add b (t i (flip i)) (t (flip j) j) (p i (flip i) hi (flip-below i h hi)) (p (flip j) j (flip-below j h hj) hj)))
+    (IsWithin-add b (t i (flip i)) (t (flip j) j) (p i (flip i) hi (flip_below i h hi)) (p (flip j) j (flip_below j h hj) hj)))
 
 abbrev pub Agree : ℕ → (ℕ → ℕ → Option ℤ) → (ℕ → ℕ → Option ℤ) → Type 0
 Agree n f g = (i j : ℕ) → i < n → j < n → f i j ≡ g i j
@@ -62,8 +62,8 @@ Agree n f g = (i j : ℕ) → i < n → j < n → f i j ≡ g i j
 pub strengthened-agree : (h : ℕ) (f g : ℕ → ℕ → Option ℤ) → Agree (2 * h) f g → Agree (2 * h) (strengthened f) (strengthened g)
 strengthened-agree h f g a i j hi hj =
     ap (λ x. least x (half (add_weight (f i (flip i)) (f (flip j) j)))) (a i j hi hj)
-    ∙ ap (λ x. least (g i j) (half (add_weight x (f (flip j) j)))) (a i (flip i) hi (flip-below i h hi))
-    ∙ ap (λ x. least (g i j) (half (add_weight (g i (flip i)) x))) (a (flip j) j (flip-below j h hj) hj)
+    ∙ ap (λ x. least (g i j) (half (add_weight x (f (flip j) j)))) (a i (flip i) hi (flip_below i h hi))
+    ∙ ap (λ x. least (g i j) (half (add_weight (g i (flip i)) x))) (a (flip j) j (flip_below j h hj) hj)
 
 pub within-agree : (n b : ℕ) (f g : ℕ → ℕ → Option ℤ) → Agree n f g → AreWithin n b g → AreWithin n b f
 within-agree n b f g a h i j hi hj = rw (a i j hi hj) (h i j hi hj)
@@ -77,8 +77,8 @@ contradictory-agree h f g a (i, (l, p)) = (
   i,
   (
     l,
-    subst (λ x. AtMost (add_weight x (g (flip i) i)) (Some (negsuc 0))) (a i (flip i) l (flip-below i h l))
-        (subst (λ x. AtMost (add_weight (f i (flip i)) x) (Some (negsuc 0))) (a (flip i) i (flip-below i h l) l) p),
+    subst (λ x. AtMost (add_weight x (g (flip i) i)) (Some (negsuc 0))) (a i (flip i) l (flip_below i h l))
+        (subst (λ x. AtMost (add_weight (f i (flip i)) x) (Some (negsuc 0))) (a (flip i) i (flip_below i h l) l) p),
   ),
 )
 

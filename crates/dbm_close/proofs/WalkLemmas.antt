@@ -3,7 +3,7 @@ use Rattle.std.specs.Prelude.{◌+ℤ◌, None, ◌≡◌, ℕ, ◌<◌, ◌≤�
 use Rattle.std.proofs.Common.{arith, ap, sym, ◌∙◌, inl, inr}
 use Rattle.std.proofs.lemmas.Bool.{cases_lt}
 use Rattle.dbm_close.specs.Rounds.{through}
-use Rattle.dbm_core.proofs.NodeLemmas.{flip-below, flip-flip}
+use Rattle.dbm_core.proofs.NodeLemmas.{flip_below, flip-flip}
 use Rattle.dbm_core.proofs.WeightLemmas.{AtMost-refl, AtMost-trans, add_weight-assoc, add_weight-comm, add_weight-from_zero, add_weight-mono, least-cases, least-left, least-right}
 use Rattle.dbm_core.specs.Nodes.{IsCoherent, flip}
 use Rattle.dbm_close.specs.Walks.{Below, walk_end, walk_weight, IsWalk}
@@ -119,7 +119,7 @@ mirrored (x ∷ xs) = mirrored xs ++ (flip x ∷ [])
 
 pub Below-mirrored : (h : ℕ) (xs : List ℕ) → Below (2 * h) xs → Below (2 * h) (mirrored xs)
 Below-mirrored h [] p = tt
-Below-mirrored h (x ∷ xs) p = Below-append (2 * h) (mirrored xs) (flip x ∷ []) (Below-mirrored h xs p.1) (flip-below x h p.0, tt)
+Below-mirrored h (x ∷ xs) p = Below-append (2 * h) (mirrored xs) (flip x ∷ []) (Below-mirrored h xs p.1) (flip_below x h p.0, tt)
 
 pub path_weight-mirrored : (w : ℕ → ℕ → Option ℤ) (h : ℕ) → IsCoherent w (2 * h) → (i : ℕ) (xs : List ℕ) (j : ℕ) → i < 2 * h → Below (2 * h) xs → j < 2 * h →
     path_weight w i xs j ≡ path_weight w (flip j) (mirrored xs) (flip i)
@@ -138,7 +138,7 @@ least-mirrored w h q c l i j hi hj v p = record {
     mirrored p.reached.0,
     Below-mirrored q p.reached.0 p.reached.1,
     let e : path_weight w (flip j) p.reached.0 (flip i) ≡ path_weight w (flip (flip i)) (mirrored p.reached.0) (flip (flip j)) =
-        path_weight-mirrored w h c (flip j) p.reached.0 (flip i) (flip-below j h hj) (Below-more (2 * q) (2 * h) p.reached.0 (omega arith) p.reached.1) (flip-below i h hi) in
+        path_weight-mirrored w h c (flip j) p.reached.0 (flip i) (flip_below j h hj) (Below-more (2 * q) (2 * h) p.reached.0 (omega arith) p.reached.1) (flip_below i h hi) in
         let f : path_weight w (flip j) p.reached.0 (flip i) ≡ path_weight w i (mirrored p.reached.0) j =
         e ∙ ap (λ x. path_weight w x (mirrored p.reached.0) (flip (flip j))) (flip-flip i) ∙ ap (λ x. path_weight w i (mirrored p.reached.0) x) (flip-flip j) in
         rw (← f) p.reached.2,

@@ -3,7 +3,7 @@ use Rattle.std.proofs.Common.{arith, ap, sym, ◌∙◌, inl, inr, get_or, suc, 
 use Rattle.std.proofs.lemmas.Bool.{cases_lt, cases_eq, lt-ltb, le-ltb}
 use Rattle.std.proofs.lemmas.Bool.Decides.{nat_tests}
 use Rattle.std.proofs.lemmas.List.{get_or_append_left, get_or-append_right, get_or_past}
-use Rattle.dbm_core.proofs.NodeLemmas.{flip-below, flip-even, flip-flip, flip-odd, parity}
+use Rattle.dbm_core.proofs.NodeLemmas.{flip_below, flip-even, flip-flip, flip-odd, parity}
 use Rattle.dbm_core.specs.Half.{HalfMatrix, HasEntries, IsMatrix, entry, nodes, row_start, row_width}
 use Rattle.dbm_core.specs.Nodes.{IsCoherent, flip}
 
@@ -109,7 +109,7 @@ HasEntries-from_kept kinds f m t e c h = record {
     | inl p ↦ h i j hi p
     | inr p ↦ entry-other m i j p
         ∙ sym (entry-kept m (flip j) (flip i) (flip-kept i j p))
-        ∙ h (flip j) (flip i) (flip-below j (length kinds) hj) (flip-kept i j p)
+        ∙ h (flip j) (flip i) (flip_below j (length kinds) hj) (flip-kept i j p)
         ∙ sym (c i j hi hj)
   ];
 }

@@ -7,7 +7,7 @@ use Rattle.dbm_core.proofs.LowerLemmas.{lowered-below}
 use Rattle.dbm_core.proofs.WeightLemmas.{AtMost-refl, AtMost-trans, least-cases}
 use Rattle.dbm_core.specs.Half.{HalfMatrix, IsMatrix, HasEntries, entry, nodes, row_width}
 use Rattle.dbm_core.proofs.HalfLemmas.{entry-coherent, flip-kept}
-use Rattle.dbm_core.proofs.NodeLemmas.{flip-below}
+use Rattle.dbm_core.proofs.NodeLemmas.{flip_below}
 use Rattle.dbm_core.specs.Limits.{IsLimited, AreAtMost, AreWithin, HasZeroDiagonal, IsWithin, IsZeroAtMost}
 use Rattle.dbm_core.proofs.MarkLemmas.{by_order, next_mark-above}
 use Rattle.dbm_core.specs.Nodes.{is_single, flip}
@@ -127,7 +127,7 @@ IsLimited-of kinds b m e h = (
 pub AreWithin-from_kept : (m : HalfMatrix) (b : ℕ) → IsMatrix m → ((i j : ℕ) → i < nodes m → j < row_width i → IsWithin b (entry m i j)) → AreWithin (nodes m) b (entry m)
 AreWithin-from_kept m b t h i j hi hj = elim (cases_lt j (row_width i)) [
   | inl p ↦ h i j hi p
-  | inr p ↦ subst (IsWithin b) (sym (entry-coherent m t i j hi hj)) (h (flip j) (flip i) (flip-below j (length m.kinds) hj) (flip-kept i j p))
+  | inr p ↦ subst (IsWithin b) (sym (entry-coherent m t i j hi hj)) (h (flip j) (flip i) (flip_below j (length m.kinds) hj) (flip-kept i j p))
 ]
 
 -- a widening keeps the limits, where the entries at the kept pairs do

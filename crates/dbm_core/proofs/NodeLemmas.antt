@@ -28,8 +28,8 @@ flip-flip i = elim (parity i) [
   | inr e ↦ rw (flip-odd i e) (let q : (i - 1) % 2 ≡ 0 = omega arith in rw (flip-even (i - 1) q) (omega arith))
 ]
 
-pub flip-below : (i h : ℕ) → i < 2 * h → flip i < 2 * h
-flip-below i h l = elim (parity i) [
+pub flip_below : (i h : ℕ) → i < 2 * h → flip i < 2 * h
+flip_below i h l = elim (parity i) [
   | inl e ↦ rw (flip-even i e) (omega arith)
   | inr e ↦ rw (flip-odd i e) (omega arith)
 ]

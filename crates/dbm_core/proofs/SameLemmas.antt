@@ -4,7 +4,7 @@ use Rattle.std.proofs.Common.{arith, ap, sym, ◌∙◌, zero, suc, inl, inr, ge
 use Rattle.std.proofs.lemmas.Bool.{cases_lt}
 use Rattle.std.proofs.lemmas.List.{same_lists, get_or_default}
 use Rattle.dbm_core.proofs.HalfLemmas.{entry-coherent, entry-kept, flip-kept, place-within, row_start-double}
-use Rattle.dbm_core.proofs.NodeLemmas.{flip-below}
+use Rattle.dbm_core.proofs.NodeLemmas.{flip_below}
 use Rattle.dbm_core.specs.Half.{HalfMatrix, HasEntries, IsMatrix, entry, nodes, row_start, row_width}
 use Rattle.dbm_core.specs.Nodes.{flip}
 
@@ -21,7 +21,7 @@ pair_at (suc r) p l = elim (cases_lt p (row_start r)) [
 pub places-hold : (P : Option ℤ → Type 0) (m : HalfMatrix) → IsMatrix m → ((p : ℕ) → p < length m.kept → P (get_or m.kept p None)) → (i j : ℕ) → i < nodes m → j < nodes m → P (entry m i j)
 places-hold P m t h i j hi hj = elim (cases_lt j (row_width i)) [
   | inl w ↦ at i j hi w
-  | inr w ↦ subst P (sym (entry-coherent m t i j hi hj)) (at (flip j) (flip i) (flip-below j (length m.kinds) hj) (flip-kept i j w))
+  | inr w ↦ subst P (sym (entry-coherent m t i j hi hj)) (at (flip j) (flip i) (flip_below j (length m.kinds) hj) (flip-kept i j w))
 ]
   where
     at : (i j : ℕ) → i < nodes m → j < row_width i → P (entry m i j)

@@ -4,7 +4,7 @@ use Rattle.std.proofs.Common.{arith, ap, sym, ◌∙◌, subst, inl, inr}
 use Rattle.std.proofs.lemmas.Bool.{cases_eq, or_parts}
 use Rattle.std.proofs.lemmas.Int.{ints}
 use Rattle.dbm_close.specs.Close.{strong}
-use Rattle.dbm_core.proofs.NodeLemmas.{flip-below}
+use Rattle.dbm_core.proofs.NodeLemmas.{flip_below}
 use Rattle.dbm_core.proofs.WeightLemmas.{AtMost-refl, AtMost-trans}
 use Rattle.dbm_close.proofs.RoundLemmas.{IsWithin-add, IsWithin-more}
 use Rattle.dbm_core.specs.Half.{HalfMatrix, HasEntries, entry, nodes}
@@ -90,7 +90,7 @@ equation-weights d h q y c hq hy ye yo s = stood-weights w d h o p strong (stood
     h1 = omega arith
 
     fy : flip y < 2 * h
-    fy = flip-below y h hy
+    fy = flip_below y h hy
 
     less : AreAtMost (2 * h) w first
     less = lowered-below first (2 * q) y (neg_ℤ c) (2 * h)
@@ -100,7 +100,7 @@ equation-weights d h q y c hq hy ye yo s = stood-weights w d h o p strong (stood
 
     from_odd : AtMost (w (2 * q + 1) (flip y)) (Some c)
     from_odd = subst (λ k. AtMost (w k (flip y)) (Some c)) (even-flip q)
-        (AtMost-trans (w (flip (2 * q)) (flip y)) (first (flip (2 * q)) (flip y)) (Some c) (less (flip (2 * q)) (flip y) (flip-below (2 * q) h h0) fy) (lowered-second f y (2 * q) c))
+        (AtMost-trans (w (flip (2 * q)) (flip y)) (first (flip (2 * q)) (flip y)) (Some c) (less (flip (2 * q)) (flip y) (flip_below (2 * q) h h0) fy) (lowered-second f y (2 * q) c))
 
     from_even : AtMost (w (2 * q) y) (Some (neg_ℤ c))
     from_even = lowered-here first (2 * q) y (neg_ℤ c)

@@ -11,7 +11,7 @@ use Rattle.dbm_close.specs.declared.closed.Closed.TheVariants.{Matrix}
 use Rattle.dbm_close.specs.Steps.{cut, even_down, half, tightened}
 use Rattle.dbm_close.specs.Walks.{AreLeastWeights, HasNoNegativeWalk, IsWalk, walk_weight}
 use Rattle.dbm_core.proofs.HalfLemmas.{entry-coherent}
-use Rattle.dbm_core.proofs.NodeLemmas.{flip-below, flip-flip}
+use Rattle.dbm_core.proofs.NodeLemmas.{flip_below, flip-flip}
 use Rattle.dbm_core.proofs.WeightLemmas.{AtMost-both, AtMost-refl, AtMost-trans, add_weight-mono, least-greatest}
 use Rattle.dbm_core.specs.Half.{HalfMatrix, IsMatrix, entry, nodes}
 use Rattle.dbm_core.specs.Limits.{AreAtMost, IsZeroAtMost}
@@ -66,10 +66,10 @@ strong-above u s k h l i j hi hj = least-greatest (u i j) (tightened s i j) (hal
     (add_weight-mono (u i (flip i)) (tightened s i (flip i)) (u (flip j) j) (tightened s (flip j) j) (tightened-above u s (2 * k) h l i hi fi) (tightened-behind u s (2 * k) h l j hj fj))))
   where
     fi : flip i < 2 * k
-    fi = flip-below i k hi
+    fi = flip_below i k hi
 
     fj : flip j < 2 * k
-    fj = flip-below j k hj
+    fj = flip_below j k hj
 
 -- a closed matrix is its own closing
 pub closed-close : (m : HalfMatrix) → IsClosed m → IsCloseOf m (Matrix m)
@@ -79,10 +79,10 @@ closed-close m (u, h) = (
     sound = none_negative;
     weights = p.weights;
     consistent = λ i hi. AtMost-trans (Some (pos 0)) (add_weight (u i (flip i)) (u (flip i) i)) (add_weight (tightened s i (flip i)) (tightened s (flip i) i))
-        (subst (λ v. AtMost v (add_weight (u i (flip i)) (u (flip i) i))) (h.strong.diagonal i hi) (h.strong.triangles i (flip i) i hi (flip-below i (length m.kinds) hi) hi))
+        (subst (λ v. AtMost v (add_weight (u i (flip i)) (u (flip i) i))) (h.strong.diagonal i hi) (h.strong.triangles i (flip i) i hi (flip_below i (length m.kinds) hi) hi))
         (add_weight-mono (u i (flip i)) (tightened s i (flip i)) (u (flip i) i) (tightened s (flip i) i)
-        (tightened-above u s (nodes m) h.strong above i hi (flip-below i (length m.kinds) hi))
-        (tightened-behind u s (nodes m) h.strong above i hi (flip-below i (length m.kinds) hi)));
+        (tightened-above u s (nodes m) h.strong above i hi (flip_below i (length m.kinds) hi))
+        (tightened-behind u s (nodes m) h.strong above i hi (flip_below i (length m.kinds) hi)));
     in_range = λ i j hi hj. AtMost-trans (Some (neg_ℤ (pos (2 ^ 64)))) (u i j) (strong s i j) (h.in_range i j hi hj) (strong-above u s (length m.kinds) h.strong above i j hi hj);
     ranges = no_empty_range-agree m.kinds (entry m) (closed_entry s) same h.ranges;
     entries = record { matrix = h.matrix; same_kinds = refl; entries = same };

@@ -6,7 +6,7 @@ use Rattle.dbm_close.proofs.RoundLemmas.{IsWithin-add, IsWithin-more}
 use Rattle.dbm_core.proofs.HalfLemmas.{HasEntries-from_kept}
 use Rattle.dbm_core.proofs.LimitLemmas.{AreWithin-from_kept}
 use Rattle.dbm_core.proofs.LowerLemmas.{lowered-coherent}
-use Rattle.dbm_core.proofs.NodeLemmas.{flip-below}
+use Rattle.dbm_core.proofs.NodeLemmas.{flip_below}
 use Rattle.dbm_core.proofs.WeightLemmas.{least-cases}
 use Rattle.dbm_core.specs.Half.{HalfMatrix, HasEntries, IsMatrix, entry, nodes, row_width}
 use Rattle.dbm_core.specs.Limits.{AreWithin, IsWithin}
@@ -62,7 +62,7 @@ pass-weights s t m a b c w is it e ha hb h kept y z cw p = same-sound (lowered w
 
 pub inserted-within : (h b : ℕ) (d : ℕ → ℕ → Option ℤ) (x y : ℕ) (c : ℤ) → x < 2 * h → y < 2 * h → AreWithin (2 * h) b d → IsWithin b (Some c) → AreWithin (2 * h) (16 * b) (inserted d x y c)
 inserted-within h b d x y c hx hy p w = subst (λ k. AreWithin (2 * h) k (inserted d x y c)) e
-    (edged-within (2 * h) (2 * (2 * b)) (edged d x y c) (flip y) (flip x) c (flip-below y h hy) (flip-below x h hx) (edged-within (2 * h) b d x y c hx hy p w) (IsWithin-more b (2 * (2 * b)) (Some c) (omega arith) w))
+    (edged-within (2 * h) (2 * (2 * b)) (edged d x y c) (flip y) (flip x) c (flip_below y h hy) (flip_below x h hx) (edged-within (2 * h) b d x y c hx hy p w) (IsWithin-more b (2 * (2 * b)) (Some c) (omega arith) w))
   where
     e : 2 * (2 * (2 * (2 * b))) ≡ 16 * b
     e = omega arith

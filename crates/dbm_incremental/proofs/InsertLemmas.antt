@@ -3,7 +3,7 @@ use Rattle.std.specs.Prelude.{◌≡◌, ℕ, ◌<◌, ◌*◌, ℤ, pos, negsuc
 use Rattle.std.proofs.Common.{ap, sym, subst, inl, inr}
 use Rattle.dbm_close.specs.Walks.{AreLeastWeights, Below, HasNegativeWalk, IsWalk, walk_end, walk_weight}
 use Rattle.dbm_core.proofs.LowerLemmas.{either_first, either_none, either_second, hits, lowered-below}
-use Rattle.dbm_core.proofs.NodeLemmas.{flip-below, flip-flip}
+use Rattle.dbm_core.proofs.NodeLemmas.{flip_below, flip-flip}
 use Rattle.dbm_core.proofs.WeightLemmas.{AtMost-both, AtMost-refl, AtMost-trans, add_weight-comm, least-greatest, least-right}
 use Rattle.dbm_core.specs.Limits.{AreAtMost, HasZeroDiagonal, IsZeroAtMost}
 use Rattle.dbm_core.specs.Nodes.{IsCoherent, flip}
@@ -50,8 +50,8 @@ negative-first w s n a b c ha hb h z = reached-negative (lowered w a b c) n a (a
 -- the edge and its mirror image close one
 pub negative-second : (w s : ℕ → ℕ → Option ℤ) (h a b : ℕ) (c : ℤ) → a < 2 * h → b < 2 * h → AreLeastWeights w (2 * h) s → AtMost (add_weight (Some c) (edged s a b c (flip a) (flip b))) (Some (negsuc 0)) → HasNegativeWalk (lowered w a b c) (2 * h)
 negative-second w s h a b c ha hb p z =
-    let fa : flip a < 2 * h = flip-below a h ha in
-    let fb : flip b < 2 * h = flip-below b h hb in
+    let fa : flip a < 2 * h = flip_below a h ha in
+    let fb : flip b < 2 * h = flip_below b h hb in
     reached-negative (lowered w a b c) (2 * h) (flip b) (add_weight (Some c) (edged s a b c (flip a) (flip b))) fb
     (reached-sum (lowered w a b c) (2 * h) (flip b) (flip a) (flip b) (Some c) (edged s a b c (flip a) (flip b))
     (reached-edge (lowered w a b c) (2 * h) (flip b) (flip a) (Some c) fa (lowered-second w a b c))
@@ -69,10 +69,10 @@ inserted-weights w s h a b c ha hb p y z = record {
 }
   where
     fa : flip a < 2 * h
-    fa = flip-below a h ha
+    fa = flip_below a h ha
 
     fb : flip b < 2 * h
-    fb = flip-below b h hb
+    fb = flip_below b h hb
 
     first : IsTriangular (2 * h) s
     first = triangles-from_weights w s (2 * h) p.weights
@@ -107,7 +107,7 @@ mirror-walk w h c i j [] hi hj b e = λ x f. ([], record { inside = tt; ends = a
 mirror-walk w h c i j (x ∷ xs) hi hj b e =
     subst (IsReached w (2 * h) (flip j) (flip i)) (add_weight-comm (walk_weight w x xs) (w i x))
     (reached-sum w (2 * h) (flip j) (flip x) (flip i) (walk_weight w x xs) (w i x) (mirror-walk w h c x j xs b.0 hj b.1 e)
-    (reached-edge w (2 * h) (flip x) (flip i) (w i x) (flip-below i h hi) (subst (λ v. AtMost v (w i x)) (c i x hi b.0) (AtMost-refl (w i x)))))
+    (reached-edge w (2 * h) (flip x) (flip i) (w i x) (flip_below i h hi) (subst (λ v. AtMost v (w i x)) (c i x hi b.0) (AtMost-refl (w i x)))))
 
 mirror-below : (w s : ℕ → ℕ → Option ℤ) (h : ℕ) → IsCoherent w (2 * h) → AreLeastWeights w (2 * h) s → (i j : ℕ) → i < 2 * h → j < 2 * h → AtMost (s (flip j) (flip i)) (s i j)
 mirror-below w s h c p i j hi hj = by_entry (s i j) refl
@@ -117,14 +117,14 @@ mirror-below w s h c p i j hi hj = by_entry (s i j) refl
     by_entry (Some x) e =
         let f : (xs : List ℕ) × IsWalk (2 * h) i xs j × (walk_weight w i xs ≡ Some x) = p.walks i j x hi hj e in
         let g : (xs : List ℕ) × IsWalk (2 * h) (flip j) xs (flip i) × AtMost (walk_weight w (flip j) xs) (Some x) = mirror-walk w h c i j f.0 hi hj f.1.inside f.1.ends x f.2 in
-        rw e (AtMost-trans (s (flip j) (flip i)) (walk_weight w (flip j) g.0) (Some x) (p.lower (flip j) (flip i) g.0 (flip-below j h hj) (flip-below i h hi) g.1) g.2)
+        rw e (AtMost-trans (s (flip j) (flip i)) (walk_weight w (flip j) g.0) (Some x) (p.lower (flip j) (flip i) g.0 (flip_below j h hj) (flip_below i h hi) g.1) g.2)
 
 -- the least weights of a coherent matrix are coherent
 pub weights-coherent : (w s : ℕ → ℕ → Option ℤ) (h : ℕ) → IsCoherent w (2 * h) → AreLeastWeights w (2 * h) s → IsCoherent s (2 * h)
 weights-coherent w s h c p i j hi hj = AtMost-both (s i j) (s (flip j) (flip i))
     (subst (λ k. AtMost (s k j) (s (flip j) (flip i))) (flip-flip i)
     (subst (λ k. AtMost (s (flip (flip i)) k) (s (flip j) (flip i))) (flip-flip j)
-    (mirror-below w s h c p (flip j) (flip i) (flip-below j h hj) (flip-below i h hi))))
+    (mirror-below w s h c p (flip j) (flip i) (flip_below j h hj) (flip_below i h hi))))
     (mirror-below w s h c p i j hi hj)
 
 -- a bound that is not lower changes nothing

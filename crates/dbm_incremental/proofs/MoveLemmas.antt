@@ -7,7 +7,7 @@ use Rattle.std.proofs.lemmas.Int.{ints}
 use Rattle.dbm_close.specs.Close.{strong}
 use Rattle.dbm_close.specs.Steps.{cut, even_down, half}
 use Rattle.dbm_core.proofs.HalfLemmas.{entry-coherent}
-use Rattle.dbm_core.proofs.NodeLemmas.{flip-below, flip-flip}
+use Rattle.dbm_core.proofs.NodeLemmas.{flip_below, flip-flip}
 use Rattle.dbm_core.specs.Half.{HalfMatrix, entry, nodes}
 use Rattle.dbm_core.specs.Nodes.{flip}
 use Rattle.dbm_core.specs.Weights.{AtMost, add_weight}
@@ -80,7 +80,7 @@ moved-strong d h p f s = record {
   triangles = λ i k j hi hk hj. moved-sum (d i j) (d i k) (d k j) (p i) (p k) (p j) (s.triangles i k j hi hk hj);
   evens = λ i hi. even_shift (d i (flip i)) (p i) (p (flip i)) (f i) (s.evens i hi);
   halves = λ i j hi hj. moved-half (d i j) (d i (flip i)) (d (flip j) j) (p i) (p j) (s.evens i hi)
-      (subst (λ x. even_down (d (flip j) x) ≡ d (flip j) x) (flip-flip j) (s.evens (flip j) (flip-below j h hj)))
+      (subst (λ x. even_down (d (flip j) x) ≡ d (flip j) x) (flip-flip j) (s.evens (flip j) (flip_below j h hj)))
       (s.halves i j hi hj) (p (flip i)) (p (flip j)) (f i) (f j);
 }
   where
@@ -138,8 +138,8 @@ whole-strong m (u, p) t = record {
   coherent = entry-coherent m p.matrix;
   diagonal = closed-diagonal m (u, p);
   triangles = t;
-  evens = λ i hi. let e : entry m i (flip i) ≡ cut (u i (flip i)) = p.entries i (flip i) hi (flip-below i (length m.kinds) hi) in rw e (even (u i (flip i)) (p.strong.evens i hi));
-  halves = λ i j hi hj. rw (p.entries i j hi hj, p.entries i (flip i) hi (flip-below i (length m.kinds) hi), p.entries (flip j) j (flip-below j (length m.kinds) hj) hj)
+  evens = λ i hi. let e : entry m i (flip i) ≡ cut (u i (flip i)) = p.entries i (flip i) hi (flip_below i (length m.kinds) hi) in rw e (even (u i (flip i)) (p.strong.evens i hi));
+  halves = λ i j hi hj. rw (p.entries i j hi hj, p.entries i (flip i) hi (flip_below i (length m.kinds) hi), p.entries (flip j) j (flip_below j (length m.kinds) hj) hj)
       (whole-half (u i j) (u i (flip i)) (u (flip j) j) (p.strong.halves i j hi hj));
 }
   where

@@ -8,7 +8,7 @@ use Rattle.dbm_close.specs.Close.{closed_entry, slot_high, slot_low, strong}
 use Rattle.dbm_close.specs.Finish.{IsFinishedBut}
 use Rattle.dbm_close.specs.Steps.{cut, even_down, half, range_high, range_low, tightened}
 use Rattle.dbm_core.proofs.HalfLemmas.{HasEntries-from_kept}
-use Rattle.dbm_core.proofs.NodeLemmas.{flip-below, flip-flip, flip-half}
+use Rattle.dbm_core.proofs.NodeLemmas.{flip_below, flip-flip, flip-half}
 use Rattle.dbm_core.proofs.SlotLemmas.{of_slot, neither}
 use Rattle.dbm_core.proofs.WeightLemmas.{AtMost-both, AtMost-refl, AtMost-trans}
 use Rattle.dbm_core.specs.Half.{HalfMatrix, HasEntries, IsMatrix, entry, nodes, row_width}
@@ -65,7 +65,7 @@ finished-but m f q c w same = record {
     s = whole-strong m c w
 
     fl : (i : ℕ) → i < nodes m → flip i < nodes m
-    fl i hi = flip-below i (length m.kinds) hi
+    fl i hi = flip_below i (length m.kinds) hi
 
     tight : (i j : ℕ) → f i j ≡ entry m i j → tightened f i j ≡ tightened (entry m) i j
     tight i j e = ap (λ x. cond (is_single i j) (even_down x) x) e

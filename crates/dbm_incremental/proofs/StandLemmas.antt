@@ -3,7 +3,7 @@ use Rattle.std.specs.Prelude.{◌≡◌, ℕ, ◌<◌, ◌+◌, ◌*◌, ◌/◌
 use Rattle.std.proofs.Common.{arith, ap, sym, ◌∙◌, subst, inl, inr}
 use Rattle.std.proofs.lemmas.Bool.{cases_eq, eq-eqb, ne_eqb}
 use Rattle.std.proofs.lemmas.Int.{ints}
-use Rattle.dbm_core.proofs.NodeLemmas.{flip-below, flip-flip, parity}
+use Rattle.dbm_core.proofs.NodeLemmas.{flip_below, flip-flip, parity}
 use Rattle.dbm_core.proofs.WeightLemmas.{AtMost-refl}
 use Rattle.dbm_core.specs.Limits.{AreAtMost, IsZeroAtMost}
 use Rattle.dbm_core.specs.Nodes.{flip}
@@ -96,7 +96,7 @@ stood-strong d h q y c hy s = moved-strong (λ i j. d (stand_node q y i) (stand_
     inside : (i : ℕ) → i < 2 * h → stand_node q y i < 2 * h
     inside = by_node (λ i. i < 2 * h → stand_node q y i < 2 * h) q
         (λ hi. rw (node-even q y) hy)
-        (λ hi. rw (node-odd q y) (flip-below y h hy))
+        (λ hi. rw (node-odd q y) (flip_below y h hy))
         (λ i e f hi. rw (node-other q y i e f) hi)
 
 pub reached-self : (w : ℕ → ℕ → Option ℤ) (n i : ℕ) (z : ℤ) → z ≡ pos 0 → IsReached w n i i (Some z)
@@ -120,5 +120,5 @@ stood-out q y n m = by_node (λ i. in_slot q (stand_node q y i) ≡ false) q
 pub stood-inside : (h q y : ℕ) → y < 2 * h → (i : ℕ) → i < 2 * h → stand_node q y i < 2 * h
 stood-inside h q y hy = by_node (λ i. i < 2 * h → stand_node q y i < 2 * h) q
     (λ hi. rw (node-even q y) hy)
-    (λ hi. rw (node-odd q y) (flip-below y h hy))
+    (λ hi. rw (node-odd q y) (flip_below y h hy))
     (λ i e f hi. rw (node-other q y i e f) hi)

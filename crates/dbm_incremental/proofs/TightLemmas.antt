@@ -7,7 +7,7 @@ use Rattle.dbm_close.proofs.HalvesLemmas.{even-halves, even-number, even-twice, 
 use Rattle.dbm_close.proofs.StrongLemmas.{strengthened-coherent, tightened-coherent}
 use Rattle.dbm_close.specs.Close.{IsNotContradictory, strong}
 use Rattle.dbm_close.specs.Steps.{even_down, half, tightened}
-use Rattle.dbm_core.proofs.NodeLemmas.{flip-below, flip-flip}
+use Rattle.dbm_core.proofs.NodeLemmas.{flip_below, flip-flip}
 use Rattle.dbm_core.proofs.WeightLemmas.{AtMost-both, AtMost-refl, AtMost-trans, add_weight-assoc, add_weight-comm, add_weight-mono, least-greatest, least-left}
 use Rattle.dbm_core.specs.Limits.{HasZeroDiagonal}
 use Rattle.dbm_core.specs.Nodes.{IsCoherent, flip}
@@ -60,13 +60,13 @@ strong-triangular s h c t z i k j hi hk hj =
     own v h = AtMost-trans (strong s i j) (half_own s i j) v (strong-own s i j) h
 
     fi : flip i < 2 * h
-    fi = flip-below i h hi
+    fi = flip_below i h hi
 
     fk : flip k < 2 * h
-    fk = flip-below k h hk
+    fk = flip_below k h hk
 
     fj : flip j < 2 * h
-    fj = flip-below j h hj
+    fj = flip_below j h hj
 
     step_in : AtMost (half (s i (flip i))) (add_weight (s i k) (half (s k (flip k))))
     step_in = half-step (s i (flip i)) (s i k) (s k (flip k))

@@ -3,11 +3,11 @@ use Rattle.std.proofs.Common.{◌≡◌, ℕ, zero, suc, Bool, true, false, ◌|
 use Rattle.demand_order.specs.Order.{System, IsAcyclic, member, seen, visit, fill, fill_all}
 use Rattle.demand_order.specs.OrderLaws.{IsDistinct, Needed, IsClosed}
 use Rattle.demand_order.specs.InTurn.{missing_in_turn, all_demanded}
-use Rattle.demand_order.proofs.OrderLemmas.{not_both, member-append, visit-seen, visit-new}
+use Rattle.demand_order.proofs.OrderLemmas.{member-append, visit-seen, visit-new}
 use Rattle.demand_order.proofs.OrderLawProofs.{order-distinct, order-needed, needed-seen}
 use Rattle.demand_order.proofs.TheoremProofs.{ceiling, below}
 use Rattle.std.proofs.lemmas.Bool.{or_cases}
-use Rattle.plain_values.proofs.Cases.{by_bool}
+use Rattle.plain_values.proofs.Cases.{by_bool, not_both}
 use Rattle.std.proofs.Math.Bool.{or_assoc}
 use Rattle.std.proofs.lemmas.List.Sums.{fold-append}
 

@@ -5,8 +5,8 @@ use Rattle.demand_order.specs.Order.{System, IsAcyclic, member}
 use Rattle.demand_order.specs.OrderLaws.{order, Needed, input, under, IsClosed}
 use Rattle.demand_order.specs.Machine.{AreBelow}
 use Rattle.demand_order.specs.Turned.{AreUsers, turned, Leads, here, through, IsPlan, without}
-use Rattle.demand_order.proofs.OrderLemmas.{not_both}
 use Rattle.demand_order.proofs.OrderLawProofs.{order-distinct, order-follows, order-needed, needed-seen}
+use Rattle.plain_values.proofs.Cases.{not_both}
 
 pub not_false : (b : Bool) → (b ≡ true → ⊥) → not b ≡ true
 not_false true h = absurd (h refl)

@@ -6,9 +6,9 @@ use Rattle.demand_order.specs.Turned.{AreUsers, Leads, here, through, IsPlan, wi
 use Rattle.demand_order.specs.Leading.{LeadsTo, itself, Stays}
 use Rattle.demand_order.specs.Leading as lead
 use Rattle.demand_order.specs.Within.{inputs_if, within, AreDependents, AreCellsOf}
-use Rattle.demand_order.proofs.OrderLemmas.{not_both}
 use Rattle.std.proofs.lemmas.Bool.{and_parts, and_from, not-true}
 use Rattle.demand_order.proofs.TurnedLemmas.{not_false}
+use Rattle.plain_values.proofs.Cases.{not_both}
 
 -- the inputs of what stays stay
 pub stays-closed : {T : Type 0} (s : System T) (those : T → Type 0) (cells : T → Bool) → IsClosed s cells → (x y : T) → Stays s those cells x → member s.same (s.inputs x) y ≡ true → Stays s those cells y

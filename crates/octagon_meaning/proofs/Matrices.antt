@@ -7,7 +7,7 @@ use Rattle.std.proofs.lemmas.Bool.{cases_eq, eq-eqb, ne_eqb}
 use Rattle.dbm_core.proofs.HalfLemmas.{entry-coherent}
 use Rattle.dbm_core.proofs.LimitLemmas.{IsZeroAtMost-entries, lowered-diagonal}
 use Rattle.dbm_core.proofs.LowerLemmas.{lowered-coherent}
-use Rattle.dbm_core.proofs.NodeLemmas.{flip-below, flip-half, parity}
+use Rattle.dbm_core.proofs.NodeLemmas.{flip_below, flip-half, parity}
 use Rattle.dbm_core.proofs.OperationLemmas.{forgotten-coherent}
 use Rattle.dbm_core.proofs.TableLemmas.{tables-have_entries}
 use Rattle.dbm_core.proofs.ValuationLemmas.{Frees-entries, Meets-entries, lowered-meets, node_value-agree, node-negative, node-plain, node_value-even, node_value-flip, node_value-odd}
@@ -186,7 +186,7 @@ pub turned-below : (k i a n : ℕ) → a < 2 * n → turned k i a < 2 * n
 turned-below k i a n l = by (eqb (a / 2) k && not (eqb (i % 2) 0))
   where
     by : (b : Bool) → (if b then flip a else a) < 2 * n
-    by true = flip-below a n l
+    by true = flip_below a n l
     by false = l
 
 shift_turned : (p q : ℤ) → q -ℤ p ≡ neg_ℤ p -ℤ neg_ℤ q

@@ -4,8 +4,6 @@ use Rattle.std.specs.List.{range_with_len}
 use Rattle.std.proofs.Common.{sym, ap, ◌∙◌, arith, subst, append_assoc}
 use Rattle.std.proofs.lemmas.List.FromFn.{map-range_with_len_more}
 use Rattle.std.proofs.lemmas.Nat.{mul-le, mul-add-lt}
-use Rattle.dbm_core.proofs.NodeLemmas.{flip-below}
-use Rattle.dbm_core.specs.Nodes.{flip}
 use Rattle.cert_words.specs.Words.{word_text, more_text}
 use Rattle.cert_words.proofs.Texts.{more_last}
 use Rattle.octagon_words.specs.Words.{at_place}
@@ -30,6 +28,3 @@ some_row n p l e = let z : p < 0 * n = subst (λ k. p < k * n) e l in omega arit
 
 pub word_within : (n i j : ℕ) → i < n → j < n → n ≤ 32 → (i * n + j < n * n) × (i * n + j < 1024)
 word_within n i j hi hj h = let w : i * n + j < n * n = mul-add-lt i n j n hi hj in (w, omega (arith, few_places n h))
-
-pub mirror_within : (i h : ℕ) → i < 2 * h → flip i < 2 * h
-mirror_within = flip-below

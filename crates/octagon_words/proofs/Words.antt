@@ -3,7 +3,7 @@ use Rattle.std.specs.Prelude.{◌≡◌, ℕ, ◌*◌, ◌<◌, ◌≤◌, ◌/�
 use Rattle.std.proofs.Common.{refl, sym, ap, ◌∙◌, arith, subst}
 use Rattle.plain_values.proofs.Cases.{by_bool}
 use Rattle.dbm_core.proofs.HalfLemmas.{entry-coherent}
-use Rattle.dbm_core.proofs.NodeLemmas.{flip-below}
+use Rattle.dbm_core.proofs.NodeLemmas.{flip_below}
 use Rattle.dbm_core.proofs.TableLemmas.{tables-have_entries, tables-determine}
 use Rattle.dbm_core.specs.Half.{HalfMatrix, HasEntries, entry, nodes}
 use Rattle.dbm_core.specs.Nodes.{flip}
@@ -49,7 +49,7 @@ table_entries kinds m h =
     record {
       size = table-length (nodes m) (entry m);
       limits = λ i j hi hj. ap in_limits (at i j hi hj) ∙ h.limits i j hi hj;
-      coherent = λ i j hi hj. at i j hi hj ∙ entry-coherent m h.matrix i j hi hj ∙ sym (at (flip j) (flip i) (flip-below j (length m.kinds) hj) (flip-below i (length m.kinds) hi));
+      coherent = λ i j hi hj. at i j hi hj ∙ entry-coherent m h.matrix i j hi hj ∙ sym (at (flip j) (flip i) (flip_below j (length m.kinds) hj) (flip_below i (length m.kinds) hi));
       diagonal = λ i hi. at i i hi hi ∙ h.diagonal i hi;
     }
 

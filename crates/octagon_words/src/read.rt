@@ -34,7 +34,7 @@ fn word_at(words: &[Option<i128>], nodes: usize, i: usize, j: usize) -> Option<i
 }
 
 /// Whether the word at row i and column j is an entry of a state.
-#[tactic(auto, using(crate::proofs::Texts::mirror_within))]
+#[tactic(auto, using(dbm_core::proofs::NodeLemmas::flip_below))]
 fn is_entry(words: &[Option<i128>], slots: usize, i: usize, j: usize) -> bool
     requires few { slots ≤ 16 }
     requires size { length words.now ≡ (2 * slots) * (2 * slots) }

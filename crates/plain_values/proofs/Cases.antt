@@ -19,6 +19,10 @@ by_test a b P t f = go (a == b) refl
     go true e = t (grind (arith, nat_tests))
     go false e = f (grind (arith, nat_tests))
 
+-- no test is both true and false
+pub not_both : {P : Type 0} (b : Bool) → b ≡ true → b ≡ false → P
+not_both b h k = cc
+
 pub or_first : (a b : Bool) → (a || b) ≡ false → a ≡ false
 or_first a b h = (or_parts a b h).0
 

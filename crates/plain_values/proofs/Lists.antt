@@ -1,5 +1,5 @@
 -- Places in lists.
-use Rattle.std.proofs.Common.{ℕ, zero, suc, ◌≡◌, ◌≢◌, ◌+◌, ◌-◌, ◌<◌, ◌⊎◌, inl, inr, ◌∙◌, subst, List, [], ◌∷◌, ◌++◌, length, take, drop, get_or, slice_get, Some, arith, refl, sym, ap, add-one, drop-cons, None, map, reverse, ◌≤◌}
+use Rattle.std.proofs.Common.{ℕ, zero, suc, ◌≡◌, ◌≢◌, ◌+◌, ◌-◌, ◌<◌, ◌⊎◌, inl, inr, ◌∙◌, subst, List, [], ◌∷◌, ◌++◌, length, take, drop, get_or, slice_get, Some, Option, arith, refl, sym, ap, add-one, drop-cons, None, map, reverse, ◌≤◌}
 use Rattle.std.specs.Prelude.{All}
 use Rattle.std.proofs.lemmas.List.{length_push, length-drop, reverse-reverse, take_all}
 use Rattle.std.proofs.lemmas.Option.{slice_get_within, get_or_from_slice_get, same_Some}
@@ -34,6 +34,11 @@ pub get_there : {A : Type 0} (xs : List A) (i : ℕ) (x : A) → i < length xs �
 get_there [] i x h e = absurd (omega arith)
 get_there (y ∷ ys) zero x h e = ap Some (sym e)
 get_there (y ∷ ys) (suc i) x h e = get_there ys i x (omega arith) e
+
+pub get_within : {A : Type 0} (xs : List (Option A)) (i : ℕ) (x : A) → get_or xs i None ≡ Some x → i < length xs
+get_within [] i x e = absurd cc
+get_within (y ∷ ys) zero x e = omega arith
+get_within (y ∷ ys) (suc i) x e = omega (arith, get_within ys i x e)
 
 pub drop_next : {A : Type 0} (xs : List A) (i : ℕ) (x : A) → slice_get xs i ≡ Some x → drop i xs ≡ x ∷ drop (suc i) xs
 drop_next [] i x e = absurd cc

@@ -4,7 +4,7 @@ use Rattle.std.specs.Cmp.{IsEquivalence}
 use Rattle.std.specs.List.{list_any, position_or_len}
 use Rattle.plain_values.proofs.Cases.{by_bool}
 use Rattle.state_table.specs.Numbers.{with_state, TellsApart, Adds}
-use Rattle.state_table.proofs.NumberLemmas.{apart}
+use Rattle.plain_values.proofs.Cases.{not_both}
 
 -- the first place that passes, or none
 abbrev First : {T : Type 0} → (T → Bool) → List T → Type 0
@@ -31,5 +31,5 @@ pub with_state-adds : {T : Type 0} (eq : T → T → Bool) → IsEquivalence eq 
 with_state-adds {T} eq law tells states state =
     ⊎_elim
     (λ h. inl (h.1 ∙ ap Some (sym (tells state h.0 h.2)), rw h.3 refl))
-    (λ h. inr ((λ m e. apart (eq state state) (law.refl state) (h.0 m state e)), h.1, rw h.2 refl))
+    (λ h. inr ((λ m e. not_both (eq state state) (law.refl state) (h.0 m state e)), h.1, rw h.2 refl))
     (first (eq state) states)

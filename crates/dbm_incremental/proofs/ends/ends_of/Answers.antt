@@ -4,7 +4,7 @@ use Rattle.std.proofs.lemmas.Int.{to_z-of_z}
 use mir.Syntax.{w128}
 use Rattle.dbm_close.proofs.MiddleLemmas.{small-column}
 use Rattle.dbm_close.proofs.RoundLemmas.{IsWithin-add, IsWithin-more}
-use Rattle.dbm_core.proofs.NodeLemmas.{flip-below}
+use Rattle.dbm_core.proofs.NodeLemmas.{flip_below}
 use Rattle.dbm_core.specs.Half.{entry, nodes}
 use Rattle.dbm_core.specs.Nodes.{flip}
 use Rattle.dbm_core.specs.Weights.{add_weight}
@@ -14,8 +14,8 @@ use Rattle.dbm_incremental.proofs.ends.ends_of.Goals as goal
 
 pub returns-clause-small : goal.returns-clause-small
 returns-clause-small c =
-    let fa : flip c.args.a < nodes c.args.d.now = flip-below c.args.a (length c.args.d.now.kinds) c.requires.first in
-    let fb : flip c.args.b < nodes c.args.d.now = flip-below c.args.b (length c.args.d.now.kinds) c.requires.last in
+    let fa : flip c.args.a < nodes c.args.d.now = flip_below c.args.a (length c.args.d.now.kinds) c.requires.first in
+    let fb : flip c.args.b < nodes c.args.d.now = flip_below c.args.b (length c.args.d.now.kinds) c.requires.last in
     record {
       to_first = small-column (2 ^ 120) (nodes c.args.d.now) c.column-to_first.result (λ i. entry c.args.d.now i c.args.a)
           (λ i l. c.column-to_first.ensures.bounds i (omega (arith, ap length c.kinds.ensures.value)))

@@ -7,7 +7,7 @@ use Rattle.dbm_core.proofs.HalfLemmas.{place-within}
 use Rattle.dbm_core.proofs.LimitLemmas.{IsZeroAtMost-entries, AreWithin-entries, lowered-diagonal, lowered-within}
 use Rattle.dbm_core.proofs.ValuationLemmas.{AddsBound-entries}
 use Rattle.dbm_core.proofs.LowerLemmas.{HasEntries-lowered, length-lower_pair}
-use Rattle.dbm_core.proofs.NodeLemmas.{flip-below}
+use Rattle.dbm_core.proofs.NodeLemmas.{flip_below}
 use Rattle.dbm_core.specs.Half.{HalfMatrix, HasEntries, IsMatrix, entry, nodes}
 use Rattle.dbm_core.specs.Nodes.{flip}
 use Rattle.dbm_core.specs.Operations.{lower_pair, lowered}
@@ -26,7 +26,7 @@ lower_kept-requires-2-clause-room c = λ w.
     let first : c.lower_kept.new.entries ≡ lower_pair c.as_mut_slice-entries.result.now c.args.i c.args.j c.args.bound = rw (to_z-of_z w128 c.args.bound c.ranges.bound) at c.lower_kept.ensures.lowered in
     let l : length c.lower_kept.new.entries ≡ length c.args.self.now.kept =
     ap length first ∙ length-lower_pair c.as_mut_slice-entries.result.now c.args.i c.args.j c.args.bound ∙ ap length e in
-    let hr : c.other_sign.result < nodes c.args.self.now = rw c.other_sign.ensures.flipped (flip-below c.args.j (length c.args.self.now.kinds) c.requires.column) in
+    let hr : c.other_sign.result < nodes c.args.self.now = rw c.other_sign.ensures.flipped (flip_below c.args.j (length c.args.self.now.kinds) c.requires.column) in
     omega (arith, h.fits, l, place-within (length c.args.self.now.kinds) c.other_sign.result c.other_sign-2.result hr w)
 
 whole : (c : goal.After-self-1) → HasEntries c.args.self.now.kinds (lowered (entry c.args.self.now) c.args.i c.args.j c.args.bound)
