@@ -2,6 +2,7 @@
 use Rattle.std.proofs.Common.{◌≡◌, ℕ, zero, suc, ◌+◌, ◌<◌, ◌≤◌, List, [], ◌∷◌, ◌++◌, length, map, Option, Some, None, Bool, true, false, if◌then◌else◌, ◌==◌, refl, sym, ap, ◌∙◌, subst, nat_lt}
 use Rattle.std.specs.Option.{option_map}
 use Rattle.std.proofs.lemmas.List.{map-append}
+use mathlib.Core.List.{map-map}
 use Rattle.imp_slots.specs.Plain.{Guard, Code, Stop, Simple, If, While, Call, Break, Routine}
 use Rattle.imp_slots.specs.Fits.{Distinct}
 use Rattle.domain_laws.specs.Operations.{Operations}
@@ -87,15 +88,11 @@ module _ (engine : Engine) where
   entries_texts rt e (Call n call q r) x = ap (λ k. SE (Sc rt e) (entry engine bare (Sc rt e) [] x (Call n call q r)) ∷ k) (entries_texts rt e r (behind_it engine bare (Sc rt e) [] (Call n call q r) x))
   entries_texts rt e (Break n r) x = ap (λ k. SE (Sc rt e) (entry engine bare (Sc rt e) [] x (Break n r)) ∷ k) (entries_texts rt e r (behind_it engine bare (Sc rt e) [] (Break n r) x))
 
-  map_map : {A B C : Type 0} (f : B → C) (g : A → B) (xs : List A) → map f (map g xs) ≡ map (λ x. f (g x)) xs
-  map_map f g [] = refl
-  map_map f g (x ∷ xs) = ap (λ k. f (g x) ∷ k) (map_map f g xs)
-
   strips : (ps : List Routine) → map strip_spread (spread engine ps) ≡ map strip_flat (flat ps)
   strips [] = refl
   strips (c ∷ e) =
       two strip_spread strip_flat (map (spread_of (Sc c e)) (entries engine (Sc c e) c.code (mark Entry 0 tt))) (spread engine e) (map (flat_of c e) (texts c.code Entry)) (flat e)
-      (map_map strip_spread (spread_of (Sc c e)) (entries engine (Sc c e) c.code (mark Entry 0 tt)) ∙ entries_texts c e c.code (mark Entry 0 tt) ∙ sym (map_map strip_flat (flat_of c e) (texts c.code Entry)))
+      (map-map strip_spread (spread_of (Sc c e)) (entries engine (Sc c e) c.code (mark Entry 0 tt)) ∙ entries_texts c e c.code (mark Entry 0 tt) ∙ sym (map-map strip_flat (flat_of c e) (texts c.code Entry)))
       (strips e)
 
   keys_strip_spread : (xs : List (ℕ × Spread)) → keys (map strip_spread xs) ≡ keys xs

@@ -1,17 +1,15 @@
 -- The iterates of a loop, by the last two.
-use Rattle.std.proofs.Common.{◌≡◌, ℕ, zero, suc, ◌+◌, ◌<◌, List, [], ◌∷◌, ◌++◌, length, Some, None, Bool, true, false, if◌then◌else◌, nat_lt, refl, ap, ◌∙◌, arith, sym, add-zero, zero-add}
+use Rattle.std.proofs.Common.{◌≡◌, ℕ, zero, suc, ◌+◌, List, [], ◌∷◌, ◌++◌, length, Some, None, Bool, true, false, if◌then◌else◌, nat_lt, refl, ap, ◌∙◌, arith, sym, add-zero, zero-add}
 use Rattle.std.proofs.lemmas.Bool.Decides.{nat_tests}
 use Rattle.domain_laws.specs.Operations.{Operations}
 use Rattle.batch_meaning.specs.Values.{Value, State, Over}
 use Rattle.batch_meaning.specs.Batch.{Engine, settle}
 use Rattle.cell_rows.specs.Cells.{Cell, cell, plain, again, wants, wants_at, wants_first, ends, ends_at, ends_first}
 use Rattle.demand_laws.specs.Stops.{state_of, last_state, goes_on, stops_with}
+use Rattle.plain_values.proofs.Cases.{less_test}
 
 is_not_less : (k n : ℕ) → n ≡ k → false ≡ nat_lt k n
 is_not_less k n e = grind (arith, nat_tests)
-
-is_less : (k n : ℕ) → k < n → true ≡ nat_lt k n
-is_less k n h = grind (arith, nat_tests)
 
 move : (a k : ℕ) → a + suc k ≡ suc a + k
 move a k = omega arith
@@ -20,7 +18,7 @@ module _ {S : Type 0} (dom : Operations S) (engine : Engine) where
   -- Behind one more state.
   last_wants : (l k : ℕ) (t : S) → wants dom engine l t [] ≡ nat_lt (suc k) (suc l + k)
   last_wants zero k t = is_not_less (suc k) (suc zero + k) (omega arith)
-  last_wants (suc l) k t = is_less (suc k) (suc (suc l) + k) (omega arith)
+  last_wants (suc l) k t = sym (less_test (suc k) (suc (suc l) + k) (omega arith))
 
   goes : (left k : ℕ) (s : S) (vs : List (Cell S)) (v : Cell S) → wants dom engine left s vs ≡ true →
       wants dom engine left s (vs ++ v ∷ []) ≡ goes_on dom (left + k) (suc (length vs + k)) (last_state (Some s) vs) v.value
@@ -53,7 +51,7 @@ module _ {S : Type 0} (dom : Operations S) (engine : Engine) where
     where
       by_state : (n : ℕ) (s : S) → wants dom engine n s [] ≡ nat_lt 0 n
       by_state zero s = is_not_less 0 0 refl
-      by_state (suc n) s = is_less 0 (suc n) (omega arith)
+      by_state (suc n) s = sym (less_test 0 (suc n) (omega arith))
 
       by_first : (u : Value S) → wants_at dom engine u [] ≡ goes_on dom engine.budget 0 None u
       by_first (Over m z) = refl
