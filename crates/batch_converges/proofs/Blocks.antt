@@ -11,11 +11,11 @@ use Rattle.domain_laws.specs.Laws.{Laws}
 use Rattle.batch_meaning.specs.Values.{Value, Over, lift, lift2}
 use Rattle.batch_meaning.specs.Batch.{Engine, Passed, head_of, batch, procedure, calls_of}
 use Rattle.batch_meaning.specs.Places.{Spot, spot, spots, head_value}
-use Rattle.batch_sound.proofs.Values.{Fit, fit_post, fit_assume, fit_join, fit_enter, fit_leave, fix_is_head, fit_joined}
+use Rattle.batch_sound.proofs.Values.{Fit, fit_post, fit_assume, fit_join, fit_enter, fix_is_head, fit_joined}
 use Rattle.plain_values.proofs.Cases.{by_test}
 use Rattle.batch_meaning.proofs.Procedures.{look, look_get, FitBack}
 use Rattle.plain_values.proofs.Members.{Each, each_more, each_both, none_there}
-use Rattle.batch_sound.proofs.Fitting.{callee, call_fit, block_fit, procedure_fit}
+use Rattle.batch_sound.proofs.Fitting.{callee, block_fit, procedure_fit, behind_call}
 use Rattle.batch_converges.specs.Converges.{Ending}
 use Rattle.batch_converges.proofs.Known.{Known, EachKnown, known_lift, known_lift2, known_both, known_joined}
 use Rattle.batch_converges.proofs.Rounds.{IsRoomy, fix_known}
@@ -44,10 +44,6 @@ module _ {S : Type 0} (dom : Operations S) (engine : Engine) (covers : S → Hea
       (knows : (n q : ℕ) (c : Routine) (v : Value S) → slice_get before q ≡ Some c → Fit dom engine covers laws v (c.layout ∷ l ∷ ls) → Known v → Known (calls n q v)) where
     abbrev fitting : (c : Code) (a : Value S) → FitsCode before l c → Fit dom engine covers laws a (l ∷ ls) → Good (batch dom engine marks z calls c a).value (l ∷ ls)
     fitting c a s f = (block_fit dom engine covers laws marks rising z calls before l ls keep c a s f).value
-
-    behind_fit : (n : ℕ) (i : Invoke) (q : ℕ) (a : Value S) → FitsCall l i (slice_get before q) → Fit dom engine covers laws a (l ∷ ls) → Fit dom engine covers laws (lift2 (dom.leave i.returning) a (calls n q (lift (dom.enter i.entering) a))) (l ∷ ls)
-    behind_fit n i q a s f =
-        fit_leave dom engine covers laws i l ls a _ (callee before l i q s).fits f (call_fit dom engine covers laws marks rising z calls before l ls keep n i q a s f)
 
     behind_known : (n : ℕ) (i : Invoke) (q : ℕ) (a : Value S) → FitsCall l i (slice_get before q) → Fit dom engine covers laws a (l ∷ ls) → Known a → Known (lift2 (dom.leave i.returning) a (calls n q (lift (dom.enter i.entering) a)))
     behind_known n i q a s f k =
@@ -78,7 +74,7 @@ module _ {S : Type 0} (dom : Operations S) (engine : Engine) (covers : S → Hea
         (fit_joined dom engine covers laws (l ∷ ls) _ (batch dom engine marks z calls b (lift (dom.assume g true) top)).leaving (fit_assume dom engine covers laws g false l ls top s.0 h.fit) leaves)
         (known_joined dom engine (lift (dom.assume g false) top) _ (known_lift (dom.assume g false) top j) (inner top h.fit j).leaving)
     block_known (Call n i q r) a s f k =
-        block_known r _ s.1 (behind_fit n i q a s.0 f) (behind_known n i q a s.0 f k)
+        block_known r _ s.1 (behind_call dom engine covers laws marks rising z calls before l ls keep n i q a s.0 f) (behind_known n i q a s.0 f k)
     block_known (Break n r) a s f k =
         let w = block_known r _ s (fit_post dom engine covers laws DoBreak l ls a refl f) (known_lift (dom.post DoBreak) a k) in record { value = w.value; leaving = (k, w.leaving) }
 
@@ -109,7 +105,7 @@ module _ {S : Type 0} (dom : Operations S) (engine : Engine) (covers : S → Hea
         (spots_known r _ s.2 (fit_joined dom engine covers laws (l ∷ ls) _ (batch dom engine marks z calls b (lift (dom.assume g true) top)).leaving (fit_assume dom engine covers laws g false l ls top s.0 h.fit) leaves) w))
     spots_known (Call n i q r) a s f k =
         let j = behind_known n i q a s.0 f k in
-        each_more SpotKnown _ _ (plain n a _ (Some (i, q)) k j) (spots_known r _ s.1 (behind_fit n i q a s.0 f) j)
+        each_more SpotKnown _ _ (plain n a _ (Some (i, q)) k j) (spots_known r _ s.1 (behind_call dom engine covers laws marks rising z calls before l ls keep n i q a s.0 f) j)
     spots_known (Break n r) a s f k =
         let j = known_lift (dom.post DoBreak) a k in each_more SpotKnown _ _ (plain n a _ None k j) (spots_known r _ s (fit_post dom engine covers laws DoBreak l ls a refl f) j)
 

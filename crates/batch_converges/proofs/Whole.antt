@@ -1,6 +1,6 @@
 -- No answer of a program is an Over.
 use Rattle.std.specs.Prelude.{◌≡◌, ℕ, ◌≤◌, nat_lt, List, [], ◌∷◌, ◌++◌, length, map, reverse, slice_get, Option, Some, None, Bool, true, false, if◌then◌else◌}
-use Rattle.std.proofs.Common.{refl, sym, ap, ◌∙◌, arith, subst, append-nil}
+use Rattle.std.proofs.Common.{refl, sym, ◌∙◌, arith, subst, append-nil, append_assoc}
 use Rattle.std.specs.Str.{bytes_eq}
 use Rattle.std.proofs.lemmas.List.{reverse-append}
 use Rattle.imp_syntax.specs.declared.edit.Location.{Location}
@@ -18,11 +18,11 @@ use Rattle.batch_meaning.specs.Batch.{Engine, calls_of}
 use Rattle.batch_meaning.specs.Places.{Spot, spots, find, from, main_layout, if_some, head_value, value_in, entered, entry, value_at}
 use Rattle.analysis_words.specs.declared.refusal.Refusal.TheVariants.{LongString}
 use Rattle.batch_meaning.specs.Answers.{Answer, Refuses, Answers, Found, In, Misses, procedure_of, all_values, summed, sum_of, answer_in, answer}
-use Rattle.batch_sound.proofs.Values.{Fit, fit_enter}
+use Rattle.batch_sound.proofs.Values.{Fit}
 use Rattle.plain_values.proofs.Cases.{by_test}
-use Rattle.batch_meaning.proofs.Procedures.{look, look_get, look_from, FitBack, fit_back, fit_back_from}
+use Rattle.batch_meaning.proofs.Procedures.{look_get, FitBack, fit_back, fit_back_from}
 use Rattle.batch_meaning.proofs.Places.{found_member}
-use Rattle.batch_sound.proofs.Fitting.{callee, SpotFit, spots_fit, procedure_fit}
+use Rattle.batch_sound.proofs.Fitting.{SpotFit, spots_fit, procedure_fit, entered_fit}
 use Rattle.batch_sound.proofs.Answered.{then_inv}
 use Rattle.batch_converges.specs.Converges.{Ending, Grows, most_slots, most_marks, IsEnough, Converge}
 use Rattle.batch_converges.proofs.Known.{Known, EachKnown, known_lift, known_joined}
@@ -69,19 +69,13 @@ module _ {S : Type 0} (dom : Operations S) (engine : Engine) (covers : S → Hea
     spot_known n s e = (spots_known dom engine covers laws wait most ending (marks engine.widening r) (rises engine.widening (reverse earlier) r x.back.0) z (calls_of dom engine earlier z) (reverse earlier) r.layout x.below x.roomy.0 keep_call know_call r.code v x.back.0 (x.fine r earlier refl) x.known).at (n, s) (found_member n s _ e)
 
     entered_here : (n : ℕ) (s : Spot S) (k : Invoke × ℕ) → s.call ≡ Some k → SpotFine (n, s) → SpotKnown dom engine covers laws wait most ending (n, s) → Entry (from earlier k.1) (lift (dom.enter k.0.entering) s.before)
-    entered_here n s k e f j =
-        let c = callee (reverse earlier) r.layout k.0 k.1 (f.call k e) in
-        let at : look earlier k.1 ≡ Some c.routine = look_get earlier k.1 ∙ c.at in
-        record {
-          below = r.layout ∷ x.below;
-          back = fit_back_from earlier k.1 x.back.1;
-          roomy = roomy_from earlier k.1 x.roomy.1;
-          fine = λ b e i.
-              let same : c.routine ≡ b = same_Some _ _ (sym at ∙ look_from earlier k.1 b e i) in
-              subst (λ l. Fine (lift (dom.enter k.0.entering) s.before) (l ∷ r.layout ∷ x.below)) (sym c.layout ∙ ap (λ (b : Routine). b.layout) same)
-              (fit_enter dom engine covers laws k.0 r.layout x.below s.before c.fits f.before_fit);
-          known = known_lift (dom.enter k.0.entering) s.before j.before_known;
-        }
+    entered_here n s k e f j = record {
+      below = r.layout ∷ x.below;
+      back = fit_back_from earlier k.1 x.back.1;
+      roomy = roomy_from earlier k.1 x.roomy.1;
+      fine = entered_fit dom engine covers laws earlier r.layout x.below k.0 k.1 s.before (f.call k e) f.before_fit;
+      known = known_lift (dom.enter k.0.entering) s.before j.before_known;
+    }
 
     spot_value : (n : ℕ) (f : Spot S → Option (Value S)) (u : Value S) → ((s : Spot S) → f s ≡ Some u → SpotKnown dom engine covers laws wait most ending (n, s) → Known u) → if_some (find n (spots_here z r earlier v)) f ≡ Some u → Known u
     spot_value n f u k g = let t = then_inv (find n (spots_here z r earlier v)) f u g in k t.value t.gives (spot_known n t.value t.was)
@@ -150,11 +144,7 @@ module _ {S : Type 0} (dom : Operations S) (engine : Engine) (covers : S → Hea
     turned [] before h b = subst (λ ps. Roomy (reverse ps)) (sym (append-nil before)) b
     turned (r ∷ rs) before h b =
         let e : reverse (before ++ (r ∷ [])) ≡ r ∷ reverse before = reverse-append before (r ∷ []) in
-        subst (λ ps. Roomy (reverse ps)) (joined before r rs) (turned rs (before ++ (r ∷ [])) h.1 (subst Roomy (sym e) (h.0, b)))
-      where
-        joined : (xs : List Routine) (r : Routine) (ys : List Routine) → (xs ++ (r ∷ [])) ++ ys ≡ xs ++ (r ∷ ys)
-        joined [] r ys = refl
-        joined (x ∷ xs) r ys = ap (λ zs. x ∷ zs) (joined xs r ys)
+        subst (λ ps. Roomy (reverse ps)) (append_assoc before (r ∷ []) rs) (turned rs (before ++ (r ∷ [])) h.1 (subst Roomy (sym e) (h.0, b)))
 
     first_entry : (list : List Routine) → FitBack list → Roomy list → Entry list (State (dom.init (main_layout list)))
     first_entry list b m = record { below = []; back = b; roomy = m; fine = λ r e i. subst (λ ps. Fine (State (dom.init (main_layout ps))) (r.layout ∷ [])) (sym i) (laws.fitting.init r.layout); known = tt }

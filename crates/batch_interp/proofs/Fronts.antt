@@ -5,7 +5,7 @@ use Rattle.std.proofs.lemmas.List.{reverse-append, reverse-reverse}
 use Rattle.imp_syntax.specs.declared.edit.Location.TheVariants.{Before}
 use Rattle.imp_slots.specs.Plain.{Guard, Effect, Does, DoBreak, Invoke, Code, Stop, Simple, If, While, Call, Break, Routine, code_numbers}
 use Rattle.imp_slots.specs.Fits.{Distinct, IsChecked}
-use Rattle.program_chains.specs.Chains.{ending_in, chains, selected, holder}
+use Rattle.program_chains.specs.Chains.{chains, selected, holder}
 use Rattle.program_chains.specs.Claims.{PlacesAreFound}
 use Rattle.domain_laws.specs.Operations.{Operations}
 use Rattle.domain_laws.specs.Checks.{Check, check_of, kind_of}
@@ -28,7 +28,7 @@ use Rattle.batch_interp.specs.declared.walks.Entered.{Entered}
 use Rattle.plain_values.proofs.Lists.{drop_item, all_back}
 use Rattle.plain_values.proofs.Members.{Member, here, there, in_left, in_right}
 use Rattle.batch_meaning.proofs.Places.{found}
-use Rattle.batch_sound.proofs.Chains.{has_member, once_in}
+use Rattle.batch_sound.proofs.Chains.{has_member, once_in, every_ends}
 use Rattle.batch_interp.proofs.Members.{All2, all2_both, all2_as, AllOf, all_both, all_as}
 use Rattle.batch_interp.proofs.Seekings.{numbers_of_places}
 use Rattle.batch_interp.proofs.Walkings.{before_there}
@@ -175,10 +175,6 @@ module _ {S : Type 0} (dom : Operations S) (plan : Plan) where
       (right_more r c (checked_in r) (λ x m. there (in_right (code_numbers b) m)) (all_right r))
   all_right (Call n i q r) = right_more r (Call n i q r) (checked_in r) (λ x. there) (all_right r)
   all_right (Break n r) = right_more r (Break n r) (checked_in r) (λ x. there) (all_right r)
-
-  every_ends : (zs : List (List ℕ)) → ending_in [] zs ≡ zs
-  every_ends [] = refl
-  every_ends (z ∷ zs) = ap (λ ys. z ∷ ys) (every_ends zs)
 
   module _ (place : ℕ) (r : Routine) (checked : IsChecked plan.program) (law : PlacesAreFound) (at : slice_get plan.program place ≡ Some r) where
     one_finding : (c : Checked) (o : Option (Value S)) → Right r.code c → sum_of dom plan.engine (all_values dom plan.engine (value_at dom plan.engine plan.program (Before c.number)) (chains plan.program place)) ≡ answered o → found_from dom plan.engine (c.number, c.effect) o ≡ finding dom plan.engine plan.program c

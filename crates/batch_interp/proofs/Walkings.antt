@@ -1,5 +1,5 @@
 -- Procedures entered one after another.
-use Rattle.std.proofs.Common.{ℕ, zero, suc, ◌≡◌, ◌+◌, ◌<◌, ◌≤◌, List, [], ◌∷◌, ◌++◌, length, take, drop, reverse, get_or, slice_get, option_map, Option, Some, None, Result, Ok, Err, IfOk, sym, ap, subst, ◌∙◌, arith}
+use Rattle.std.proofs.Common.{ℕ, suc, ◌≡◌, ◌+◌, ◌<◌, ◌≤◌, List, [], ◌∷◌, ◌++◌, length, take, drop, reverse, get_or, slice_get, option_map, Option, Some, None, Result, Ok, Err, IfOk, sym, ap, subst, ◌∙◌, arith}
 use Rattle.std.specs.Prelude.{if◌then◌else◌}
 use Rattle.std.specs.Str.{bytes_eq}
 use Rattle.std.proofs.lemmas.List.{reverse-append, take-append-drop, take_all}
@@ -20,27 +20,17 @@ use Rattle.batch_interp.specs.declared.value.Answer.{Answer}
 use Rattle.batch_interp.specs.declared.spots.Seen.{Seen}
 use Rattle.batch_interp.specs.declared.walks.Entered.{Entered}
 use Rattle.std.proofs.lemmas.Option.{slice_get_within}
-use Rattle.plain_values.proofs.Lists.{get_take, take_item}
+use Rattle.plain_values.proofs.Lists.{get_take, take_item, take_next}
 use Rattle.std.proofs.Math.Seq.{take-length}
 use Rattle.batch_interp.proofs.Procedures.{from_earlier, from_gone}
 use Rattle.batch_interp.proofs.Lists.{if_ok_along}
 
 -- the procedures down from a place
 pub standing : (program : List Routine) (k : ℕ) (r : Routine) → slice_get program k ≡ Some r → earlier program (suc k) ≡ r ∷ earlier program k
-standing program k r e = ap reverse (one_more program k r e) ∙ reverse-append (take k program) (r ∷ [])
-  where
-    one_more : (xs : List Routine) (k : ℕ) (r : Routine) → slice_get xs k ≡ Some r → take (suc k) xs ≡ take k xs ++ (r ∷ [])
-    one_more [] k r e = absurd cc
-    one_more (x ∷ xs) zero r e = let s : x ≡ r = cc in ap (λ y. y ∷ []) s
-    one_more (x ∷ xs) (suc k) r e = ap (λ ys. x ∷ ys) (one_more xs k r e)
+standing program k r e = ap reverse (take_next program k r e) ∙ reverse-append (take k program) (r ∷ [])
 
 pub whole : (program : List Routine) (k : ℕ) → length program ≡ suc k → earlier program (suc k) ≡ reverse program
 whole program k e = ap (λ n. reverse (take n program)) (sym e) ∙ ap reverse (take-length program)
-
-pub get_there : (xs : List Routine) (k : ℕ) (r : Routine) → k < length xs → r ≡ get_or xs k r → slice_get xs k ≡ Some r
-get_there [] k r h e = absurd (omega arith)
-get_there (x ∷ xs) zero r h e = ap Some (sym e)
-get_there (x ∷ xs) (suc k) r h e = get_there xs k r (omega arith) e
 
 module _ {S : Type 0} (dom : Operations S) (plan : Plan) where
   -- main, entered

@@ -1,6 +1,6 @@
 -- Looking procedures up where the last one stands first.
 use Rattle.std.specs.Prelude.{◌≡◌, ℕ, ◌<◌, ◌≤◌, ◌==◌, List, [], ◌∷◌, ◌++◌, length, reverse, slice_get, Option, Some, None, if◌then◌else◌}
-use Rattle.std.proofs.Common.{refl, sym, ap, ◌∙◌, arith, subst}
+use Rattle.std.proofs.Common.{refl, sym, ap, ◌∙◌, arith, subst, append-nil, append_assoc}
 use Rattle.std.proofs.lemmas.List.{reverse-append, reverse-reverse, length-reverse}
 use Rattle.plain_values.proofs.Cases.{by_test}
 use Rattle.plain_values.proofs.Lists.{get_last, get_other}
@@ -82,20 +82,12 @@ fit_back_from [] q h = tt
 fit_back_from (b ∷ ps) q h = by_test q (length ps) (λ c. FitBack (if c then b ∷ ps else from ps q)) (λ e. h) (λ e. fit_back_from ps q h.1)
 
 turned : (before rs : List Routine) → FitInTurn before rs → FitBack (reverse before) → FitBack (reverse (before ++ rs))
-turned before [] f b = subst (λ ps. FitBack (reverse ps)) (sym (none before)) b
-  where
-    none : (xs : List Routine) → xs ++ [] ≡ xs
-    none [] = refl
-    none (x ∷ xs) = ap (λ ys. x ∷ ys) (none xs)
+turned before [] f b = subst (λ ps. FitBack (reverse ps)) (sym (append-nil before)) b
 turned before (r ∷ rs) f b =
     let e : reverse (before ++ (r ∷ [])) ≡ r ∷ reverse before = reverse-append before (r ∷ []) in
     let k = subst (λ ps. FitsCode ps r.layout r.code) (sym (reverse-reverse before)) f.0.code in
     let i = turned (before ++ (r ∷ [])) rs f.1 (subst FitBack (sym e) (k, b)) in
-    subst (λ ps. FitBack (reverse ps)) (joined before r rs) i
-  where
-    joined : (xs : List Routine) (r : Routine) (ys : List Routine) → (xs ++ (r ∷ [])) ++ ys ≡ xs ++ (r ∷ ys)
-    joined [] r ys = refl
-    joined (x ∷ xs) r ys = ap (λ zs. x ∷ zs) (joined xs r ys)
+    subst (λ ps. FitBack (reverse ps)) (append_assoc before (r ∷ []) rs) i
 
 pub fit_back : (program : List Routine) → IsChecked program → FitBack (reverse program)
 fit_back program c = turned [] program c.fit tt

@@ -23,11 +23,11 @@ use Rattle.batch_meaning.specs.Batch.{Engine, calls_of}
 use Rattle.batch_meaning.specs.Places.{Spot, spots, find, from, main_layout, if_some, head_value, value_in, entered, entry, value_at}
 use Rattle.batch_meaning.specs.Answers.{Refuses, Answers, Found, In as Belongs, Misses, found_or, found_loop, procedure_of, all_values, summed, sum_of, answer_in, answer}
 use Rattle.batch_sound.proofs.Values.{Says, Fit, fit_enter, fit_shed, says_shed, EachFit, Below, EachBelow, fit_joined, joined_first, joined_each}
-use Rattle.batch_meaning.proofs.Procedures.{look, look_get, look_from, fit_back}
+use Rattle.batch_meaning.proofs.Procedures.{look_get, fit_back}
 use Rattle.plain_values.proofs.Members.{Member, here, there, Each, each_more, none_there}
 use Rattle.batch_meaning.proofs.Places.{found_member}
 use Rattle.batch_sound.proofs.Chains.{in_selected}
-use Rattle.batch_sound.proofs.Fitting.{callee, SpotFit, spots_fit, block_fit, procedure_fit}
+use Rattle.batch_sound.proofs.Fitting.{SpotFit, spots_fit, block_fit, procedure_fit, entered_fit}
 use Rattle.batch_sound.proofs.Steps.{Kept, Place, Seen, fits_do, seen_behind, Stack, bottom, above, Good, good}
 use Rattle.batch_sound.proofs.Reached.{same_in_turn, place_get, holder_at, top_under, top_procedure, stack_entry, stack_sites, short, stack_chain}
 use Rattle.std.proofs.lemmas.Option.{same_Some}
@@ -89,16 +89,11 @@ module _ {S : Type 0} (dom : Operations S) (engine : Engine) (covers : S → Hea
     where
       go : (s : Spot S) (k : Invoke × ℕ) → s.call ≡ Some k → SpotFine z r earlier v x (n, s) → (t : List Routine × Value S) → Some (from earlier k.1, lift (dom.enter k.0.entering) s.before) ≡ Some t → Entry t.0 t.1
       go s k e f t g =
-          let c = callee (reverse earlier) r.layout k.0 k.1 (f.call k e) in
-          let at : look earlier k.1 ≡ Some c.routine = look_get earlier k.1 ∙ c.at in
           subst (λ (t : List Routine × Value S). Entry t.0 t.1) (same_Some _ _ g)
           (record {
             below = r.layout ∷ x.below;
             seen = seen_behind dom engine covers laws keeps program (reverse program) (same_in_turn program) r earlier k.1 x.seen;
-            fine = λ b e i.
-                let same : c.routine ≡ b = same_Some _ _ (sym at ∙ look_from earlier k.1 b e i) in
-                subst (λ l. Fine (lift (dom.enter k.0.entering) s.before) (l ∷ r.layout ∷ x.below)) (sym c.layout ∙ ap (λ (b : Routine). b.layout) same)
-                (fit_enter dom engine covers laws k.0 r.layout x.below s.before c.fits f.before_fit);
+            fine = entered_fit dom engine covers laws earlier r.layout x.below k.0 k.1 s.before (f.call k e) f.before_fit;
           })
 
   first_entry : (list : List Routine) → Sees list → Entry list (State (dom.init (main_layout list)))

@@ -1,6 +1,6 @@
 -- Chains that runs take are among those of the program.
 use Rattle.std.specs.Prelude.{◌≡◌, ℕ, zero, suc, ◌+◌, List, [], ◌∷◌, map, slice_get, Some, Bool, true, false, if◌then◌else◌}
-use Rattle.std.proofs.Common.{refl, sym, subst, arith}
+use Rattle.std.proofs.Common.{refl, sym, subst, arith, ap}
 use Rattle.imp_slots.proofs.Distinct.{left_once, right_once}
 use Rattle.imp_slots.specs.Plain.{Routine, code_numbers}
 use Rattle.imp_slots.specs.Fits.{Distinct, routine_numbers}
@@ -32,6 +32,11 @@ pub in_selected : (s z : List ℕ) (zs : List (List ℕ)) → Member z zs → en
 in_selected s z [] m e = elim m [ ]
 in_selected s z (y ∷ zs) here e = subst (λ c. Member z (if c then y ∷ ending_in s zs else ending_in s zs)) (sym e) here
 in_selected s z (y ∷ zs) (there m) e = keep_or_not (ends_in s y) y (ending_in s zs) (in_selected s z zs m e)
+
+-- all of them end in the empty string
+pub every_ends : (zs : List (List ℕ)) → ending_in [] zs ≡ zs
+every_ends [] = refl
+every_ends (z ∷ zs) = ap (λ ys. z ∷ ys) (every_ends zs)
 
 pub has_member : (n : ℕ) (ns : List ℕ) → Member n ns → has n ns ≡ true
 has_member n [] m = elim m [ ]

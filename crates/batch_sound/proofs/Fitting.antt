@@ -1,6 +1,6 @@
 -- Blocks and procedures keep values that fit.
 use Rattle.std.specs.Prelude.{◌≡◌, ℕ, ℤ, List, [], ◌∷◌, length, reverse, slice_get, Option, Some, None, true, false, if◌then◌else◌}
-use Rattle.std.proofs.Common.{refl, sym, ◌∙◌, subst}
+use Rattle.std.proofs.Common.{refl, sym, ◌∙◌, subst, ap}
 use Rattle.imp_slots.specs.Plain.{Layout, DoBreak, Does, Invoke, Code, Stop, Simple, If, While, Call, Break, Routine}
 use Rattle.imp_slots.specs.Fits.{fits_invoke, FitsCall, FitsCode}
 use Rattle.concrete_sem.specs.Values.{Variables, Heap}
@@ -10,10 +10,10 @@ use Rattle.domain_laws.specs.Operations.{Operations}
 use Rattle.domain_laws.specs.Laws.{Laws}
 use Rattle.batch_meaning.specs.Values.{Value, lift, lift2}
 use Rattle.batch_meaning.specs.Batch.{Engine, Passed, head_of, batch, procedure, calls_of}
-use Rattle.batch_meaning.specs.Places.{Spot, spot, spots, head_value}
+use Rattle.batch_meaning.specs.Places.{Spot, spot, spots, head_value, from}
 use Rattle.batch_sound.proofs.Values.{Fit, fit_post, fit_assume, fit_join, fit_enter, fit_leave, fix_is_head, EachFit, fit_both, fit_joined}
 use Rattle.plain_values.proofs.Cases.{by_test}
-use Rattle.batch_meaning.proofs.Procedures.{look, look_get, FitBack}
+use Rattle.batch_meaning.proofs.Procedures.{look, look_get, FitBack, look_from}
 use Rattle.plain_values.proofs.Members.{Each, each_more, each_both, none_there}
 use Rattle.std.proofs.lemmas.Option.{same_Some}
 
@@ -40,6 +40,13 @@ module _ {S : Type 0} (dom : Operations S) (engine : Engine) (covers : S → Hea
     pub value : Fit dom engine covers laws r.value ls
     pub leaving : EachFit dom engine covers laws ls r.leaving
 
+  -- what a call hands over fits a frame of the routine that it comes to
+  pub entered_fit : (earlier : List Routine) (l : Layout) (ls : List Layout) (i : Invoke) (q : ℕ) (a : Value S) → FitsCall l i (slice_get (reverse earlier) q) → Fit dom engine covers laws a (l ∷ ls) → (r : Routine) (rest : List Routine) → from earlier q ≡ r ∷ rest → Fit dom engine covers laws (lift (dom.enter i.entering) a) (r.layout ∷ l ∷ ls)
+  entered_fit earlier l ls i q a s f r rest e =
+      let c = callee (reverse earlier) l i q s in
+      let same : c.routine ≡ r = same_Some _ _ (sym c.at ∙ sym (look_get earlier q) ∙ look_from earlier q r rest e) in
+      subst (λ k. Good (lift (dom.enter i.entering) a) (k ∷ l ∷ ls)) (sym c.layout ∙ ap (λ (r : Routine). r.layout) same) (fit_enter dom engine covers laws i l ls a c.fits f)
+
   module _ (marks : List ℤ) (rising : IsRising marks) (z : List ℕ) (calls : ℕ → ℕ → Value S → Value S) (before : List Routine) (l : Layout) (ls : List Layout)
       (keep : (n q : ℕ) (c : Routine) (v : Value S) → slice_get before q ≡ Some c → Fit dom engine covers laws v (c.layout ∷ l ∷ ls) → Fit dom engine covers laws (calls n q v) (c.layout ∷ l ∷ ls)) where
     pub call_fit : (n : ℕ) (i : Invoke) (q : ℕ) (a : Value S) → FitsCall l i (slice_get before q) → Fit dom engine covers laws a (l ∷ ls) → Fit dom engine covers laws (calls n q (lift (dom.enter i.entering) a)) (i.entering.layout ∷ l ∷ ls)
@@ -49,7 +56,7 @@ module _ {S : Type 0} (dom : Operations S) (engine : Engine) (covers : S → Hea
         let e = fit_enter dom engine covers laws i l ls a c.fits f in
         subst (λ k. Good (calls n q v) (k ∷ l ∷ ls)) c.layout (keep n q c.routine v c.at (subst (λ k. Good v (k ∷ l ∷ ls)) (sym c.layout) e))
 
-    behind_call : (n : ℕ) (i : Invoke) (q : ℕ) (a : Value S) → FitsCall l i (slice_get before q) → Fit dom engine covers laws a (l ∷ ls) → Fit dom engine covers laws (lift2 (dom.leave i.returning) a (calls n q (lift (dom.enter i.entering) a))) (l ∷ ls)
+    pub behind_call : (n : ℕ) (i : Invoke) (q : ℕ) (a : Value S) → FitsCall l i (slice_get before q) → Fit dom engine covers laws a (l ∷ ls) → Fit dom engine covers laws (lift2 (dom.leave i.returning) a (calls n q (lift (dom.enter i.entering) a))) (l ∷ ls)
     behind_call n i q a s f = fit_leave dom engine covers laws i l ls a _ (callee before l i q s).fits f (call_fit n i q a s f)
 
     pub block_fit : (c : Code) (a : Value S) → FitsCode before l c → Fit dom engine covers laws a (l ∷ ls) → FitPassed (l ∷ ls) (batch dom engine marks z calls c a)

@@ -2,7 +2,6 @@
 use Rattle.std.specs.Prelude.{◌≡◌, ◌<◌, ◌≤◌, ◌+◌, ℕ, zero, suc, List, [], ◌∷◌, length, reverse, slice_get, option_map, Option, Some, None, Bool, true, false, if◌then◌else◌, All, ℤ}
 use Rattle.std.proofs.Common.{refl, sym, ap, ◌∙◌, arith, subst, le_of_eq}
 use Rattle.std.proofs.lemmas.List.{reverse-reverse, length-reverse}
-use Rattle.std.specs.Str.{bytes_eq}
 use Rattle.std.proofs.lemmas.Slice.Eq.{bytes_eq-Decides}
 use Rattle.imp_syntax.specs.declared.edit.Location.{Location}
 use Rattle.imp_syntax.specs.declared.edit.Location.TheVariants.{Before, After, Head, End}
@@ -32,9 +31,6 @@ use Rattle.batch_meaning.proofs.Places.{found, keys_numbers, are_calls}
 use Rattle.batch_sound.proofs.Chains.{in_extended, in_through, has_member, once_in}
 use Rattle.batch_sound.proofs.Steps.{Kept, Place, Seen, Fits, fits_ret, fits_done, fits_do, fits_test, ahead_push, place_of, Stack, bottom, above, Good, good, run_good, self}
 use Rattle.std.proofs.lemmas.Option.{same_Some}
-
-same_name : (x : List ℕ) → bytes_eq x x ≡ true
-same_name x = (bytes_eq-Decides x x).1 refl
 
 pub same_in_turn : (program : List Routine) (q : ℕ) → slice_get program q ≡ look (reverse program) q
 same_in_turn program q = sym (look_get (reverse program) q ∙ ap (λ ps. slice_get ps q) (reverse-reverse program))
@@ -144,7 +140,7 @@ module _ {S : Type 0} (dom : Operations S) (engine : Engine) (covers : S → Hea
     pub top_under : (w : Work) (v e u : Value S) → Fits dom engine covers laws keeps program (reverse program) (same_in_turn program) a w v e → (l : Location) → location_of program w ≡ Some l → value_in dom engine (a.routine ∷ a.earlier) a.z a.first l ≡ Some u → Below dom engine covers laws (a.routine.layout ∷ a.below) v u
     top_under (Ret p) v e u (fits_ret i b) l t g =
         let x = (batch dom engine (marks engine.widening a.routine) a.z (calls_of dom engine a.earlier a.z) a.routine.code a.first).value in
-        let k = subst (λ c. (if c then Some x else None) ≡ Some u) (same_name a.routine.name) (at_location l (End a.routine.name) u (sym (name_at p i) ∙ t) g) in
+        let k = subst (λ c. (if c then Some x else None) ≡ Some u) ((bytes_eq-Decides a.routine.name a.routine.name).1 refl) (at_location l (End a.routine.name) u (sym (name_at p i) ∙ t) g) in
         subst (Under (layouts a) v) (same_Some x u k) b
     top_under (Done n o w) v e u (fits_done {x = x} at i b f) l t g = found_value n x (λ s. Some s.after) u v at (at_location l (After n) u t g) (ap Some i)
     top_under (Test n c b w) v e u (fits_test k bu f) l t g = found_value n k.spot head_value u v k.at (at_location l (Head n) u t g) k.head

@@ -12,7 +12,7 @@ use Rattle.cell_names.specs.declared.frame.Frame.TheVariants.{InCall}
 use Rattle.cell_names.specs.declared.frame.Point.{Point}
 use Rattle.cell_names.specs.declared.frame.Point.TheVariants.{Entry, Then, Else, Body, Post, Fix}
 use Rattle.cell_names.specs.Paths.{CellName}
-use Rattle.plain_values.proofs.Cases.{by_test}
+use Rattle.plain_values.proofs.Cases.{by_test, given_test}
 use Rattle.plain_values.proofs.Members.{Member, here, there, Each, each_more, each_both, none_there, keys}
 use Rattle.batch_meaning.proofs.Places.{keys_numbers, found, found_member}
 use Rattle.cell_rows.specs.Names.{Scope, scope_of, name, Mark, mark, Algebra, Place, number, behind_it, last, AllFine, start_of, in_call, post_mark}
@@ -486,13 +486,9 @@ module _ {S : Type 0} (dom : Operations S) (engine : Engine) (program : List Rou
   value_some (Head n) z ss (c ∷ earlier) a t o e =
       let x = then_some (find n (texts c.code Entry)) (λ t. if is_loop t.code then Some (to_point (ss ++ takes t.loops) (Fix n)) else None) t e in
       let s = spotted c earlier z a n x.0 o.0 x.1 in
-      let k = if_true (is_loop x.0.code) (to_point (ss ++ takes x.0.loops) (Fix n)) t x.2 in
+      let k = given_test (is_loop x.0.code) (to_point (ss ++ takes x.0.loops) (Fix n)) t x.2 in
       let h = s.fits.headed k in
       (h.0.value, ap (λ o. if_some o head_of_spot) s.found_it ∙ ap (λ o. if_some o (λ (h : Fixed S). Some h.value)) h.1)
-    where
-      if_true : {X : Type 0} (t : Bool) (a r : X) → (if t then Some a else None) ≡ Some r → t ≡ true
-      if_true true a r e = refl
-      if_true false a r e = absurd cc
   value_some (End x) z ss (c ∷ earlier) a t o e = by_name (bytes_eq x c.name) e
     where
       by_name : (b : Bool) → (if b then Some (to_point ss (last_point c.code Entry)) else None) ≡ Some t → (v : Value S) × ((if b then Some (ended_by (Sc c earlier) z c.code a) else None) ≡ Some v)

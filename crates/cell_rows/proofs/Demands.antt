@@ -15,9 +15,6 @@ use Rattle.cell_rows.specs.Targets.{Step, Take, Go, Target, unless_over, next_in
 use Rattle.cell_rows.proofs.Unique.{All}
 
 module _ {S : Type 0} (g : CellName → Cell S) where
-  behind : (before : List (Cell S)) (c : Cell S) (us : List (Cell S)) → (before ++ c ∷ []) ++ us ≡ before ++ c ∷ us
-  behind before c us = append_assoc before (c ∷ []) us
-
   -- One target's names, and then those of the rest.
   gather_in : (asks rest : List (Cell S) → Option CellName) (more : List CellName) (room : ℕ) →
       ((before : List (Cell S)) (fuel : ℕ) → ((vs : List (Cell S)) → asks (before ++ vs) ≡ rest vs) → room ≤ fuel → gather g asks fuel before ≡ more) →
@@ -27,7 +24,7 @@ module _ {S : Type 0} (g : CellName → Cell S) where
   gather_in asks rest more room rec [] p w before (suc fuel) h le =
       let y = name w p in
       let some : asks before ≡ Some y = ap asks (sym (append-nil before)) ∙ h [] in
-      gather-some g asks fuel before y some ∙ ap (λ xs. y ∷ xs) (rec (before ++ g y ∷ []) fuel (λ vs. ap asks (behind before (g y) vs) ∙ h (g y ∷ vs)) (omega arith))
+      gather-some g asks fuel before y some ∙ ap (λ xs. y ∷ xs) (rec (before ++ g y ∷ []) fuel (λ vs. ap asks (append_assoc before (g y ∷ []) vs) ∙ h (g y ∷ vs)) (omega arith))
   gather_in asks rest more room rec (Go n ∷ ss) p w before fuel h le = gather_in asks rest more room rec ss p (InCall n ∷ w) before fuel h le
   gather_in asks rest more room rec (Take n ∷ ss) p w before zero h le = absurd (omega arith)
   gather_in asks rest more room rec (Take n ∷ ss) p w before (suc fuel) h le =
@@ -35,7 +32,7 @@ module _ {S : Type 0} (g : CellName → Cell S) where
       let some : asks before ≡ Some y = ap asks (sym (append-nil before)) ∙ h [] in
       let i = λ (k : (vs : List (Cell S)) → asks ((before ++ g y ∷ []) ++ vs) ≡ next_in rest ss p (InLoop n (g y).index ∷ w) vs).
       gather_in asks rest more room rec ss p (InLoop n (g y).index ∷ w) (before ++ g y ∷ []) fuel k (omega arith) in
-      gather-some g asks fuel before y some ∙ ap (λ xs. y ∷ xs) (go (omega arith) i (λ vs. ap asks (behind before (g y) vs) ∙ h (g y ∷ vs)) (g y).value refl)
+      gather-some g asks fuel before y some ∙ ap (λ xs. y ∷ xs) (go (omega arith) i (λ vs. ap asks (append_assoc before (g y ∷ []) vs) ∙ h (g y ∷ vs)) (g y).value refl)
     where
       d : List CellName
       d = demanded_in g ss p (InLoop n (g (name w (Fix n))).index ∷ w)

@@ -1,6 +1,7 @@
 -- In a checked program each statement number stands in the table once.
 use Rattle.std.proofs.lemmas.List.{reverse-append, length-reverse}
-use Rattle.std.proofs.Common.{◌<◌, zero, suc, reverse, slice_get, Option, None, arith, append_assoc, append-nil, ◌≡◌, ℕ, List, [], ◌∷◌, ◌++◌, length, map, Some, refl, sym, ap, ◌∙◌, subst, inl, inr}
+use Rattle.std.proofs.Common.{◌<◌, reverse, slice_get, Option, None, append_assoc, append-nil, ◌≡◌, ℕ, List, [], ◌∷◌, ◌++◌, length, map, Some, refl, sym, ap, ◌∙◌, subst, inl, inr}
+use Rattle.std.proofs.lemmas.Option.{slice_get_within}
 use Rattle.imp_slots.proofs.Distinct.{not_in, left_once, right_once, absent_both}
 use Rattle.imp_slots.specs.Plain.{Layout, Code, Stop, Simple, If, While, Call, Break, Routine, code_numbers}
 use Rattle.imp_slots.specs.Fits.{Absent, Distinct, FitsCall, FitsCode, IsChecked, routine_numbers}
@@ -73,14 +74,9 @@ calls_below before l (If n guard t e r) f = (calls_below before l t f.1, calls_b
 calls_below before l (While n guard b r) f = (calls_below before l b f.1, calls_below before l r f.2)
 calls_below before l (Call n call q r) f = (there_below before q (slice_get before q) refl f.0, calls_below before l r f.1)
   where
-    below_of : (xs : List Routine) (q : ℕ) (r : Routine) → slice_get xs q ≡ Some r → q < length xs
-    below_of [] q r e = absurd cc
-    below_of (x ∷ xs) zero r e = omega arith
-    below_of (x ∷ xs) (suc q) r e = let l = below_of xs q r e in omega arith
-
     there_below : (xs : List Routine) (q : ℕ) (o : Option Routine) → slice_get xs q ≡ o → FitsCall l call o → q < length xs
     there_below xs q None e f = absurd f
-    there_below xs q (Some r) e f = below_of xs q r e
+    there_below xs q (Some r) e f = slice_get_within xs q r e
 calls_below before l (Break n r) f = calls_below before l r f
 
 fine_back : (ps : List Routine) → FitBack ps → Distinct (routine_numbers ps) → AllFine ps

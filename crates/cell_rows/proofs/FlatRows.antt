@@ -1,5 +1,5 @@
 -- For each name that the program has, the table gives its row.
-use Rattle.std.proofs.Common.{◌≡◌, ℕ, zero, suc, List, [], ◌∷◌, length, map, Option, Some, None, Bool, true, false, if◌then◌else◌, refl, sym, ap, ◌∙◌, subst, nat_lt}
+use Rattle.std.proofs.Common.{◌≡◌, ℕ, zero, suc, List, [], ◌∷◌, map, Option, Some, Bool, true, false, refl, sym, ap, ◌∙◌, subst, nat_lt}
 use Rattle.imp_slots.specs.Plain.{DoBreak, Does, Code, Stop, Simple, If, While, Call, Break, Routine}
 use Rattle.imp_slots.specs.Fits.{Distinct}
 use Rattle.batch_meaning.specs.Batch.{Engine}
@@ -8,8 +8,8 @@ use Rattle.cell_names.specs.declared.frame.Frame.{Frame}
 use Rattle.cell_names.specs.declared.frame.Frame.TheVariants.{InCall, InLoop}
 use Rattle.cell_names.specs.declared.frame.Point.{Point}
 use Rattle.cell_names.specs.declared.frame.Point.TheVariants.{Entry, Then, Else, Body, Post, Iterate, Fix, Exit, Leap}
-use Rattle.plain_values.proofs.Cases.{by_test}
-use Rattle.plain_values.proofs.Members.{Member, there, in_left, in_right, keys, in_map}
+use Rattle.plain_values.proofs.Cases.{given_item}
+use Rattle.plain_values.proofs.Members.{Member, in_left, in_right, keys, in_map}
 use Rattle.batch_meaning.proofs.Places.{found}
 use Rattle.cell_rows.specs.Names.{Scope, scope_of, name, Mark, mark, Place, bare, number, entry, start_of, in_call, in_loop, iterate_point, round_place, statement, follow, when}
 use Rattle.cell_rows.specs.Rows as R
@@ -19,6 +19,7 @@ use Rattle.cell_rows.specs.Flat.{Flat, flat_of, flat, stand_in, by_text, flat_ro
 use Rattle.cell_rows.proofs.Lookup.{Stands, unstated, then_some}
 use Rattle.cell_rows.proofs.Shown.{Shows, shows}
 use Rattle.cell_rows.proofs.Sites.{path_sites}
+use Rattle.cell_rows.proofs.Ways.{flat_behind}
 use Rattle.std.proofs.lemmas.Option.{same_Some}
 
 module _ (engine : Engine) (program : List Routine) (once : Distinct (keys (flat program))) where
@@ -45,13 +46,6 @@ module _ (engine : Engine) (program : List Routine) (once : Distinct (keys (flat
     texts_in : (q : ℕ × Text) → Member q (texts b.code b.first.point) → Entered b.scope q.0 q.1.front q.1.code
     earlier_in : (x : ℕ × Flat) → Member x (flat b.scope.earlier) → Member x (flat program)
 
-  flat_from : (ps : List Routine) (q : ℕ) (x : ℕ × Flat) → Member x (flat (from ps q)) → Member x (flat ps)
-  flat_from [] q x m = m
-  flat_from (b ∷ ps) q x m =
-      (by_test q (length ps) (λ c. Member x (flat (if c then b ∷ ps else from ps q)) → Member x (flat (b ∷ ps)))
-      (λ e m. m)
-      (λ e m. in_right (map (flat_of b ps) (texts b.code Entry)) (flat_from ps q x m))) m
-
   covers_start : (ps : List Routine) (z : List ℕ) (x : U) (b : Q) → x.point ≡ Entry → ((y : ℕ × Flat) → Member y (flat ps) → Member y (flat program)) → start_of engine bare ps z x ≡ Some b → Covers b
   covers_start [] z x b i f e = absurd cc
   covers_start (c ∷ before) z x b i f e = subst Covers (same_Some _ _ e) (record {
@@ -61,16 +55,12 @@ module _ (engine : Engine) (program : List Routine) (once : Distinct (keys (flat
     earlier_in = λ y m. f y (in_right (map (flat_of c before) (texts c.code Entry)) m);
   })
 
-  by_limit : {X : Type 0} (t : Bool) (a r : X) → (if t then Some a else None) ≡ Some r → a ≡ r
-  by_limit true a r e = cc
-  by_limit false a r e = absurd cc
-
   covers_call : (b : Q) (n : ℕ) (y : U) (d : Code) (c : Q) → Covers b → in_call engine bare b n y d ≡ Some c → Covers c
   covers_call b n y Stop c v e = absurd cc
   covers_call b n y (Simple m effect r) c v e = absurd cc
   covers_call b n y (If m guard t x r) c v e = absurd cc
   covers_call b n y (While m guard t r) c v e = absurd cc
-  covers_call b n y (Call m call q r) c v e = covers_start (from b.scope.earlier q) (n ∷ b.sites) _ c refl (λ x i. v.earlier_in x (flat_from b.scope.earlier q x i)) e
+  covers_call b n y (Call m call q r) c v e = covers_start (from b.scope.earlier q) (n ∷ b.sites) _ c refl (λ x i. v.earlier_in x (flat_behind b.scope.earlier q x i)) e
   covers_call b n y (Break m r) c v e = absurd cc
 
   shown_at : (b : Q) (y : U) (d : Code) → Stands engine bare b y d → Shows (texts b.code b.first.point) (entry engine bare b.scope b.sites y d)
@@ -81,7 +71,7 @@ module _ (engine : Engine) (program : List Routine) (once : Distinct (keys (flat
   covers_loop b n k y (Simple m effect r) c v s e = absurd cc
   covers_loop b n k y (If m guard t x r) c v s e = absurd cc
   covers_loop b n k y (While m guard t r) c v s e =
-      subst Covers (by_limit (nat_lt k N) (round_place engine bare b n guard t k y) c e) (record {
+      subst Covers (given_item (nat_lt k N) (round_place engine bare b n guard t k y) c e) (record {
         texts_in = λ q i. let u = v.texts_in (deeper m q) ((shown_at b y (While m guard t r) s).inner q i) in record { routine = u.routine; earlier = u.earlier; scoped = u.scoped; text = u.text; listed = u.listed; front = u.front; code = u.code };
         earlier_in = v.earlier_in;
       })

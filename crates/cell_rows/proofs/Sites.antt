@@ -1,5 +1,5 @@
 -- The call sites of the block that a path leads to are the path's.
-use Rattle.std.proofs.Common.{◌≡◌, ℕ, List, [], ◌∷◌, Some, None, Bool, true, false, if◌then◌else◌, sym, ap, ◌∙◌, nat_lt}
+use Rattle.std.proofs.Common.{◌≡◌, ℕ, List, [], ◌∷◌, Some, sym, ap, ◌∙◌, nat_lt}
 use Rattle.imp_slots.specs.Plain.{Code, Stop, Simple, If, While, Call, Break, Routine}
 use Rattle.batch_meaning.specs.Batch.{Engine}
 use Rattle.batch_meaning.specs.Places.{from}
@@ -9,6 +9,7 @@ use Rattle.cell_rows.specs.Names.{Mark, Place, bare, start_of, in_call, in_loop,
 use Rattle.cell_rows.specs.Rows.{sites_of}
 use Rattle.cell_rows.proofs.Lookup.{unstated}
 use Rattle.std.proofs.lemmas.Option.{same_Some}
+use Rattle.plain_values.proofs.Cases.{given_item}
 
 module _ (engine : Engine) (program : List Routine) where
   abbrev Q : Type 0
@@ -16,10 +17,6 @@ module _ (engine : Engine) (program : List Routine) where
 
   abbrev U : Type 0
   U = Mark (Unit {0})
-
-  by_limit : {X : Type 0} (t : Bool) (a r : X) → (if t then Some a else None) ≡ Some r → a ≡ r
-  by_limit true a r e = cc
-  by_limit false a r e = absurd cc
 
   start_sites : (ps : List Routine) (z : List ℕ) (x : U) (b : Q) → start_of engine bare ps z x ≡ Some b → b.sites ≡ z
   start_sites [] z x b e = absurd cc
@@ -37,7 +34,7 @@ module _ (engine : Engine) (program : List Routine) where
   loop_sites b n k y Stop c e = absurd cc
   loop_sites b n k y (Simple m effect r) c e = absurd cc
   loop_sites b n k y (If m guard t x r) c e = absurd cc
-  loop_sites b n k y (While m guard t r) c e = ap (λ (b : Q). b.sites) (sym (by_limit (nat_lt k engine.budget) (round_place engine bare b n guard t k y) c e))
+  loop_sites b n k y (While m guard t r) c e = ap (λ (b : Q). b.sites) (sym (given_item (nat_lt k engine.budget) (round_place engine bare b n guard t k y) c e))
   loop_sites b n k y (Call m call q r) c e = absurd cc
   loop_sites b n k y (Break m r) c e = absurd cc
 

@@ -1,6 +1,5 @@
 -- The names with their rows are a table, and the batch interpreter's values solve it.
 use Rattle.std.proofs.Common.{◌≡◌, ℕ, zero, suc, ◌+◌, ◌<◌, ◌≤◌, List, [], ◌∷◌, ◌++◌, length, map, Option, Some, None, Bool, true, false, if◌then◌else◌, refl, sym, ap, ◌∙◌, subst, arith, nat_lt, length-append, append_assoc, append-nil}
-use Rattle.std.proofs.lemmas.Bool.Decides.{nat_tests}
 use Rattle.imp_slots.specs.Plain.{Routine}
 use Rattle.domain_laws.specs.Operations.{Operations}
 use Rattle.batch_meaning.specs.Values.{Value, State, Over, lift, lift2}
@@ -22,6 +21,7 @@ use Rattle.cell_rows.proofs.Unique.{All, Solves, unique}
 use Rattle.cell_rows.proofs.BatchTie.{next_iterate}
 use Rattle.cell_rows.proofs.Tied.{at, Below, Ones, Twos, Fixes, Joined, Holds, Tied, neither, both, tied}
 use Rattle.std.proofs.lemmas.Option.{same_Some, cond_some}
+use Rattle.plain_values.proofs.Cases.{less_test, less_of}
 
 module _ {S : Type 0} (dom : Operations S) (engine : Engine) (program : List Routine) (all : AllFine program) where
   abbrev pub M : Type 0
@@ -42,12 +42,6 @@ module _ {S : Type 0} (dom : Operations S) (engine : Engine) (program : List Rou
   -- The names that the program has.
   abbrev pub HasName : CellName → Type 0
   HasName x = (m : M) × (mark_at_name x ≡ Some m)
-
-  under : (k n : ℕ) → k < n → nat_lt k n ≡ true
-  under k n h = grind (arith, nat_tests)
-
-  is_under : (k n : ℕ) → nat_lt k n ≡ true → k < n
-  is_under k n h = grind (arith, nat_tests)
 
   -- Another iterate is wanted only while the budget lasts.
   wants_few : (left : ℕ) (s : S) (vs : List (Cell S)) → wants dom engine left s vs ≡ true → length vs < left
@@ -105,7 +99,7 @@ module _ {S : Type 0} (dom : Operations S) (engine : Engine) (program : List Rou
       go (Over j z) e = absurd cc
       go (State s) e =
           let i = cond_some (nat_lt v.index N) (name (InLoop n v.index ∷ w) p) y e in
-          let x = h.rounds v.index (is_under v.index N i.0) in
+          let x = h.rounds v.index (less_of v.index N i.0) in
           below_rank _ y x.0 m x.1 i.1
   lower (Joins stays l n w p) m (v ∷ u ∷ vs) y h e = absurd cc
 
@@ -208,7 +202,7 @@ module _ {S : Type 0} (dom : Operations S) (engine : Engine) (program : List Rou
           let x = h.rounds k low in
           let y = name (InLoop n k ∷ w) p in
           let some : asks_row dom engine r (f l ∷ []) ≡ Some y =
-          ap (λ (c : Cell S). right_of dom engine n w p c.value c.index) el ∙ ap (λ v. right_of dom engine n w p v k) i ∙ ap (λ (t : Bool). if t then Some y else None) (under k N low) in
+          ap (λ (c : Cell S). right_of dom engine n w p c.value c.index) el ∙ ap (λ v. right_of dom engine n w p v k) i ∙ ap (λ (t : Bool). if t then Some y else None) (less_test k N low) in
           let e = one_more r 1 [] l refl ∙ ap (λ xs. l ∷ xs) (one_more r 0 (f l ∷ []) y some ∙ ap (λ xs. y ∷ xs) (none_more r 0 (f l ∷ f y ∷ []) refl)) in
           let ey = value_at_mark y x.0 x.1.is in
           subst (Solved r m.value) (sym e) (record {
@@ -241,12 +235,9 @@ module _ {S : Type 0} (dom : Operations S) (engine : Engine) (program : List Rou
         subst (Read before c) (sym (none_more r fuel before (asked before false e)))
         (record { value = ap (ends_first dom engine over) (append-nil before) ∙ v; names = tt })
 
-    behind : (before : List (Cell S)) (c : Cell S) (us : List (Cell S)) → (before ++ c ∷ []) ++ us ≡ before ++ c ∷ us
-    behind before c us = append_assoc before (c ∷ []) us
-
     -- one more iterate was read
     read_more : (before : List (Cell S)) (y : CellName) (d : Cell S) (xs : List CellName) → HasName y → Read (before ++ f y ∷ []) d xs → Read before d (y ∷ xs)
-    read_more before y d xs g q = record { value = ap (ends_first dom engine over) (sym (behind before (f y) (map f xs))) ∙ q.value; names = (g, q.names) }
+    read_more before y d xs g q = record { value = ap (ends_first dom engine over) (sym (append_assoc before (f y ∷ []) (map f xs))) ∙ q.value; names = (g, q.names) }
 
     step : (left k fuel : ℕ) (before : List (Cell S)) (s : S) (c : Cell S) →
         ((us : List (Cell S)) → wants_first dom engine (before ++ us) ≡ wants dom engine (suc left) s us) →
@@ -283,8 +274,8 @@ module _ {S : Type 0} (dom : Operations S) (engine : Engine) (program : List Rou
         let more : length (before ++ c ∷ []) ≡ suc (suc k) = omega (arith, length-append before (c ∷ [])) in
         let rec = λ (t : S) (i : c.value ≡ State t) (b : dom.same t s ≡ false).
         reading left (suc k) (before ++ c ∷ []) t fuel (omega arith) more (omega arith) (next_iterate dom engine h.marks_of h.body h.start k s at ∙ sym v ∙ i)
-        (λ us. ap (wants_first dom engine) (behind before c us) ∙ wf (c ∷ us) ∙ ap (λ v. again dom engine s v (λ t. wants dom engine left t us)) i ∙ ap (λ (q : Bool). if q then false else wants dom engine left t us) b)
-        (λ us. ap (ends_first dom engine over) (behind before c us) ∙ ef (c ∷ us) ∙ ap (λ v. settle dom engine k s v (λ t. ends dom engine over left (suc k) t us)) i ∙ ap (λ (q : Bool). if q then cell (State s) k else ends dom engine over left (suc k) t us) b) in
+        (λ us. ap (wants_first dom engine) (append_assoc before (c ∷ []) us) ∙ wf (c ∷ us) ∙ ap (λ v. again dom engine s v (λ t. wants dom engine left t us)) i ∙ ap (λ (q : Bool). if q then false else wants dom engine left t us) b)
+        (λ us. ap (ends_first dom engine over) (append_assoc before (c ∷ []) us) ∙ ef (c ∷ us) ∙ ap (λ v. settle dom engine k s v (λ t. ends dom engine over left (suc k) t us)) i ∙ ap (λ (q : Bool). if q then cell (State s) k else ends dom engine over left (suc k) t us) b) in
         subst (Read before (iterate dom engine h.marks_of h.body over (suc left) k s)) (sym (one_more r fuel before y (asked before true wanted)))
         (read_more before y _ _ (has_mark y x.0 m x.1) (step left k fuel before s c wf ef rec (lift (next_of dom engine h.marks_of k s) (h.body (State s))) v))
 

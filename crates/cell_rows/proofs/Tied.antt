@@ -3,7 +3,6 @@ use Rattle.std.proofs.Common.{ℤ, ◌≡◌, ℕ, zero, suc, ◌+◌, ◌*◌, 
 use Rattle.std.proofs.Math.Nat.{suc-mul, mul-le-mul_right}
 use Rattle.std.specs.Option.{option_map}
 use Rattle.std.proofs.lemmas.Option.{slice_get-map}
-use Rattle.std.proofs.lemmas.Bool.Decides.{nat_tests}
 use Rattle.imp_slots.specs.Plain.{Guard, Invoke, Code, Stop, Simple, If, While, Call, Break, Routine}
 use Rattle.domain_laws.specs.Operations.{Operations}
 use Rattle.batch_meaning.specs.Values.{Value, State, Over, lift, lift2}
@@ -27,6 +26,7 @@ use Rattle.cell_rows.proofs.Lookup.{Fine, Stands, part_of, stated, fine, at_know
 use Rattle.cell_rows.proofs.Checked.{distinct_part, break_part}
 use Rattle.cell_rows.proofs.BatchTie.{breaks_points, breaks_numbers, place_is, span_from, subs, fix_index, joined_all, last_value, leaves_value, value_of, got, leaving_count, with_over, state_of}
 use Rattle.plain_values.proofs.Lists.{get_some}
+use Rattle.plain_values.proofs.Cases.{less_test, less_of}
 
 pub mul_less : (k n t : ℕ) → k < n → k * t + t ≤ n * t
 mul_less k zero t h = absurd (omega arith)
@@ -143,12 +143,6 @@ module _ {S : Type 0} (dom : Operations S) (engine : Engine) (program : List Rou
   tied_branch h w b y (Call n call q r) l = neither
   tied_branch h w b y (Break n r) l = neither
 
-  under : (k n : ℕ) → k < n → nat_lt k n ≡ true
-  under k n h = grind (arith, nat_tests)
-
-  is_under : (k n : ℕ) → nat_lt k n ≡ true → k < n
-  is_under k n h = grind (arith, nat_tests)
-
   next_is : (ms : List ℤ) (k : ℕ) (x y : M) → plain (lift2 (next_of dom engine ms k) x.value.value y.value.value) ≡ binary dom engine (next_operation engine ms k) x.value y.value
   next_is ms k x y = go (nat_lt k engine.widening.delay)
     where
@@ -171,13 +165,13 @@ module _ {S : Type 0} (dom : Operations S) (engine : Engine) (program : List Rou
     iterate_found zero h =
         let e : y.rank ≡ y.rank + 0 * t = omega arith in
         (front w b y (mark Entry (suc y.rank) y.value) (While n guard body r) l (omega arith)).is ∙ ap (λ q. Some (mark y.point q y.value)) e
-    iterate_found (suc k) h = led_to w b y (While n guard body r) l (next_mark engine A k) ∙ ap (λ q. when engine A q (it (suc k))) (under k N (omega arith))
+    iterate_found (suc k) h = led_to w b y (While n guard body r) l (next_mark engine A k) ∙ ap (λ q. when engine A q (it (suc k))) (less_test k N (omega arith))
 
     pub iterate_below : (i : ℕ) (m : M) → i ≤ N → y.rank + i * t < m.rank → Below (name w (iterate_point engine A n y.point i)) (it i) m
     iterate_below i m h k = record { is = iterate_found i h; lower = k }
 
     pub round_found : (k : ℕ) → k < N → to (InLoop n k ∷ w) ≡ Some (turn k)
-    round_found k h = led_to w b y (While n guard body r) l (λ b. in_loop engine A b n k) ∙ ap (λ q. if q then Some (turn k) else None) (under k N h)
+    round_found k h = led_to w b y (While n guard body r) l (λ b. in_loop engine A b n k) ∙ ap (λ q. if q then Some (turn k) else None) (less_test k N h)
 
     round_fine : (k : ℕ) → Fine engine A (turn k)
     round_fine k = record { block = part_of engine A b y (While n guard body r) l.fine l.stands; procs = l.fine.procs; starts = inr refl }
@@ -204,7 +198,7 @@ module _ {S : Type 0} (dom : Operations S) (engine : Engine) (program : List Rou
         go : (q : Bool) → nat_lt k N ≡ q → Tied (when engine A q (Two (next_operation engine b.scope.marks k) (name w (iterate_point engine A n y.point k)) (name (InLoop n k ∷ w) (last_point body Body)))) (when engine A q (it (suc k)))
         go false e = neither
         go true e =
-            let h = is_under k N e in
+            let h = less_of k N e in
             both _ _ (record {
               x = it k;
               y = end k;
@@ -256,7 +250,7 @@ module _ {S : Type 0} (dom : Operations S) (engine : Engine) (program : List Rou
     joined_found : (i : ℕ) → i < breaks body → at (name w (joined_point n body i)) ≡ Some (joined_mark i)
     joined_found zero h =
         let e : suc fixed.rank ≡ suc (fixed.rank + 0) = omega arith in
-        led_to w b y (While n guard body r) l (exit_mark engine A) ∙ ap (λ q. when engine A q (exit_of engine A b n guard body y)) (under 0 (breaks body) h)
+        led_to w b y (While n guard body r) l (exit_mark engine A) ∙ ap (λ q. when engine A q (exit_of engine A b n guard body y)) (less_test 0 (breaks body) h)
         ∙ ap (λ q. Some (mark (Exit n) q (leap_value dom engine b.scope b.sites n guard body 0 y.value))) e
     joined_found (suc i) h =
         let k = item (break_numbers body) i in
@@ -265,7 +259,7 @@ module _ {S : Type 0} (dom : Operations S) (engine : Engine) (program : List Rou
         let here : i < length (break_numbers body) = omega (arith, breaks_numbers body) in
         led_to w b y (While n guard body r) l (leap_mark engine A k)
         ∙ ap (λ o. if_some o (λ i. when engine A (nat_lt (suc i) (breaks body)) (leap_of engine A b n guard body k i y))) (place_is (break_numbers body) i once here)
-        ∙ ap (λ q. when engine A q (leap_of engine A b n guard body k i y)) (under (suc i) (breaks body) h)
+        ∙ ap (λ q. when engine A q (leap_of engine A b n guard body k i y)) (less_test (suc i) (breaks body) h)
         ∙ ap (λ q. Some (mark (Leap n k) q (leap_value dom engine b.scope b.sites n guard body (suc i) y.value))) e
 
     abbrev outs : ℕ → List M
@@ -310,7 +304,7 @@ module _ {S : Type 0} (dom : Operations S) (engine : Engine) (program : List Rou
         go : (i : ℕ) (q : Bool) → nat_lt (suc i) (breaks body) ≡ q → Tied (if q then joins_row engine A w true n body i else None) (when engine A q (leap_of engine A b n guard body k i y))
         go i false e = neither
         go i true e =
-            let h : suc i < breaks body = is_under (suc i) (breaks body) e in
+            let h : suc i < breaks body = less_of (suc i) (breaks body) e in
             tied_joins true i (leap_of engine A b n guard body k i y) (omega arith) (omega arith) refl
 
         placed : (o : Option ℕ) → Tied (if_some o (λ i. if nat_lt (suc i) (breaks body) then joins_row engine A w true n body i else None)) (if_some o (λ i. when engine A (nat_lt (suc i) (breaks body)) (leap_of engine A b n guard body k i y)))
@@ -500,7 +494,7 @@ module _ {S : Type 0} (dom : Operations S) (engine : Engine) (program : List Rou
       go : (q : Bool) → nat_lt k N ≡ q → Tied (when engine A q (One (Assumes guard true) (name w (iterate_point engine A m y.point k)))) (if_some (if q then Some (round_place engine A b m guard body k y) else None) (λ c. mark_at engine A c Body))
       go false i = neither
       go true i =
-          let h : k < N = is_under k N i in
+          let h : k < N = less_of k N i in
           both _ _ (record { x = it w b m guard body r y l k; below = iterate_below w b m guard body r y l k _ (omega arith) (omega arith); value = refl })
   tied_turn n k w b y (Call m call q r) l e = neither
   tied_turn n k w b y (Break m r) l e = neither

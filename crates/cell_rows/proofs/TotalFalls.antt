@@ -1,7 +1,6 @@
 -- Each input's rank is lower, for every name and whatever was found so far.
 use Rattle.std.proofs.Common.{◌≡◌, ℕ, zero, suc, ◌+◌, ◌*◌, ◌<◌, ◌≤◌, List, [], ◌∷◌, length, Option, Some, None, Bool, true, false, if◌then◌else◌, refl, sym, ap, ◌∙◌, subst, arith, nat_lt, slice_get}
 use Rattle.std.proofs.Math.Nat.{suc-mul, mul-le-mul_right}
-use Rattle.std.proofs.lemmas.Bool.Decides.{nat_tests}
 use Rattle.imp_slots.specs.Plain.{Guard, Invoke, Code, Stop, Simple, If, While, Call, Break, Routine}
 use Rattle.imp_slots.specs.Fits.{Distinct}
 use Rattle.batch_meaning.specs.Batch.{Engine}
@@ -11,6 +10,7 @@ use Rattle.cell_names.specs.declared.frame.Frame.TheVariants.{InCall, InLoop}
 use Rattle.cell_names.specs.declared.frame.Point.{Point}
 use Rattle.cell_names.specs.declared.frame.Point.TheVariants.{Entry, Then, Else, Body, Post, Iterate, Fix, Exit, Leap}
 use Rattle.plain_values.proofs.Members.{keys}
+use Rattle.plain_values.proofs.Cases.{less_of}
 use Rattle.cell_rows.specs.Names.{Scope, scope_of, name, mark, Place, bare, number, breaks, break_numbers, place_of, item, branch_point, span, body_span, last, start_of, in_call, iterate_point, when}
 use Rattle.cell_rows.specs.Rows as R
 use Rattle.cell_rows.specs.Rows.{next_operation, Row, Init, One, Two, Fixed as FixedRow, Joins, last_point, leave_points, joined_point, branch_row, post_row, next_row, fix_row, exit_row, leap_row, enter_row, turn_row, joins_row, loop_row}
@@ -34,9 +34,6 @@ module _ (engine : Engine) (program : List Routine) (once : Distinct (keys (spre
   abbrev pub LowerIn : Option Row → ℕ → Type 0
   LowerIn None m = Unit {0}
   LowerIn (Some r) m = Lower r m
-
-  is_under : (k n : ℕ) → nat_lt k n ≡ true → k < n
-  is_under k n h = grind (arith, nat_tests)
 
   -- A statement with the place that its rows see.
   module _ (b : Place engine bare) (y : U engine program once) (w : List Frame) (whole : Whole engine program once b.scope.earlier) where
@@ -69,7 +66,7 @@ module _ (engine : Engine) (program : List Routine) (once : Distinct (keys (spre
           go : (q : Bool) → nat_lt k N ≡ q → LowerIn (when engine bare q (Two (next_operation engine b.scope.marks k) (name w (iterate_point engine bare n y.point k)) (name (InLoop n k ∷ w) (last_point body Body)))) (bw + offset engine program (Iterate n (suc k)))
           go false e = tt
           go true e =
-              let h : k < N = is_under k N e in
+              let h : k < N = less_of k N e in
               let o : offset engine program (Iterate n (suc k)) ≡ y.rank + suc k * t = iterate_off engine program once b.scope y n guard body r g (suc k) (omega arith) in
               let s = suc-mul k t in
               let c = round_base engine program once b.scope y n guard body r g w k in
@@ -88,7 +85,7 @@ module _ (engine : Engine) (program : List Routine) (once : Distinct (keys (spre
           go : (q : Bool) → nat_lt 0 (breaks body) ≡ q → LowerIn (when engine bare q (One (R.Exits guard) (name w (Fix n)))) (bw + offset engine program (Exit n))
           go false e = tt
           go true e =
-              let h : 0 < breaks body = is_under 0 (breaks body) e in
+              let h : 0 < breaks body = less_of 0 (breaks body) e in
               let o = exit_off engine program once b.scope y n guard body r g h in
               let f = fix_off engine program once b.scope y n guard body r g in
               omega arith
@@ -120,7 +117,7 @@ module _ (engine : Engine) (program : List Routine) (once : Distinct (keys (spre
           inner : (i : ℕ) → place_of k (break_numbers body) ≡ Some i → (q : Bool) → nat_lt (suc i) (breaks body) ≡ q → LowerIn (if q then joins_row engine bare w true n body i else None) (bw + offset engine program (Leap n k))
           inner i o false e = tt
           inner i o true e =
-              let h : suc i < breaks body = is_under (suc i) (breaks body) e in
+              let h : suc i < breaks body = less_of (suc i) (breaks body) e in
               let f = leap_off engine program once b.scope y n guard body r g k i o h in
               low_joins true i _ (omega arith) (omega arith)
 
@@ -146,7 +143,7 @@ module _ (engine : Engine) (program : List Routine) (once : Distinct (keys (spre
           go : (q : Bool) → nat_lt k N ≡ q → LowerIn (when engine bare q (One (R.Assumes guard true) (name w (iterate_point engine bare n y.point k)))) (base engine program (InLoop n k ∷ w) + 0)
           go false e = tt
           go true e =
-              let h : k < N = is_under k N e in
+              let h : k < N = less_of k N e in
               let c = round_base engine program once b.scope y n guard body r g w k in
               low_iterate k _ (omega arith) (omega arith)
 

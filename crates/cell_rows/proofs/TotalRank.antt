@@ -1,6 +1,5 @@
 -- The rank falls at each input, for each name.
 use Rattle.std.proofs.Common.{◌≡◌, ℕ, zero, suc, ◌+◌, ◌*◌, ◌<◌, ◌≤◌, List, [], ◌∷◌, length, map, Option, Some, Bool, true, false, if◌then◌else◌, refl, sym, ap, ◌∙◌, arith, nat_lt, slice_get}
-use Rattle.std.proofs.lemmas.Bool.Decides.{nat_tests}
 use Rattle.imp_slots.specs.Plain.{Guard, Code, Stop, Simple, If, While, Call, Break, Routine}
 use Rattle.imp_slots.specs.Fits.{Distinct}
 use Rattle.batch_meaning.specs.Batch.{Engine}
@@ -9,7 +8,7 @@ use Rattle.cell_names.specs.declared.frame.Frame.{Frame}
 use Rattle.cell_names.specs.declared.frame.Frame.TheVariants.{InLoop}
 use Rattle.cell_names.specs.declared.frame.Point.{Point}
 use Rattle.cell_names.specs.declared.frame.Point.TheVariants.{Entry, Body, Post, Iterate, Fix, Exit, Leap}
-use Rattle.plain_values.proofs.Cases.{by_test}
+use Rattle.plain_values.proofs.Cases.{by_test, less_test}
 use Rattle.plain_values.proofs.Members.{Member, here, there, in_left, in_right, Each, each_more, each_both, none_there, keys}
 use Rattle.batch_meaning.proofs.Places.{found}
 use Rattle.cell_rows.specs.Names.{Scope, scope_of, Mark, mark, At, Place, bare, number, breaks, break_numbers, place_of, span, cost, body_span, behind_it, inside, entry, last, leaves, branch_mark, post_mark, next_mark, fix_mark, exit_mark, leap_mark, iterate_point, when}
@@ -153,9 +152,6 @@ module _ (engine : Engine) (program : List Routine) (once : Distinct (keys (spre
   spread_from [] q h = h
   spread_from (b ∷ ps) q h = by_test q (length ps) (λ c. Whole (if c then b ∷ ps else from ps q)) (λ e. h) (λ e. spread_from ps q (λ x m. h x (in_right (map (spread_of (Sc b ps)) (body_entries b ps)) m)))
 
-  under : (k n : ℕ) → k < n → nat_lt k n ≡ true
-  under k n h = grind (arith, nat_tests)
-
   -- Where a statement's rows' inputs stand.
   module _ (e : Scope) (y : U) (n : ℕ) (guard : Guard) (body r : Code) (g : Good e (number (While n guard body r), record { before = y; code = While n guard body r })) where
     abbrev t : ℕ
@@ -163,7 +159,7 @@ module _ (engine : Engine) (program : List Routine) (once : Distinct (keys (spre
 
     pub iterate_off : (i : ℕ) → i ≤ N → offset engine program (iterate_point engine bare n y.point i) ≡ y.rank + i * t
     iterate_off zero h = g.off ∙ omega arith
-    iterate_off (suc i) h = ap (or_zero engine program) (by_it e y (While n guard body r) g.among (next_mark engine bare i) ∙ ap (λ q. when engine bare q (mark (Iterate n (suc i)) (y.rank + suc i * t) tt)) (under i N (omega arith)))
+    iterate_off (suc i) h = ap (or_zero engine program) (by_it e y (While n guard body r) g.among (next_mark engine bare i) ∙ ap (λ q. when engine bare q (mark (Iterate n (suc i)) (y.rank + suc i * t) tt)) (less_test i N (omega arith)))
 
     pub round_base : (w : List Frame) (k : ℕ) → base engine program (InLoop n k ∷ w) ≡ base engine program w + suc (y.rank + k * t)
     round_base w k = ap (λ j. base engine program w + suc j) (ap (or_zero engine program) (by_it e y (While n guard body r) g.among (turn_of engine program k)))
@@ -188,13 +184,13 @@ module _ (engine : Engine) (program : List Routine) (once : Distinct (keys (spre
     fix_off = ap (or_zero engine program) (by_it e y (While n guard body r) g.among (fix_mark engine bare))
 
     pub exit_off : 0 < breaks body → offset engine program (Exit n) ≡ suc (y.rank + N * t + 1)
-    exit_off h = ap (or_zero engine program) (by_it e y (While n guard body r) g.among (exit_mark engine bare) ∙ ap (λ q. when engine bare q (mark (Exit n) (suc (y.rank + N * t + 1)) tt)) (under 0 (breaks body) h))
+    exit_off h = ap (or_zero engine program) (by_it e y (While n guard body r) g.among (exit_mark engine bare) ∙ ap (λ q. when engine bare q (mark (Exit n) (suc (y.rank + N * t + 1)) tt)) (less_test 0 (breaks body) h))
 
     pub leap_off : (k i : ℕ) → place_of k (break_numbers body) ≡ Some i → suc i < breaks body → offset engine program (Leap n k) ≡ suc (suc (y.rank + N * t + 1 + i))
     leap_off k i o h =
         ap (or_zero engine program) (by_it e y (While n guard body r) g.among (leap_mark engine bare k)
         ∙ ap (λ o. if_some o (λ i. when engine bare (nat_lt (suc i) (breaks body)) (mark (Leap n k) (suc (suc (y.rank + N * t + 1 + i))) tt))) o
-        ∙ ap (λ q. when engine bare q (mark (Leap n k) (suc (suc (y.rank + N * t + 1 + i))) tt)) (under (suc i) (breaks body) h))
+        ∙ ap (λ q. when engine bare q (mark (Leap n k) (suc (suc (y.rank + N * t + 1 + i))) tt)) (less_test (suc i) (breaks body) h))
 
     pub behind_off : offset engine program (Post n) ≡ y.rank + cost engine (body_span engine e) (While n guard body r)
     behind_off = after_off e y (While n guard body r) g.among

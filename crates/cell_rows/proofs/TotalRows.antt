@@ -1,8 +1,8 @@
 -- The table by numbers is one for all names, and has the same values at the names that the program has.
-use Rattle.std.proofs.Common.{◌≡◌, ℕ, zero, suc, ◌+◌, ◌<◌, ◌≤◌, List, [], ◌∷◌, ◌++◌, length, map, Option, Some, None, Bool, true, false, if◌then◌else◌, ◌==◌, refl, sym, ap, ◌∙◌, subst, arith, nat_lt}
+use Rattle.std.proofs.Common.{◌≡◌, ℕ, zero, suc, ◌+◌, ◌<◌, ◌≤◌, List, [], ◌∷◌, ◌++◌, length, map, Option, Some, None, Bool, true, false, if◌then◌else◌, ◌==◌, refl, sym, ap, ◌∙◌, subst, nat_lt}
 use Rattle.std.specs.Option.{option_map}
-use Rattle.std.proofs.lemmas.Bool.Decides.{nat_tests}
 use Rattle.std.proofs.lemmas.List.{map-append}
+use mathlib.Core.List.{map-map}
 use Rattle.imp_slots.specs.Plain.{Guard, Code, Stop, Simple, If, While, Call, Break, Routine}
 use Rattle.imp_slots.specs.Fits.{Distinct}
 use Rattle.domain_laws.specs.Operations.{Operations}
@@ -15,6 +15,7 @@ use Rattle.cell_names.specs.declared.frame.Point.{Point}
 use Rattle.cell_names.specs.declared.frame.Point.TheVariants.{Entry, Then, Else, Body, Post, Iterate, Fix, Exit, Leap}
 use Rattle.cell_names.specs.Paths.{CellName}
 use Rattle.plain_values.proofs.Members.{here, there, Each, each_more, each_both, none_there, keys}
+use Rattle.plain_values.proofs.Cases.{less_of}
 use Rattle.batch_meaning.proofs.Places.{found_member}
 use Rattle.demand_order.specs.Asking.{SameRow, Rows, AreRows, value_of, inputs_of}
 use Rattle.demand_order.proofs.Stable.{stable}
@@ -87,15 +88,11 @@ module _ (engine : Engine) where
   entries_texts rt e (Call n call q r) x = ap (λ k. SE (Sc rt e) (entry engine bare (Sc rt e) [] x (Call n call q r)) ∷ k) (entries_texts rt e r (behind_it engine bare (Sc rt e) [] (Call n call q r) x))
   entries_texts rt e (Break n r) x = ap (λ k. SE (Sc rt e) (entry engine bare (Sc rt e) [] x (Break n r)) ∷ k) (entries_texts rt e r (behind_it engine bare (Sc rt e) [] (Break n r) x))
 
-  map_map : {A B C : Type 0} (f : B → C) (g : A → B) (xs : List A) → map f (map g xs) ≡ map (λ x. f (g x)) xs
-  map_map f g [] = refl
-  map_map f g (x ∷ xs) = ap (λ k. f (g x) ∷ k) (map_map f g xs)
-
   strips : (ps : List Routine) → map strip_spread (spread engine ps) ≡ map strip_flat (flat ps)
   strips [] = refl
   strips (c ∷ e) =
       two strip_spread strip_flat (map (spread_of (Sc c e)) (entries engine (Sc c e) c.code (mark Entry 0 tt))) (spread engine e) (map (flat_of c e) (texts c.code Entry)) (flat e)
-      (map_map strip_spread (spread_of (Sc c e)) (entries engine (Sc c e) c.code (mark Entry 0 tt)) ∙ entries_texts c e c.code (mark Entry 0 tt) ∙ sym (map_map strip_flat (flat_of c e) (texts c.code Entry)))
+      (map-map strip_spread (spread_of (Sc c e)) (entries engine (Sc c e) c.code (mark Entry 0 tt)) ∙ entries_texts c e c.code (mark Entry 0 tt) ∙ sym (map-map strip_flat (flat_of c e) (texts c.code Entry)))
       (strips e)
 
   keys_strip_spread : (xs : List (ℕ × Spread)) → keys (map strip_spread xs) ≡ keys xs
@@ -270,9 +267,6 @@ module _ {S : Type 0} (dom : Operations S) (engine : Engine) (program : List Rou
   abbrev T : Rows CellName (Cell S)
   T = table dom engine program same
 
-  under_it : (k n : ℕ) → nat_lt k n ≡ true → k < n
-  under_it k n h = grind (arith, nat_tests)
-
   abbrev rank : CellName → ℕ
   rank = total_rank engine program
 
@@ -293,7 +287,7 @@ module _ {S : Type 0} (dom : Operations S) (engine : Engine) (program : List Rou
       go (Over j z) e = absurd cc
       go (State s) e =
           let i = cond_some (nat_lt v.index B) (name (InLoop n v.index ∷ w) p) y e in
-          subst (λ a. rank a < m) i.1 (h.1 v.index (under_it v.index B i.0))
+          subst (λ a. rank a < m) i.1 (h.1 v.index (less_of v.index B i.0))
   lower_asks (Joins stays l n w p) m (v ∷ u ∷ vs) y h e = absurd cc
 
   falls : (x y : CellName) (vs : List (Cell S)) → TT.asks x vs ≡ Some y → TT.rank y < TT.rank x

@@ -15,10 +15,10 @@ use Rattle.batch_meaning.specs.Values.{Value, State, Over, lift}
 use Rattle.batch_meaning.specs.Batch.{Engine, calls_of}
 use Rattle.batch_meaning.specs.Places.{Spot, spots, find, from, if_some, head_value, value_in, entered, main_layout, entry, value_at}
 use Rattle.batch_meaning.proofs.Places.{found_member, keys_numbers}
-use Rattle.batch_meaning.proofs.Procedures.{look_get, look_from, FitBack, fit_back, fit_back_from}
+use Rattle.batch_meaning.proofs.Procedures.{look_get, FitBack, fit_back, fit_back_from}
 use Rattle.batch_sound.proofs.Answered.{then_inv}
-use Rattle.batch_sound.proofs.Fitting.{callee, SpotFit, spots_fit, procedure_fit}
-use Rattle.batch_sound.proofs.Values.{Fit, fit_enter}
+use Rattle.batch_sound.proofs.Fitting.{SpotFit, spots_fit, procedure_fit, entered_fit}
+use Rattle.batch_sound.proofs.Values.{Fit}
 use Rattle.cert_meaning.specs.Chained.{layout_around, layouts_around}
 use Rattle.cert_meaning.specs.Written.{state_in}
 use Rattle.cert_sound.proofs.Fitting.{InProgram, earlier_in, last_at, are_of}
@@ -79,15 +79,12 @@ module _ {S : Type 0} (dom : Operations S) (engine : Engine) (covers : S → Hea
     called : (n : ℕ) (s : Spot S) (k : Invoke × ℕ) → find n Spots ≡ Some s → s.call ≡ Some k → IsEntered (n ∷ z) (from earlier k.1) (lift (dom.enter k.0.entering) s.before)
     called n s k was e =
         let f = fits_here n s was in
-        let c = callee (reverse earlier) r.layout k.0 k.1 (f.call k e) in
         record {
           inp = in_program_from program earlier k.1 (earlier_in program r earlier x.inp);
           back = fit_back_from earlier k.1 x.back.1;
           fine = λ b rest i.
-              let same : c.routine ≡ b = same_Some c.routine b (sym (look_get earlier k.1 ∙ c.at) ∙ look_from earlier k.1 b rest i) in
               subst (λ ls. Good (lift (dom.enter k.0.entering) s.before) (b.layout ∷ ls)) (sym (around n s was))
-              (subst (λ l. Good (lift (dom.enter k.0.entering) s.before) (l ∷ r.layout ∷ layouts_around program z)) (sym c.layout ∙ ap (λ (b : Routine). b.layout) same)
-              (fit_enter dom engine covers laws k.0 r.layout (layouts_around program z) s.before c.fits f.before_fit));
+              (entered_fit dom engine covers laws earlier r.layout (layouts_around program z) k.0 k.1 s.before (f.call k e) f.before_fit b rest i);
         }
 
     entered_further : (n : ℕ) (t : List Routine × Value S) → entered dom engine n z (r ∷ earlier, v) ≡ Some t → IsEntered (n ∷ z) t.0 t.1

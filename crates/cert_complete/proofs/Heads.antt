@@ -1,6 +1,6 @@
 -- The head of a loop is above the state in front of it, and above what a round makes of it.
 use Rattle.std.specs.Prelude.{◌≡◌, ℕ, zero, suc, nat_lt, ℤ, List, Bool, true, false, if◌then◌else◌}
-use Rattle.std.proofs.Common.{refl, sym, ◌∙◌, subst}
+use Rattle.std.proofs.Common.{refl, subst, sym, ◌∙◌}
 use Rattle.imp_slots.specs.Plain.{Layout}
 use Rattle.concrete_sem.specs.Values.{Variables, Heap}
 use Rattle.program_chains.specs.Marks.{IsRising}
@@ -31,9 +31,6 @@ module _ {S : Type 0} (dom : Operations S) (engine : Engine) (covers : S → Hea
     pub entry : leq a x ≡ true
     pub again : (w : S) → body (State x) ≡ State w → leq w x ≡ true
 
-  state_inj : (s t : S) → State s ≡ State t → s ≡ t
-  state_inj s t e = cc
-
   module _ (body : Value S → Value S) (keep : (v : Value S) → Fit dom engine covers laws v ls → Fit dom engine covers laws (body v) ls) where
     settled : (k : ℕ) (s : S) (b : Value S) (go : S → Fixed S) (x : S) → dom.fits s ls ≡ true → body (State s) ≡ b → Fit dom engine covers laws b ls → ((t : S) → dom.fits t ls ≡ true → (go t).value ≡ State x → IsUp body t x) → (settle dom engine k s (lift (next_of dom engine marks k s) b) go).value ≡ State x → IsUp body s x
     settled k s (Over n z) go x fs is fb up e = absurd cc
@@ -46,8 +43,10 @@ module _ {S : Type 0} (dom : Operations S) (engine : Engine) (covers : S → Hea
         by : (c : Bool) → dom.same (next_of dom engine marks k s w) s ≡ c → (if c then record { value = State s; index = k } else go (next_of dom engine marks k s w)).value ≡ State x → IsUp body s x
         by true same e =
             let i : next_of dom engine marks k s w ≡ s = (laws.same (next_of dom engine marks k s w) s).0 same in
-            subst (IsUp body s) (state_inj s x e)
-            (record { fits = fs; entry = bounds.self s; again = λ v j. subst (λ v. leq v s ≡ true) (state_inj w v (sym is ∙ j)) (subst (λ t. leq w t ≡ true) i next.right) })
+            let ends : State s ≡ State x = e in
+            let came : s ≡ x = cc in
+            subst (IsUp body s) came
+            (record { fits = fs; entry = bounds.self s; again = λ v j. let both : State w ≡ State v = sym is ∙ j in let given : w ≡ v = cc in subst (λ v. leq v s ≡ true) given (subst (λ t. leq w t ≡ true) i next.right) })
         by false other e =
             let u = up (next_of dom engine marks k s w) next.fits e in
             record { fits = u.fits; entry = bounds.trans ls s (next_of dom engine marks k s w) x fs next.fits u.fits next.left u.entry; again = u.again }

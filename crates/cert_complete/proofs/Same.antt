@@ -28,10 +28,7 @@ use Rattle.cert_complete.specs.Theorem.{IsLoopUnder, HasNoOver, AreHeads}
 use Rattle.cert_complete.proofs.Heads.{head_is_up}
 use Rattle.cert_complete.proofs.Loops.{are_loops, contains}
 use Rattle.std.proofs.lemmas.Option.{slice_get_within}
-
-maps_both : {A B : Type 0} (f : A → B) (xs ys : List A) → map f xs ++ map f ys ≡ map f (xs ++ ys)
-maps_both f [] ys = refl
-maps_both f (x ∷ xs) ys = ap (λ zs. f x ∷ zs) (maps_both f xs ys)
+use Rattle.std.proofs.lemmas.List.{map-append}
 
 -- what a block gives are states, and following gives them
 pub record Same {S : Type 0} (r : Passed S) (f : Followed S) : Type 0 where
@@ -150,7 +147,7 @@ module _ {S : Type 0} (dom : Operations S) (engine : Engine) (covers : S → Hea
           ahead = w.ahead;
           leaving = (one.leaving ++ two.leaving) ++ w.leaving;
           value = ap (λ u. (B r u).value) ends ∙ w.value;
-          leaves = (λ i. (one.leaves i ++ two.leaves i) ++ (B r (ends i)).leaving) ∙ (λ i. maps_both State one.leaving two.leaving i ++ w.leaves i) ∙ maps_both State (one.leaving ++ two.leaving) w.leaving;
+          leaves = (λ i. (one.leaves i ++ two.leaves i) ++ (B r (ends i)).leaving) ∙ (λ i. sym (map-append State one.leaving two.leaving) i ++ w.leaves i) ∙ sym (map-append State (one.leaving ++ two.leaving) w.leaving);
           follows =
               ap (λ k. passing k (λ x xs. passing (F e (dom.assume g false v)) (λ y ys. after (xs ++ ys) (F r (dom.join x y))))) one.follows ∙
               ap (λ k. passing k (λ y ys. after (one.leaving ++ ys) (F r (dom.join x y)))) two.follows ∙ ap (after (one.leaving ++ two.leaving)) w.follows;

@@ -1,5 +1,6 @@
 -- What targets demand: names of the program, whose values are the answer.
 use Rattle.std.proofs.Common.{◌≡◌, ℕ, Bool, true, List, [], ◌∷◌, ◌++◌, map, reverse, Some, sym, ap, ◌∙◌, subst}
+use Rattle.std.proofs.lemmas.Option.{same_Some}
 use Rattle.imp_syntax.specs.declared.edit.Location.{Location}
 use Rattle.imp_slots.specs.Plain.{Routine}
 use Rattle.imp_slots.specs.Fits.{IsChecked}
@@ -54,11 +55,8 @@ module _ {S : Type 0} (dom : Operations S) (engine : Engine) (program : List Rou
       let x = then_some (target program l z) (λ t. if_some (all_targets (target program l) zs) (λ ts. Some (t ∷ ts))) ts e in
       let y = then_some (all_targets (target program l) zs) (λ ts. Some (x.0 ∷ ts)) ts x.2 in
       let t = x.0 in
-      let i : t ∷ y.0 ≡ ts = some_same (t ∷ y.0) ts y.2 in
+      let i : t ∷ y.0 ≡ ts = same_Some (t ∷ y.0) ts y.2 in
       subst (λ ts. All There (demanded g ts)) i (all_both There (demanded_in g t.steps t.last []) (demanded g y.0) (at_target l z t x.1) (at_targets l zs y.0 y.1))
-    where
-      some_same : {A : Type 0} (a b : A) → Some a ≡ Some b → a ≡ b
-      some_same a b e = cc
 
   pub demanded_named : (l : Location) (string : List ℕ) (p : ℕ) (ts : List Target) (x : CellName) → targets program p l string ≡ Some ts → member same (demanded g ts) x ≡ true → HasName engine program x
   demanded_named l string p ts x e m = unvalued dom engine program checked x (all_member same is.same_true There (demanded g ts) (at_targets l (selected program p string) ts e) x m)

@@ -1,37 +1,29 @@
 -- The iterates of a loop, by the last two.
-use Rattle.std.proofs.Common.{◌≡◌, ℕ, zero, suc, ◌+◌, ◌<◌, List, [], ◌∷◌, ◌++◌, length, Some, None, Bool, true, false, if◌then◌else◌, nat_lt, refl, ap, ◌∙◌, arith}
+use Rattle.std.proofs.Common.{◌≡◌, ℕ, zero, suc, ◌+◌, List, [], ◌∷◌, ◌++◌, length, Some, None, Bool, true, false, if◌then◌else◌, nat_lt, refl, ap, ◌∙◌, arith, sym, add-zero, zero-add}
 use Rattle.std.proofs.lemmas.Bool.Decides.{nat_tests}
 use Rattle.domain_laws.specs.Operations.{Operations}
 use Rattle.batch_meaning.specs.Values.{Value, State, Over}
 use Rattle.batch_meaning.specs.Batch.{Engine, settle}
 use Rattle.cell_rows.specs.Cells.{Cell, cell, plain, again, wants, wants_at, wants_first, ends, ends_at, ends_first}
 use Rattle.demand_laws.specs.Stops.{state_of, last_state, goes_on, stops_with}
+use Rattle.plain_values.proofs.Cases.{less_test}
 
 is_not_less : (k n : ℕ) → n ≡ k → false ≡ nat_lt k n
 is_not_less k n e = grind (arith, nat_tests)
 
-is_less : (k n : ℕ) → k < n → true ≡ nat_lt k n
-is_less k n h = grind (arith, nat_tests)
-
 move : (a k : ℕ) → a + suc k ≡ suc a + k
 move a k = omega arith
-
-plus_none : (n : ℕ) → n + 0 ≡ n
-plus_none n = omega arith
-
-none_plus : (n : ℕ) → n ≡ 0 + n
-none_plus n = omega arith
 
 module _ {S : Type 0} (dom : Operations S) (engine : Engine) where
   -- Behind one more state.
   last_wants : (l k : ℕ) (t : S) → wants dom engine l t [] ≡ nat_lt (suc k) (suc l + k)
   last_wants zero k t = is_not_less (suc k) (suc zero + k) (omega arith)
-  last_wants (suc l) k t = is_less (suc k) (suc (suc l) + k) (omega arith)
+  last_wants (suc l) k t = sym (less_test (suc k) (suc (suc l) + k) (omega arith))
 
   goes : (left k : ℕ) (s : S) (vs : List (Cell S)) (v : Cell S) → wants dom engine left s vs ≡ true →
       wants dom engine left s (vs ++ v ∷ []) ≡ goes_on dom (left + k) (suc (length vs + k)) (last_state (Some s) vs) v.value
   goes zero k s vs v h = absurd cc
-  goes (suc l) k s [] v h = by_last v.value ∙ ap (λ n. goes_on dom (suc l + k) (suc n) (Some s) v.value) (none_plus k)
+  goes (suc l) k s [] v h = by_last v.value ∙ ap (λ n. goes_on dom (suc l + k) (suc n) (Some s) v.value) (sym (zero-add k))
     where
       by_last : (u : Value S) → again dom engine s u (λ t. wants dom engine l t []) ≡ goes_on dom (suc l + k) (suc k) (Some s) u
       by_last (Over n z) = refl
@@ -59,7 +51,7 @@ module _ {S : Type 0} (dom : Operations S) (engine : Engine) where
     where
       by_state : (n : ℕ) (s : S) → wants dom engine n s [] ≡ nat_lt 0 n
       by_state zero s = is_not_less 0 0 refl
-      by_state (suc n) s = is_less 0 (suc n) (omega arith)
+      by_state (suc n) s = sym (less_test 0 (suc n) (omega arith))
 
       by_first : (u : Value S) → wants_at dom engine u [] ≡ goes_on dom engine.budget 0 None u
       by_first (Over m z) = refl
@@ -70,8 +62,8 @@ module _ {S : Type 0} (dom : Operations S) (engine : Engine) where
       by_first (Over m z) h = absurd cc
       by_first (State s) h =
           goes engine.budget 0 s vs v h
-          ∙ ap (λ n. goes_on dom n (suc (length vs + 0)) (last_state (Some s) vs) v.value) (plus_none engine.budget)
-          ∙ ap (λ n. goes_on dom engine.budget (suc n) (last_state (Some s) vs) v.value) (plus_none (length vs))
+          ∙ ap (λ n. goes_on dom n (suc (length vs + 0)) (last_state (Some s) vs) v.value) (add-zero engine.budget)
+          ∙ ap (λ n. goes_on dom engine.budget (suc n) (last_state (Some s) vs) v.value) (add-zero (length vs))
 
   module _ (over : Value S) where
     no_more : (l k : ℕ) (t : S) → ends dom engine over l k t [] ≡ plain over
@@ -81,7 +73,7 @@ module _ {S : Type 0} (dom : Operations S) (engine : Engine) where
     ends_so : (left k : ℕ) (s : S) (vs : List (Cell S)) (v : Cell S) → wants dom engine left s vs ≡ true → wants dom engine left s (vs ++ v ∷ []) ≡ false →
         ends dom engine over left k s (vs ++ v ∷ []) ≡ stops_with dom over (suc (length vs + k)) (last_state (Some s) vs) v.value
     ends_so zero k s vs v h g = absurd cc
-    ends_so (suc l) k s [] v h g = by_last v.value ∙ ap (λ n. stops_with dom over (suc n) (Some s) v.value) (none_plus k)
+    ends_so (suc l) k s [] v h g = by_last v.value ∙ ap (λ n. stops_with dom over (suc n) (Some s) v.value) (sym (zero-add k))
       where
         by_last : (u : Value S) → settle dom engine k s u (λ t. ends dom engine over l (suc k) t []) ≡ stops_with dom over (suc k) (Some s) u
         by_last (Over n z) = refl
@@ -111,4 +103,4 @@ module _ {S : Type 0} (dom : Operations S) (engine : Engine) where
       where
         by_first : (u : Value S) → wants_at dom engine u vs ≡ true → wants_at dom engine u (vs ++ v ∷ []) ≡ false → ends_at dom engine over u (vs ++ v ∷ []) ≡ stops_with dom over (suc (length vs)) (last_state (state_of u) vs) v.value
         by_first (Over m z) h g = absurd cc
-        by_first (State s) h g = ends_so engine.budget 0 s vs v h g ∙ ap (λ n. stops_with dom over (suc n) (last_state (Some s) vs) v.value) (plus_none (length vs))
+        by_first (State s) h g = ends_so engine.budget 0 s vs v h g ∙ ap (λ n. stops_with dom over (suc n) (last_state (Some s) vs) v.value) (add-zero (length vs))

@@ -5,7 +5,7 @@ use Rattle.std.proofs.lemmas.Option.{slice_get_within, same_Some}
 use Rattle.std.specs.Option.{option_and_then}
 use Rattle.std.specs.Ordering.{nat_cmp}
 use Rattle.std.specs.FinMap.{FinMap, get}
-use Rattle.plain_values.proofs.Lists.{get_last, get_other}
+use Rattle.plain_values.proofs.Lists.{get_last, get_other, get_pushed}
 use Rattle.cell_names.specs.Known.{KeepsNumbers, IsOnce, Adds}
 use Rattle.cell_names.specs.Paths.{CellName}
 use Rattle.demand_order.specs.Order.{member}
@@ -75,24 +75,18 @@ adds_keeps old new x n (inr h) = λ m y e.
     let w : m < length old = slice_get_within old m y e in
     rw h.2 (get_other old x m (λ q. absurd (omega arith)) ∙ e)
 
-pub within_more : {A : Type 0} (old : List A) (x y : A) (m : ℕ) → slice_get (old ++ x ∷ []) m ≡ Some y → ((m ≡ length old) × (y ≡ x)) ⊎ (slice_get old m ≡ Some y)
-within_more [] x y zero e = inl (refl, sym (same_Some x y e))
-within_more [] x y (suc m) e = absurd cc
-within_more (z ∷ zs) x y zero e = inr e
-within_more (z ∷ zs) x y (suc m) e = elim (within_more zs x y m e) [ inl p ↦ inl (ap suc p.0, p.1) | inr q ↦ inr q ]
-
 pub adds_once : {A : Type 0} (old new : List A) (x : A) (n : ℕ) → Adds old new x n → IsOnce old → IsOnce new
 adds_once {A} old new x n (inl h) once = subst IsOnce (sym h.1) once
 adds_once {A} old new x n (inr h) once = subst IsOnce (sym h.2) more
   where
     more : IsOnce (old ++ x ∷ [])
-    more i j y e k = go (within_more old x y i e) (within_more old x y j k)
+    more i j y e k = go (get_pushed old x i y e) (get_pushed old x j y k)
       where
-        go : ((i ≡ length old) × (y ≡ x)) ⊎ (slice_get old i ≡ Some y) → ((j ≡ length old) × (y ≡ x)) ⊎ (slice_get old j ≡ Some y) → i ≡ j
-        go (inl p) (inl q) = p.0 ∙ sym q.0
-        go (inl p) (inr q) = absurd (h.0 j (q ∙ ap Some p.1))
-        go (inr p) (inl q) = absurd (h.0 i (p ∙ ap Some q.1))
-        go (inr p) (inr q) = once i j y p q
+        go : (slice_get old i ≡ Some y) ⊎ ((i ≡ length old) × (x ≡ y)) → (slice_get old j ≡ Some y) ⊎ ((j ≡ length old) × (x ≡ y)) → i ≡ j
+        go (inl p) (inl q) = once i j y p q
+        go (inl p) (inr q) = absurd (h.0 i (p ∙ ap Some (sym q.1)))
+        go (inr p) (inl q) = absurd (h.0 j (q ∙ ap Some (sym p.1)))
+        go (inr p) (inr q) = p.0 ∙ sym q.0
 
 -- numbers of names, one by one
 pub numbers_get : (names : List CellName) (ns : List ℕ) (xs : List CellName) → AreNumbers names ns xs → (i n : ℕ) → slice_get ns i ≡ Some n → (x : CellName) × (slice_get xs i ≡ Some x) × (slice_get names n ≡ Some x)

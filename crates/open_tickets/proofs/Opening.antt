@@ -1,9 +1,10 @@
 -- A ticket more.
-use Rattle.std.proofs.Common.{◌≡◌, ◌≢◌, ℕ, suc, ◌+◌, ◌<◌, ◌≤◌, List, [], ◌∷◌, ◌++◌, map, length, refl, sym, ap, subst, ◌∙◌, arith}
+use Rattle.std.proofs.Common.{◌≡◌, ◌≢◌, ℕ, suc, ◌+◌, ◌<◌, ◌≤◌, List, [], ◌∷◌, ◌++◌, map, length, sym, ap, subst, ◌∙◌, arith}
 use Rattle.imp_slots.specs.Fits.{Absent, Distinct}
 use Rattle.open_tickets.specs.declared.tickets.Open.{Open}
 use Rattle.open_tickets.specs.declared.tickets.Tickets.{Tickets}
 use Rattle.open_tickets.specs.Tickets.{number, AreBelow, AreOpen}
+use Rattle.plain_values.proofs.Lists.{one_more}
 
 module _ {G : Type 0} where
   above : (n : ℕ) (os : List (Open G)) → AreBelow n os → Absent n (map number os)
@@ -26,16 +27,12 @@ module _ {G : Type 0} where
   end_below n [] o a h = (h, tt)
   end_below n (x ∷ xs) o a h = (a.0, end_below n xs o a.1 h)
 
-  end_length : (os : List (Open G)) (o : Open G) → length (os ++ o ∷ []) ≡ suc (length os)
-  end_length [] o = refl
-  end_length (x ∷ xs) o = ap suc (end_length xs o)
-
   -- the ticket of the next number comes behind the others
   pub opens : (t u : Tickets G) (o : Open G) → AreOpen t → length t.open_ones.items < 16 → u.open_ones.items ≡ t.open_ones.items ++ o ∷ [] → o.number ≡ t.next → u.next ≡ t.next + 1 → AreOpen u
   opens t u o are few items is next =
       let os = t.open_ones.items in
       let low : o.number < u.next = omega arith in
-      let len : length u.open_ones.items ≡ suc (length t.open_ones.items) = ap length items ∙ end_length t.open_ones.items o in
+      let len : length u.open_ones.items ≡ suc (length t.open_ones.items) = ap length items ∙ one_more t.open_ones.items o in
       record {
         few = omega arith;
         once = subst (λ (xs : List (Open G)). Distinct (map number xs)) (sym items) (end_distinct t.open_ones.items o are.once (subst (λ n. Absent n (map number t.open_ones.items)) (sym is) (above t.next t.open_ones.items are.below)));

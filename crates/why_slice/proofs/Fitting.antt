@@ -1,5 +1,5 @@
 -- What the cells of a program hold fits, and so does the exchanged statement.
-use Rattle.std.proofs.Common.{◌≡◌, ℕ, zero, suc, ℤ, List, [], ◌∷◌, length, reverse, Some, None, Bool, true, false, if◌then◌else◌, nat_lt, refl, sym, ap, ◌∙◌, subst}
+use Rattle.std.proofs.Common.{◌≡◌, ℕ, zero, suc, ℤ, List, [], ◌∷◌, length, reverse, Some, Bool, true, false, if◌then◌else◌, nat_lt, refl, sym, ◌∙◌, subst}
 use Rattle.imp_slots.specs.Plain.{Layout, Guard, Effect, Code, Stop, Simple, If, While, Call, Break, Routine}
 use Rattle.imp_slots.specs.Fits.{fits_effect, fits_guard, FitsCode}
 use Rattle.concrete_sem.specs.Values.{Variables, Heap}
@@ -10,12 +10,12 @@ use Rattle.domain_laws.specs.Laws.{Laws}
 use Rattle.batch_meaning.specs.Values.{Value, State, Over, lift, lift2}
 use Rattle.batch_meaning.specs.Batch.{Engine, next_of}
 use Rattle.batch_meaning.specs.Places.{from, main_layout}
-use Rattle.batch_meaning.proofs.Procedures.{look_get, look_from, FitBack, fit_back_from}
-use Rattle.batch_sound.proofs.Values.{Fit, fit_assume, fit_enter}
-use Rattle.batch_sound.proofs.Fitting.{FitPassed, block_fit, procedure_fit, callee}
+use Rattle.batch_meaning.proofs.Procedures.{look_get, FitBack, fit_back_from}
+use Rattle.batch_sound.proofs.Values.{Fit, fit_assume}
+use Rattle.batch_sound.proofs.Fitting.{FitPassed, block_fit, procedure_fit, entered_fit}
 use Rattle.cell_names.specs.declared.frame.Frame.{Frame}
 use Rattle.cell_names.specs.declared.frame.Frame.TheVariants.{InCall, InLoop}
-use Rattle.plain_values.proofs.Cases.{by_test}
+use Rattle.plain_values.proofs.Cases.{by_test, given_item}
 use Rattle.plain_values.proofs.Members.{Each, each_more, each_both, none_there}
 use Rattle.cell_rows.specs.Blocks.{iterate_at}
 use Rattle.cell_rows.specs.Names.{Scope, Mark, At, Algebra, Place, entry, inside, behind_it, level, start_of, in_call, in_loop, round_place, follow}
@@ -158,17 +158,9 @@ module _ {S : Type 0} (dom : Operations S) (engine : Engine) (covers : S → Hea
     call_fits b n y (While m g x r) c p h e = absurd cc
     call_fits b n y (Call m i q r) c p h e =
         let a = at_fits b p y (Call m i q r) h in
-        let k = callee (reverse b.scope.earlier) p.frame i q a.code.0 in
-        let v = fit_enter dom engine covers laws i p.frame p.below y.value.value k.fits a.front in
         start_fits (from b.scope.earlier q) (n ∷ b.sites) _ c (p.frame ∷ p.below) (fit_back_from b.scope.earlier q p.procs) (suit_from s f b.scope.earlier q p.suit)
-        (λ r e j.
-        let same : k.routine ≡ r = same_Some _ _ (sym k.at ∙ sym (look_get b.scope.earlier q) ∙ look_from b.scope.earlier q r e j) in
-        subst (λ m. G (lift (dom.enter i.entering) y.value.value) (m ∷ p.frame ∷ p.below)) (sym k.layout ∙ ap (λ (r : Routine). r.layout) same) v) e
+        (entered_fit dom engine covers laws b.scope.earlier p.frame p.below i q y.value.value a.code.0 a.front) e
     call_fits b n y (Break m r) c p h e = absurd cc
-
-    by_limit : {X : Type 0} (t : Bool) (a r : X) → (if t then Some a else None) ≡ Some r → a ≡ r
-    by_limit true a r e = same_Some a r e
-    by_limit false a r e = absurd cc
 
     loop_fits : (b : P) (n k : ℕ) (y : M) (d : Code) (c : P) → PlaceFits b → Stands engine A b y d → in_loop engine A b n k y d ≡ Some c → PlaceFits c
     loop_fits b n k y Stop c p h e = absurd cc
@@ -176,7 +168,7 @@ module _ {S : Type 0} (dom : Operations S) (engine : Engine) (covers : S → Hea
     loop_fits b n k y (If m g x w r) c p h e = absurd cc
     loop_fits b n k y (While m g x r) c p h e =
         let a = at_fits b p y (While m g x r) h in
-        subst PlaceFits (by_limit (nat_lt k engine.budget) (round_place engine A b n g x k y) c e) (record {
+        subst PlaceFits (given_item (nat_lt k engine.budget) (round_place engine A b n g x k y) c e) (record {
           frame = p.frame;
           below = p.below;
           rising = p.rising;

@@ -1,16 +1,14 @@
 -- Numbers are put into an ordered set one after another.
-use Rattle.std.proofs.Common.{◌≡◌, ℕ, zero, suc, ◌<◌, ◌+◌, List, [], ◌∷◌, ◌++◌, fold, take, length, get_or, refl, sym, ap, ◌∙◌, append_assoc, append-nil, arith}
+use Rattle.std.proofs.Common.{◌≡◌, ℕ, ◌<◌, ◌+◌, List, [], ◌∷◌, ◌++◌, fold, take, length, get_or, refl, sym, ap, ◌∙◌, append_assoc, append-nil}
+use Rattle.std.proofs.lemmas.List.Sums.{fold-append}
+use Rattle.std.proofs.lemmas.List.{get_or_default}
 use Rattle.std.specs.BTreeSet.{insert_key}
 use Rattle.std.specs.Ordering.{nat_cmp}
 use Rattle.plain_values.proofs.Lists.{take_item}
 use Rattle.why_slice.specs.Upstream.{all_of}
 
-pub fold_both : (ks xs ys : List ℕ) → fold (insert_key nat_cmp) ks (xs ++ ys) ≡ fold (insert_key nat_cmp) (fold (insert_key nat_cmp) ks xs) ys
-fold_both ks [] ys = refl
-fold_both ks (x ∷ xs) ys = fold_both (insert_key nat_cmp ks x) xs ys
-
 pub put_next : (old now new ns : List ℕ) (i x : ℕ) → i < length ns → x ≡ get_or ns i x → now ≡ fold (insert_key nat_cmp) old (take i ns) → new ≡ insert_key nat_cmp now x → new ≡ fold (insert_key nat_cmp) old (take (i + 1) ns)
-put_next old now new ns i x h e k j = j ∙ ap (λ ks. insert_key nat_cmp ks x) k ∙ sym (ap (fold (insert_key nat_cmp) old) (take_item ns i x h e) ∙ fold_both old (take i ns) (x ∷ []))
+put_next old now new ns i x h e k j = j ∙ ap (λ ks. insert_key nat_cmp ks x) k ∙ sym (ap (fold (insert_key nat_cmp) old) (take_item ns i x h e) ∙ fold-append (insert_key nat_cmp) old (take i ns) (x ∷ []))
 
 all_both : (xs ys : List (List ℕ)) → all_of (xs ++ ys) ≡ all_of xs ++ all_of ys
 all_both [] ys = refl
@@ -19,12 +17,7 @@ all_both (x ∷ xs) ys = ap (λ k. x ++ k) (all_both xs ys) ∙ sym (append_asso
 pub put_list : (old now new : List ℕ) (nss : List (List ℕ)) (i : ℕ) (ns : List ℕ) → i < length nss → ns ≡ get_or nss i ns → now ≡ fold (insert_key nat_cmp) old (all_of (take i nss)) → new ≡ fold (insert_key nat_cmp) now ns → new ≡ fold (insert_key nat_cmp) old (all_of (take (i + 1) nss))
 put_list old now new nss i ns h e k j =
     j ∙ ap (λ ks. fold (insert_key nat_cmp) ks ns) k
-    ∙ sym (ap (λ xs. fold (insert_key nat_cmp) old (all_of xs)) (take_item nss i ns h e) ∙ ap (fold (insert_key nat_cmp) old) (all_both (take i nss) (ns ∷ []) ∙ ap (λ k. all_of (take i nss) ++ k) (append-nil ns)) ∙ fold_both old (all_of (take i nss)) ns)
-
-pub same_get : (ns : List ℕ) (i d : ℕ) → i < length ns → get_or ns i d ≡ get_or ns i (get_or ns i d)
-same_get [] i d h = absurd (omega arith)
-same_get (n ∷ ns) zero d h = refl
-same_get (n ∷ ns) (suc i) d h = same_get ns i d (omega arith)
+    ∙ sym (ap (λ xs. fold (insert_key nat_cmp) old (all_of xs)) (take_item nss i ns h e) ∙ ap (fold (insert_key nat_cmp) old) (all_both (take i nss) (ns ∷ []) ∙ ap (λ k. all_of (take i nss) ++ k) (append-nil ns)) ∙ fold-append (insert_key nat_cmp) old (all_of (take i nss)) ns)
 
 pub put_at : (old now new ns : List ℕ) (i d : ℕ) → i < length ns → now ≡ fold (insert_key nat_cmp) old (take i ns) → new ≡ insert_key nat_cmp now (get_or ns i d) → new ≡ fold (insert_key nat_cmp) old (take (i + 1) ns)
-put_at old now new ns i d h k j = put_next old now new ns i (get_or ns i d) h (same_get ns i d h) k j
+put_at old now new ns i d h k j = put_next old now new ns i (get_or ns i d) h (get_or_default ns i d (get_or ns i d) h) k j
