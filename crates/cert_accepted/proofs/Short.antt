@@ -24,6 +24,7 @@ use Rattle.cert_accepted.specs.Accepted.{CheckedHaveLines}
 use Rattle.cert_accepted.proofs.Chains.{goes}
 use Rattle.cert_accepted.proofs.Standing.{member}
 use Rattle.program_chains.proofs.Found.{callee_before}
+use Rattle.call_contexts.proofs.Few.{as_many}
 
 -- ---- calls by place are calls by name
 
@@ -132,10 +133,6 @@ in_first (y ∷ pre) p later (x ∷ front) q rest e h = let i : pre ++ p ∷ lat
 module _ (ps : List Procedure) (checked : IsChecked (routines_of ps)) where
   abbrev Named : ℕ → Type 0
   Named most = (pre : List Procedure) (p : Procedure) (later : List Procedure) → ps ≡ pre ++ p ∷ later → (z : List ℕ) → Member z (chains_within most (routines_of ps) (length pre)) → Member (reverse z) (chains_to p.name later)
-
-  as_many : (earlier ps : List Procedure) → length (routines_from earlier ps) ≡ length ps
-  as_many earlier [] = refl
-  as_many earlier (p ∷ later) = omega (arith, as_many (earlier ++ p ∷ []) later)
 
   -- a chain behind a call of another procedure
   behind_call : (most : ℕ) → Named most → (pre : List Procedure) (p : Procedure) (later : List Procedure) → ps ≡ pre ++ p ∷ later → (front : List Procedure) (own : Procedure) (rest : List Procedure) → ps ≡ front ++ own ∷ rest → length pre < length front →

@@ -134,14 +134,14 @@ module _ {S : Type 0} (dom : Operations S) where
   joined_same e s [] = refl
   joined_same e s (x ∷ xs) = joined_same e (dom.join s x) xs
 
-  state_inj : (s t : S) → State s ≡ State t → s ≡ t
-  state_inj s t e = cc
-
   any : Engine
   any = record { budget = 0; widening = record { delay = 0; thresholds = false } }
 
   pub joined_plain : (first out all : S) (others : List S) → out ≡ first → ((e : Engine) → State all ≡ batch.joined dom e (State out) (states others)) → all ≡ joined dom first others
-  joined_plain first out all others same is = state_inj all (joined dom out others) (is any ∙ joined_same any out others) ∙ ap (λ s. joined dom s others) same
+  joined_plain first out all others same is =
+      let states_same : State all ≡ State (joined dom out others) = is any ∙ joined_same any out others in
+      let behind_out : all ≡ joined dom out others = cc in
+      behind_out ∙ ap (λ s. joined dom s others) same
 
 -- a round, by how its body ends
 module _ {S : Type 0} (dom : Operations S) (leq : S → S → Bool) (z : List ℕ) (n : ℕ) (g : Guard) (body : S → plain.Followed S) where

@@ -18,9 +18,6 @@ pub bad_text : (old : List ℕ) (line : ℕ) → ((old ++ codes "{\"line\":") ++
 unfolding serde_json_on_literals verified_data
 bad_text old line = two old (codes "{\"line\":") (decimal line) (codes ",\"verify\":\"no\"}")
 
-turned : (z : List ℕ) → z ≡ reverse (reverse z)
-turned z = sym (reverse-reverse z)
-
 no_alone : (old : List ℕ) (n : ℕ) (z : List ℕ) (why : Why) →
     ((((((old ++ codes "{\"at\":") ++ decimal n) ++ codes ",\"chain\":") ++ compact_text (list_of count (reverse z))) ++ codes ",\"verify\":\"no\",\"why\":") ++ quoted (why_name why)) ++ codes "}" ≡ old ++ compact_text (verified_data (No n z why))
 unfolding serde_json_on_literals verified_data
@@ -29,7 +26,7 @@ no_alone old n z why = four old (codes "{\"at\":") (decimal n) (codes ",\"chain\
 pub no_text : (old : List ℕ) (n : ℕ) (chain : List ℕ) (why : Why) →
     ((((((old ++ codes "{\"at\":") ++ decimal n) ++ codes ",\"chain\":") ++ compact_text (list_of count chain)) ++ codes ",\"verify\":\"no\",\"why\":") ++ quoted (why_name why)) ++ codes "}" ≡ old ++ compact_text (verified_data (No n (reverse chain) why))
 no_text old n chain why =
-    ap (λ z. ((((((old ++ codes "{\"at\":") ++ decimal n) ++ codes ",\"chain\":") ++ compact_text (list_of count z)) ++ codes ",\"verify\":\"no\",\"why\":") ++ quoted (why_name why)) ++ codes "}") (turned chain)
+    ap (λ z. ((((((old ++ codes "{\"at\":") ++ decimal n) ++ codes ",\"chain\":") ++ compact_text (list_of count z)) ++ codes ",\"verify\":\"no\",\"why\":") ++ quoted (why_name why)) ++ codes "}") (sym (reverse-reverse chain))
     ∙ no_alone old n (reverse chain) why
 
 third : List ℕ → ℕ

@@ -18,7 +18,4 @@ state_text old n chain state = four old (codes "{\"at\":") (decimal n) (codes ",
 
 pub over_text : (n : ℕ) (chain : List ℕ) → reply_text (r.Over n chain) ≡ certificate_text (Gives n (reverse chain))
 unfolding reply_text reply_fields
-over_text n chain = ap (λ z. reply_text (r.Over n z)) (turned chain)
-  where
-    turned : (z : List ℕ) → z ≡ reverse (reverse z)
-    turned z = sym (reverse-reverse z)
+over_text n chain = ap (λ z. reply_text (r.Over n z)) (sym (reverse-reverse chain))

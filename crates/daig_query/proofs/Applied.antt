@@ -1,7 +1,6 @@
 -- What a name stores whose row is no fixed point, and whose inputs all are states.
-use Rattle.std.proofs.Common.{◌≡◌, ◌≢◌, ℕ, ◌<◌, ◌≤◌, List, map, take, length, Option, Some, None, IsSome, slice_get, sym, ap, ap₂, subst, ◌∙◌, arith}
+use Rattle.std.proofs.Common.{◌≡◌, ◌≢◌, ℕ, ◌<◌, List, map, take, length, Option, Some, None, IsSome, slice_get, sym, ap, ap₂, subst, ◌∙◌}
 use Rattle.std.specs.Prelude.{IfSome, is_some}
-use Rattle.std.proofs.Math.Seq.{take-length}
 use Rattle.domain_laws.specs.Operations.{Operations}
 use Rattle.batch_meaning.specs.Values as batch
 use Rattle.cell_names.specs.declared.frame.Point.{Point}
@@ -23,8 +22,8 @@ use Rattle.daig_query.specs.Right.{found}
 use Rattle.daig_query.specs.Opened.{IsReady}
 use Rattle.daig_query.proofs.Asked.{X, I, F, r, law, asks}
 use Rattle.daig_query.proofs.Computed.{known, Made, result, alone, row_made, Holds, holds}
+use Rattle.daig_query.proofs.Filling.{front_is_all}
 use Rattle.std.proofs.lemmas.Option.{same_Some}
-use Rattle.plain_values.proofs.Lists.{get_some}
 
 module _ {S : Type 0} (dom : Operations S) (plan : Plan) (store : Store S) (row : Row) (o : Open) (ready : IsReady dom plan store row o) (states : HasNoOver store.graph.cells o.inputs (length o.inputs)) (plain : (n : ℕ) (p : Point) → row ≢ Fixed n p) where
   abbrev all : List CellName
@@ -33,19 +32,8 @@ module _ {S : Type 0} (dom : Operations S) (plan : Plan) (store : Store S) (row 
   abbrev value : CellName → Cell S
   value = F dom plan store row o ready.at
 
-  complete : length o.inputs ≡ length all
-  complete =
-      let within : length o.inputs ≤ length all = ready.at.entry.within in
-      grind (arith, beyond)
-    where
-      beyond : length o.inputs < length all → ⊥
-      beyond l =
-          let q = get_some all (length o.inputs) l in
-          let c : Some q.0 ≡ None = sym q.1 ∙ ready.complete in
-          cc
-
   fronted : take (length o.inputs) all ≡ all
-  fronted = ap (λ m. take m all) complete ∙ take-length all
+  fronted = front_is_all dom plan store row o ready
 
   here : Holds store.states store.graph.cells o.inputs (map value all)
   here = subst (λ xs. Holds store.states store.graph.cells o.inputs (map value xs)) fronted (holds dom plan store ready.at.right o.inputs (take (length o.inputs) all) ready.at.entry.numbers ready.at.entry.cells states)

@@ -1,5 +1,5 @@
 -- What a name asks for next, by what its first inputs' cells store.
-use Rattle.std.proofs.Common.{◌≡◌, ◌≢◌, ℕ, zero, suc, ◌≤◌, List, [], ◌∷◌, ◌++◌, map, take, length, Option, Some, None, Bool, true, false, if◌then◌else◌, nat_lt, slice_get, refl, sym, ap, subst, ◌∙◌, arith}
+use Rattle.std.proofs.Common.{◌≡◌, ◌≢◌, ℕ, zero, suc, ◌≤◌, List, [], ◌∷◌, ◌++◌, map, take, length, Option, Some, None, Bool, true, false, nat_lt, slice_get, refl, sym, ap, subst, ◌∙◌, arith}
 use Rattle.std.proofs.lemmas.List.{length-map, length-take-le}
 use Rattle.domain_laws.specs.Operations.{Operations}
 use Rattle.batch_meaning.specs.Values as batch
@@ -35,10 +35,6 @@ use Rattle.daig_query.specs.Opened.{name_of, IsAt, next_of}
 use Rattle.named_cells.proofs.Same.{same_is}
 use Rattle.named_cells.proofs.Numbers.{numbers_length}
 use Rattle.daig_query.proofs.Found.{stored, is_there}
-
-pub if_true : {A : Type 0} (b : Bool) (a x : A) → (if b then Some a else None) ≡ Some x → b ≡ true
-if_true true a x e = refl
-if_true false a x e = absurd cc
 
 next_length : {T V : Type 0} (value : T → V) (rest : List V → List T) (n : ℕ) (vs : List V) (o : Option T) → ((us : List V) → length (rest us) ≤ n) → length (gather_next value rest vs o) ≤ suc n
 next_length value rest n vs None h = omega arith

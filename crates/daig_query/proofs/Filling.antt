@@ -1,5 +1,5 @@
 -- One cell more.
-use Rattle.std.proofs.Common.{◌≡◌, ◌≢◌, ℕ, suc, ◌+◌, ◌<◌, ◌≤◌, ◌||◌, List, [], take, length, Option, Some, None, true, false, cond, slice_get, refl, sym, ap, subst, ◌∙◌, inl, inr, arith}
+use Rattle.std.proofs.Common.{◌≡◌, ◌≢◌, ℕ, suc, ◌+◌, ◌≤◌, ◌||◌, [], take, length, Option, Some, None, true, false, cond, slice_get, refl, sym, ap, subst, ◌∙◌, inl, inr, arith}
 use Rattle.std.specs.Prelude.{is_some, IsSome, Result, Ok, Err, IfOk, OnOk, OnErr}
 use Rattle.std.proofs.Math.Seq.{take-length}
 use Rattle.std.specs.Option.{option_and_then}
@@ -27,11 +27,11 @@ use Rattle.named_cells.specs.Asked.{inputs}
 use Rattle.daig_query.specs.Right.{found, IsCellOf, IsRight}
 use Rattle.daig_query.specs.Opened.{name_of, IsReady, Puts, Computes}
 use Rattle.named_cells.proofs.Same.{same_is}
-use Rattle.daig_query.proofs.Growing.{keeps_same, grows_trans}
+use Rattle.daig_query.proofs.Growing.{keeps_same, grows_trans, kept_alike}
 use Rattle.named_cells.proofs.Numbers.{number_there, filled_number, numbers_of, member_at}
 use Rattle.std.proofs.lemmas.Bool.{or_cases, or_right, or_left, cases_eq as same_number}
 use Rattle.std.proofs.lemmas.Option.{same_Some}
-use Rattle.plain_values.proofs.Lists.{get_some}
+use Rattle.plain_values.proofs.Lists.{none_past}
 use mathlib.Core.Bool.{or-false}
 
 pub on_ok : {A E P Q : Type 0} (r : Result A E) → OnOk r P → (P → Q) → OnOk r Q
@@ -51,21 +51,20 @@ on_err (Ok a) h f = tt
 on_err (Err e) h f = f h
 
 module _ {S : Type 0} (dom : Operations S) (plan : Plan) where
-  -- all inputs are found, so these are their numbers
+  -- all inputs are found
+  pub all_found : (store : Store S) (row : Row) (o : Open) → IsReady dom plan store row o → length o.inputs ≡ length (inputs dom plan (name_of store o))
+  all_found store row o ready =
+      let all = inputs dom plan (name_of store o) in
+      let within : length o.inputs ≤ length all = ready.at.entry.within in
+      let past : length all ≤ length o.inputs = none_past all (length o.inputs) ready.complete in
+      omega arith
+
+  pub front_is_all : (store : Store S) (row : Row) (o : Open) → IsReady dom plan store row o → take (length o.inputs) (inputs dom plan (name_of store o)) ≡ inputs dom plan (name_of store o)
+  front_is_all store row o ready = let all = inputs dom plan (name_of store o) in ap (λ m. take m all) (all_found store row o ready) ∙ take-length all
+
+  -- so these are their numbers
   pub ready_numbers : (store : Store S) (row : Row) (o : Open) → IsReady dom plan store row o → AreNumbers store.names.names o.inputs (inputs dom plan (name_of store o))
-  ready_numbers store row o ready = subst (λ xs. AreNumbers store.names.names o.inputs xs) (ap (λ m. take m all) complete ∙ take-length all) ready.at.entry.numbers
-    where
-      all : List CellName
-      all = inputs dom plan (name_of store o)
-
-      beyond : length o.inputs < length all → ⊥
-      beyond l =
-          let q = get_some all (length o.inputs) l in
-          let c : Some q.0 ≡ None = sym q.1 ∙ ready.complete in
-          cc
-
-      complete : length o.inputs ≡ length all
-      complete = let w : length o.inputs ≤ length all = ready.at.entry.within in grind (arith, beyond)
+  ready_numbers store row o ready = subst (λ xs. AreNumbers store.names.names o.inputs xs) (front_is_all store row o ready) ready.at.entry.numbers
 
   -- a name that has no cell has none under its number
   pub absent_get : (store : Store S) → IsRight dom plan store → (n : ℕ) (x : CellName) → slice_get store.names.names n ≡ Some x → kept store x ≡ false → get store.graph.cells n ≡ None
@@ -87,7 +86,7 @@ module _ {S : Type 0} (dom : Operations S) (plan : Plan) where
   }
 
   pub computes_kept : (old new : Store S) → Computes dom plan old new → (y : CellName) → kept new y ≡ kept old y
-  computes_kept old new h y = ap (λ m. is_some (filled_at m new.names.names y)) h.cells ∙ ap (λ k. is_some (filled_at old.graph.cells k.names y)) h.names
+  computes_kept old new h = kept_alike old new h.cells h.names
 
   module _ (mid new : Store S) (right : IsRight dom plan mid) (n : ℕ) (x : CellName) (f : Filled Held)
       (number : slice_get mid.names.names n ≡ Some x) (absent : get mid.graph.cells n ≡ None) (has : HasName plan.engine plan.program x) (is : IsCellOf dom plan mid x f) (there : AreCells mid.graph.cells f.inputs)

@@ -97,6 +97,10 @@ module _ {S : Type 0} where
   pub name_stays : (old new : Store S) → KeepsNumbers old.names.paths new.names.paths → (o : Open) → o.name.path < length old.names.paths → name_of new o ≡ name_of old o
   name_stays old new keeps o h = ap (λ w. name w o.name.point) (path_stays old new keeps o.name.path h)
 
+  -- with the same cells and names the same names have cells
+  pub kept_alike : (old new : Store S) → new.graph.cells ≡ old.graph.cells → new.names ≡ old.names → (x : CellName) → kept new x ≡ kept old x
+  kept_alike old new graph names x = ap (λ m. is_some (filled_at m new.names.names x)) graph ∙ ap (λ k. is_some (filled_at old.graph.cells k.names x)) names
+
 module _ {S : Type 0} (dom : Operations S) (plan : Plan) where
   -- with more names the same names have cells
   pub kept_same : (old new : Store S) → IsRight dom plan old → Names old new → IsOnce new.names.names → (x : CellName) → kept new x ≡ kept old x

@@ -1,7 +1,7 @@
 -- The iterates that a fixed point asks for, by what the cells of those so far store.
 use Rattle.std.proofs.Common.{◌≡◌, ℕ, zero, suc, ◌<◌, ◌≤◌, List, [], length, Option, Some, None, true, false, if◌then◌else◌, option_map, slice_get, refl, sym, ap, subst, ◌∙◌, inl, arith}
 use Rattle.std.specs.Prelude.{◌↔◌, reverse}
-use Rattle.plain_values.proofs.Cases.{by_bool}
+use Rattle.plain_values.proofs.Cases.{by_bool, given_test}
 use Rattle.domain_laws.specs.Operations.{Operations}
 use Rattle.batch_meaning.specs.Values as batch
 use Rattle.demand_order.specs.Asking.{inputs_of, value_of}
@@ -38,7 +38,7 @@ use Rattle.named_cells.proofs.Same.{same_is}
 use Rattle.daig_query.proofs.Lists.{map_next}
 use Rattle.daig_query.proofs.Found.{Input as Found, input_found, input_value}
 use Rattle.daig_query.proofs.Stopping.{Before, nothing, some, last_snoc, goes_state, stops_state}
-use Rattle.daig_query.proofs.Asked.{if_true, gather_length, same_iterate, X, I, F, r, front, asks, front_length}
+use Rattle.daig_query.proofs.Asked.{gather_length, same_iterate, X, I, F, r, front, asks, front_length}
 use Rattle.named_cells.proofs.Numbers.{at_member}
 
 module _ {S : Type 0} (dom : Operations S) (plan : Plan) (store : Store S) (row : Row) (o : Open) (at : IsAt dom plan store row o) (same : (s t : S) → (dom.same s t ≡ true) ↔ (s ≡ t))
@@ -78,7 +78,7 @@ module _ {S : Type 0} (dom : Operations S) (plan : Plan) (store : Store S) (row 
   wants_before j h =
       let within : k ≤ length J = at.entry.within in
       let q = input_found dom plan store at.right o at.entry j h in
-      if_true (wants_first dom plan.engine (first j)) (name N.path (iterate_point plan.engine bare n p (length (first j)))) q.0 (asks_fix j (omega arith) ∙ q.1)
+      given_test (wants_first dom plan.engine (first j)) (name N.path (iterate_point plan.engine bare n p (length (first j)))) q.0 (asks_fix j (omega arith) ∙ q.1)
 
   most : length J ≤ suc plan.engine.budget
   unfolding inputs inputs_of

@@ -30,10 +30,10 @@ use Rattle.named_cells.specs.Asked.{inputs}
 use Rattle.daig_query.specs.Right.{IsRight}
 use Rattle.daig_query.specs.Opened.{name_of, IsRowOf, IsOpen, next_of, IsAt, IsNext, Looks}
 use Rattle.named_cells.proofs.Same.{same_is}
-use Rattle.daig_query.proofs.Lists.{take_next}
 use Rattle.daig_query.proofs.Growing.{keeps_same, keeps_trans, names_grow, name_stays, right_named, open_grows, next_grows}
 use Rattle.named_cells.proofs.Numbers.{adds_here, adds_keeps, adds_once, filled_number, numbers_push, at_member}
 use Rattle.daig_query.proofs.Walks.{pushed_there}
+use Rattle.plain_values.proofs.Lists.{take_next}
 
 -- a store in which one more name has a number
 pub record Named {S : Type 0} (old new : Store S) (y : CellName) (x : Name) (cell : ℕ) : Type 0 where

@@ -1,8 +1,7 @@
 -- What a name stores one of whose inputs is an Over.
-use Rattle.std.proofs.Common.{◌≡◌, ◌≢◌, ℕ, zero, suc, ◌<◌, ◌≤◌, List, [], ◌∷◌, map, take, length, Option, Some, None, true, option_map, slice_get, refl, sym, ap, ap₂, subst, ◌∙◌, arith}
+use Rattle.std.proofs.Common.{◌≡◌, ◌≢◌, ℕ, zero, suc, ◌<◌, ◌≤◌, List, [], ◌∷◌, map, length, Option, Some, None, true, option_map, slice_get, refl, sym, ap, ap₂, subst, ◌∙◌, arith}
 use Rattle.std.specs.Prelude.{◌↔◌, reverse}
 use Rattle.std.specs.Option.{option_and_then}
-use Rattle.std.proofs.Math.Seq.{take-length}
 use Rattle.std.proofs.lemmas.Option.{slice_get_within, slice_get-map, same_Some}
 use Rattle.domain_laws.specs.Operations.{Operations}
 use Rattle.batch_meaning.specs.Values as batch
@@ -35,7 +34,7 @@ use Rattle.daig_query.specs.Opened.{IsReady}
 use Rattle.daig_query.proofs.Found.{Input as Found, input_found, input_value}
 use Rattle.daig_query.proofs.Fixes.{overs}
 use Rattle.daig_query.proofs.Asked.{X, I, F, r, law, asks, most_inputs}
-use Rattle.plain_values.proofs.Lists.{get_some}
+use Rattle.daig_query.proofs.Filling.{all_found, front_is_all}
 
 abbrev IsState : {S : Type 0} → Cell S → Type 0
 IsState {S} c = (s : S) × (c.value ≡ batch.State s)
@@ -103,20 +102,9 @@ module _ {S : Type 0} (dom : Operations S) (plan : Plan) (store : Store S) (row 
   abbrev named : CellName
   named = X dom plan store row o ready.at
 
-  complete : length o.inputs ≡ length all
-  complete =
-      let w : length o.inputs ≤ length all = ready.at.entry.within in
-      grind (arith, beyond)
-    where
-      beyond : length o.inputs < length all → ⊥
-      beyond l =
-          let q = get_some all (length o.inputs) l in
-          let c : Some q.0 ≡ None = sym q.1 ∙ ready.complete in
-          cc
-
   asks_none : asks_row dom plan.engine (r dom plan store row o ready.at) (map value all) ≡ None
   asks_none =
-      ap (λ xs. asks_row dom plan.engine (r dom plan store row o ready.at) (map value xs)) (sym (ap (λ m. take m all) complete ∙ take-length all))
+      ap (λ xs. asks_row dom plan.engine (r dom plan store row o ready.at) (map value xs)) (sym (front_is_all dom plan store row o ready))
       ∙ asks dom plan store row o ready.at (length o.inputs) ready.at.entry.within
       ∙ ready.complete
 
@@ -140,7 +128,7 @@ module _ {S : Type 0} (dom : Operations S) (plan : Plan) (store : Store S) (row 
           let w : q.2.cell.value ≡ Over n chain = same_Some q.2.cell.value (Over n chain) (sym (input_value dom plan store ready.at.right o i q.0 q.2) ∙ h.here) in
           let v : (value q.0).value ≡ batch.Over n (reverse chain) = subst (λ u. IsValue store.states u (value q.0)) w q.2.value in
           let few : length all ≤ most_row dom plan.engine (r dom plan store row o ready.at) = most_inputs dom plan store row o ready.at in
-          let same_length : length o.inputs ≡ length all = complete in
+          let same_length : length o.inputs ≡ length all = all_found dom plan store row o ready in
           ap (λ (c : Cell S). c.value) value_is
           ∙ over_row dom plan.engine n (reverse chain) row f named.path (map value all) i (value q.0) (slice_get-map value all i ∙ ap (option_map value) q.1) v before (let t : i < length o.inputs = there in omega arith) asks_none
         where

@@ -41,7 +41,7 @@ use Rattle.daig_query.specs.Right.{found, IsRight}
 use Rattle.daig_query.specs.Walked.{IsDone, place_of}
 use Rattle.daig_query.specs.Answered.{plain_value, value_in, HoldValues, joined_all, Covers, Says}
 use Rattle.daig_query.proofs.Found.{stored, is_there}
-use Rattle.daig_query.proofs.Lists.{take_next}
+use Rattle.plain_values.proofs.Lists.{take_next}
 
 module _ {S : Type 0} (dom : Operations S) (engine : Engine) where
   folded : (s : S) (ss : List S) → joined_all dom (Some s) ss ≡ Some (fold dom.join s (map dom.shed ss))

@@ -1,5 +1,6 @@
 -- What is remembered is found.
 use Rattle.std.proofs.Common.{◌≡◌, ℕ, List, Option, Some, None, slice_get, refl, sym, ap, ◌∙◌}
+use Rattle.std.proofs.lemmas.Option.{none-some}
 use Rattle.std.specs.Map.{lookup}
 use Rattle.state_table.specs.Numbers.{AreOnce, KeepsNumbers}
 use Rattle.imp_slots.specs.CallViews.{taken_of, returning_of, returning_from, returning_from-returning_of}
@@ -46,9 +47,6 @@ one_operation (Two op x y) o p a b = two_of op o p a b
 one_operation (Fixed n x) o p a b = a ∙ sym b
 one_operation (Joins stays x n y) o p a b = a ∙ sym b
 
-nothing : (n : ℕ) → None ≡ Some n → ⊥
-nothing n e = cc
-
 -- Where nothing is found of a row's operation it is not remembered.
 pub not_remembered : {S : Type 0} (store : Store S) (operations : List Operation) (row : Row) (o : Operation) (n : ℕ) (left right : Option ℕ)
     → IsOperationOf row o → slice_get operations n ≡ Some o → AreOnce operation_impl.ghosts.eq operations → KeepsNumbers store.operations operations
@@ -57,4 +55,4 @@ pub not_remembered : {S : Type 0} (store : Store S) (operations : List Operation
 not_remembered store operations row o n left right is at once keeps none r =
     let same : o ≡ r.operation = one_operation row o r.operation is r.of_row in
     let place : n ≡ r.place = once n r.place o r.operation at (keeps r.place r.operation r.there) ((operation_decides o r.operation).1 same) in
-    nothing r.state (none ∙ ap (λ (k : ℕ). lookup (key_impl.ghosts.eq (record { operation = k; left = left; right = right })) store.memo.entries) place ∙ r.kept)
+    none-some r.state (none ∙ ap (λ (k : ℕ). lookup (key_impl.ghosts.eq (record { operation = k; left = left; right = right })) store.memo.entries) place ∙ r.kept)

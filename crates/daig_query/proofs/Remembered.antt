@@ -1,7 +1,7 @@
 -- Results that are remembered, and stores with more of them.
 use Rattle.std.proofs.Common.{◌≡◌, ℕ, ◌<◌, List, [], length, Option, Some, None, Bool, true, slice_get, refl, sym, ap, ap₂, subst, ◌∙◌}
 use Rattle.std.specs.FinMap.{get}
-use Rattle.std.specs.Prelude.{IfSome, IsSome, is_some}
+use Rattle.std.specs.Prelude.{IfSome, IsSome}
 use Rattle.domain_laws.specs.Operations.{Operations}
 use Rattle.cell_names.specs.Known.{KeepsNumbers, IsOnce}
 use Rattle.cell_names.specs.Paths.{CellName}
@@ -17,13 +17,14 @@ use Rattle.daig_graph.specs.declared.value.Value.{Value}
 use Rattle.daig_graph.specs.declared.value.Value.TheVariants.{State, Over}
 use Rattle.daig_query.specs.declared.held.Held.{Held}
 use Rattle.daig_query.specs.declared.store.Store.{Store}
-use Rattle.named_cells.specs.Named.{filled_at, AreNumbers}
+use Rattle.named_cells.specs.Named.{AreNumbers}
 use Rattle.daig_query.specs.Kept.{kept, IsValue}
 use Rattle.daig_query.specs.Made.{IsOperationOf, row_result, state_at}
 use Rattle.named_cells.specs.Asked.{inputs}
 use Rattle.daig_query.specs.Right.{found, IsCellOf, IsRight}
 use Rattle.daig_query.specs.Opened.{Computes}
 use Rattle.daig_query.proofs.Computed.{made, operand_is}
+use Rattle.daig_query.proofs.Growing.{kept_alike}
 use Rattle.plain_values.proofs.Lists.{get_some}
 
 pub value_grows : {S : Type 0} (old new : List S) → KeepsNumbers old new → (u : Value Held) (v : Cell S) → IsValue old u v → IsValue new u v
@@ -82,7 +83,7 @@ module _ {S : Type 0} (dom : Operations S) where
     }
       where
         same : (x : CellName) → kept new x ≡ kept old x
-        same x = ap (λ m. is_some (filled_at m new.names.names x)) graph ∙ ap (λ k. is_some (filled_at old.graph.cells k.names x)) names
+        same = kept_alike old new graph names
 
         cell_at : (n : ℕ) (f : Filled Held) → get old.graph.cells n ≡ Some f → (x : CellName) × (slice_get new.names.names n ≡ Some x) × IsCellOf dom plan new x f
         cell_at n f e =

@@ -4,7 +4,7 @@ use Rattle.std.specs.FinMap.{get}
 use Rattle.std.proofs.lemmas.List.{reverse-append}
 use Rattle.std.proofs.lemmas.Option.{slice_get_within, slice_get-map, same_Some}
 use Rattle.plain_values.proofs.Cases.{by_bool}
-use Rattle.plain_values.proofs.Lists.{get_last, get_some}
+use Rattle.plain_values.proofs.Lists.{get_last, get_some, take_next}
 use Rattle.domain_laws.specs.Operations.{Operations}
 use Rattle.demand_order.specs.Order.{System}
 use Rattle.demand_order.specs.Store.{has, Holds, first_absent}
@@ -28,7 +28,7 @@ use Rattle.daig_query.specs.Opened.{name_of, IsOpen, next_of}
 use Rattle.daig_query.specs.Turned.{stacked_names, AreKept}
 use Rattle.daig_query.specs.Walked.{AreStacked, Stands}
 use Rattle.daig_query.proofs.Growing.{name_stays}
-use Rattle.daig_query.proofs.Lists.{take_next, get_take, last_view}
+use Rattle.daig_query.proofs.Lists.{get_take, last_view}
 use Rattle.imp_flow.proofs.EnteredLemmas.{get_front}
 
 -- the cells of a store as a function of names

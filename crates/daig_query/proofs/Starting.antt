@@ -4,7 +4,7 @@ use Rattle.std.proofs.Math.Seq.{take-length}
 use Rattle.std.specs.Prelude.{is_some}
 use Rattle.std.proofs.lemmas.List.{length-map}
 use Rattle.std.proofs.lemmas.Option.{slice_get_within}
-use Rattle.plain_values.proofs.Lists.{get_last, get_some}
+use Rattle.plain_values.proofs.Lists.{get_last, get_some, take_next, get_take}
 use Rattle.domain_laws.specs.Operations.{Operations}
 use Rattle.cell_names.specs.Paths.{path_at, or_root}
 use Rattle.cell_rows.specs.Targets.{Target}
@@ -21,7 +21,6 @@ use Rattle.daig_query.specs.Turned.{stacked_names}
 use Rattle.daig_query.specs.Filled.{added}
 use Rattle.daig_query.specs.Walked.{AreStacked, Drops, IsGood, IsNew, Stands, behind_steps, place_of}
 use Rattle.daig_query.proofs.Growing.{grows_refl}
-use Rattle.daig_query.proofs.Lists.{take_next}
 use Rattle.daig_query.proofs.Stepping.{behind_none, place_same, placed_same}
 use Rattle.daig_query.proofs.Walks.{stands_first}
 use Rattle.daig_query.proofs.Stacked.{stack_waits, all_absent, name_at}
@@ -37,14 +36,8 @@ module _ {S : Type 0} (dom : Operations S) (plan : Plan) where
     chained = λ i o u g f. h.chained i o u (back i o g) (back (suc i) u f);
   }
     where
-      below : (xs : List Open) (n i : ℕ) (o : Open) → slice_get (take n xs) i ≡ Some o → slice_get xs i ≡ Some o
-      below xs zero i o g = absurd cc
-      below [] (suc n) i o g = absurd cc
-      below (x ∷ xs) (suc n) zero o g = g
-      below (x ∷ xs) (suc n) (suc i) o g = below xs n i o g
-
       back : (i : ℕ) (o : Open) → slice_get us i ≡ Some o → slice_get os i ≡ Some o
-      back i o g = below os n i o (subst (λ xs. slice_get xs i ≡ Some o) e g)
+      back i o g = get_take os n i o (subst (λ xs. slice_get xs i ≡ Some o) e g)
 
   module _ (ts : List Target) where
     -- a walk without its filled names

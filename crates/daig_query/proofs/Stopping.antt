@@ -1,7 +1,7 @@
 -- Where iterates stop, by the numbers of their states.
 use Rattle.std.proofs.Common.{◌≡◌, ℕ, suc, ◌<◌, ◌≤◌, List, [], ◌∷◌, ◌++◌, Option, Some, None, true, false, if◌then◌else◌, nat_lt, slice_get, refl, sym, ap, ap₂, subst, ◌∙◌, inl, inr, arith}
 use Rattle.std.proofs.lemmas.Bool.Decides.{nat_tests}
-use Rattle.plain_values.proofs.Cases.{by_bool}
+use Rattle.plain_values.proofs.Cases.{by_bool, less_of}
 use Rattle.domain_laws.specs.Operations.{Operations}
 use Rattle.batch_meaning.specs.Values as plain
 use Rattle.cell_names.specs.Known.{IsOnce}
@@ -12,9 +12,6 @@ use Rattle.daig_graph.specs.declared.value.Value.TheVariants.{State, Over}
 use Rattle.loop_unroll.specs.Iterates.{IsOver, IsEqual, Stops}
 use Rattle.daig_query.specs.declared.held.Held.{Held}
 use Rattle.std.proofs.lemmas.Option.{same_Some}
-
-is_less : (j n : ℕ) → nat_lt j n ≡ true → j < n
-is_less j n e = grind (arith, nat_tests)
 
 not_less : (j n : ℕ) → nat_lt j n ≡ false → j ≤ n → j ≡ n
 not_less j n e h = grind (arith, nat_tests)
@@ -46,7 +43,7 @@ module _ {S : Type 0} (dom : Operations S) (states : List S) (once : IsOnce stat
   pub goes_state : (p : Option S) → Before p → (h : Held) (s : S) → iterate j ≡ Some (State h) → slice_get states h.state ≡ Some s → h.index ≡ 0 → goes_on dom budget j p (plain.State s) ≡ true → Stops budget iterate j → ⊥
   goes_state p b h s e at zeroed goes (inl o) = no_over h e o
   goes_state p (nothing none) h s e at zeroed goes (inr (inl (i, g, q, before, here))) = none i g q before
-  goes_state p (nothing none) h s e at zeroed goes (inr (inr (q, g, here, other))) = let w : j < budget = is_less j budget goes in absurd (omega arith)
+  goes_state p (nothing none) h s e at zeroed goes (inr (inr (q, g, here, other))) = let w : j < budget = less_of j budget goes in absurd (omega arith)
   goes_state p (some i g t q before there zero_before) h s e at zeroed goes stops = by_bool (dom.same s t) equal apart
     where
       equal : dom.same s t ≡ true → ⊥
@@ -73,7 +70,7 @@ module _ {S : Type 0} (dom : Operations S) (states : List S) (once : IsOnce stat
               let yes : dom.same s t ≡ true = subst (λ x. dom.same s x ≡ true) st (self s) in
               let c : true ≡ false = sym yes ∙ k in
               cc
-          by (inr (inr (v, f, here, other))) = let w : j < budget = is_less j budget less in absurd (omega arith)
+          by (inr (inr (v, f, here, other))) = let w : j < budget = less_of j budget less in absurd (omega arith)
 
   -- where they do not, they stop here
   pub stops_state : (p : Option S) → Before p → j ≤ budget → (h : Held) (s : S) → iterate j ≡ Some (State h) → slice_get states h.state ≡ Some s → h.index ≡ 0 → goes_on dom budget j p (plain.State s) ≡ false → Stops budget iterate j

@@ -20,7 +20,7 @@ use Rattle.daig_query.specs.declared.walk.Walk.{Walk}
 use Rattle.daig_query.specs.Kept.{Names}
 use Rattle.daig_query.specs.Right.{IsRight}
 use Rattle.daig_query.specs.Walked.{AreTargets, Enters, Leaves, Stays, IsAsked, IsPlaced, Steps, place_of, steps_left}
-use Rattle.daig_query.proofs.Growing.{keeps_same, names_refl, names_trans, right_named}
+use Rattle.daig_query.proofs.Growing.{keeps_same, names_trans, right_named}
 use Rattle.daig_query.proofs.Looking.{Named}
 use Rattle.daig_query.proofs.Asking.{named_here, right_later, placed_later, asked_later, asked_absent}
 use Rattle.daig_query.proofs.Stepping.{placed_stays}
@@ -99,6 +99,3 @@ module _ {S : Type 0} (dom : Operations S) (plan : Plan) (ts : List plain.Target
   -- on to the next target
   pub step_leaves : (old new : Store S) (w after : Walk) (cell : ℕ) → Names old new → IsRight dom plan new → Leaves cell w after → IsPlaced dom plan ts new after → steps_left ts after < steps_left ts w → {E : Type 0} → IsStep {E = E} dom plan ts old new w after (Ok None)
   step_leaves old new w after cell more right l placed fewer = record { names = more; right = right; placed = placed; stack = l.stack; steps = fewer }
-
-  pub none_yet : (store : Store S) → Names store store
-  none_yet store = names_refl store

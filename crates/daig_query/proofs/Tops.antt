@@ -4,7 +4,7 @@ use Rattle.std.specs.FinMap.{get, len}
 use Rattle.std.proofs.lemmas.List.{map-append}
 use Rattle.std.proofs.lemmas.Option.{slice_get_within}
 use Rattle.std.proofs.Math.Bool.{or-true}
-use Rattle.plain_values.proofs.Lists.{get_last}
+use Rattle.plain_values.proofs.Lists.{get_last, get_front, get_pushed}
 use Rattle.domain_laws.specs.Operations.{Operations}
 use Rattle.cell_names.specs.Paths.{CellName}
 use Rattle.cell_rows.proofs.Rowed.{has_row}
@@ -14,7 +14,7 @@ use Rattle.imp_flow.specs.Plans.{Plan}
 use Rattle.imp_flow.specs.declared.row.Row.{Row}
 use Rattle.named_cells.specs.Same.{same_name}
 use Rattle.named_cells.specs.Asked.{inputs}
-use Rattle.named_cells.proofs.Numbers.{filled_number, within_more}
+use Rattle.named_cells.proofs.Numbers.{filled_number}
 use Rattle.named_cells.proofs.Same.{same_is}
 use Rattle.daig_query.specs.declared.opening.Open.{Open}
 use Rattle.daig_query.specs.declared.store.Store.{Store}
@@ -30,7 +30,6 @@ use Rattle.daig_query.proofs.Looking.{open_longer}
 use Rattle.daig_query.proofs.Stepping.{place_same, placed_same}
 use Rattle.daig_query.proofs.Stacked.{names_stay, open_ready}
 use Rattle.daig_query.proofs.Starting.{stacked_front}
-use Rattle.imp_flow.proofs.EnteredLemmas.{get_front}
 use Rattle.std.proofs.Math.Seq.{take-append_seam as take_start}
 
 module _ {S : Type 0} (dom : Operations S) (plan : Plan) where
@@ -48,40 +47,40 @@ module _ {S : Type 0} (dom : Operations S) (plan : Plan) where
   -- the top once more, with other inputs found
   stacked_again : (store : Store S) (k : law.Walk) (os : List Open) (o u : Open) → name_of store u ≡ name_of store o → IsOpen dom plan store u → AreStacked dom plan store k (os ++ o ∷ []) → AreStacked dom plan store k (os ++ u ∷ [])
   stacked_again store k os o u same opened h = record {
-    opens = λ i x e. opens i x (within_more os u x i e);
-    bottom = λ x e. bottom x (within_more os u x 0 e);
-    chained = λ i x y e f. chained i x y (within_more os u x i e) (within_more os u y (suc i) f);
+    opens = λ i x e. opens i x (get_pushed os u i x e);
+    bottom = λ x e. bottom x (get_pushed os u 0 x e);
+    chained = λ i x y e f. chained i x y (get_pushed os u i x e) (get_pushed os u (suc i) y f);
   }
     where
       At : ℕ → Open → Type 0
-      At i x = ((i ≡ length os) × (x ≡ u)) ⊎ (slice_get os i ≡ Some x)
+      At i x = (slice_get os i ≡ Some x) ⊎ ((i ≡ length os) × (u ≡ x))
 
       there : (i : ℕ) (x : Open) → slice_get os i ≡ Some x → slice_get (os ++ o ∷ []) i ≡ Some x
-      there i x e = get_front os (o ∷ []) i (slice_get_within os i x e) ∙ e
+      there i x e = get_front os (o ∷ []) i x e
 
       last : slice_get (os ++ o ∷ []) (length os) ≡ Some o
       last = get_last os o
 
       opens : (i : ℕ) (x : Open) → At i x → IsOpen dom plan store x
-      opens i x (inl p) = subst (IsOpen dom plan store) (sym p.1) opened
-      opens i x (inr e) = h.opens i x (there i x e)
+      opens i x (inr p) = subst (IsOpen dom plan store) p.1 opened
+      opens i x (inl e) = h.opens i x (there i x e)
 
       bottom : (x : Open) → At 0 x → law.asks k ≡ Some (name_of store x)
-      bottom x (inl p) = h.bottom o (ap (slice_get (os ++ o ∷ [])) p.0 ∙ last) ∙ ap Some (sym (ap (name_of store) p.1 ∙ same))
-      bottom x (inr e) = h.bottom x (there 0 x e)
+      bottom x (inr p) = h.bottom o (ap (slice_get (os ++ o ∷ [])) p.0 ∙ last) ∙ ap Some (sym same ∙ ap (name_of store) p.1)
+      bottom x (inl e) = h.bottom x (there 0 x e)
 
       chained : (i : ℕ) (x y : Open) → At i x → At (suc i) y → next_of dom plan store x ≡ Some (name_of store y)
-      chained i x y (inl p) (inl q) = absurd (let a : i ≡ length os = p.0 in let b : suc i ≡ length os = q.0 in omega arith)
-      chained i x y (inl p) (inr f) = absurd (let a : i ≡ length os = p.0 in let b : suc i < length os = slice_get_within os (suc i) y f in omega arith)
-      chained i x y (inr e) (inl q) = h.chained i x o (there i x e) (ap (slice_get (os ++ o ∷ [])) q.0 ∙ last) ∙ ap Some (sym (ap (name_of store) q.1 ∙ same))
-      chained i x y (inr e) (inr f) = h.chained i x y (there i x e) (there (suc i) y f)
+      chained i x y (inr p) (inr q) = absurd (let a : i ≡ length os = p.0 in let b : suc i ≡ length os = q.0 in omega arith)
+      chained i x y (inr p) (inl f) = absurd (let a : i ≡ length os = p.0 in let b : suc i < length os = slice_get_within os (suc i) y f in omega arith)
+      chained i x y (inl e) (inr q) = h.chained i x o (there i x e) (ap (slice_get (os ++ o ∷ [])) q.0 ∙ last) ∙ ap Some (sym same ∙ ap (name_of store) q.1)
+      chained i x y (inl e) (inl f) = h.chained i x y (there i x e) (there (suc i) y f)
 
   -- the next input of the top is pushed
   stacked_push : (store : Store S) (k : law.Walk) (os : List Open) (o u : Open) → IsOpen dom plan store u → next_of dom plan store o ≡ Some (name_of store u) → AreStacked dom plan store k (os ++ o ∷ []) → AreStacked dom plan store k ((os ++ o ∷ []) ++ u ∷ [])
   stacked_push store k os o u opened next h = record {
-    opens = λ i x e. opens i x (within_more all u x i e);
-    bottom = λ x e. bottom x (within_more all u x 0 e);
-    chained = λ i x y e f. chained i x y (within_more all u x i e) (within_more all u y (suc i) f);
+    opens = λ i x e. opens i x (get_pushed all u i x e);
+    bottom = λ x e. bottom x (get_pushed all u 0 x e);
+    chained = λ i x y e f. chained i x y (get_pushed all u i x e) (get_pushed all u (suc i) y f);
   }
     where
       all : List Open
@@ -91,29 +90,29 @@ module _ {S : Type 0} (dom : Operations S) (plan : Plan) where
       size = length-append os (o ∷ [])
 
       At : ℕ → Open → Type 0
-      At i x = ((i ≡ length all) × (x ≡ u)) ⊎ (slice_get all i ≡ Some x)
+      At i x = (slice_get all i ≡ Some x) ⊎ ((i ≡ length all) × (u ≡ x))
 
       opens : (i : ℕ) (x : Open) → At i x → IsOpen dom plan store x
-      opens i x (inl p) = subst (IsOpen dom plan store) (sym p.1) opened
-      opens i x (inr e) = h.opens i x e
+      opens i x (inr p) = subst (IsOpen dom plan store) p.1 opened
+      opens i x (inl e) = h.opens i x e
 
       bottom : (x : Open) → At 0 x → law.asks k ≡ Some (name_of store x)
-      bottom x (inl p) = absurd (let a : 0 ≡ length all = p.0 in let b = size in omega arith)
-      bottom x (inr e) = h.bottom x e
+      bottom x (inr p) = absurd (let a : 0 ≡ length all = p.0 in let b = size in omega arith)
+      bottom x (inl e) = h.bottom x e
 
       chained : (i : ℕ) (x y : Open) → At i x → At (suc i) y → next_of dom plan store x ≡ Some (name_of store y)
-      chained i x y (inl p) (inl q) = absurd (let a : i ≡ length all = p.0 in let b : suc i ≡ length all = q.0 in omega arith)
-      chained i x y (inl p) (inr f) = absurd (let a : i ≡ length all = p.0 in let b : suc i < length all = slice_get_within all (suc i) y f in omega arith)
-      chained i x y (inr e) (inr f) = h.chained i x y e f
-      chained i x y (inr e) (inl q) =
+      chained i x y (inr p) (inr q) = absurd (let a : i ≡ length all = p.0 in let b : suc i ≡ length all = q.0 in omega arith)
+      chained i x y (inr p) (inl f) = absurd (let a : i ≡ length all = p.0 in let b : suc i < length all = slice_get_within all (suc i) y f in omega arith)
+      chained i x y (inl e) (inl f) = h.chained i x y e f
+      chained i x y (inl e) (inr q) =
           let a : suc i ≡ length all = q.0 in
           let b = size in
           let n : i ≡ length os = omega arith in
-          by (within_more os o x i e) n ∙ ap (λ z. Some (name_of store z)) (sym q.1)
+          by (get_pushed os o i x e) n ∙ ap (λ z. Some (name_of store z)) q.1
         where
-          by : ((i ≡ length os) × (x ≡ o)) ⊎ (slice_get os i ≡ Some x) → i ≡ length os → next_of dom plan store x ≡ Some (name_of store u)
-          by (inl p) n = ap (next_of dom plan store) p.1 ∙ next
-          by (inr e) n = absurd (let w : i < length os = slice_get_within os i x e in omega arith)
+          by : (slice_get os i ≡ Some x) ⊎ ((i ≡ length os) × (o ≡ x)) → i ≡ length os → next_of dom plan store x ≡ Some (name_of store u)
+          by (inr p) n = ap (next_of dom plan store) (sym p.1) ∙ next
+          by (inl e) n = absurd (let w : i < length os = slice_get_within os i x e in omega arith)
 
   stacked_with_names : (ts : List Target) (old new : Store S) (w : Walk) (os : List Open) → Grows old new → IsPlaced dom plan ts old w → AreStacked dom plan old (place_of ts old w) os → AreStacked dom plan new (place_of ts new w) os
   stacked_with_names ts old new w os grows placed h = record {
@@ -163,7 +162,7 @@ module _ {S : Type 0} (dom : Operations S) (plan : Plan) where
       good_rest new target step path found stack = good_with mid w new target step path found placed_mid (subst (AreStacked dom plan mid (place_of ts mid w)) (sym stack) stacked_rest)
 
       within : (i : ℕ) (o : Open) → slice_get os i ≡ Some o → o.name.path < length old.names.paths
-      within i o e = (stacked.opens i o (get_front os (top ∷ []) i (slice_get_within os i o e) ∙ e)).path
+      within i o e = (stacked.opens i o (get_front os (top ∷ []) i o e)).path
 
       rest_names : (new : Store S) → Grows old new → stacked_names new os ≡ stacked_names old os
       rest_names new more = names_stay old new more os within
@@ -225,7 +224,7 @@ module _ {S : Type 0} (dom : Operations S) (plan : Plan) where
                 let below : AreStacked dom plan new (place_of ts new w) (rest ++ o ∷ []) = subst (AreStacked dom plan new (place_of ts new w)) os_is stacked_new in
                 let opened = open_at_end new (place_of ts new w) rest o below in
                 let all : os ++ top ∷ [] ≡ (rest ++ o ∷ []) ++ top ∷ [] = ap (λ xs. xs ++ top ∷ []) os_is in
-                let here : slice_get (os ++ top ∷ []) (length rest) ≡ Some o = ap (λ xs. slice_get xs (length rest)) all ∙ (get_front (rest ++ o ∷ []) (top ∷ []) (length rest) (slice_get_within (rest ++ o ∷ []) (length rest) o (get_last rest o)) ∙ get_last rest o) in
+                let here : slice_get (os ++ top ∷ []) (length rest) ≡ Some o = ap (λ xs. slice_get xs (length rest)) all ∙ get_front (rest ++ o ∷ []) (top ∷ []) (length rest) o (get_last rest o) in
                 let long : length (rest ++ o ∷ []) ≡ suc (length rest) = length-append rest (o ∷ []) ∙ (let e : length rest + 1 ≡ suc (length rest) = omega arith in e) in
                 let last : slice_get (os ++ top ∷ []) (suc (length rest)) ≡ Some top = ap (slice_get (os ++ top ∷ [])) (sym long) ∙ (ap (λ xs. slice_get xs (length (rest ++ o ∷ []))) all ∙ get_last (rest ++ o ∷ []) top) in
                 let next : next_of dom plan new o ≡ Some (name_of mid entry) =

@@ -131,8 +131,8 @@ module _ {S : Type 0} (dom : Operations S) (plan : Plan) (ts : List Target) wher
       abbrev rest : List CellName
       rest = stacked_names new after.stack.items
 
-      one_more : added first new ≡ added first old + 1
-      one_more =
+      pub fills_more : added first new ≡ added first old + 1
+      fills_more =
           let a : len new.graph.cells ≡ suc (len old.graph.cells) = p.puts.count in
           let c = run.counted in
           omega arith
@@ -143,24 +143,21 @@ module _ {S : Type 0} (dom : Operations S) (plan : Plan) (ts : List Target) wher
         grows = grows_trans first old new run.grows grows;
         good = good;
         run =
-            subst (λ n. Runs dom plan ts (kept first) (kept new) rest n) (sym one_more) (
+            subst (λ n. Runs dom plan ts (kept first) (kept new) rest n) (sym fills_more) (
             runs_fill dom plan ts run.right.checked (kept first) (kept old) names (added first old) run.run rest p.top p.names p.ready (kept new) p.puts.adds
             );
         counted =
             let a : len new.graph.cells ≡ suc (len old.graph.cells) = p.puts.count in
             let c = run.counted in
-            let d = one_more in
+            let d = fills_more in
             omega arith;
       }
 
       pub fills_smaller : running_left first new after < running_left first old before
       fills_smaller =
-          subst (λ n. left dom plan ts (kept first) rest n < left dom plan ts (kept first) names (added first old)) (sym one_more) (
+          subst (λ n. left dom plan ts (kept first) rest n < left dom plan ts (kept first) names (added first old)) (sym fills_more) (
           fill_less dom plan ts run.right.checked (kept first) (kept old) names (added first old) run.run rest p.top p.names p.ready
           )
-
-      pub fills_more : added first new ≡ added first old + 1
-      fills_more = one_more
 
     -- a name that waits shows that more is missing
     pub waits_more : Waits dom plan ts old new (stacked_names old before.stack.items) after → added first new < length (missing dom plan ts first)

@@ -1,5 +1,6 @@
 -- The statements that have a check, by what is known of each statement.
 use Rattle.std.proofs.Common.{◌≡◌, ℕ, zero, suc, ◌+◌, ◌<◌, ◌≤◌, true, Bor, is_some, Result, Ok, Err, List, [], ◌∷◌, ◌++◌, drop, length, Option, Some, None, refl, sym, ap, ◌∙◌, inl, inr, arith, append_assoc, append-nil}
+use Rattle.std.proofs.lemmas.Option.{same_Some}
 use Rattle.std.specs.Option.{option_copied}
 use Rattle.std.specs.Prelude.{IfOk, IfSome, IsSome}
 use Rattle.imp_syntax.specs.Plain.{Statement, Statements, Ends, Starts, Procedure, number_of, program_numbers}
@@ -18,7 +19,6 @@ use Rattle.imp_check.specs.declared.entry.Which.TheVariants as which
 use Rattle.imp_check.proofs.RebuildLemmas.{Known, all_numbers, entry_numbers}
 use Rattle.imp_check.proofs.WalkLemmas.{all_known}
 use Rattle.call_contexts.proofs.LiteralLemmas.{effect_again}
-use Rattle.analysis_words.specs.declared.findings.Check.{Check as Kind}
 use Rattle.analysis_words.specs.declared.findings.Finding.{Finding}
 use Rattle.analysis_words.specs.declared.verdict.Verdict.{Verdict}
 use Rattle.domain_laws.specs.Checks.{Check, check_of, kind_if, kind_in, kind_of}
@@ -150,10 +150,7 @@ is_of n (Does f) e k h = by (check_of f) refl h
         same_head c d e = cc
 
 pub finding_is : (f : Finding) (n : ℕ) (a : Act) (e : Effect) (k : Check) (v : Verdict) → IsOf a e k → f.id ≡ n → kind_in a ≡ Some f.check → f.verdict ≡ v → f ≡ record { id = n; check = kind_of k; verdict = v }
-finding_is f n a e k v is i h w = λ j. record { id = i j; check = same f.check (kind_of k) (sym h ∙ (ap kind_in is.act ∙ ap kind_if is.check)) j; verdict = w j }
-  where
-    same : (x y : Kind) → Some x ≡ Some y → x ≡ y
-    same x y e = cc
+finding_is f n a e k v is i h w = λ j. record { id = i j; check = same_Some f.check (kind_of k) (sym h ∙ (ap kind_in is.act ∙ ap kind_if is.check)) j; verdict = w j }
 
 pub ok_finding : {E : Type 0} (r : Result Finding E) (n : ℕ) (a : Act) (e : Effect) (k : Check) (v : Verdict) → IsOf a e k → IfOk r (λ f. f.id ≡ n) → IfOk r (λ f. kind_in a ≡ Some f.check) → IfOk r (λ f. f.verdict ≡ v) → IfOk r (λ f. f ≡ record { id = n; check = kind_of k; verdict = v })
 ok_finding (Ok f) n a e k v is i h w = finding_is f n a e k v is i h w

@@ -15,7 +15,6 @@ use Rattle.domain_laws.specs.Checks.{Check, kind_of}
 use Rattle.batch_meaning.specs.Report.{Checked, checked_one, checked_statements, finding, verdict_on}
 use Rattle.daig_query.specs.declared.store.Store.{Store}
 use Rattle.daig_query.specs.Filled.{added}
-use Rattle.daig_query.proofs.Lists.{take_next}
 use Rattle.cell_names.specs.Paths.{CellName}
 use Rattle.session_machine.specs.Machine.{Machine, keeping}
 use Rattle.session_machine.specs.Turns.{IsBetween, answer_at, missing_for_report, reported}
@@ -28,6 +27,7 @@ use Rattle.daig_session.proofs.Answering.{work_both}
 use Rattle.daig_session.proofs.Counted.{kept_counted}
 use Rattle.daig_session.proofs.Standing.{names, stands}
 use Rattle.daig_session.proofs.Reported.{all_none, all_part, all_then, behind, chains_both, part_more, part_then, ticks_then}
+use Rattle.plain_values.proofs.Lists.{take_next}
 
 among_at : (ps : List Procedure) (ns : List ℕ) (i n : ℕ) → slice_get ns i ≡ Some n → checked_among ps (take (i + 1) ns) ≡ checked_among ps (take i ns) ++ checked_at ps n
 among_at ps ns i n e = let k : i + 1 ≡ suc i = omega arith in ap (λ j. checked_among ps (take j ns)) k ∙ (ap (checked_among ps) (take_next ns i n e) ∙ among_next ps (take i ns) n)

@@ -5,7 +5,7 @@ use Rattle.imp_slots.specs.Fits.{Distinct}
 use Rattle.open_tickets.specs.declared.tickets.Open.{Open}
 use Rattle.open_tickets.specs.declared.tickets.Tickets.{Tickets}
 use Rattle.open_tickets.specs.Tickets.{anew, number, ticket, AreBelow, AreOpen}
-use Rattle.std.proofs.lemmas.Option.{same_Some}
+use Rattle.std.proofs.lemmas.Option.{same_Some, get_or_from_slice_get}
 
 module _ {G : Type 0} where
   numbers_below : (n : ℕ) (os us : List (Open G)) → map number us ≡ map number os → AreBelow n os → AreBelow n us
@@ -52,19 +52,6 @@ module _ {G : Type 0} where
   set_there (x ∷ xs) zero o u e = refl
   set_there (x ∷ xs) (suc k) o u e = set_there xs k o u e
 
-  pub there_within : (os : List (Open G)) (k : ℕ) (o : Open G) → slice_get os k ≡ Some o → k < length os
-  there_within [] k o e = absurd cc
-  there_within (x ∷ xs) zero o e = omega arith
-  there_within (x ∷ xs) (suc k) o e = let h = there_within xs k o e in omega arith
-
-  -- what stands at a place
-  pub within_there : (os : List (Open G)) (k : ℕ) → k < length os → (o : Open G) × (slice_get os k ≡ Some o)
-  within_there [] k h = absurd (omega arith)
-  within_there (x ∷ xs) zero h = (x, refl)
-  within_there (x ∷ xs) (suc k) h = within_there xs k (omega arith)
-
   -- what is read at a place
   pub read_is : (us : List (Open G)) (k : ℕ) (x y : Open G) → x ≡ get_or us k x → slice_get us k ≡ Some y → x ≡ y
-  read_is [] k x y e s = absurd cc
-  read_is (u ∷ us) zero x y e s = e ∙ same_Some u y s
-  read_is (u ∷ us) (suc k) x y e s = read_is us k x y e s
+  read_is us k x y e s = e ∙ get_or_from_slice_get us k y x s

@@ -4,7 +4,7 @@ use Rattle.std.specs.Cmp.Lexicographic.{pointwise}
 use Rattle.std.specs.Ordering.{int_eq}
 use Rattle.std.proofs.lemmas.Bool.Decides.{Decides-int_eq, Decides-eqb, Decides-and, Decides-or, Decides-like}
 use Rattle.std.proofs.lemmas.Slice.Eq.{slice_eq-Decides}
-use Rattle.std.proofs.Common.{◌≡◌, suc, ◌≤◌, ◌⊎◌, inl, inr, Bool, true, false, List, [], ◌∷◌, length, refl, sym, ap, ◌∙◌, subst, arith}
+use Rattle.std.proofs.Common.{◌≡◌, suc, ◌≤◌, ◌⊎◌, inl, inr, Bool, true, List, [], ◌∷◌, length, refl, sym, ap, ◌∙◌, subst, arith}
 use Rattle.plain_values.specs.Equal.{same_Decides}
 use Rattle.imp_slots.specs.Codes.{guard_code}
 use Rattle.imp_slots.specs.PartCodes.{layout_code, entering_code}
@@ -25,12 +25,9 @@ use Rattle.imp_flow.specs.declared.row.Binary.TheVariants as two
 use Rattle.imp_flow.specs.declared.row.Row.{Row}
 use Rattle.imp_flow.specs.declared.row.Row.TheVariants.{Init, One, Two, Fixed, Joins}
 use Rattle.imp_flow.specs.Near.{outside, near, input_name, unary_of, binary_of, row_in}
-use Rattle.kept_set.proofs.Decided.{returning_code, truth_decides}
+use Rattle.kept_set.proofs.Decided.{returning_code, truth_decides, never}
 use Rattle.edit_invalidate.specs.RowCode.{same_ways, same_inputs, same_unary, same_binary, same_row, is_nil}
 use Rattle.edit_invalidate.specs.Rows.{AskSame}
-
-never : {A : Type 0} → (A → ⊥) → Decides false A
-never n = (λ e. absurd cc, λ a. absurd (n a))
 
 -- Paths of other lengths are others.
 shorter : (w : List Frame) → length (outside w) ≤ length w

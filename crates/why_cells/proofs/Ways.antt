@@ -1,8 +1,8 @@
 -- The cells of names and of the fixed points on their ways.
-use Rattle.std.proofs.Common.{◌≡◌, ℕ, zero, suc, ◌+◌, List, [], ◌∷◌, ◌++◌, map, take, Some, slice_get, refl, sym, ap, subst, ◌∙◌, append_assoc, append-nil}
+use Rattle.std.proofs.Common.{◌≡◌, ℕ, zero, suc, ◌+◌, List, [], ◌∷◌, ◌++◌, map, take, Some, slice_get, refl, sym, ap, subst, ◌∙◌, append_assoc, append-nil, add-one}
 use Rattle.std.proofs.lemmas.List.{map-append}
-use Rattle.std.proofs.lemmas.Option.{slice_get-get_or, slice_get_within, same_Some}
-use Rattle.plain_values.proofs.Lists.{take_item}
+use Rattle.std.proofs.lemmas.Option.{same_Some}
+use Rattle.plain_values.proofs.Lists.{take_next}
 use Rattle.cell_names.specs.declared.frame.Frame.{Frame}
 use Rattle.cell_names.specs.declared.frame.Frame.TheVariants.{InCall, InLoop}
 use Rattle.cell_names.specs.declared.frame.Point.TheVariants.{Fix}
@@ -55,9 +55,6 @@ fix_named names f v n k e named = named (name v (Fix n)) (subst (λ g. IsIn (fix
 pub record Collects (names : List CellName) (found : List ℕ) (i : ℕ) (out : List ℕ) : Type 0 where
   pub are : (xs : List CellName) → AreNumbers names found xs → AllNamed names (with_fixes xs) → AreNumbers names out (with_fixes (take i xs))
 
-take_next : (xs : List CellName) (i : ℕ) (x : CellName) → slice_get xs i ≡ Some x → take (i + 1) xs ≡ take i xs ++ x ∷ []
-take_next xs i x e = take_item xs i x (slice_get_within xs i x e) (same_Some _ _ (sym e ∙ slice_get-get_or xs i x (slice_get_within xs i x e)))
-
 fixes_in : (xs : List CellName) (i : ℕ) (x y : CellName) → slice_get xs i ≡ Some x → IsIn (fixes x.path) y → IsIn (with_fixes xs) y
 fixes_in [] i x y e m = absurd cc
 fixes_in (z ∷ xs) i x y e m = go i e (λ j q. fixes_in xs j x y q m)
@@ -76,6 +73,6 @@ collects_next names found now more new i n x at named h e adds = record {
       let more_of = adds (λ y m. all y (fixes_in xs i x y get m)) in
       let one : AreNumbers names (n ∷ more_of.0) (x ∷ fixes x.path) = numbers_both names (n ∷ []) more_of.0 (x ∷ []) (fixes x.path) (ap (λ o. o ∷ []) named) more_of.2 in
       subst (λ zs. AreNumbers names zs (with_fixes (take (i + 1) xs))) (sym (more_of.1 ∙ ap (λ zs. zs ++ more_of.0) e ∙ append_assoc now (n ∷ []) more_of.0))
-      (subst (AreNumbers names (now ++ n ∷ more_of.0)) (sym (ap with_fixes (take_next xs i x get) ∙ with_both (take i xs) (x ∷ []) ∙ ap (λ zs. with_fixes (take i xs) ++ x ∷ zs) (append-nil (fixes x.path))))
+      (subst (AreNumbers names (now ++ n ∷ more_of.0)) (sym (ap with_fixes (ap (λ n. take n xs) (add-one i) ∙ take_next xs i x get) ∙ with_both (take i xs) (x ∷ []) ∙ ap (λ zs. with_fixes (take i xs) ++ x ∷ zs) (append-nil (fixes x.path))))
       (numbers_both names now (n ∷ more_of.0) (with_fixes (take i xs)) (x ∷ fixes x.path) (h.are xs a all) one));
 }

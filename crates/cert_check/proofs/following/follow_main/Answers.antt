@@ -1,6 +1,6 @@
 use Rattle.std.proofs.Common.{◌≡◌, ◌-◌, suc, length, get_or, ap, ◌∙◌, arith}
 use Rattle.batch_interp.specs.declared.frames.Frame.{Frame}
-use Rattle.batch_interp.proofs.Walkings.{get_there}
+use Rattle.plain_values.proofs.Lists.{get_there}
 use Rattle.cert_check.proofs.FollowLemmas.{main_ends}
 use Rattle.cert_check.proofs.following.follow_main.Goals as goal
 

@@ -16,8 +16,9 @@ use Rattle.daig_query.specs.declared.store.Store.{Store}
 use Rattle.daig_query.specs.Right.{found}
 use Rattle.daig_query.specs.Walked.{IsAsked}
 use Rattle.daig_query.proofs.Stepping.{place_end, fewer_left, placed_left}
-use Rattle.daig_query.proofs.Taking.{target_here, asking, step_fails, step_leaves, none_yet}
+use Rattle.daig_query.proofs.Taking.{target_here, asking, step_fails, step_leaves}
 use Rattle.daig_query.proofs.walk.last.Goals as goal
+use Rattle.daig_query.proofs.Growing.{names_refl}
 use Rattle.plain_values.proofs.Cases.{none_of}
 
 pub returns-in_err-cell : goal.returns-in_err-cell
@@ -28,7 +29,7 @@ returns-in_err-cell g c =
     let old = c.args.store.now in
     let w = c.args.walk.now in
     let p = err_from_is_err_and c.from_residual.result c.from_residual.ensures.1 in
-    let s = step_fails dom plan ts old old w w c.add.new.self (none_yet dom plan ts old) c.requires.right c.requires.placed c.in_err-cell.ensures.err (record { target = refl; step = refl; path = refl; found = refl; stack = refl }) p.0 c.from_residual.result p.1 in
+    let s = step_fails dom plan ts old old w w c.add.new.self (names_refl old) c.requires.right c.requires.placed c.in_err-cell.ensures.err (record { target = refl; step = refl; path = refl; found = refl; stack = refl }) p.0 c.from_residual.result p.1 in
     record { names = s.names; right = s.right; placed = s.placed; stack = s.stack; steps = s.steps }
 
 pub returns-then-not-there : goal.returns-then-not-there

@@ -1,4 +1,5 @@
 use Rattle.std.proofs.Common.{◌≡◌, List, ℕ, Some, slice_get, sym, subst, ◌∙◌, arith}
+use Rattle.std.proofs.lemmas.Option.{slice_get_within}
 use Rattle.std.specs.Prelude.{IfErr, IfOk, IfSome}
 use Rattle.imp_flow.specs.Plans.{Plan}
 use Rattle.batch_meaning.specs.Answers.{answer}
@@ -7,16 +8,17 @@ use Rattle.open_tickets.specs.Tickets.{anew}
 use Rattle.daig_session.specs.declared.book.Going.{Going}
 use Rattle.daig_session.specs.Books.{flow_in}
 use Rattle.daig_session.specs.Going.{IsGoing, IsRefused}
-use Rattle.daig_session.proofs.TicketLemmas.{read_is, set_there, there_within, within_there}
+use Rattle.daig_session.proofs.TicketLemmas.{read_is, set_there}
 use Rattle.daig_session.proofs.Waiting.{waiting_get}
 use Rattle.daig_session.proofs.stepping.resumed.Goals as goal
+use Rattle.plain_values.proofs.Lists.{get_some}
 
 pub index-one-requires : goal.index-one-requires
 index-one-requires g c =
     let os = c.args.book.now.tickets.open_ones.items in
-    let p = within_there os c.args.place c.requires.there in
+    let p = get_some os c.args.place c.requires.there in
     let there = subst (λ us. slice_get us c.args.place ≡ Some (anew p.0)) (sym (c.take_going.ensures.left p.0 p.1)) (set_there os c.args.place p.0 (anew p.0) p.1) in
-    let within = there_within c.take_going.new.open_ones.items c.args.place (anew p.0) there in
+    let within = slice_get_within c.take_going.new.open_ones.items c.args.place (anew p.0) there in
     omega (arith, within, c.take_going.new.open_ones.ok.0)
 
 pub returns-in-Some-clause-going : goal.returns-in-Some-clause-going

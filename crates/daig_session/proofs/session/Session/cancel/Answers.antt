@@ -1,7 +1,7 @@
 use Rattle.std.proofs.Common.{Ok, Err, sym, subst}
+use Rattle.std.proofs.lemmas.Option.{slice_get_within}
 use Rattle.daig_session.specs.Holds.{Holds}
 use Rattle.daig_session.specs.Turns.{Cancels}
-use Rattle.daig_session.proofs.TicketLemmas.{there_within}
 use Rattle.daig_session.proofs.Ticketed.{closed_holds, closed_ready, no_ticket, ticket_here}
 use Rattle.daig_session.proofs.session.Session.cancel.Goals as goal
 
@@ -15,7 +15,7 @@ pub close-requires-clause-tickets : goal.close-requires-clause-tickets
 close-requires-clause-tickets g c = c.requires.ready.order.are_open
 
 pub close-requires-clause-there : goal.close-requires-clause-there
-close-requires-clause-there g c = there_within c.args.self.now.book.tickets.open_ones.items c.in-Some.place c.in-Some.ensures.is.one c.in-Some.ensures.is.there
+close-requires-clause-there g c = slice_get_within c.args.self.now.book.tickets.open_ones.items c.in-Some.place c.in-Some.ensures.is.one c.in-Some.ensures.is.there
 
 pub returns-in-Some-clause-ready : goal.returns-in-Some-clause-ready
 returns-in-Some-clause-ready g c =

@@ -1,4 +1,5 @@
 use Rattle.std.proofs.Common.{◌≡◌, ◌*◌, ◌+◌, ◌≤◌, suc, length, Err, None, refl, sym, subst, ◌∙◌, arith}
+use Rattle.std.proofs.lemmas.Option.{slice_get_within}
 use Rattle.std.specs.Prelude.{IfOk, IfSome, MatchOption}
 use Rattle.imp_check.specs.Slots.{routines_of}
 use Rattle.edit_history.specs.Times.{Times}
@@ -12,7 +13,6 @@ use Rattle.daig_session.specs.Going.{IsGoing}
 use Rattle.daig_session.specs.Holds.{Holds}
 use Rattle.daig_session.specs.Turns.{work_of, CoversDone, IsStepOf}
 use Rattle.daig_session.proofs.Answering.{answer_here, between_none}
-use Rattle.daig_session.proofs.TicketLemmas.{there_within}
 use Rattle.daig_session.proofs.Ticketed.{closed_holds, closed_ready, no_ticket, ticket_here, without_flow, without_holds, without_ready, without_there}
 use Rattle.daig_session.proofs.session.Session.step.Goals as goal
 
@@ -24,7 +24,7 @@ returns-in_default-clause-steps g c = λ m h.
     subst (λ o. IsStepOf dom m (Holds dom s.engine.store s.book) c.args.most o (Err NoTicket)) (sym (no_ticket dom s.engine.store s.book m c.args.ticket h none)) (refl, h)
 
 pub resumed-requires-clause-there : goal.resumed-requires-clause-there
-resumed-requires-clause-there g c = there_within c.args.self.now.book.tickets.open_ones.items c.in-Some.place c.in-Some.ensures.is.one c.in-Some.ensures.is.there
+resumed-requires-clause-there g c = slice_get_within c.args.self.now.book.tickets.open_ones.items c.in-Some.place c.in-Some.ensures.is.one c.in-Some.ensures.is.there
 
 pub step_on-requires-clause-ready : goal.step_on-requires-clause-ready
 step_on-requires-clause-ready g c =
@@ -84,7 +84,7 @@ pub close-requires-clause-there : goal.close-requires-clause-there
 close-requires-clause-there g c =
     let s = c.args.self.now in
     let at = c.in-Some.ensures.is in
-    there_within c.resumed.new.book.tickets.open_ones.items c.in-Some.place (anew at.one) (without_there (g.D.Domain.operations s.engine.domain) s.engine.store c.in-Some.place s.book c.resumed.new.book c.resumed.ensures.left at.one at.there)
+    slice_get_within c.resumed.new.book.tickets.open_ones.items c.in-Some.place (anew at.one) (without_there (g.D.Domain.operations s.engine.domain) s.engine.store c.in-Some.place s.book c.resumed.new.book c.resumed.ensures.left at.one at.there)
 
 pub returns-in-Err-Refused-clause-ready : goal.returns-in-Err-Refused-clause-ready
 returns-in-Err-Refused-clause-ready g c =

@@ -15,11 +15,11 @@ use Rattle.daig_session.specs.Holds.{Holds, IsReady}
 use Rattle.daig_session.proofs.Answering.{between_some, most_here, says_here, work_both, work_first, work_here}
 use Rattle.daig_session.proofs.Filled.{fills_ready, missing_here, ready_costing}
 use Rattle.daig_session.proofs.Stepped.{all_of, as_many_as, is_more}
-use Rattle.daig_session.proofs.TicketLemmas.{numbers_set, still_open, there_within, tickets_set}
+use Rattle.daig_session.proofs.TicketLemmas.{numbers_set, still_open, tickets_set}
 use Rattle.daig_session.proofs.Ticketed.{closed_ready, done_holds, pending_holds, ticketed_ready}
 use Rattle.daig_session.proofs.Waiting.{waiting_get, waiting_set}
 use Rattle.daig_session.proofs.session.Session.step_on.Goals as goal
-use Rattle.std.proofs.lemmas.Option.{same_Some}
+use Rattle.std.proofs.lemmas.Option.{same_Some, slice_get_within}
 
 pub fill_some-requires-clause-going : goal.fill_some-requires-clause-going
 fill_some-requires-clause-going g c = (c.requires.there.one.at, c.requires.there.one.string, c.requires.there.going)
@@ -45,7 +45,7 @@ returns-in_err-progress-clause-steps g c = λ m o h e.
     between_some dom s.book s.engine.store new o.at o.string ts (added s.engine.store new) c.requires.ready.right.checked a c.fill_some.ensures.fills (c.questions_keep_cells.ensures.question s.engine.domain) m h))
 
 pub put_going-requires : goal.put_going-requires
-put_going-requires g c = record { there = there_within c.args.self.now.book.tickets.open_ones.items c.args.place c.requires.there.one c.requires.there.there }
+put_going-requires g c = record { there = slice_get_within c.args.self.now.book.tickets.open_ones.items c.args.place c.requires.there.one c.requires.there.there }
 
 pub returns-then-not-progress-clause-ready : goal.returns-then-not-progress-clause-ready
 returns-then-not-progress-clause-ready g c =
@@ -125,7 +125,7 @@ pub close-requires-clause-tickets : goal.close-requires-clause-tickets
 close-requires-clause-tickets g c = c.requires.ready.order.are_open
 
 pub close-requires-clause-there : goal.close-requires-clause-there
-close-requires-clause-there g c = there_within c.args.self.now.book.tickets.open_ones.items c.args.place c.requires.there.one c.requires.there.there
+close-requires-clause-there g c = slice_get_within c.args.self.now.book.tickets.open_ones.items c.args.place c.requires.there.one c.requires.there.there
 
 pub returns-clause-ready : goal.returns-clause-ready
 returns-clause-ready g c =

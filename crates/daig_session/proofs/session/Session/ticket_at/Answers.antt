@@ -1,9 +1,10 @@
 use Rattle.std.proofs.Common.{Some, sym, ap, ◌∙◌, arith}
+use Rattle.std.proofs.lemmas.Option.{slice_get_within}
 use Rattle.std.specs.Option.{option_map}
 use Rattle.session_machine.specs.Machine.{Ticket}
 use Rattle.open_tickets.specs.declared.tickets.Open.{Open}
 use Rattle.daig_session.specs.declared.book.Going.{Going}
-use Rattle.daig_session.proofs.TicketLemmas.{read_is, there_within}
+use Rattle.daig_session.proofs.TicketLemmas.{read_is}
 use Rattle.daig_session.proofs.Ticketed.{no_ticket, ticket_here}
 use Rattle.daig_session.proofs.session.Session.ticket_at.Goals as goal
 
@@ -16,7 +17,7 @@ pub index-one-requires : goal.index-one-requires
 index-one-requires g c =
     let os = c.args.self.now.book.tickets.open_ones in
     let at = c.in-Some.ensures.is in
-    let within = there_within os.items c.in-Some.place at.one at.there in
+    let within = slice_get_within os.items c.in-Some.place at.one at.there in
     omega (arith, within, os.ok.0)
 
 pub returns-in-Some : goal.returns-in-Some
