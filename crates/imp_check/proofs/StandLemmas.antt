@@ -5,9 +5,7 @@ use Rattle.imp_syntax.specs.Plain.{Statements, Ends, Starts, Procedure}
 use Rattle.imp_syntax.specs.Plain as tree
 use Rattle.imp_check.specs.Slots.{Resolver}
 use Rattle.imp_check.specs.Entries.{inside, inside_loop, block_entries, procedure_entries, entries_from, entries_of, entry_of, resolver_at, context_at, calls_here, sites_in}
-use Rattle.imp_check.specs.Changes.{overlay}
 use Rattle.imp_check.specs.Walks.{body_numbers, numbers_at}
-use Rattle.imp_check.specs.declared.change.Put.{Put}
 use Rattle.imp_check.specs.declared.entry.Context.{Context}
 use Rattle.imp_check.specs.declared.entry.Entry.{Entry}
 use Rattle.imp_check.specs.declared.entry.Which.TheVariants as which
@@ -138,12 +136,3 @@ site_there ps q n x h c =
     let f = entry_found ps n x h in
     let r = site_in q x (entries_of ps) f.0 c in
     (r.0, r.1 ∙ ap Some f.1)
-
--- What a change does not bring was there.
-pub overlay_kept : (puts : List Put) (at : ℕ → Option Entry) (n : ℕ) (x : Entry) → overlay puts at n ≡ Some x → ((i : ℕ) (p : Put) → slice_get puts i ≡ Some p → p.entry ≡ Some x → ⊥) → at n ≡ Some x
-overlay_kept [] at n x h none = h
-overlay_kept (p ∷ ps) at n x h none = go (p.number == n) h (λ k. overlay_kept ps at n x k (λ i q. none (suc i) q))
-  where
-    go : (b : Bool) → cond b p.entry (overlay ps at n) ≡ Some x → (overlay ps at n ≡ Some x → at n ≡ Some x) → at n ≡ Some x
-    go true h more = absurd (none 0 p refl h)
-    go false h more = more h

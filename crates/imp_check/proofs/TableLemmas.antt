@@ -80,9 +80,3 @@ made ps fine places count heads sites e n h s = record {
 -- the procedure of a name, by the procedures without statements
 pub named_by : (ps : List Procedure) (x : List ℕ) (b : Bool) → is_headed (heads_of ps) x ≡ b → cond b (Some (place_headed (heads_of ps) x)) None ≡ named_in ps x
 named_by ps x b e = ap (λ n. cond b (Some n) None) (headed_place ps x) ∙ ap (λ t. cond t (Some (place_named ps x)) None) (sym e ∙ headed ps x)
-
-pub made_is : (ps : List Procedure) (fine : IsFine ps) (places : List (Option Entry)) (count : ℕ) (heads : List Head) (sites : List (List ℕ)) → places ≡ put_all (entries_of ps) [] → count ≡ program_count ps → heads ≡ heads_of ps → sites ≡ with_sites (entries_of ps) (no_sites (length ps)) → program_by (entry_in places) count heads ≡ ps
-made_is ps fine places count heads sites e n h s = table_is ps (entry_in places) count heads sites (made ps fine places count heads sites e n h s)
-
-pub made_right : (ps : List Procedure) (fine : IsFine ps) (places : List (Option Entry)) (count : ℕ) (heads : List Head) (sites : List (List ℕ)) → places ≡ put_all (entries_of ps) [] → count ≡ program_count ps → heads ≡ heads_of ps → sites ≡ with_sites (entries_of ps) (no_sites (length ps)) → AreOf (program_by (entry_in places) count heads) (entry_in places) count heads sites
-made_right ps fine places count heads sites e n h s = table_right ps (entry_in places) count heads sites (made ps fine places count heads sites e n h s)
