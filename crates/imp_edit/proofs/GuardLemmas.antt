@@ -12,14 +12,14 @@ use Rattle.imp_check.specs.Fine.{IsFine}
 use Rattle.imp_check.specs.Faults.{first, at, in_procedure}
 use Rattle.imp_check.specs.Names.{variables}
 use Rattle.imp_check.specs.Slots.{layout_in, guard_in, routines_of}
-use Rattle.imp_check.proofs.FallingLemmas.{falling_more}
+use Rattle.program_table.proofs.FallingLemmas.{falling_more}
 use Rattle.imp_check.specs.Statements.{condition_fault, block_fault}
 use Rattle.imp_check.specs.Parts.{part_of}
 use Rattle.imp_check.specs.Programs.{AreNumbered, block_count, program_count, variables_fault, check_fault}
 use Rattle.imp_check.specs.Entries.{entries_of, entry_of, form_in, resolver_at, heads_of, sites_of}
-use Rattle.imp_check.specs.Changes.{AreWithin, Makes, overlay}
-use Rattle.imp_check.specs.declared.change.Change.{Change}
-use Rattle.imp_check.specs.declared.change.Put.{Put}
+use Rattle.program_table.specs.Changes.{AreWithin, Makes, overlay}
+use Rattle.program_table.specs.declared.change.Change.{Change}
+use Rattle.program_table.specs.declared.change.Put.{Put}
 use Rattle.imp_check.specs.declared.entry.Entry.{Entry}
 use Rattle.imp_check.specs.declared.entry.Head.{Head}
 use Rattle.imp_check.specs.declared.entry.SlotForm.{SlotForm}
