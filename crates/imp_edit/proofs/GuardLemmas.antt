@@ -27,7 +27,6 @@ use Rattle.imp_check.specs.declared.entry.SlotForm.TheVariants as form
 use Rattle.edit_entries.specs.Holes.{Hole, plug, between, in_loop, with_body}
 use Rattle.edit_entries.proofs.Counts.{count_edited, count_program}
 use Rattle.edit_entries.proofs.Exchange.{faultless, exchanged_fault}
-use Rattle.edit_entries.proofs.Faults.{first_alone}
 use Rattle.edit_entries.proofs.Filled.{plug_ends}
 use Rattle.edit_entries.proofs.Fitting.{FitsThere, program_fits, same_leave}
 use Rattle.edit_entries.proofs.Guards.{one, same_leaving, guard_ends, guard_other, guard_own}
@@ -41,7 +40,7 @@ use Rattle.imp_edit.specs.declared.error.EditError.TheVariants.{Fault}
 use Rattle.imp_edit.specs.Short.{IsMade}
 use Rattle.imp_edit.specs.declared.refusals.Needed.TheVariants.{Conditional}
 use Rattle.imp_edit.proofs.Exchanged.{program_edited}
-use Rattle.imp_check.proofs.FewLemmas.{first_none}
+use Rattle.imp_check.proofs.FewLemmas.{first_none, first_alone}
 
 guarded_is : (d : Condition) (s : Statement) → guarded d s ≡ one (with_condition s d)
 guarded_is d (Simple n a) = refl

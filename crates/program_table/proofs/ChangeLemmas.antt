@@ -2,6 +2,7 @@
 use Rattle.std.proofs.lemmas.Bool.Decides.{nat_tests}
 use Rattle.std.proofs.Common.{◌≡◌, ℕ, zero, suc, ◌<◌, ◌≤◌, ◌==◌, ◌⊎◌, inl, inr, cond, Bool, true, false, List, [], ◌∷◌, ◌++◌, length, Option, Some, None, refl, sym, ap, ◌∙◌, subst, arith}
 use Rattle.std.specs.List.{All}
+use Rattle.plain_values.proofs.Lists.{one_more}
 use Rattle.std.proofs.lemmas.Bool.{cases_lt}
 use Rattle.std.proofs.lemmas.List.Elements.{All-push}
 use Rattle.imp_slots.specs.Fits.{Absent}
@@ -31,14 +32,10 @@ at_end : (xs : List (Option Entry)) (o : Option Entry) → entry_in (xs ++ o ∷
 at_end [] o = refl
 at_end (x ∷ xs) o = at_end xs o
 
-longer : (xs : List (Option Entry)) (o : Option Entry) → length (xs ++ o ∷ []) ≡ suc (length xs)
-longer [] o = refl
-longer (x ∷ xs) o = ap suc (longer xs o)
-
 -- The last place is taken from a list that begins as another one.
 module _ (xs ys zs : List (Option Entry)) (o : Option Entry) (e : xs ≡ ys ++ o ∷ []) (kept : (m : ℕ) → m < length xs → entry_in xs m ≡ entry_in zs m) where
   more : length xs ≡ suc (length ys)
-  more = ap (λ ws. length ws) e ∙ longer ys o
+  more = ap (λ ws. length ws) e ∙ one_more ys o
 
   pub still_kept : (m : ℕ) → m < length ys → entry_in ys m ≡ entry_in zs m
   still_kept m h = sym (in_front ys o m h) ∙ ap (λ ws. entry_in ws m) (sym e) ∙ kept m (omega (arith, more))

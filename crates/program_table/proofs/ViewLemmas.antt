@@ -1,7 +1,7 @@
 -- Programs as they are read.
 use Rattle.std.proofs.Common.{◌≡◌, ℕ, ◌<◌, List, [], length, Some, None, slice_get, slice_index_or, ◌≤◌, sym, ap, ◌∙◌}
 use Rattle.imp_syntax.specs.Plain.{Procedure}
-use Rattle.std.proofs.lemmas.Option.{slice_get-get_or, slice_get_past}
+use Rattle.std.proofs.lemmas.Option.{none-some, same_Some, slice_get-get_or, slice_get_past}
 use Rattle.imp_check.specs.Entries.{entries_of, sites_in, sites_of}
 use Rattle.program_table.specs.Views.{over, program_over, AreRead}
 use Rattle.imp_check.specs.declared.entry.Head.{Head}
@@ -19,17 +19,11 @@ read_right under puts count heads sites program r = record { right = table_right
 module _ (ps : List Procedure) (ss : List (List ℕ)) (i p : ℕ) where
   pub site_of : (s : List ℕ) → ss ≡ sites_of ps → i ≡ p → i < length ss → s ≡ slice_index_or ss i s → p < length ps → s ≡ sites_in (entries_of ps) p
   site_of s e q l at h =
-      some s (sites_in (entries_of ps) p)
+      same_Some s (sites_in (entries_of ps) p)
       (sym (slice_get-get_or ss i s l ∙ ap Some (sym at)) ∙ ap (λ zs. slice_get zs i) e ∙ ap (λ (k : ℕ). slice_get (sites_of ps) k) q ∙ below_at (entries_of ps) (length ps) p h)
-    where
-      some : (a b : List ℕ) → Some a ≡ Some b → a ≡ b
-      some a b e = cc
-
-  clash : {s : List ℕ} → Some s ≡ None → ⊥
-  clash e = cc
 
   pub no_site : ss ≡ sites_of ps → i ≡ p → i < length ss → length ps ≤ p → ⊥
-  no_site e q l h = clash (sym (slice_get-get_or ss i [] l) ∙ ap (λ zs. slice_get zs i) e ∙ ap (λ (k : ℕ). slice_get (sites_of ps) k) q ∙ below_past (entries_of ps) (length ps) p h)
+  no_site e q l h = none-some _ (sym (sym (slice_get-get_or ss i [] l) ∙ ap (λ zs. slice_get zs i) e ∙ ap (λ (k : ℕ). slice_get (sites_of ps) k) q ∙ below_past (entries_of ps) (length ps) p h))
 
   pub site_gone : ss ≡ sites_of ps → i ≡ p → length ss ≤ i → p < length ps → ⊥
-  site_gone e q l h = clash (sym (below_at (entries_of ps) (length ps) p h) ∙ ap (λ (k : ℕ). slice_get (sites_of ps) k) (sym q) ∙ ap (λ zs. slice_get zs i) (sym e) ∙ slice_get_past ss i l)
+  site_gone e q l h = none-some _ (sym (sym (below_at (entries_of ps) (length ps) p h) ∙ ap (λ (k : ℕ). slice_get (sites_of ps) k) (sym q) ∙ ap (λ zs. slice_get zs i) (sym e) ∙ slice_get_past ss i l))
