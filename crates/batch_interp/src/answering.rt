@@ -12,8 +12,8 @@ use batch_meaning::Refusal;
 use batch_sound::answers_are_sound;
 use call_contexts::{Setting, chains, place_of};
 use domain_laws::{Domain, Steps};
-use imp_check::Checked;
 use imp_syntax::{Location, ProcId};
+use program_table::Checked;
 use std::alloc::Global;
 use std::sync::ledger::Ledger;
 

@@ -6,10 +6,10 @@ ghost use Rattle.call_contexts.specs.Settings.{setting_of};
 ghost use Rattle.batch_interp.specs.Frames.{marks_at};
 
 use call_contexts::Setting;
-use imp_check::{Checked, View};
 use imp_slots::Routine;
 use imp_syntax::{Chain, StmtId};
 use plain_values::{Items, Memory};
+use program_table::{Checked, View};
 use std::alloc::Global;
 use std::marker::Model;
 

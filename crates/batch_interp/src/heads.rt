@@ -14,11 +14,11 @@ use crate::totals::enter_procedure;
 use crate::walks::Entered;
 use call_contexts::{Setting, few_routines};
 use domain_laws::{Domain, Steps};
-use imp_check::Checked;
 use imp_slots::{SlotBlock, SlotCond, SlotNode};
 use imp_syntax::{ProcId, StmtId};
 use plain_values::{Items, Memory};
 use program_chains::chains_go_through_callers;
+use program_table::Checked;
 use std::alloc::Global;
 use std::sync::ledger::Ledger;
 

@@ -3,7 +3,7 @@ use Rattle.std.proofs.lemmas.List.{take_all}
 use Rattle.std.proofs.Common.{◌≡◌, ℕ, zero, suc, ◌+◌, ◌<◌, ◌≤◌, ◌==◌, ◌++◌, Bool, true, false, List, [], ◌∷◌, length, take, get_or, slice_get, Option, Some, None, refl, sym, ap, subst, ◌∙◌, arith}
 use Rattle.std.proofs.lemmas.Option.{slice_get-get_or, same_Some}
 use Rattle.std.specs.Prelude.{if◌then◌else◌}
-use Rattle.imp_check.specs.declared.change.Put.{Put}
+use Rattle.program_table.specs.declared.change.Put.{Put}
 use Rattle.imp_check.specs.declared.entry.Entry.{Entry}
 use Rattle.program_chains.specs.Chains.{has}
 use Rattle.call_contexts.specs.Literals.{form_literals}

@@ -14,12 +14,12 @@ use Rattle.imp_syntax.specs.Plain.{Procedure}
 use Rattle.imp_slots.specs.Plain.{Code, Stop, Simple, If, While, Call, Break}
 use Rattle.imp_check.specs.Slots.{routine_of, routines_of}
 use Rattle.imp_check.specs.Programs.{AreNumbered}
-use Rattle.imp_check.specs.Changes.{overlay}
+use Rattle.program_table.specs.Changes.{overlay}
 use Rattle.imp_check.specs.Entries.{procedure_entries, entries_of, entry_of, resolver_at, context_at}
 use Rattle.imp_check.specs.Walks.{numbers_at}
-use Rattle.imp_check.specs.declared.change.Put.{Put}
+use Rattle.program_table.specs.declared.change.Put.{Put}
 use Rattle.imp_check.specs.declared.entry.Entry.{Entry}
-use Rattle.imp_check.proofs.OverlayLemmas.{overlay_other}
+use Rattle.program_table.proofs.OverlayLemmas.{overlay_other}
 use Rattle.imp_check.proofs.PutLemmas.{same}
 use Rattle.imp_check.proofs.RebuildLemmas.{In}
 use Rattle.imp_check.proofs.StandLemmas.{entry_found, stands, number_there, procedure_is}

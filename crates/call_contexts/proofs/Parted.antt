@@ -14,9 +14,9 @@ use Rattle.imp_check.specs.Slots.{routine_of, routines_of}
 use Rattle.imp_check.specs.Programs.{AreNumbered, check_fault}
 use Rattle.imp_check.specs.Entries.{procedure_entries, entries_of, entry_of, resolver_at, context_at}
 use Rattle.imp_check.specs.Walks.{body_numbers, numbers_at}
-use Rattle.imp_check.specs.declared.change.Put.{Put}
+use Rattle.program_table.specs.declared.change.Put.{Put}
 use Rattle.imp_check.specs.declared.entry.Entry.{Entry}
-use Rattle.imp_check.proofs.FallingLemmas.{falling_once}
+use Rattle.program_table.proofs.FallingLemmas.{falling_once}
 use Rattle.imp_check.proofs.FewLemmas.{few_statements}
 use Rattle.imp_check.proofs.PutLemmas.{same}
 use Rattle.imp_check.proofs.RebuildLemmas.{In, Known, entry_numbers, block_numbers, all_numbers}

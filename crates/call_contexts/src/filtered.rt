@@ -6,9 +6,9 @@ ghost use Rattle.call_contexts.specs.Places.{targets_of};
 
 use crate::places::place_of;
 use crate::table::chains_to;
-use imp_check::View;
 use imp_syntax::{Chain, Location, ProcId, StmtId};
 use plain_values::{Items, Memory};
+use program_table::View;
 use std::alloc::Global;
 
 /// Whether a chain ends in these calls, both with the last call first.

@@ -6,10 +6,11 @@ ghost use Rattle.program_chains.specs.Marks.{term_literals, guard_literals, effe
 ghost use Rattle.imp_check.specs.Entries.{entries_of, entry_of};
 ghost use Rattle.call_contexts.specs.Literals.{stmt_literals, form_literals, literals_in, literals_by};
 
-use imp_check::{SlotForm, View};
+use imp_check::SlotForm;
 use imp_slots::{Argument, SlotAction, SlotCond, SlotCondNode, SlotExpr, SlotExprNode, SlotStmt};
 use imp_syntax::StmtId;
 use plain_values::{Items, Memory, Number};
+use program_table::View;
 use std::alloc::Global;
 
 fn add_term(expr: &SlotExpr, found: &mut Items<Number>) -> Result<(), Memory>

@@ -12,9 +12,10 @@ ghost use Rattle.call_contexts.specs.Loops.{all_loops, loop_in, put_numbers, IsG
 ghost use Rattle.call_contexts.specs.Touches.{Brings};
 
 use crate::places::is_loop;
-use imp_check::{Entry, Put, View};
+use imp_check::Entry;
 use imp_syntax::{ProcId, StmtId};
 use plain_values::{Items, Memory};
+use program_table::{Put, View};
 use std::alloc::{AllocError, Global};
 use std::collections::BTreeSet;
 use std::marker::Model;

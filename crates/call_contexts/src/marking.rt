@@ -5,10 +5,10 @@ ghost use Rattle.imp_check.specs.Slots.{routines_of};
 ghost use Rattle.call_contexts.specs.Settings.{all_marks};
 
 use crate::literals::add_statements;
-use imp_check::View;
 use imp_syntax::ProcId;
 use plain_values::{Items, Memory, Number};
 use program_chains::Widening;
+use program_table::View;
 use std::alloc::Global;
 use std::collections::BTreeSet;
 

@@ -8,9 +8,9 @@ ghost use Rattle.imp_check.specs.Slots.{routines_of};
 ghost use Rattle.call_contexts.specs.Places.{found_of, is_loop};
 
 use batch_meaning::Refusal;
-use imp_check::{Checked, View};
 use imp_slots::Routine;
 use imp_syntax::{Location, ProcId, Stmt, StmtId, StmtNode};
+use program_table::{Checked, View};
 
 /// The procedure of a statement.
 fn holder(prog: &View<'_>, stmt: StmtId) -> Result<ProcId, Refusal>

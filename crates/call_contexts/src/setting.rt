@@ -6,10 +6,10 @@ ghost use Rattle.call_contexts.specs.Settings.{engine_of, setting_of, marks_at, 
 use crate::loops::Loops;
 use crate::part::{Marks, Part, Tally};
 use crate::table::procedure_count;
-use imp_check::View;
 use imp_syntax::{ProcId, StmtId};
 use plain_values::{Items, Memory};
 use program_chains::Widening;
+use program_table::View;
 use std::alloc::Global;
 use std::marker::Model;
 

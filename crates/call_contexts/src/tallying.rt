@@ -9,10 +9,10 @@ ghost use Rattle.call_contexts.specs.Differences.{lists_by};
 
 use crate::counts::Counts;
 use crate::literals::numbers_of;
-use imp_check::View;
 use imp_syntax::{ProcId, StmtId};
 use plain_values::{Items, Memory, Number};
 use program_chains::Widening;
+use program_table::View;
 use std::alloc::Global;
 
 /// Counts a statement, if it is there.

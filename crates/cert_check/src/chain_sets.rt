@@ -9,9 +9,9 @@ ghost use Rattle.cert_lines.specs.Lines.{is_chain};
 ghost use Rattle.cert_check.specs.Table.{chain_in, AreChains};
 
 use call_contexts::{chains, procedure_count};
-use imp_check::View;
 use imp_syntax::{Chain, ProcId, StmtId};
 use plain_values::{Items, Memory};
+use program_table::View;
 use std::alloc::Global;
 use std::collections::HashSet;
 use std::marker::Model;

@@ -9,9 +9,9 @@ ghost use Rattle.cert_check.specs.Reading.{GoesOn, IsAdded, IsRead, IsReading};
 use crate::chain_sets::ChainSets;
 use crate::entry::entry_of;
 use crate::written::{Written, loop_key};
-use imp_check::Checked;
 use plain_values::Memory;
 use portable_states::Portable;
+use program_table::Checked;
 use std::alloc::Global;
 
 /// What reading the lines comes to.

@@ -8,9 +8,9 @@ ghost use Rattle.server_jobs.specs.Works.{IsNumbered};
 
 use command_words::Settings;
 use daig_session::Session;
-use imp_check::Table;
 use line_replies::long_line;
 use plain_values::Memory;
+use program_table::Table;
 use script_loop::Answerer;
 use server_jobs::Named;
 use session_lines::answer_line;

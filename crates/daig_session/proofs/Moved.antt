@@ -4,9 +4,9 @@ use Rattle.imp_syntax.specs.Plain.{Procedure}
 use Rattle.imp_syntax.specs.declared.edit.Edit.{Edit}
 use Rattle.imp_check.specs.Fine.{IsFine}
 use Rattle.imp_check.specs.Slots.{routines_of}
-use Rattle.imp_check.specs.Changes.{AreWithin, Makes}
-use Rattle.imp_check.specs.declared.change.Change.{Change}
-use Rattle.imp_check.specs.declared.change.Put.{Put}
+use Rattle.program_table.specs.Changes.{AreWithin, Makes}
+use Rattle.program_table.specs.declared.change.Change.{Change}
+use Rattle.program_table.specs.declared.change.Put.{Put}
 use Rattle.imp_edit.specs.Edited.{edited, next_after}
 use Rattle.domain_laws.specs.Operations.{Operations}
 use Rattle.batch_meaning.specs.Batch.{Engine}

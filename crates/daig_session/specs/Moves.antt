@@ -3,7 +3,7 @@ use Rattle.std.specs.Prelude.{◌≡◌, ◌↔◌, ℕ, ◌≤◌, true, List, 
 use Rattle.imp_syntax.specs.Plain.{Procedure}
 use Rattle.imp_syntax.specs.declared.edit.Edit.{Edit}
 use Rattle.imp_check.specs.Slots.{routines_of}
-use Rattle.imp_check.specs.declared.change.Change.{Change}
+use Rattle.program_table.specs.declared.change.Change.{Change}
 use Rattle.imp_edit.specs.Edited.{edited, next_after, Continues}
 use Rattle.domain_laws.specs.Operations.{Operations}
 use Rattle.batch_meaning.specs.Batch.{Engine}

@@ -9,11 +9,11 @@ ghost use Rattle.daig_session.specs.Books.{flow_in, IsFirst, IsSet, IsTurned};
 use call_contexts::Setting;
 use daig_query::Walk;
 use edit_history::History;
-use imp_check::{Change, Table};
 use imp_flow::{Flow, Target};
 use open_tickets::Tickets;
 use plain_values::{Items, Memory};
 use program_chains::Widening;
+use program_table::{Change, Table};
 use std::alloc::Global;
 
 /// How far a ticket has come: its targets in the present program, and the walk along them.

@@ -9,10 +9,11 @@ ghost use Rattle.daig_session.specs.Reports.{checked_at, checked_form, checked_s
 
 use call_contexts::procedure_count;
 use domain_laws::check_of;
-use imp_check::{SlotForm, View};
+use imp_check::SlotForm;
 use imp_slots::SlotStmt;
 use imp_syntax::{ProcId, StmtId};
 use plain_values::{Items, Memory};
+use program_table::View;
 use std::alloc::Global;
 
 /// Adds the numbers of some statements.

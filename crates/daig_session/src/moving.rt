@@ -15,9 +15,9 @@ use cell_removal::RemovalOrder;
 use daig_query::Engine;
 use domain_laws::Domain;
 use edit_invalidate::plan;
-use imp_check::{Change, Table};
 use imp_flow::{Flow, points_changed};
 use plain_values::Memory;
+use program_table::{Change, Table};
 use std::alloc::Global;
 
 /// The setting of the program that is moved to, and the cells that the move empties.

@@ -8,10 +8,10 @@ ghost use Rattle.daig_session.specs.Holds.{Holds, IsReady};
 use crate::book::Book;
 use daig_query::Engine;
 use domain_laws::Domain;
-use imp_check::Table;
 use imp_syntax::Location;
 use plain_values::Memory;
 use program_chains::Widening;
+use program_table::Table;
 use std::alloc::Global;
 
 /// A session with a program.

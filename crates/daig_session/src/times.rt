@@ -11,7 +11,7 @@ use crate::error::UndoError;
 use crate::moving::{Moving, leave, planned_move};
 use crate::session::Session;
 use domain_laws::Domain;
-use imp_check::Change;
+use program_table::Change;
 use std::alloc::Global;
 
 impl<D: Domain> Session<D> {

@@ -9,13 +9,14 @@ use Rattle.imp_check.specs.Parts.{ends_of, first_or, last_or, leaving_in, leavin
 use Rattle.imp_check.specs.Entries.{entry_at, entries_of, entry_of, resolver_at, context_at}
 use Rattle.imp_check.specs.declared.entry.Context.{Context}
 use Rattle.imp_check.specs.declared.entry.Entry.{Entry}
+use Rattle.imp_check.proofs.NumberLemmas.{absent}
 use Rattle.edit_entries.specs.Spliced.{left_of, among, breaking}
 use Rattle.edit_entries.specs.Holes.{append, Hole, Then, Else, Body, fill, plug, holder, loop_of, between, with_body}
 use Rattle.edit_entries.proofs.Others.{leaving_append}
 use Rattle.edit_entries.proofs.Filled.{context_in, ends_filled, has_loop, no_loop, some_loop}
 use Rattle.edit_entries.proofs.Stay.{last_holder}
 use Rattle.edit_entries.proofs.Located.{Has, has_parts}
-use Rattle.edit_entries.proofs.Numbers.{Apart, numbers_append, filled, absent_not, has_true, has_false, middle_alone}
+use Rattle.edit_entries.proofs.Numbers.{Apart, numbers_append, filled, absent_not, has_true, middle_alone}
 use Rattle.edit_entries.proofs.Standing.{has_left, has_right, has_plugged, inner_once, deep_once, own_distinct}
 use Rattle.edit_entries.proofs.Touched.{context_of, holder_found}
 use Rattle.imp_slots.proofs.Distinct.{absent_both, absent_left, absent_right}
@@ -80,7 +81,7 @@ none_left gone (x ∷ xs) f = go (has gone x) refl (none_left gone xs (λ m h. f
   where
     go : (b : Bool) → has gone x ≡ b → left_of gone xs ≡ [] → cond b (left_of gone xs) (x ∷ left_of gone xs) ≡ []
     go true q e = e
-    go false q e = absurd (absent_not x gone (has_false x gone q) (f x (inl refl)))
+    go false q e = absurd (absent_not x gone (absent gone x q) (f x (inl refl)))
 
 -- Holes without loops.
 tail_plain : (h : Hole) (hs : List Hole) → has_loop (h ∷ hs) ≡ false → (has_loop (h ∷ []) ≡ false) × (has_loop hs ≡ false)

@@ -9,11 +9,11 @@ use Rattle.imp_check.specs.Chains.{calls}
 use Rattle.imp_check.specs.Programs.{block_count, program_count, nesting, deepest, size_fault, variables_fault, procedure_fault, procedures_fault, last_of, name_of, ending_fault, check_fault}
 use Rattle.imp_check.specs.declared.fault.Fault.TheVariants.{Procedures, Statements as TooManyStatements, Nesting, Redeclared}
 use Rattle.imp_check.specs.declared.fault.Found.{Found}
-use Rattle.imp_check.proofs.FewLemmas.{unless_lt, at_none, in_none, first_none}
+use Rattle.imp_check.proofs.FewLemmas.{unless_lt, at_none, in_none, first_alone, first_none}
 use Rattle.imp_check.specs.Entries.{context_at}
 use Rattle.imp_check.specs.declared.entry.Context.{Context}
 use Rattle.edit_entries.specs.Holes.{append, Hole, Then, Else, Body, in_loop, between}
-use Rattle.edit_entries.proofs.Faults.{first_alone, fault_append, plug_fault}
+use Rattle.edit_entries.proofs.Faults.{fault_append, plug_fault}
 use Rattle.edit_entries.proofs.Counts.{count_within, deep_edited, deepest_program}
 use Rattle.edit_entries.proofs.Filled.{context_in}
 use Rattle.edit_entries.proofs.Touched.{context_of}

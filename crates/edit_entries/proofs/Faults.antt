@@ -4,11 +4,7 @@ use Rattle.imp_syntax.specs.Plain.{Statement, Statements, Ends, Starts, If, Whil
 use Rattle.imp_check.specs.Faults.{first, at}
 use Rattle.imp_check.specs.Statements.{Scope, condition_fault, statement_fault, block_fault}
 use Rattle.edit_entries.specs.Holes.{append, Hole, Then, Else, Body, fill, plug, in_loop, between}
-use Rattle.imp_check.proofs.FewLemmas.{first_none}
-
-pub first_alone : {A : Type 0} (a : Option A) → first a None ≡ a
-first_alone None = refl
-first_alone (Some x) = refl
+use Rattle.imp_check.proofs.FewLemmas.{first_alone, first_none}
 
 pub first_assoc : {A : Type 0} (a b c : Option A) → first (first a b) c ≡ first a (first b c)
 first_assoc None b c = refl

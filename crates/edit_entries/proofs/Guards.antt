@@ -1,5 +1,6 @@
 -- Another condition changes what is known of its statement alone.
 use Rattle.std.proofs.Common.{◌≡◌, ℕ, ◌==◌, List, [], ◌∷◌, ◌++◌, length, Option, Some, None, false, refl, sym, ap, ◌∙◌}
+use Rattle.std.proofs.lemmas.Option.{same_Some}
 use Rattle.imp_syntax.specs.Plain.{Condition, Statement, Simple, Break, Call, If, While, Statements, Ends, Starts, Procedure, number_of, program_numbers}
 use Rattle.imp_syntax.specs.Changes.{with_condition}
 use Rattle.imp_slots.specs.Fits.{Distinct}
@@ -126,8 +127,5 @@ module _ (ps qs : List Procedure) (p : Procedure) (hs : List Hole) (before behin
       let t = with_condition s d in
       let o = part_found ps qs p hs before (one s) behind old (entry_at f k a b s) (in_left (entry_at f k a b s) (statement_entries f k a b s) [] (own_in f k a b s)) in
       let n = part_found ps qs p hs before (one t) behind new (entry_at f k a b t) (in_left (entry_at f k a b t) (statement_entries f k a b t) [] (own_in f k a b t)) in
-      let same : entry_at f k a b s ≡ x = some_inj (entry_at f k a b s) x (sym o ∙ e) in
+      let same : entry_at f k a b s ≡ x = same_Some (entry_at f k a b s) x (sym o ∙ e) in
       ap (entry_of (entries_of (at t))) (sym (number_kept s)) ∙ n ∙ ap {A = Entry} {B = Option Entry} Some (guarded_entry a b k s) ∙ ap {A = Entry} {B = Option Entry} (λ y. Some (record y { part = part_of t; form = form_in f t })) same
-    where
-      some_inj : (x y : Entry) → Some x ≡ Some y → x ≡ y
-      some_inj x y e = cc

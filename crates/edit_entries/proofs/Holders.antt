@@ -1,4 +1,5 @@
 -- What an edit of a block changes of the statement that has the block.
+use Rattle.std.proofs.lemmas.Bool.{false≢true}
 use Rattle.std.proofs.lemmas.Bool.Decides.{nat_tests}
 use Rattle.std.proofs.Common.{◌≡◌, ℕ, List, [], ◌∷◌, ◌++◌, length, cond, Option, Some, None, Bool, true, false, refl, sym, ap, ◌∙◌, subst, arith}
 use Rattle.std.specs.Option.{option_map}
@@ -19,7 +20,7 @@ use Rattle.edit_entries.proofs.Stay.{last_holder}
 use Rattle.edit_entries.proofs.Programs.{old_program, new_program}
 use Rattle.edit_entries.proofs.Touched.{context_of, plug_last, holder_found}
 use Rattle.edit_entries.proofs.Numbers.{Apart}
-use Rattle.edit_entries.proofs.Table.{the_splice, table_is}
+use Rattle.edit_entries.proofs.Table.{is_some, the_splice, table_is}
 
 -- The ends of a block with a part exchanged.
 pub ends_between : (before behind x : Statements) → ends_of (between before behind x) ≡ record { first = first_or before (first_or x (first_or behind None)); last = last_or behind (last_or x (last_or before None)) }
@@ -88,16 +89,12 @@ module _ (ps qs : List Procedure) (p : Procedure) (gs : List Hole) (h : Hole) (b
 
     no_loop_there : has_loop (h ∷ []) ≡ false → is_loop ≡ true → ⊥
     no_loop_there i t =
-        let l = looped hs (holder h) (some_from (loop_of None hs) (holder h) t) in
+        let l = looped hs (holder h) (is_some (loop_of None hs) (holder h) t) in
         let x = between before behind olds in
         let a = loop_found ps qs p hs (holder h) l x old in
         let b = shown x old in
         differ h i (loop_with ps qs p hs (holder h) l x) (resolver_at ps p) (context_of (context_at (length ps)) gs) (last_or (around_before h) None) (first_or (around_behind h) None) x refl (sym a ∙ b)
       where
-        some_from : (o : Option ℕ) (m : ℕ) → is o m ≡ true → o ≡ Some m
-        some_from None m e = cc
-        some_from (Some n) m e = ap Some (some_is n m e)
-
         differ : (h : Hole) → has_loop (h ∷ []) ≡ false → (y : Entry) (f : Resolver) (k : Context) (a p : Option ℕ) (x : Statements) → is_while y.part ≡ true → Some y ≡ Some (entry_at f k a p (holding h x)) → ⊥
         differ (Then b n c e r) i y f k a p x w q = let z : y ≡ entry_at f k a p (If n c x e) = cc in let no : true ≡ false = sym w ∙ ap (λ (o : Entry). is_while o.part) z in absurd cc
         differ (Else b n c t r) i y f k a p x w q = let z : y ≡ entry_at f k a p (If n c t x) = cc in let no : true ≡ false = sym w ∙ ap (λ (o : Entry). is_while o.part) z in absurd cc
@@ -134,11 +131,7 @@ module _ (ps qs : List Procedure) (p : Procedure) (gs : List Hole) (h : Hole) (b
       ∙ ap (λ o. option_map (held h (ends_of y)) (cond t (option_map (breaking breaks) o) o)) (sym was)
     where
       some_loop_at : is (loop_of None hs) m ≡ true → loop_of None hs ≡ Some m
-      some_loop_at i = from (loop_of None hs) i
-        where
-          from : (o : Option ℕ) → is o m ≡ true → o ≡ Some m
-          from None i = cc
-          from (Some n) i = ap Some (some_is n m i)
+      some_loop_at i = is_some (loop_of None hs) m i
 
       told_breaks : (h : Hole) (f : Resolver) (k : Context) (a b : Option ℕ) (y : Statements) → has_loop (h ∷ []) ≡ true → (entry_at f k a b (holding h y)).breaks ≡ breaks → leaving y ≡ breaks
       told_breaks (Then v n c e r) f k a b y i w = absurd cc
@@ -149,7 +142,4 @@ module _ (ps qs : List Procedure) (p : Procedure) (gs : List Hole) (h : Hole) (b
 pub edit_body_table : (ps qs : List Procedure) (p : Procedure) (before olds news behind : Statements) (breaks : List ℕ) → let O = old_program p [] before olds news behind ps qs in let N = new_program p [] before olds news behind ps qs in
     Distinct (program_numbers O) → Distinct (program_numbers N) → Apart (numbers olds) (numbers news) → (m : ℕ) →
     entry_of (entries_of N) m ≡ spliced (the_splice ps qs p [] before olds news behind breaks) (λ x. x) (entry_of (entries_of O)) m
-edit_body_table ps qs p before olds news behind breaks old new apart m = table_is ps qs p [] before olds news behind breaks old new apart (λ n x l w. cc) (λ x. x) (λ n e. absurd (no e)) m
-  where
-    no : false ≡ true → ⊥
-    no e = cc
+edit_body_table ps qs p before olds news behind breaks old new apart m = table_is ps qs p [] before olds news behind breaks old new apart (λ n x l w. cc) (λ x. x) (λ n e. absurd (false≢true e)) m

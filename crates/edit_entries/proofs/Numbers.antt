@@ -86,14 +86,6 @@ has_true m (x ∷ xs) h = go (m == x) refl h (has_true m xs)
     go true e h f = inl (grind (arith, nat_tests))
     go false e h f = inr (f h)
 
-pub has_false : (m : ℕ) (xs : List ℕ) → has xs m ≡ false → Absent m xs
-has_false m [] h = tt
-has_false m (x ∷ xs) h = go (m == x) refl h (has_false m xs)
-  where
-    go : (b : Bool) → (m == x) ≡ b → (b || has xs m) ≡ false → (has xs m ≡ false → Absent m xs) → Absent m (x ∷ xs)
-    go true e h f = cc
-    go false e h f = (λ q. absurd (grind (arith, nat_tests)), f h)
-
 -- A number of the middle stands in no other part.
 pub middle_alone : (l ms r : List ℕ) (m : ℕ) → Distinct (l ++ (ms ++ r)) → Has m ms → Absent m (l ++ r)
 middle_alone [] ms r m d h = first ms d h

@@ -2,6 +2,7 @@
 use Rattle.std.proofs.lemmas.Bool.Decides.{nat_tests}
 use Rattle.std.proofs.Common.{◌≡◌, ℕ, zero, suc, ◌+◌, ◌-◌, ◌<◌, nat_lt, List, [], ◌∷◌, ◌++◌, length, slice_get, Option, Some, None, Bool, true, false, not, refl, sym, ap, ◌∙◌, arith, append-nil, append_assoc}
 use Rattle.std.specs.Str.{bytes_eq}
+use Rattle.plain_values.proofs.Cases.{less_of}
 use Rattle.std.specs.Prelude.{codes}
 use Rattle.imp_syntax.specs.Plain.{Statements, Ends, Procedure}
 use Rattle.imp_check.specs.Faults.{first, unless, at, in_procedure}
@@ -13,10 +14,10 @@ use Rattle.imp_check.specs.declared.fault.Fault.{Fault}
 use Rattle.imp_check.specs.declared.fault.Fault.TheVariants.{Procedures, Statements as TooManyStatements, Nesting, Redeclared, NoMain, MainHasParameters, Depth, Chains}
 use Rattle.imp_check.specs.declared.fault.Found.{Found}
 use Rattle.edit_entries.specs.Holes.{Hole, plug, in_loop, between, with_body}
-use Rattle.edit_entries.proofs.Faults.{first_alone, edit_fault}
+use Rattle.edit_entries.proofs.Faults.{edit_fault}
 use Rattle.edit_entries.proofs.Heads.{bare, bares, as_many, named_bare, block_fault_bare, one_more}
 use Rattle.edit_entries.proofs.Counts.{calls_edited, all_alike, alike_at, count_edited, deep_edited, count_program, deepest_program, deepest_other}
-use Rattle.imp_check.proofs.FewLemmas.{unless_none, first_none}
+use Rattle.imp_check.proofs.FewLemmas.{unless_none, first_alone, first_none}
 
 same_names : (es ds : List Procedure) (g : List ℕ) → bares es ≡ bares ds → is_named es g ≡ is_named ds g
 same_names es ds g h = named_bare es g ∙ ap (λ (os : List Procedure). is_named os g) h ∙ sym (named_bare ds g)
@@ -82,17 +83,14 @@ in_at_none : (x : List ℕ) (o : Option Fault) → in_procedure x (at 0 o) ≡ N
 in_at_none x None h = refl
 in_at_none x (Some f) h = cc
 
-below : (a k : ℕ) → nat_lt a k ≡ true → a < k
-below a k h = grind (arith, nat_tests)
-
 tests_alike : (a b k : ℕ) → (a < k → b < k) → (b < k → a < k) → nat_lt a k ≡ nat_lt b k
 tests_alike a b k f g = go (nat_lt a k) (nat_lt b k) refl refl
   where
     go : (s t : Bool) → nat_lt a k ≡ s → nat_lt b k ≡ t → s ≡ t
     go true true p q = refl
     go false false p q = refl
-    go true false p q = let h = f (below a k p) in absurd (grind (arith, nat_tests))
-    go false true p q = let h = g (below b k q) in absurd (grind (arith, nat_tests))
+    go true false p q = let h = f (less_of a k p) in absurd (grind (arith, nat_tests))
+    go false true p q = let h = g (less_of b k q) in absurd (grind (arith, nat_tests))
 
 module _ (p : Procedure) (hs : List Hole) (before olds news behind : Statements) where
   abbrev pub old_body : Statements
@@ -195,7 +193,7 @@ module _ (p : Procedure) (hs : List Hole) (before olds news behind : Statements)
     size z =
         let a = first_none (unless (nat_lt (length O) 65) Procedures) _ z in
         let b = first_none (unless (nat_lt (program_count O) 10001) TooManyStatements) (unless (nat_lt (deepest O) 33) Nesting) a.1 in
-        let deep : deepest O < 33 = below (deepest O) 33 (unless_none (nat_lt (deepest O) 33) Nesting b.1) in
+        let deep : deepest O < 33 = less_of (deepest O) 33 (unless_none (nat_lt (deepest O) 33) Nesting b.1) in
         ap (λ n. first (unless (nat_lt n 65) Procedures) (first (unless (nat_lt (program_count N) 10001) TooManyStatements) (unless (nat_lt (deepest N) 33) Nesting))) same_length
         ∙ ap (λ o. first o (first (unless (nat_lt (program_count N) 10001) TooManyStatements) (unless (nat_lt (deepest N) 33) Nesting))) a.0
         ∙ ap (λ n. first (unless (nat_lt n 10001) TooManyStatements) (unless (nat_lt (deepest N) 33) Nesting)) news_count

@@ -3,6 +3,7 @@
 use Rattle.std.proofs.lemmas.Bool.Decides.{nat_tests}
 use Rattle.std.proofs.Common.{◌≡◌, ℕ, ◌==◌, inl, inr, cond, List, [], ◌∷◌, ◌++◌, length, Option, Some, None, Bool, true, false, refl, sym, ap, ◌∙◌, subst, arith}
 use Rattle.std.specs.Option.{option_map}
+use Rattle.std.proofs.lemmas.Option.{same_Some}
 use Rattle.imp_syntax.specs.Plain.{Statement, Statements, Ends, Starts, Procedure, number_of, numbers, program_numbers}
 use Rattle.imp_slots.specs.Fits.{Absent, Distinct}
 use Rattle.imp_check.specs.Faults.{first}
@@ -15,14 +16,15 @@ use Rattle.edit_entries.specs.Holes.{append, Hole, Body, plug, loop_of, between}
 use Rattle.edit_entries.proofs.Others.{entry_append}
 use Rattle.edit_entries.proofs.Stay.{Away, last_holder, others_stay, block_gone}
 use Rattle.edit_entries.proofs.Programs.{old_program, new_program}
+use Rattle.imp_check.proofs.NumberLemmas.{absent}
 use Rattle.imp_check.proofs.RebuildLemmas.{In, entry_numbers, block_numbers}
 use Rattle.edit_entries.proofs.Touched.{context_of, part_found, front_found, next_found}
 use Rattle.edit_entries.proofs.Located.{Has}
-use Rattle.edit_entries.proofs.Numbers.{around_edit, has_true, has_false, middle_alone, Apart}
+use Rattle.edit_entries.proofs.Numbers.{around_edit, has_true, middle_alone, Apart}
 use Rattle.edit_entries.proofs.Breaks.{Looped, looped, loop_found, loop_with, rebroken_loop, ends_plugged, holder_last}
 use Rattle.imp_slots.proofs.Distinct.{absent_both, absent_left, absent_right}
 
-is_some : (o : Option ℕ) (m : ℕ) → is o m ≡ true → o ≡ Some m
+pub is_some : (o : Option ℕ) (m : ℕ) → is o m ≡ true → o ≡ Some m
 is_some None m h = cc
 is_some (Some n) m h = ap Some (grind (arith, nat_tests))
 
@@ -57,12 +59,9 @@ pub record Last (b : Statements) (m : ℕ) : Type 0 where
   pub is : b ≡ append before (Starts stmt Ends)
   pub number : number_of stmt ≡ m
 
-some_inj : (n m : ℕ) → Some n ≡ Some m → n ≡ m
-some_inj n m e = cc
-
 pub last_is : (b : Statements) (m : ℕ) → last_or b None ≡ Some m → Last b m
 last_is Ends m e = absurd cc
-last_is (Starts s Ends) m e = record { before = Ends; stmt = s; is = refl; number = some_inj (number_of s) m e }
+last_is (Starts s Ends) m e = record { before = Ends; stmt = s; is = refl; number = same_Some (number_of s) m e }
 last_is (Starts s (Starts t ss)) m e = let l = last_is (Starts t ss) m e in record { before = Starts s l.before; stmt = l.stmt; is = ap (Starts s) l.is; number = l.number }
 
 -- The first one.
@@ -74,7 +73,7 @@ pub record First (b : Statements) (m : ℕ) : Type 0 where
 
 pub first_is : (b : Statements) (m : ℕ) → first_or b None ≡ Some m → First b m
 first_is Ends m e = absurd cc
-first_is (Starts s ss) m e = record { stmt = s; behind = ss; is = refl; number = some_inj (number_of s) m e }
+first_is (Starts s ss) m e = record { stmt = s; behind = ss; is = refl; number = same_Some (number_of s) m e }
 
 module _ (ps qs : List Procedure) (p : Procedure) (hs : List Hole) (before olds news behind : Statements) (breaks : List ℕ) where
   abbrev O : List Procedure
@@ -170,7 +169,7 @@ module _ (ps qs : List Procedure) (p : Procedure) (hs : List Hole) (before olds 
         by_holder : (b : Bool) → is (last_holder hs) m ≡ b → has (numbers olds) m ≡ false → has (numbers news) m ≡ false → is (last_or before None) m ≡ false → is (first_or behind None) m ≡ false →
             entry_of (entries_of N) m ≡ cond b (option_map held (rebroken (loop_of None hs) breaks (entry_of (entries_of O)) m)) (rebroken (loop_of None hs) breaks (entry_of (entries_of O)) m)
         by_holder true e g c f n = holds m e
-        by_holder false e g c f n = by_loop (is (loop_of None hs) m) refl e (record { not_gone = has_false m (numbers olds) g; not_new = has_false m (numbers news) c; not_front = f; not_next = n; not_holder = e })
+        by_holder false e g c f n = by_loop (is (loop_of None hs) m) refl e (record { not_gone = absent (numbers olds) m g; not_new = absent (numbers news) m c; not_front = f; not_next = n; not_holder = e })
 
         by_next : (b : Bool) → is (first_or behind None) m ≡ b → has (numbers olds) m ≡ false → has (numbers news) m ≡ false → is (last_or before None) m ≡ false →
             entry_of (entries_of N) m ≡ cond b (option_map (with_front the_splice.last) (entry_of (entries_of O) m)) (cond (is (last_holder hs) m) (option_map held (rebroken (loop_of None hs) breaks (entry_of (entries_of O)) m)) (rebroken (loop_of None hs) breaks (entry_of (entries_of O)) m))

@@ -3,8 +3,8 @@ use Rattle.std.proofs.Common.{ℕ, zero, suc, ◌≡◌, ◌<◌, ◌≤◌, Lis
 use Rattle.imp_syntax.specs.Plain.{Procedure}
 use Rattle.imp_check.specs.Entries.{entries_of, entry_of, heads_of, sites_of}
 use Rattle.imp_check.specs.Fine.{IsFine}
-use Rattle.imp_check.specs.Changes.{AreWithin, Makes, overlay}
-use Rattle.imp_check.specs.declared.change.Change.{Change}
+use Rattle.program_table.specs.Changes.{AreWithin, Makes, overlay}
+use Rattle.program_table.specs.declared.change.Change.{Change}
 use Rattle.imp_check.proofs.TableLemmas.{table_is}
 use Rattle.edit_history.specs.After.{after, programs_by, AllLead}
 use Rattle.edit_history.specs.Times.{AreKept}

@@ -4,8 +4,8 @@ use Rattle.imp_syntax.specs.Plain.{Procedure}
 use Rattle.imp_check.specs.Entries.{entries_of, entry_of, heads_of}
 use Rattle.imp_check.specs.Rebuilt.{program_by}
 use Rattle.imp_check.specs.Fine.{IsFine}
-use Rattle.imp_check.specs.Changes.{AreWithin, Makes, overlay}
-use Rattle.imp_check.specs.declared.change.Change.{Change}
+use Rattle.program_table.specs.Changes.{AreWithin, Makes, overlay}
+use Rattle.program_table.specs.declared.change.Change.{Change}
 
 -- the program that a change makes of another
 unfoldable pub after : List Procedure → Change → List Procedure

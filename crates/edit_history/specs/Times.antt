@@ -4,7 +4,7 @@ use Rattle.std.specs.Coded.{Coded, code_by, coded×, coded_list, coded_ℕ}
 use Rattle.imp_syntax.specs.Plain.{Procedure}
 use Rattle.imp_syntax.specs.ProgramCode.{program_code}
 use Rattle.imp_check.specs.Fine.{IsFine}
-use Rattle.imp_check.specs.declared.change.Change.{Change}
+use Rattle.program_table.specs.declared.change.Change.{Change}
 use Rattle.edit_history.specs.After.{AllLead}
 
 -- the program, below which number its table has places, and the programs on both sides, the nearest first

@@ -3,12 +3,12 @@ ghost use Rattle.std.specs.Prelude.{◌≡◌, ◌+◌, ◌<◌, ◌≤◌, [], 
 ghost use Rattle.std.specs.VecDeque.{deque_capacity};
 ghost use Rattle.imp_syntax.specs.Plain.{Procedure};
 ghost use Rattle.imp_check.specs.Fine.{IsFine};
-ghost use Rattle.imp_check.specs.Changes.{AreWithin, Makes};
+ghost use Rattle.program_table.specs.Changes.{AreWithin, Makes};
 ghost use Rattle.edit_history.specs.After.{LeadsOn, programs_by};
 ghost use Rattle.edit_history.specs.Times.{AreKept};
 
-use imp_check::{Change, Table};
 use plain_values::Memory;
+use program_table::{Change, Table};
 use std::alloc::Global;
 use std::collections::VecDeque;
 use std::marker::Model;

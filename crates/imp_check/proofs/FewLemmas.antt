@@ -20,6 +20,10 @@ pub first_none : {A : Type 0} (a b : Option A) → first a b ≡ None → (a ≡
 first_none None b h = (refl, h)
 first_none (Some x) b h = cc
 
+pub first_alone : {A : Type 0} (a : Option A) → first a None ≡ a
+first_alone None = refl
+first_alone (Some x) = refl
+
 pub first_left : {A : Type 0} (a b : Option A) → first a b ≡ None → a ≡ None
 first_left a b h = (first_none a b h).0
 
@@ -57,15 +61,12 @@ variable_few seen d h =
     let b = unless_lt (count_links seen + one_link d.kind) 9 Lists p.1 in
     (omega (arith, a, numeric_more seen d), omega (arith, b, links_more seen d))
 
-some_more : (seen : List Declaration) (d : Declaration) (ds : List Declaration) → (seen ++ d ∷ []) ++ ds ≡ seen ++ d ∷ ds
-some_more seen d ds = append_assoc seen (d ∷ []) ds
-
 variables_few : (seen ds : List Declaration) → variables_fault seen ds ≡ None → (count_numeric seen < 17) × (count_links seen < 9) → (count_numeric (seen ++ ds) < 17) × (count_links (seen ++ ds) < 9)
 variables_few seen [] h k = rw (append-nil seen) k
 variables_few seen (d ∷ ds) h k =
     let p = first_none (variable_fault seen d) (variables_fault (seen ++ d ∷ []) ds) h in
     let r = variables_few (seen ++ d ∷ []) ds p.1 (variable_few seen d p.0) in
-    rw (some_more seen d ds) at r
+    rw (append_assoc seen (d ∷ []) ds) at r
 
 procedure_few : (earlier others : List Procedure) (p : Procedure) → procedure_fault earlier others p ≡ None → HasFew p
 procedure_few earlier others p h =

@@ -157,12 +157,9 @@ parameters_fit vs p (a ∷ es) (d ∷ ds) rest s n h =
     let q = and_parts (fits_parameter vs a d.kind) (fit_parameters vs es ds) h in
     parameter_step vs p d.kind d.name a (arguments_in (layout_of vs) es) (numerics (ds ++ rest)) (links (ds ++ rest)) t.0 q.0 (parameters_fit vs p es ds rest t.1 n q.1)
 
-none_some : (k : Kind) → None ≡ Some k → ⊥
-none_some k h = cc
-
 -- a variable's name has its kind, where no name stands again
 own_by : (b : Bool) (y x : List ℕ) (ds : List Declaration) (k k' : Kind) → bytes_eq y x ≡ b → kind_of ds y ≡ None → kind_of ds x ≡ Some k → cond b (Some k') (kind_of ds x) ≡ Some k
-own_by true y x ds k k' e n h = let q = sym n ∙ ap (kind_of ds) ((bytes_decides y x).0 e) ∙ h in absurd (none_some k q)
+own_by true y x ds k k' e n h = let q = sym n ∙ ap (kind_of ds) ((bytes_decides y x).0 e) ∙ h in absurd cc
 own_by false y x ds k k' e n h = h
 
 pub own_kind : (ds : List Declaration) (d : Declaration) (rest : List Declaration) → Apart (ds ++ d ∷ rest) → kind_of (ds ++ d ∷ rest) d.name ≡ Some d.kind

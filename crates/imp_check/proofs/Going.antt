@@ -1,5 +1,5 @@
 -- Going along variables and procedures.
-use Rattle.std.proofs.Common.{ℕ, ◌≡◌, ◌+◌, ◌-◌, ◌<◌, List, length, take, drop, refl, arith, add-one, drop-cons, take_all, length-drop, get_or}
+use Rattle.std.proofs.Common.{ℕ, ◌≡◌, ◌+◌, ◌<◌, List, length, take, drop, refl, add-one, drop-cons, get_or}
 use Rattle.std.proofs.Math.Seq.{take-suc}
 use Rattle.imp_syntax.specs.Plain.{Procedure}
 use Rattle.imp_syntax.specs.declared.words.Declaration.{Declaration}
@@ -11,7 +11,3 @@ variables_step ds i d h e = rw (drop-cons ds i d, add-one, take-suc ds i d, ← 
 
 pub procedures_step : (ps : List Procedure) (i : ℕ) (p : Procedure) → i < length ps → p ≡ get_or ps i p → procedures_fault (take i ps) (drop i ps) ≡ first (in_procedure p.name (procedure_fault (take i ps) (drop i ps) p)) (procedures_fault (take (i + 1) ps) (drop (i + 1) ps))
 procedures_step ps i p h e = rw (drop-cons ps i p, add-one, take-suc ps i p, ← e) refl
-
--- what stands from a place on, to the end
-pub rest_whole : (ps : List Procedure) (i : ℕ) → take (length ps - i) (drop i ps) ≡ drop i ps
-rest_whole ps i = let left = length-drop i ps in take_all (length ps - i) (drop i ps) (omega (arith, left))

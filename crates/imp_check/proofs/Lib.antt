@@ -18,12 +18,7 @@ pub mod TableLemmas
 pub mod PartLemmas
 pub mod PutLemmas
 pub mod SitesMade
-pub mod OverlayLemmas
-pub mod FallingLemmas
-pub mod ExchangeLemmas
 pub mod StepLemmas
-pub mod ChangeLemmas
-pub mod ViewLemmas
 pub mod WalkLemmas
 pub mod StandLemmas
 pub mod BreakLemmas

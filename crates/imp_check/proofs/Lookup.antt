@@ -118,15 +118,12 @@ array_no_link (Some Int) h = refl
 array_no_link (Some Array) h = refl
 array_no_link (Some OfLinks) h = absurd (false≢true h)
 
-bytes_self : (x : List ℕ) → bytes_eq x x ≡ true
-bytes_self x = (bytes_decides x x).1 refl
-
 known_by : (b : Bool) (k : Kind) (o : Option Kind) → is_known o ≡ true → is_known (cond b (Some k) o) ≡ true
 known_by true k o h = refl
 known_by false k o h = h
 
 known_last : (seen : List Declaration) (d : Declaration) → is_known (kind_of (seen ++ d ∷ []) d.name) ≡ true
-known_last [] d = let e = bytes_self d.name in rw e refl
+known_last [] d = let e = (bytes_decides d.name d.name).1 refl in rw e refl
 known_last (s ∷ seen) d = known_by (bytes_eq s.name d.name) s.kind (kind_of (seen ++ d ∷ []) d.name) (known_last seen d)
 
 known_more_by : (b : Bool) (k : Kind) (o p : Option Kind) → (is_known o ≡ true → is_known p ≡ true) → is_known (cond b (Some k) o) ≡ true → is_known (cond b (Some k) p) ≡ true

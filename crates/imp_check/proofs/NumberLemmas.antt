@@ -38,7 +38,7 @@ again_fails ns i n h e f = once_fails ns i (once_step ns i n h e ∙ ap (λ (b :
 apart : (m n : ℕ) → (m == n) ≡ false → m ≢ n
 apart m n h e = false≢true (sym h ∙ eq-eqb m n e)
 
-absent : (ns : List ℕ) (n : ℕ) → has ns n ≡ false → Absent n ns
+pub absent : (ns : List ℕ) (n : ℕ) → has ns n ≡ false → Absent n ns
 absent [] n h = tt
 absent (m ∷ ns) n h = let p = or_parts (n == m) (has ns n) h in (apart n m p.0, absent ns n p.1)
 

@@ -1,5 +1,5 @@
 -- Slots.
-use Rattle.std.proofs.Common.{ℕ, zero, suc, sym, ◌∙◌, slice_get, take, Some, None, ◌≡◌, ◌+◌, ◌<◌, ◌≤◌, List, [], ◌∷◌, ◌++◌, length, map, drop, refl, ap, arith, add-one, drop-cons, get_or, reverse, append_assoc, append-nil}
+use Rattle.std.proofs.Common.{ℕ, zero, suc, sym, ◌∙◌, take, ◌≡◌, ◌+◌, ◌<◌, List, [], ◌∷◌, ◌++◌, length, map, drop, refl, ap, arith, add-one, drop-cons, get_or, reverse, append_assoc, append-nil}
 use Rattle.std.proofs.lemmas.List.{take-map, reverse-append}
 use Rattle.imp_syntax.specs.declared.words.Declaration.{Declaration}
 use Rattle.imp_syntax.specs.declared.words.Kind.{Kind}
@@ -41,16 +41,6 @@ arguments_step l es i e h p = rw (drop-cons es i e, add-one, ← p) refl
 pub argument_added : (xs : List declared.Argument) (x : declared.Argument) (ys : List Argument) → map argument_of (xs ++ x ∷ []) ++ ys ≡ map argument_of xs ++ argument_of x ∷ ys
 argument_added [] x ys = refl
 argument_added (y ∷ xs) x ys = ap (λ (zs : List Argument). argument_of y ∷ zs) (argument_added xs x ys)
-
-pub callee_there : (ps : List Procedure) (i : ℕ) (q : Procedure) → i < length ps → q ≡ get_or ps i q → slice_get ps i ≡ Some q
-callee_there [] i q h e = absurd (omega arith)
-callee_there (p ∷ ps) zero q h e = ap Some (sym e)
-callee_there (p ∷ ps) (suc i) q h e = callee_there ps i q (omega arith) e
-
-pub callee_gone : (ps : List Procedure) (i : ℕ) → length ps ≤ i → slice_get ps i ≡ None
-callee_gone [] i h = refl
-callee_gone (p ∷ ps) zero h = absurd (omega arith)
-callee_gone (p ∷ ps) (suc i) h = callee_gone ps i (omega arith)
 
 layout_at : (ps : List Procedure) (i : ℕ) (q : Procedure) (l : Layout) → i < length ps → q ≡ get_or ps i q → l ≡ get_or (map layout_in ps) i l → l ≡ layout_in q
 layout_at [] i q l h e g = absurd (omega arith)

@@ -1,18 +1,17 @@
 -- What is known of a statement of a program stands in the procedure that it names.
 use Rattle.std.proofs.lemmas.Bool.Decides.{nat_tests}
-use Rattle.std.proofs.Common.{◌≡◌, ℕ, zero, suc, ◌+◌, ◌<◌, ◌==◌, ◌⊎◌, inl, inr, cond, Bool, true, false, List, [], ◌∷◌, ◌++◌, length, take, slice_get, Option, Some, None, refl, sym, ap, ◌∙◌, subst, arith, append_assoc, append-nil}
+use Rattle.std.proofs.lemmas.Option.{same_Some, slice_get_within}
+use Rattle.plain_values.proofs.Lists.{one_more}
+use Rattle.std.proofs.Common.{◌≡◌, ℕ, suc, ◌+◌, ◌<◌, ◌==◌, ◌⊎◌, inl, inr, cond, Bool, true, false, List, [], ◌∷◌, ◌++◌, length, take, slice_get, Option, Some, None, refl, sym, ap, ◌∙◌, subst, arith, append_assoc, append-nil}
 use Rattle.imp_syntax.specs.Plain.{Statements, Ends, Starts, Procedure}
 use Rattle.imp_syntax.specs.Plain as tree
 use Rattle.imp_check.specs.Slots.{Resolver}
 use Rattle.imp_check.specs.Entries.{inside, inside_loop, block_entries, procedure_entries, entries_from, entries_of, entry_of, resolver_at, context_at, calls_here, sites_in}
-use Rattle.imp_check.specs.Changes.{overlay}
 use Rattle.imp_check.specs.Walks.{body_numbers, numbers_at}
-use Rattle.imp_check.specs.declared.change.Put.{Put}
 use Rattle.imp_check.specs.declared.entry.Context.{Context}
 use Rattle.imp_check.specs.declared.entry.Entry.{Entry}
 use Rattle.imp_check.specs.declared.entry.Which.TheVariants as which
 use Rattle.imp_check.proofs.RebuildLemmas.{In, entry_numbers, block_numbers}
-use Rattle.imp_check.proofs.WalkLemmas.{own}
 
 pub either : (x : Entry) (xs ys : List Entry) → In x (xs ++ ys) → In x xs ⊎ In x ys
 either x [] ys h = inr h
@@ -69,12 +68,8 @@ stands_from es (q ∷ ps) x h =
     first : In x (procedure_entries es q) → x.context.proc ≡ length es + 0
     first i = let e = procedure_is (resolver_at es q) q.body (context_at (length es)) None None x i in let z : length es ≡ length es + 0 = omega arith in e ∙ z
 
-    longer : (zs : List Procedure) → length (zs ++ q ∷ []) ≡ suc (length zs)
-    longer [] = refl
-    longer (z ∷ zs) = ap suc (longer zs)
-
     later : (k : ℕ) → x.context.proc ≡ length (es ++ q ∷ []) + k → x.context.proc ≡ length es + suc k
-    later k e = omega (arith, e, longer es)
+    later k e = omega (arith, e, one_more es q)
 
 stands_in : (ps : List Procedure) (x : Entry) → In x (entries_of ps) → Stands ps x x.context.proc
 stands_in ps x h =
@@ -87,11 +82,8 @@ found_in : (es : List Entry) (n : ℕ) (x : Entry) → entry_of es n ≡ Some x 
 found_in [] n x h = absurd cc
 found_in (e ∷ es) n x h = go (e.number == n) refl h (found_in es n x)
   where
-    some : (a b : Entry) → Some a ≡ Some b → a ≡ b
-    some a b e = cc
-
     go : (b : Bool) → (e.number == n) ≡ b → cond b (Some e) (entry_of es n) ≡ Some x → (entry_of es n ≡ Some x → In x es × (x.number ≡ n)) → In x (e ∷ es) × (x.number ≡ n)
-    go true q h more = let s : e ≡ x = some e x h in let k : e.number ≡ n = grind (arith, nat_tests) in (inl (sym s), ap (λ (z : Entry). z.number) (sym s) ∙ k)
+    go true q h more = let s : e ≡ x = same_Some e x h in let k : e.number ≡ n = grind (arith, nat_tests) in (inl (sym s), ap (λ (z : Entry). z.number) (sym s) ∙ k)
     go false q h more = let r = more h in (inr r.0, r.1)
 
 pub entry_found : (ps : List Procedure) (n : ℕ) (x : Entry) → entry_of (entries_of ps) n ≡ Some x → In x (entries_of ps) × (x.number ≡ n)
@@ -114,13 +106,8 @@ number_there ps n x h =
     let r = number_in x (procedure_entries (take k ps) p) s.own in
     (r.0, ap (λ (ns : List ℕ). slice_get ns r.0) (ap body_numbers s.there ∙ sym (block_numbers (resolver_at (take k ps) p) (context_at (length (take k ps))) None None p.body)) ∙ r.1 ∙ ap Some (entry_found ps n x h).1)
 
-pub within : (ps : List Procedure) (k : ℕ) (p : Procedure) → slice_get ps k ≡ Some p → k < length ps
-within [] k p h = absurd cc
-within (q ∷ ps) zero p h = omega arith
-within (q ∷ ps) (suc k) p h = omega (arith, within ps k p h)
-
 pub place_there : (ps : List Procedure) (n : ℕ) (x : Entry) → entry_of (entries_of ps) n ≡ Some x → x.context.proc < length ps
-place_there ps n x h = let s = stands ps n x h in within ps x.context.proc s.procedure s.there
+place_there ps n x h = let s = stands ps n x h in slice_get_within ps x.context.proc s.procedure s.there
 
 site_in : (q : ℕ) (x : Entry) (es : List Entry) → In x es → calls_here x.form q ≡ true → (i : ℕ) × (slice_get (sites_in es q) i ≡ Some x.number)
 site_in q x [] h c = absurd h
@@ -138,12 +125,3 @@ site_there ps q n x h c =
     let f = entry_found ps n x h in
     let r = site_in q x (entries_of ps) f.0 c in
     (r.0, r.1 ∙ ap Some f.1)
-
--- What a change does not bring was there.
-pub overlay_kept : (puts : List Put) (at : ℕ → Option Entry) (n : ℕ) (x : Entry) → overlay puts at n ≡ Some x → ((i : ℕ) (p : Put) → slice_get puts i ≡ Some p → p.entry ≡ Some x → ⊥) → at n ≡ Some x
-overlay_kept [] at n x h none = h
-overlay_kept (p ∷ ps) at n x h none = go (p.number == n) h (λ k. overlay_kept ps at n x k (λ i q. none (suc i) q))
-  where
-    go : (b : Bool) → cond b p.entry (overlay ps at n) ≡ Some x → (overlay ps at n ≡ Some x → at n ≡ Some x) → at n ≡ Some x
-    go true h more = absurd (none 0 p refl h)
-    go false h more = more h

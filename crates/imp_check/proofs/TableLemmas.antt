@@ -4,7 +4,6 @@ pub use Rattle.std.proofs.lemmas.List.{take_at}
 use Rattle.std.specs.Str.{bytes_eq}
 use Rattle.imp_syntax.specs.Plain.{Procedure}
 use Rattle.imp_slots.specs.Fits.{Distinct}
-use Rattle.imp_check.specs.Faults.{first}
 use Rattle.imp_check.specs.Names.{is_named, place_named, named_in}
 use Rattle.imp_check.specs.Programs.{program_count}
 use Rattle.imp_check.specs.Slots.{layout_in}
@@ -16,6 +15,7 @@ use Rattle.imp_check.specs.Tables.{entry_in, AreOf}
 use Rattle.imp_check.specs.Puts.{put_all, with_sites, no_sites}
 use Rattle.imp_check.specs.declared.entry.Entry.{Entry}
 use Rattle.imp_check.specs.declared.entry.Head.{Head}
+use Rattle.imp_check.proofs.FewLemmas.{first_alone}
 use Rattle.imp_check.proofs.RebuildLemmas.{program_is, all_numbers}
 use Rattle.imp_check.proofs.PutLemmas.{all_at}
 use Rattle.imp_check.proofs.SitesMade.{sites_made}
@@ -67,22 +67,12 @@ same_right at after count heads sites h r = table_right (program_by at count hea
 pub made : (ps : List Procedure) (fine : IsFine ps) (places : List (Option Entry)) (count : ℕ) (heads : List Head) (sites : List (List ℕ)) → places ≡ put_all (entries_of ps) [] → count ≡ program_count ps → heads ≡ heads_of ps → sites ≡ with_sites (entries_of ps) (no_sites (length ps)) → AreOf ps (entry_in places) count heads sites
 made ps fine places count heads sites e n h s = record {
   fine = fine;
-  entries = λ m. ap (λ xs. entry_in xs m) e ∙ all_at (entries_of ps) [] m (subst Distinct (sym (all_numbers ps)) fine.numbered.once) ∙ first_or_none (entry_of (entries_of ps) m);
+  entries = λ m. ap (λ xs. entry_in xs m) e ∙ all_at (entries_of ps) [] m (subst Distinct (sym (all_numbers ps)) fine.numbered.once) ∙ first_alone (entry_of (entries_of ps) m);
   counted = n;
   procedures = h;
   calls = s ∙ sites_made (entries_of ps) (length ps);
 }
-  where
-    first_or_none : (o : Option Entry) → first o None ≡ o
-    first_or_none None = refl
-    first_or_none (Some x) = refl
 
 -- the procedure of a name, by the procedures without statements
 pub named_by : (ps : List Procedure) (x : List ℕ) (b : Bool) → is_headed (heads_of ps) x ≡ b → cond b (Some (place_headed (heads_of ps) x)) None ≡ named_in ps x
 named_by ps x b e = ap (λ n. cond b (Some n) None) (headed_place ps x) ∙ ap (λ t. cond t (Some (place_named ps x)) None) (sym e ∙ headed ps x)
-
-pub made_is : (ps : List Procedure) (fine : IsFine ps) (places : List (Option Entry)) (count : ℕ) (heads : List Head) (sites : List (List ℕ)) → places ≡ put_all (entries_of ps) [] → count ≡ program_count ps → heads ≡ heads_of ps → sites ≡ with_sites (entries_of ps) (no_sites (length ps)) → program_by (entry_in places) count heads ≡ ps
-made_is ps fine places count heads sites e n h s = table_is ps (entry_in places) count heads sites (made ps fine places count heads sites e n h s)
-
-pub made_right : (ps : List Procedure) (fine : IsFine ps) (places : List (Option Entry)) (count : ℕ) (heads : List Head) (sites : List (List ℕ)) → places ≡ put_all (entries_of ps) [] → count ≡ program_count ps → heads ≡ heads_of ps → sites ≡ with_sites (entries_of ps) (no_sites (length ps)) → AreOf (program_by (entry_in places) count heads) (entry_in places) count heads sites
-made_right ps fine places count heads sites e n h s = table_right ps (entry_in places) count heads sites (made ps fine places count heads sites e n h s)

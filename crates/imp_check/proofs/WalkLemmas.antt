@@ -1,5 +1,6 @@
 -- The statements of a procedure are those that are found from one to the next.
 use Rattle.std.proofs.Common.{◌≡◌, ℕ, zero, suc, ◌-◌, ◌<◌, inl, inr, List, [], ◌∷◌, ◌++◌, length, take, slice_get, Option, Some, None, option_map, refl, sym, ap, ◌∙◌, subst, arith, append_assoc, append-nil}
+use Rattle.std.proofs.lemmas.Option.{same_Some}
 use Rattle.imp_syntax.specs.Plain.{Statements, Ends, Starts, Procedure, numbers}
 use Rattle.imp_syntax.specs.Plain as tree
 use Rattle.imp_slots.specs.Fits.{Distinct}
@@ -74,11 +75,8 @@ module _ (at : ℕ → Option Entry) (f : Resolver) where
 own_from : (es ps : List Procedure) (k : ℕ) (p : Procedure) → slice_get ps k ≡ Some p → (x : Entry) → In x (procedure_entries (es ++ take k ps) p) → In x (entries_from es ps)
 own_from es [] k p h x i = absurd cc
 own_from es (q ∷ ps) zero p h x i =
-    let e : q ≡ p = some q p h in
+    let e : q ≡ p = same_Some q p h in
     in_left x (procedure_entries es q) (entries_from (es ++ q ∷ []) ps) (subst (λ (z : Procedure). In x (procedure_entries es z)) (sym e) (subst (λ (z : List Procedure). In x (procedure_entries z p)) (append-nil es) i))
-  where
-    some : (a b : Procedure) → Some a ≡ Some b → a ≡ b
-    some a b e = cc
 own_from es (q ∷ ps) (suc k) p h x i =
     in_right x (procedure_entries es q) (entries_from (es ++ q ∷ []) ps) (own_from (es ++ q ∷ []) ps k p h x (subst (λ (z : List Procedure). In x (procedure_entries z p)) (sym (append_assoc es (q ∷ []) (take k ps))) i))
 
@@ -90,10 +88,7 @@ all_known ps h = found (entries_of ps) (subst Distinct (sym (all_numbers ps)) h.
 
 count_at : (ps : List Procedure) (k : ℕ) (p : Procedure) → slice_get ps k ≡ Some p → block_count p.body < suc (program_count ps)
 count_at [] k p h = absurd cc
-count_at (q ∷ ps) zero p h = let e : q ≡ p = some q p h in omega (arith, ap (λ (z : Procedure). block_count z.body) e)
-  where
-    some : (a b : Procedure) → Some a ≡ Some b → a ≡ b
-    some a b e = cc
+count_at (q ∷ ps) zero p h = let e : q ≡ p = same_Some q p h in omega (arith, ap (λ (z : Procedure). block_count z.body) e)
 count_at (q ∷ ps) (suc k) p h = omega (arith, count_at ps k p h)
 
 -- The statements that are found from the first one of a procedure are its own, where its entries are found.
@@ -106,12 +101,9 @@ walk_at ps k m ends n l h = go (slice_get ps k) refl h
     go : (o : Option Procedure) → slice_get ps k ≡ o → option_ends o ≡ Some ends → walk (entry_of (entries_of ps)) m ends.first ≡ body_numbers o
     go None e h = absurd cc
     go (Some p) e h =
-        let q : ends_of p.body ≡ ends = some (ends_of p.body) ends h in
+        let q : ends_of p.body ≡ ends = same_Some (ends_of p.body) ends h in
         ap (λ (z : BlockEnds). walk (entry_of (entries_of ps)) m z.first) (sym q)
         ∙ walk_own (entry_of (entries_of ps)) ps k m p e l (λ x i. all_known ps n x (own ps k p e x i))
-      where
-        some : (a b : BlockEnds) → Some a ≡ Some b → a ≡ b
-        some a b e = cc
 
 pub walk_past : (ps : List Procedure) (k : ℕ) → option_ends (slice_get ps k) ≡ None → numbers_at ps k ≡ []
 walk_past ps k h = go (slice_get ps k) h

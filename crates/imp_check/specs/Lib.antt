@@ -15,9 +15,6 @@ pub mod Parts
 pub mod Entries
 pub mod Rebuilt
 pub mod Fine
-pub mod Checks
-pub mod Changes
-pub mod Views
 pub mod Walks
 pub mod Puts
 pub mod Small

@@ -1,21 +1,11 @@
 -- A program as a table of its statements by number.
-use Rattle.std.specs.Prelude.{ℕ, zero, suc, ◌≡◌, List, [], ◌∷◌, Option, None, refl}
-use Rattle.std.specs.Coded.{Coded, code_by, coded×, coded_ℕ}
+use Rattle.std.specs.Prelude.{ℕ, zero, suc, ◌≡◌, List, [], ◌∷◌, Option, None}
 use Rattle.imp_syntax.specs.Plain.{Procedure}
-use Rattle.imp_syntax.specs.ProgramCode.{program_code}
 use Rattle.imp_check.specs.Programs.{program_count}
 use Rattle.imp_check.specs.Entries.{entries_of, entry_of, heads_of, sites_of}
 use Rattle.imp_check.specs.Fine.{IsFine}
 use Rattle.imp_check.specs.declared.entry.Entry.{Entry}
 use Rattle.imp_check.specs.declared.entry.Head.{Head}
-
--- a program, and below which number its table has places
-pub record Tabled : Type 0 where
-  pub program : List Procedure
-  pub room : ℕ
-
-abbrev pub tabled_code : Coded Tabled
-tabled_code = code_by (List Procedure × ℕ) (coded× program_code coded_ℕ) (λ t. (t.program, t.room)) (λ p. record { program = p.0; room = p.1 }) (λ _. refl)
 
 -- the entry at a place
 abbrev pub entry_in : List (Option Entry) → ℕ → Option Entry

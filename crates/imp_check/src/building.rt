@@ -1,6 +1,7 @@
-//! The table of a program.
+//! The parts of a program's table.
 ghost use Rattle.std.specs.Prelude.{◌≡◌, ◌<◌, ◌^◌, [], length, map, IfOk, OnOk};
 ghost use Rattle.imp_check.specs.Fine.{IsFine};
+ghost use Rattle.imp_check.specs.Tables.{entry_in, AreOf};
 ghost use Rattle.imp_check.specs.Slots.{layout_in};
 ghost use Rattle.imp_check.specs.Programs.{nesting, deepest};
 ghost use Rattle.imp_check.specs.Entries.{procedure_entries, entries_of};
@@ -8,12 +9,12 @@ ghost use Rattle.imp_check.specs.Puts.{no_sites, put_all, with_sites};
 
 use crate::counts::program_count;
 use crate::entries::{Making, block_entries};
-use crate::entry::Context;
+use crate::entry::{Context, Head};
 use crate::heads::heads_of;
+use crate::place::Place;
 use crate::resolve::Resolver;
 use crate::routines::layouts_of;
 use crate::slots::Slots;
-use crate::table::Table;
 use imp_syntax::{Proc, ProcId, StmtId};
 use plain_values::{Items, Memory};
 use std::alloc::Global;
@@ -92,15 +93,35 @@ fn making_of(alloc: Global, procs: &[Proc], known: &[Slots]) -> Result<Making, M
     Ok(making)
 }
 
-/// The table of a program without faults.
-#[tactic(auto, using(crate::proofs::FewLemmas::few_checked, crate::proofs::FewLemmas::few_statements, crate::proofs::TableLemmas::made_is, crate::proofs::TableLemmas::made_right))]
-pub(crate) fn table_of(alloc: Global, procs: &[Proc]) -> Result<Table, Memory>
+/// What a table of a program has.
+#[derive(Drop)]
+pub struct TableParts {
+    /// The procedures without their statements.
+    pub heads: Items<Head>,
+    /// What stands at each number.
+    pub places: Vec<Place>,
+    /// How many statements there are.
+    pub count: u32,
+    /// The call statements of each procedure.
+    pub sites: Items<Items<StmtId>>,
+}
+
+/// What the table of a program without faults has. It takes time linear in the program and in its largest number, and
+/// fails for want of memory alone.
+#[tactic(auto, using(crate::proofs::FewLemmas::few_checked, crate::proofs::FewLemmas::few_statements, crate::proofs::TableLemmas::made))]
+pub fn table_parts(alloc: Global, procs: &[Proc]) -> Result<TableParts, Memory>
     requires fine { IsFine procs.now }
-    ensures is { IfOk result (λ table. table.program ≡ procs.now) }
+    ensures are { IfOk result (λ parts. AreOf procs.now (entry_in parts.places.items) parts.count parts.heads parts.sites) }
 {
     let known = layouts_of(alloc, procs)?;
     let heads = heads_of(alloc, procs, known.as_slice())?;
     let Making { places, sites } = making_of(alloc, procs, known.as_slice())?;
     let count = program_count(procs);
-    Ok(Table::new(heads, places, count, Items::from_vec(sites)))
+    let sites = Items::from_vec(sites);
+    Ok(TableParts {
+        heads,
+        places,
+        count,
+        sites,
+    })
 }

@@ -63,7 +63,7 @@ pub(crate) fn heads_of(
 }
 
 /// Whether a procedure has this name.
-pub(crate) fn is_named(heads: &[Head], name: &Text) -> bool
+pub fn is_headed(heads: &[Head], name: &Text) -> bool
     ensures is { result ≡ is_headed heads.now name.now }
 {
     for head in heads {
@@ -75,7 +75,7 @@ pub(crate) fn is_named(heads: &[Head], name: &Text) -> bool
 }
 
 /// The place of the first procedure of this name, or how many there are.
-pub(crate) fn place_named(heads: &[Head], name: &Text) -> usize
+pub fn place_headed(heads: &[Head], name: &Text) -> usize
     ensures is { result ≡ place_headed heads.now name.now }
     ensures within { result ≤ length heads.now }
 {

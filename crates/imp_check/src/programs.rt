@@ -1,17 +1,19 @@
 //! The first fault of a program.
-ghost use Rattle.std.specs.Prelude.{◌≡◌, ◌<◌, ◌≤◌, ◌∷◌, ◌++◌, [], length, IfOk, OnOk, None, true};
+ghost use Rattle.std.specs.Prelude.{◌≡◌, ◌<◌, ◌≤◌, ◌∷◌, ◌++◌, [], length, IfOk, IfErr, OnOk, None, true};
 ghost use Rattle.std.specs.Option.{option_copied};
 ghost use Rattle.imp_check.specs.Faults.{at, in_procedure};
 ghost use Rattle.imp_check.specs.Names.{variables};
 ghost use Rattle.imp_check.specs.Small.{small_block, small_program};
-ghost use Rattle.imp_check.specs.Programs.{size_fault, count_numeric, count_links, one_numeric, one_link, variable_fault, variables_fault, procedure_fault, procedures_fault, last_of, name_of, takes_nothing, chains_fault, ending_fault, check_fault};
+ghost use Rattle.imp_check.specs.Programs.{size_fault, count_numeric, count_links, one_numeric, one_link, variable_fault, variables_fault, procedure_fault, procedures_fault, last_of, name_of, takes_nothing, chains_fault, ending_fault, check_fault, AreNumbered};
+ghost use Rattle.imp_check.specs.Fine.{IsFine};
+ghost use Rattle.imp_check.specs.Refused.{IsRefused};
 
 use crate::chains::all_chains;
 use crate::counts::{deepest, program_count};
 use crate::fault::Spot;
 use crate::names::{is_named, kind_of};
 use crate::statements::{Scope, block_fault};
-use crate::{Fault, Found};
+use crate::{CheckError, Fault, Found};
 use imp_syntax::{Declaration, Kind, Proc};
 use plain_values::{Items, Memory, Text};
 use std::alloc::Global;
@@ -240,7 +242,7 @@ fn found_last(alloc: Global, procs: &[Proc], fault: Fault) -> Result<Found, Memo
 }
 
 /// The first fault of a program.
-pub(crate) fn check_fault(alloc: Global, procs: &[Proc]) -> Result<Option<Found>, Memory>
+fn check_fault(alloc: Global, procs: &[Proc]) -> Result<Option<Found>, Memory>
     ensures is { IfOk result (λ found. found ≡ check_fault procs.now) }
     ensures small { IfOk result (λ found. found ≡ None → small_program procs.now ≡ true) }
 {
@@ -253,5 +255,21 @@ pub(crate) fn check_fault(alloc: Global, procs: &[Proc]) -> Result<Option<Found>
     match ending_fault(alloc, procs)? {
         Some(fault) => Ok(Some(found_last(alloc, procs, fault)?)),
         None => Ok(None),
+    }
+}
+
+/// Looks for the first fault of a program. Where there is none, the program over slots fits.
+///
+/// # Errors
+///
+/// [`CheckError::Fault`] with the first fault, and [`CheckError::Memory`] for want of memory.
+pub fn check_procs(alloc: Global, procs: &[Proc]) -> Result<(), CheckError>
+    requires numbered { AreNumbered procs.now }
+    ensures fine { IfOk result (λ _. IsFine procs.now) }
+    ensures refused { IfErr result (IsRefused (check_fault procs.now)) }
+{
+    match check_fault(alloc, procs)? {
+        Some(found) => Err(CheckError::Fault(found)),
+        None => Ok(()),
     }
 }

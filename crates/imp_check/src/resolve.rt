@@ -60,7 +60,7 @@ impl<'a> Resolver<'a> {
     }
 
     /// A call.
-    #[tactic(auto, using(crate::proofs::SlotLemmas::callee_there, crate::proofs::SlotLemmas::callee_gone, crate::proofs::SlotLemmas::layout_there, crate::proofs::SlotLemmas::known_length))]
+    #[tactic(auto, using(plain_values::proofs::Lists::get_there, std::proofs::lemmas::Option::slice_get_past, crate::proofs::SlotLemmas::layout_there, crate::proofs::SlotLemmas::known_length))]
     pub(crate) fn invoke(&self, alloc: Global, call: &Call) -> Result<SlotCall, Memory>
         ensures is { IfOk result (λ c. c ≡ invoke_in self.now call.now.target call.now.callee (operands_of call.now.arguments)) }
     {

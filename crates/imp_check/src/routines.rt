@@ -11,8 +11,9 @@ use imp_syntax::Proc;
 use plain_values::{Items, Memory};
 use std::alloc::Global;
 
-/// The procedures over slots.
-pub(crate) fn routines_of(alloc: Global, procs: &[Proc]) -> Result<Items<Routine>, Memory>
+/// The procedures over slots, in the order of the text. It takes time linear in the program, and fails for want of
+/// memory alone.
+pub fn routines_of(alloc: Global, procs: &[Proc]) -> Result<Items<Routine>, Memory>
     requires few { AreFew procs.now }
     ensures is { IfOk result (λ routines. routines ≡ routines_of procs.now) }
 {

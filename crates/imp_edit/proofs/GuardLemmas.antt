@@ -12,14 +12,14 @@ use Rattle.imp_check.specs.Fine.{IsFine}
 use Rattle.imp_check.specs.Faults.{first, at, in_procedure}
 use Rattle.imp_check.specs.Names.{variables}
 use Rattle.imp_check.specs.Slots.{layout_in, guard_in, routines_of}
-use Rattle.imp_check.proofs.FallingLemmas.{falling_more}
+use Rattle.program_table.proofs.FallingLemmas.{falling_more}
 use Rattle.imp_check.specs.Statements.{condition_fault, block_fault}
 use Rattle.imp_check.specs.Parts.{part_of}
 use Rattle.imp_check.specs.Programs.{AreNumbered, block_count, program_count, variables_fault, check_fault}
 use Rattle.imp_check.specs.Entries.{entries_of, entry_of, form_in, resolver_at, heads_of, sites_of}
-use Rattle.imp_check.specs.Changes.{AreWithin, Makes, overlay}
-use Rattle.imp_check.specs.declared.change.Change.{Change}
-use Rattle.imp_check.specs.declared.change.Put.{Put}
+use Rattle.program_table.specs.Changes.{AreWithin, Makes, overlay}
+use Rattle.program_table.specs.declared.change.Change.{Change}
+use Rattle.program_table.specs.declared.change.Put.{Put}
 use Rattle.imp_check.specs.declared.entry.Entry.{Entry}
 use Rattle.imp_check.specs.declared.entry.Head.{Head}
 use Rattle.imp_check.specs.declared.entry.SlotForm.{SlotForm}
@@ -27,7 +27,6 @@ use Rattle.imp_check.specs.declared.entry.SlotForm.TheVariants as form
 use Rattle.edit_entries.specs.Holes.{Hole, plug, between, in_loop, with_body}
 use Rattle.edit_entries.proofs.Counts.{count_edited, count_program}
 use Rattle.edit_entries.proofs.Exchange.{faultless, exchanged_fault}
-use Rattle.edit_entries.proofs.Faults.{first_alone}
 use Rattle.edit_entries.proofs.Filled.{plug_ends}
 use Rattle.edit_entries.proofs.Fitting.{FitsThere, program_fits, same_leave}
 use Rattle.edit_entries.proofs.Guards.{one, same_leaving, guard_ends, guard_other, guard_own}
@@ -41,7 +40,7 @@ use Rattle.imp_edit.specs.declared.error.EditError.TheVariants.{Fault}
 use Rattle.imp_edit.specs.Short.{IsMade}
 use Rattle.imp_edit.specs.declared.refusals.Needed.TheVariants.{Conditional}
 use Rattle.imp_edit.proofs.Exchanged.{program_edited}
-use Rattle.imp_check.proofs.FewLemmas.{first_none}
+use Rattle.imp_check.proofs.FewLemmas.{first_none, first_alone}
 
 guarded_is : (d : Condition) (s : Statement) → guarded d s ≡ one (with_condition s d)
 guarded_is d (Simple n a) = refl

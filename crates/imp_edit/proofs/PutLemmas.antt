@@ -3,10 +3,10 @@ use Rattle.std.proofs.lemmas.Bool.Decides.{nat_tests}
 use Rattle.std.proofs.Common.{◌≡◌, ◌≢◌, ℕ, zero, suc, ◌-◌, ◌<◌, ◌≤◌, ◌==◌, cond, Bool, true, false, List, [], ◌∷◌, length, slice_index_or, slice_set, Option, refl, sym, ap, ◌∙◌, subst, arith}
 use Rattle.std.proofs.lemmas.List.{get_or_default}
 use Rattle.std.specs.List.{All, insert}
-use Rattle.imp_check.specs.Changes.{overlay, AreFalling, AreWithin}
+use Rattle.program_table.specs.Changes.{overlay, AreFalling, AreWithin}
 use Rattle.imp_check.specs.declared.entry.Entry.{Entry}
-use Rattle.imp_check.specs.declared.change.Put.{Put}
-use Rattle.imp_check.proofs.FallingLemmas.{AreGreater, AreLess, greater_more, falling_tail}
+use Rattle.program_table.specs.declared.change.Put.{Put}
+use Rattle.program_table.proofs.FallingLemmas.{AreGreater, AreLess, greater_more, falling_tail}
 
 falling_cons : (p : Put) (ps : List Put) → All (λ (q : Put). q.number < p.number) ps → AreFalling ps → AreFalling (p ∷ ps)
 falling_cons p ps a f zero zero d h l = absurd (omega arith)

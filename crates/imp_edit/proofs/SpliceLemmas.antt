@@ -5,7 +5,7 @@ use Rattle.std.specs.List.{All}
 use Rattle.std.specs.Option.{option_map}
 use Rattle.edit_entries.proofs.Faults.{first_assoc}
 use Rattle.imp_syntax.specs.Plain.{Statement, Statements, Ends, Starts, Procedure, number_of, statements_of}
-use Rattle.imp_check.specs.Changes.{AreFalling, AreWithin}
+use Rattle.program_table.specs.Changes.{AreFalling, AreWithin}
 use Rattle.imp_check.specs.Entries.{entry_of, head_of, heads_of}
 use Rattle.imp_check.specs.Faults.{first, in_procedure}
 use Rattle.imp_check.specs.Parts.{last_or}

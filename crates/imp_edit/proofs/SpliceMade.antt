@@ -14,7 +14,7 @@ use Rattle.imp_check.specs.Parts.{first_or, last_or}
 use Rattle.imp_check.specs.Programs.{AreNumbered, block_count, program_count, nesting, name_of, last_of, variables_fault, check_fault}
 use Rattle.imp_check.specs.Slots.{code_in, layout_in}
 use Rattle.imp_check.specs.Statements.{block_fault}
-use Rattle.imp_check.specs.declared.change.Change.{Change}
+use Rattle.program_table.specs.declared.change.Change.{Change}
 use Rattle.imp_check.specs.declared.entry.Entry.{Entry}
 use Rattle.imp_check.specs.declared.entry.Head.{Head}
 use Rattle.imp_check.specs.declared.fault.Fault.TheVariants.{Statements as TooManyStatements, Nesting}

@@ -7,13 +7,13 @@ use Rattle.imp_syntax.specs.declared.edit.Edit.{Edit}
 use Rattle.imp_syntax.specs.declared.edit.Edit.TheVariants as edit
 use Rattle.imp_syntax.specs.declared.edit.Place.{Place}
 use Rattle.imp_syntax.specs.declared.edit.Place.TheVariants as place
-use Rattle.imp_check.specs.Changes.{AreWithin, overlay}
+use Rattle.program_table.specs.Changes.{AreWithin, overlay}
 use Rattle.imp_check.specs.Entries.{inside, inside_loop, context_at, entries_of, entry_of, resolver_at, heads_of}
 use Rattle.imp_check.specs.Faults.{first, unless, at, in_procedure}
 use Rattle.imp_check.specs.Names.{named_in, variables}
 use Rattle.imp_check.specs.Programs.{block_count, program_count, nesting, name_of, last_of}
 use Rattle.imp_check.specs.Statements.{block_fault}
-use Rattle.imp_check.specs.declared.change.Change.{Change}
+use Rattle.program_table.specs.declared.change.Change.{Change}
 use Rattle.imp_check.specs.declared.entry.Context.{Context}
 use Rattle.imp_check.specs.declared.entry.Entry.{Entry}
 use Rattle.imp_check.specs.declared.entry.Head.{Head}

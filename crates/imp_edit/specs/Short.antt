@@ -2,8 +2,8 @@
 use Rattle.std.specs.Prelude.{ℕ, List}
 use Rattle.imp_syntax.specs.Plain.{Procedure}
 use Rattle.imp_check.specs.Fine.{IsFine}
-use Rattle.imp_check.specs.Changes.{AreWithin, Makes}
-use Rattle.imp_check.specs.declared.change.Change.{Change}
+use Rattle.program_table.specs.Changes.{AreWithin, Makes}
+use Rattle.program_table.specs.declared.change.Change.{Change}
 
 -- It makes a program without faults of another one, and its numbers are below the next one.
 pub record IsMade (old : List Procedure) (new : List Procedure) (next : ℕ) (change : Change) : Type 0 where

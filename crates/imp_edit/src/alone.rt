@@ -12,9 +12,10 @@ ghost use Rattle.imp_edit.specs.Alone.{IsAlone, alone, alone_fault, FitsAlone};
 ghost use Rattle.imp_edit.specs.Refusals.{IsRefusal};
 
 use crate::error::EditError;
-use imp_check::{CheckError, Fault, Found, SlotForm, Table, check_table, variables_of};
+use imp_check::{CheckError, Fault, Found, SlotForm, variables_of};
 use imp_syntax::{Block, Cond, Proc, Program, Stmt, StmtId, StmtNode};
 use plain_values::{Items, Memory, Text};
+use program_table::{Table, check_table};
 use std::alloc::Global;
 
 /// What a statement without blocks does over slots in a procedure. It takes time in proportion to the statement and

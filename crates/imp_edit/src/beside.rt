@@ -3,7 +3,7 @@ ghost use Rattle.std.specs.Prelude.{◌≡◌, ℕ, ◌<◌, [], Option, cond, I
 ghost use Rattle.std.specs.List.{All};
 ghost use Rattle.std.specs.Option.{option_map};
 ghost use Rattle.imp_syntax.specs.Plain.{Statements};
-ghost use Rattle.imp_check.specs.Changes.{AreFalling, AreWithin, overlay};
+ghost use Rattle.program_table.specs.Changes.{AreFalling, AreWithin, overlay};
 ghost use Rattle.imp_check.specs.Entries.{block_entries, entries_of, entry_of, resolver_at};
 ghost use Rattle.imp_check.specs.Faults.{first};
 ghost use Rattle.imp_check.specs.Parts.{first_or, last_or};
@@ -20,9 +20,10 @@ use crate::blocks::{first_or, last_or};
 use crate::breaks::{loop_puts, rebroken};
 use crate::gap::Gap;
 use crate::puts::put_at;
-use imp_check::{Around, BlockEnds, Entry, Head, Place, Put, Table, Which};
+use imp_check::{Around, BlockEnds, Entry, Head, Place, Which};
 use imp_syntax::{Block, StmtId};
 use plain_values::Memory;
+use program_table::{Put, Table};
 use std::alloc::Global;
 
 /// The ends of a block, once these statements stand at a place of it.

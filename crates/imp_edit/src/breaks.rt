@@ -1,7 +1,7 @@
 //! The breaks of the loop around a place, where statements come and go.
 ghost use Rattle.std.specs.Prelude.{◌≡◌, ◌++◌, ℕ, suc, IfOk, OnOk, Option, Some, None, false, true};
 ghost use Rattle.std.specs.Option.{option_copied, option_map};
-ghost use Rattle.imp_check.specs.Changes.{AreFalling, AreWithin, overlay};
+ghost use Rattle.program_table.specs.Changes.{AreFalling, AreWithin, overlay};
 ghost use Rattle.imp_check.specs.Entries.{entries_of, entry_of};
 ghost use Rattle.imp_check.specs.Parts.{leaving};
 ghost use Rattle.imp_check.specs.Programs.{has, program_count};
@@ -14,9 +14,10 @@ use crate::blocks::are_closed;
 use crate::gap::Gap;
 use crate::leaving::front_count;
 use crate::puts::put_at;
-use imp_check::{Entry, Place, Put, Table, add_leaving};
+use imp_check::{Entry, Place, add_leaving};
 use imp_syntax::{Block, StmtId};
 use plain_values::{Items, Memory};
+use program_table::{Put, Table};
 use std::alloc::Global;
 
 /// Whether a number is one of these.

@@ -6,9 +6,10 @@ ghost use Rattle.imp_edit.specs.Gaps.{gap_of, part_gap, place_gap, behind_gap, f
 ghost use Rattle.imp_edit.specs.Quiet.{quiet_from};
 
 use crate::quiet::{add_quiet, is_call};
-use imp_check::{Context, Entry, Table, Which};
+use imp_check::{Context, Entry, Which};
 use imp_syntax::{Edit, Place, ProcId, StmtId};
 use plain_values::{Items, Memory};
+use program_table::Table;
 use std::alloc::Global;
 
 /// A place in a block where statements come: between two of it, where a statement may go.

@@ -7,9 +7,10 @@ ghost use Rattle.imp_edit.specs.Breaks.{above, front_count, leaving_from, leavin
 
 use crate::gap::Gap;
 use crate::quiet::next_in;
-use imp_check::{Around, Context, Entry, Table, Which};
+use imp_check::{Around, Context, Entry, Which};
 use imp_syntax::{StmtId, StmtNode};
 use plain_values::{Items, Memory};
+use program_table::Table;
 use std::alloc::Global;
 
 /// Adds the breaks that leave the loop around the block whose first statement has this number. `most` is more than there

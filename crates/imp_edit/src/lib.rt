@@ -1,10 +1,10 @@
 //! Edits of programs without faults: what each of the seven makes of a program, and why one is refused.
 //!
-//! [`apply`] takes the table of a program ([`imp_check::Table`]), an edit and the next new number. It answers the change
-//! of the table ([`imp_check::Change`]) and the number behind those that the edit uses exactly where no refusal holds, and
-//! else the first refusal, or want of memory. It changes nothing itself, so a refused edit leaves the program, and uses
-//! no number. `edited` of `specs/Edited.antt` is the program after an edit, by the definitions of `specs/Changes.antt`;
-//! `edit_refusal` of `specs/Refusals.antt` is the first refusal.
+//! [`apply`] takes the table of a program ([`program_table::Table`]), an edit and the next new number. It answers the
+//! change of the table ([`program_table::Change`]) and the number behind those that the edit uses exactly where no
+//! refusal holds, and else the first refusal, or want of memory. It changes nothing itself, so a refused edit leaves the
+//! program, and uses no number. `edited` of `specs/Edited.antt` is the program after an edit, by the definitions of
+//! `specs/Changes.antt`; `edit_refusal` of `specs/Refusals.antt` is the first refusal.
 //!
 //! - An edit at a statement changes the one statement of a number: `in_program n made`, where `made` says what becomes of
 //!   it. The numbers of the others stay.

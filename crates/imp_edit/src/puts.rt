@@ -1,11 +1,12 @@
 //! Entries of a change, by falling numbers.
 ghost use Rattle.std.specs.Prelude.{◌≡◌, ℕ, ◌<◌, ◌==◌, cond, OnOk, Option};
-ghost use Rattle.imp_check.specs.Changes.{AreFalling, AreWithin, overlay};
+ghost use Rattle.program_table.specs.Changes.{AreFalling, AreWithin, overlay};
 ghost use Rattle.imp_check.specs.declared.entry.Entry.{Entry};
 
-use imp_check::{Place, Put};
+use imp_check::Place;
 use imp_syntax::StmtId;
 use plain_values::Memory;
+use program_table::Put;
 
 /// Puts something at a number, in place of what the change has there. It takes time in proportion to the entries of
 /// less numbers. For want of memory the change is of no use.

@@ -6,9 +6,10 @@ ghost use Rattle.imp_check.specs.Rebuilt.{next_in};
 ghost use Rattle.imp_check.specs.Walks.{walk};
 ghost use Rattle.imp_edit.specs.Quiet.{is_call, quiet_from};
 
-use imp_check::{Entry, Table};
+use imp_check::Entry;
 use imp_syntax::{Stmt, StmtId, StmtNode};
 use plain_values::{Items, Memory};
+use program_table::Table;
 
 /// Whether a statement is a call.
 pub(crate) fn is_call(stmt: &Stmt) -> bool

@@ -18,9 +18,10 @@ use crate::blocks::closed_at;
 use crate::error::EditError;
 use crate::gap::{Gap, gap_of};
 use crate::splicing::splice;
-use imp_check::{Change, Entry, Place, Put, SlotForm, Table};
+use imp_check::{Entry, Place, SlotForm};
 use imp_syntax::{Block, Cond, Edit, Stmt, StmtId};
 use plain_values::{Items, Memory};
+use program_table::{Change, Put, Table};
 use std::alloc::Global;
 
 /// The change of an edit that gives a statement another condition, puts statements at a place in which no call stands, or

@@ -15,9 +15,10 @@ use crate::beside::{ends_stay, ends_with, puts_of};
 use crate::coming::entries_of;
 use crate::error::EditError;
 use crate::gap::Gap;
-use imp_check::{Change, Fault, Found, Head, Table, block_count, nesting};
+use imp_check::{Fault, Found, Head, block_count, nesting};
 use imp_syntax::Block;
 use plain_values::{Items, Memory, Text};
+use program_table::{Change, Table};
 use std::alloc::Global;
 
 /// The most statements that a program may have.

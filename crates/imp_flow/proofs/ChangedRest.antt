@@ -16,14 +16,14 @@ use Rattle.imp_check.specs.Slots.{routines_of}
 use Rattle.imp_check.specs.Entries.{calls_here, entries_of, entry_of, sites_in}
 use Rattle.imp_check.specs.declared.entry.BlockEnds.{BlockEnds}
 use Rattle.std.specs.Bool.{OnTrue}
-use Rattle.imp_check.specs.Changes.{overlay}
-use Rattle.imp_check.specs.declared.change.Put.{Put}
+use Rattle.program_table.specs.Changes.{overlay}
+use Rattle.program_table.specs.declared.change.Put.{Put}
 use Rattle.imp_check.specs.declared.entry.Entry as known
 use Rattle.imp_check.specs.declared.entry.SlotForm.{SlotForm}
 use Rattle.imp_check.specs.declared.entry.SlotForm.TheVariants as form
 use Rattle.imp_check.proofs.PutLemmas.{same}
-use Rattle.imp_check.proofs.OverlayLemmas.{put_numbers, overlay_other}
-use Rattle.imp_check.proofs.StandLemmas.{place_there, site_there, overlay_kept}
+use Rattle.program_table.proofs.OverlayLemmas.{put_numbers, overlay_other, overlay_kept}
+use Rattle.imp_check.proofs.StandLemmas.{place_there, site_there}
 use Rattle.imp_check.proofs.BreakLemmas.{Has, loop_named}
 use Rattle.batch_meaning.specs.Batch.{Engine}
 use Rattle.call_contexts.specs.Places.{is_loop}

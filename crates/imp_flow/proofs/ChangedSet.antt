@@ -22,7 +22,7 @@ use Rattle.imp_flow.specs.Changed.{is_start, IsChanged, IsTold, AreChanged, Stay
 use Rattle.imp_syntax.specs.Plain.{Procedure}
 use Rattle.imp_slots.specs.Fits.{IsChecked}
 use Rattle.imp_check.specs.Entries.{entries_of, sites_in}
-use Rattle.imp_check.specs.declared.change.Put.{Put}
+use Rattle.program_table.specs.declared.change.Put.{Put}
 use Rattle.imp_flow.specs.declared.search.Search.{Search}
 use Rattle.imp_flow.specs.Searches.{left_by, IsSearch, GoesOn, IsLooked, AllLooked, ArePutsLooked, AreCallersLooked, AreLoopsLooked}
 use Rattle.std.proofs.lemmas.Option.{same_Some}

@@ -7,7 +7,7 @@ use Rattle.imp_slots.specs.Fits.{IsChecked}
 use Rattle.imp_slots.specs.declared.actions.SlotStmt.TheVariants as act
 use Rattle.imp_check.specs.Parts.{ends_of}
 use Rattle.imp_check.specs.Entries.{entries_of, sites_in}
-use Rattle.imp_check.specs.declared.change.Put.{Put}
+use Rattle.program_table.specs.declared.change.Put.{Put}
 use Rattle.imp_check.specs.declared.entry.Entry.{Entry}
 use Rattle.imp_check.specs.declared.entry.SlotForm.{SlotForm}
 use Rattle.imp_check.specs.declared.entry.SlotForm.TheVariants as form

@@ -19,10 +19,10 @@ use crate::rows::{
 };
 use call_contexts::{Setting, main_place};
 use cell_names::{Frame, Point};
-use imp_check::View;
 use imp_slots::Layout;
 use imp_syntax::{ProcId, StmtId};
 use program_chains::Widening;
+use program_table::View;
 use std::marker::Model;
 
 /// A program as it is read, and how its loops are interpreted.

@@ -2,10 +2,10 @@
 //!
 //! A cell has a name, a path and a point of the block that the path leads to (`cell_names`). Its *row* is its
 //! operation and its inputs, left to right. [`Flow::row`] reads the row of a name off the program's table of statements
-//! (`imp_check`), by the last frame of its path and its point, and follows no path: what the points' rows need of a
-//! statement, its *node*, is told by what is known of the statement, of the breaks that leave it, and of the last statement
-//! of its callee (`specs/Entered.antt`). `flat_row` of crate `cell_rows` is what it answers, exactly. A row's inputs are
-//! relative to the path of its name ([`Input`]), and [`Input::name`] gives them their numbers.
+//! (`program_table`), by the last frame of its path and its point, and follows no path: what the points' rows need of a
+//! statement, its *node*, is told by what is known of the statement, of the breaks that leave it, and of the last
+//! statement of its callee (`specs/Entered.antt`). `flat_row` of crate `cell_rows` is what it answers, exactly. A row's
+//! inputs are relative to the path of its name ([`Input`]), and [`Input::name`] gives them their numbers.
 //!
 //! Inputs that are known only by values found before are asked of the row one by one: [`Row::iterate`] for a fixed
 //! point, [`Row::before_break`] for a join behind a loop with breaks, in the loop's last round.

@@ -7,10 +7,11 @@ ghost use Rattle.imp_flow.specs.Reached.{into_loops};
 
 use crate::steps::Step;
 use cell_names::Point;
-use imp_check::{Around, Entry, SlotForm, View, Which};
+use imp_check::{Around, Entry, SlotForm, Which};
 use imp_slots::{SlotCall, SlotCond, SlotStmt};
 use imp_syntax::{ProcId, StmtId, StmtNode};
 use plain_values::{Items, Memory};
+use program_table::View;
 
 /// A break that leaves a loop, and the point in front of it.
 #[derive(Clone, Copy, Debug, PartialEq, Eq, Drop)]

@@ -9,7 +9,7 @@ ghost use Rattle.imp_slots.specs.Fits.{IsChecked};
 ghost use Rattle.imp_slots.specs.PartCodes.{layout_code};
 ghost use Rattle.imp_check.specs.Slots.{routines_of};
 ghost use Rattle.imp_check.specs.Fine.{IsFine};
-ghost use Rattle.imp_check.specs.Changes.{AreFalling, Makes};
+ghost use Rattle.program_table.specs.Changes.{AreFalling, Makes};
 ghost use Rattle.batch_meaning.specs.Places.{main_layout};
 ghost use Rattle.call_contexts.specs.Settings.{setting_of};
 ghost use Rattle.imp_flow.specs.Plans.{plan_of};
@@ -19,10 +19,11 @@ ghost use Rattle.imp_flow.specs.Searches.{left_by, EndsAlike, IsSearch, GoesOn, 
 use crate::changed::{Pair, pair_at, pair_of, stays};
 use crate::flow::{Flow, main_layout};
 use call_contexts::{Setting, procedure_count};
-use imp_check::{Change, Place, Put, SlotForm, Table, View};
+use imp_check::{Place, SlotForm};
 use imp_slots::SlotStmt;
 use imp_syntax::{ProcId, StmtId};
 use plain_values::Memory;
+use program_table::{Change, Put, Table, View};
 use std::alloc::Global;
 use std::collections::BTreeSet;
 

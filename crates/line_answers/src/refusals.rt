@@ -5,11 +5,12 @@ ghost use Rattle.imp_check.specs.Entries.{heads_of};
 ghost use Rattle.line_answers.specs.Refusals.{name_of_head, name_at, holder_of, procedure_at, procedure_edited, refusal_of};
 
 use batch_meaning::Refusal as QueryRefusal;
-use imp_check::{Head, Table};
+use imp_check::Head;
 use imp_edit::EditError;
 use imp_syntax::{Edit, Place, ProcId, StmtId};
 use line_replies::fault_refusal;
 use plain_values::{Memory, Text};
+use program_table::Table;
 use request_json::{ProgramFault, Refusal};
 use std::alloc::Global;
 

@@ -5,11 +5,11 @@ ghost use Rattle.imp_check.specs.Slots.{routines_of};
 ghost use Rattle.line_replies.specs.Runs.{reached_at, run_reply, asked_run};
 
 use call_contexts::place_of;
-use imp_check::View;
 use imp_run::run;
 use imp_slots::Routine;
 use imp_syntax::Location;
 use plain_values::Memory;
+use program_table::View;
 use request_json::{Refusal, Reply};
 use std::alloc::Global;
 

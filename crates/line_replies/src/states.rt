@@ -8,10 +8,10 @@ ghost use Rattle.line_replies.specs.States.{layout_or_none, layout_found, layout
 
 use call_contexts::place_of;
 use domain_laws::Domain;
-use imp_check::View;
 use imp_slots::Layout;
 use imp_syntax::{Chain, Location, StmtId};
 use plain_values::{Items, Memory, Text};
+use program_table::View;
 use request_json::Reply;
 use std::alloc::Global;
 

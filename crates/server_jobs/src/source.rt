@@ -9,12 +9,13 @@ ghost use Rattle.server_jobs.specs.declared.source.SourceError.TheVariants.{Memo
 
 use crate::task::{Task, Work};
 use dom_interval::Interval;
-use imp_check::{CheckError, Checked, Table, check, check_table};
+use imp_check::CheckError;
 use imp_parse::{ParseError, parse_program};
 use imp_syntax::Program;
 use line_answers::{machines_stay_fine, texts_are_read};
 use line_replies::{fault_refusal, text_refusal};
 use plain_values::Memory;
+use program_table::{Checked, Table, check, check_table};
 use request_json::Refusal;
 use std::alloc::Global;
 use thiserror::Error;

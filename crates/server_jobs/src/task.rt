@@ -1,8 +1,8 @@
 //! What is to be done, and for which program.
 
 use command_words::FileName;
-use imp_check::{Checked, Table};
 use program_chains::Widening;
+use program_table::{Checked, Table};
 
 /// What is drawn for a generated source and its script.
 #[derive(Clone, Copy, Debug, Drop, PartialEq, Eq)]

@@ -4,9 +4,10 @@ ghost use Rattle.std.specs.List.{All};
 ghost use Rattle.imp_syntax.specs.Plain.{program_numbers};
 ghost use Rattle.imp_check.specs.Programs.{AreNumbered};
 
-use imp_check::{Table, check_table, is_numbered};
+use imp_check::is_numbered;
 use imp_parse::parse_program;
 use imp_syntax::Program;
+use program_table::{Table, check_table};
 use std::alloc::Global;
 use std::test::Fail;
 

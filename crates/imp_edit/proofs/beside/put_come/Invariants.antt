@@ -1,6 +1,6 @@
 use Rattle.std.proofs.Common.{◌≡◌, ℕ, ◌<◌, Option, length}
 use Rattle.std.specs.List.{All}
-use Rattle.imp_check.specs.Changes.{AreFalling, AreWithin, overlay}
+use Rattle.program_table.specs.Changes.{AreFalling, AreWithin, overlay}
 use Rattle.imp_check.specs.Entries.{entry_of}
 use Rattle.imp_check.specs.Faults.{first}
 use Rattle.imp_check.specs.declared.entry.Entry.{Entry}

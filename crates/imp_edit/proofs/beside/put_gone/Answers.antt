@@ -1,5 +1,5 @@
 use Rattle.std.proofs.Common.{◌≡◌, ℕ, ◌+◌, ◌-◌, ◌<◌, ◌==◌, Option, None, cond, drop, length, sym, ap, ◌∙◌, arith}
-use Rattle.imp_check.specs.Changes.{overlay}
+use Rattle.program_table.specs.Changes.{overlay}
 use Rattle.imp_check.specs.Programs.{has}
 use Rattle.imp_check.specs.declared.entry.Entry.{Entry}
 use Rattle.imp_edit.proofs.SpliceLemmas.{gone_step, below_at}

@@ -1,6 +1,6 @@
 use Rattle.std.proofs.Common.{◌≡◌, ℕ, ◌<◌, ◌≤◌, Option, None, cond, drop, length}
 use Rattle.std.specs.List.{All}
-use Rattle.imp_check.specs.Changes.{AreFalling, AreWithin, overlay}
+use Rattle.program_table.specs.Changes.{AreFalling, AreWithin, overlay}
 use Rattle.imp_check.specs.Programs.{has}
 use Rattle.imp_check.specs.declared.entry.Entry.{Entry}
 use Rattle.imp_edit.proofs.beside.put_gone.Given as goal

@@ -1,5 +1,5 @@
 use Rattle.std.proofs.Common.{ℕ, OnOk, Option, sym, subst}
-use Rattle.imp_check.specs.Changes.{AreWithin}
+use Rattle.program_table.specs.Changes.{AreWithin}
 use Rattle.imp_edit.specs.Gaps.{IsBelow}
 use Rattle.imp_edit.proofs.beside.put_next.Goals as goal
 

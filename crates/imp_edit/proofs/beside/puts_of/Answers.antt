@@ -2,7 +2,7 @@ use Rattle.std.proofs.Common.{◌≡◌, ℕ, ◌<◌, [], cond, List, None, Opt
 use Rattle.std.specs.List.{All}
 use Rattle.std.specs.Option.{option_map}
 use Rattle.imp_syntax.specs.Plain.{numbers}
-use Rattle.imp_check.specs.Changes.{overlay}
+use Rattle.program_table.specs.Changes.{overlay}
 use Rattle.imp_check.specs.Entries.{block_entries, entries_of, entry_of, resolver_at}
 use Rattle.imp_check.specs.Parts.{first_or, last_or}
 use Rattle.imp_check.specs.Programs.{has}

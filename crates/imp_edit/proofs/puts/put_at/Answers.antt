@@ -1,7 +1,7 @@
 use Rattle.std.proofs.Common.{List, ◌<◌, ◌==◌, cond, sym, ap, ◌∙◌, subst}
-use Rattle.imp_check.specs.Changes.{overlay, AreFalling, AreWithin}
-use Rattle.imp_check.specs.declared.change.Put.{Put}
-use Rattle.imp_check.proofs.FallingLemmas.{AreGreater}
+use Rattle.program_table.specs.Changes.{overlay, AreFalling, AreWithin}
+use Rattle.program_table.specs.declared.change.Put.{Put}
+use Rattle.program_table.proofs.FallingLemmas.{AreGreater}
 use Rattle.imp_edit.proofs.PutLemmas.{added_overlay, added_falling, added_within, greater_before, none_before}
 use Rattle.imp_edit.proofs.puts.put_at.Goals as goal
 use Rattle.imp_edit.proofs.puts.put_at.Goals.{then-loop-at-test+else-index-number, else-loop-at-test}

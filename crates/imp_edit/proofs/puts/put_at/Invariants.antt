@@ -1,5 +1,5 @@
 use Rattle.std.proofs.Common.{◌≤◌, length}
-use Rattle.imp_check.proofs.FallingLemmas.{AreLess}
+use Rattle.program_table.proofs.FallingLemmas.{AreLess}
 use Rattle.imp_edit.proofs.puts.put_at.Given as goal
 
 -- those from the place on have less numbers

@@ -1,0 +1,5 @@
+pub mod OverlayLemmas
+pub mod FallingLemmas
+pub mod ExchangeLemmas
+pub mod ChangeLemmas
+pub mod ViewLemmas

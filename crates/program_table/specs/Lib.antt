@@ -1,0 +1,4 @@
+pub mod Tabled
+pub mod Changes
+pub mod Views
+pub mod Checks
