@@ -1,7 +1,7 @@
 -- The marks and the tally of each procedure of a program, and what a change makes of them.
 use Rattle.std.proofs.lemmas.Option.{slice_get-map, slice_get_within, same_Some}
 use Rattle.std.proofs.lemmas.List.{length-map, length-take-le, take_all}
-use Rattle.std.proofs.Common.{◌≡◌, ℕ, ℤ, zero, suc, ◌+◌, ◌-◌, ◌<◌, ◌≤◌, ◌==◌, ◌||◌, ◌&&◌, ◌^◌, Bool, true, false, List, [], ◌∷◌, ◌++◌, length, take, slice_get, get_or, add-one, Option, Some, None, option_map, inl, inr, refl, sym, ap, ◌∙◌, subst, arith}
+use Rattle.std.proofs.Common.{◌≡◌, ℕ, ℤ, ◌+◌, ◌-◌, ◌<◌, ◌≤◌, ◌==◌, ◌||◌, ◌&&◌, ◌^◌, Bool, true, false, List, [], ◌∷◌, ◌++◌, length, take, slice_get, get_or, add-one, Option, Some, None, option_map, inl, inr, refl, sym, ap, ◌∙◌, subst, arith}
 use Rattle.std.specs.Prelude.{if◌then◌else◌, Result, Ok, Err, IfOk}
 use Rattle.std.specs.Bool.{OnTrue}
 use Rattle.std.specs.List.Sorted.{IsStrictlySortedBy}
@@ -82,7 +82,7 @@ pub tally_changed : (w : Widening) (old new : List Procedure) (puts : List Put) 
     → slice_get (all_tallies w (routines_of new)) k ≡ Some u
 tally_changed w old new puts k t u ls gs b e l h d m =
     let p = had w old k t h in
-    let q = there new k l in
+    let q = get_some new k l in
     let P = routine_of (take k old) p.0 in
     let Q = routine_of (take k new) q.0 in
     let was : Tells t (λ n. times n (literal_lists P.code)) = subst (λ (z : List (ℕ × ℕ)). Tells z (λ n. times n (literal_lists P.code))) (sym (by_thresholds w P e) ∙ p.2) (tally_tells P.code) in
@@ -134,7 +134,7 @@ tally_kept : (w : Widening) (old new : List Procedure) (puts : List Put) (k : �
     → slice_get (all_tallies w (routines_of old)) k ≡ Some t → slice_get (all_tallies w (routines_of new)) k ≡ Some t
 tally_kept w old new puts k t b e f l h =
     let p = had w old k t h in
-    let q = there new k l in
+    let q = get_some new k l in
     let P = routine_of (take k old) p.0 in
     let Q = routine_of (take k new) q.0 in
     let same : tally Q.code ≡ tally P.code =
@@ -166,7 +166,7 @@ part_kept w old new puts k c ms t ls b e l m h i f = go w.thresholds refl f
         record { marks_are = marks_kept w old new k ms t t d m h u refl; tally_is = u; loops_are = i }
     go false d f =
         let p = had w old k t h in
-        let q = there new k l in
+        let q = get_some new k l in
         let P = routine_of (take k old) p.0 in
         let Q = routine_of (take k new) q.0 in
         let no_tally : (r : Routine) → tally_by w r ≡ [] = λ r. ap (λ (b : Bool). if b then tally r.code else []) d in

@@ -4,8 +4,8 @@ use Rattle.std.specs.Prelude.{if◌then◌else◌}
 use Rattle.std.proofs.lemmas.Bool.{cases_lt}
 use Rattle.imp_syntax.specs.Plain.{Statements, Ends, Starts, Procedure}
 use Rattle.imp_syntax.specs.Plain as tree
-use Rattle.imp_slots.specs.Plain.{Layout, Invoke, Code, Stop, Simple, If, While, Call, Break, Routine}
-use Rattle.imp_slots.specs.Fits.{FitsCall, FitsCode, FitInTurn, IsChecked}
+use Rattle.imp_slots.specs.Plain.{Layout, Code, Stop, Simple, If, While, Call, Break, Routine}
+use Rattle.imp_slots.specs.Fits.{FitsCode, FitInTurn, IsChecked}
 use Rattle.program_chains.specs.Chains.{calls_to, extended, through, chains_within, chains}
 use Rattle.program_chains.proofs.Found.{callee_before}
 use Rattle.program_chains.specs.Claims.{ChainsAreThroughCallers}
@@ -21,7 +21,6 @@ use Rattle.call_contexts.specs.Tables.{chains_up, or_no_chains, chains_in, chain
 use Rattle.call_contexts.proofs.Placed.{swapped}
 use Rattle.plain_values.proofs.Lists.{drop_item, get_last, get_other, one_more}
 use Rattle.plain_values.proofs.Cases.{by_test}
-use Rattle.std.proofs.lemmas.Option.{slice_get_within}
 use Rattle.std.proofs.Math.Seq.{drop-length}
 use Rattle.std.proofs.lemmas.List.{length-drop}
 
