@@ -10,10 +10,11 @@ use crate::sums::sum_of;
 use crate::{Answer, QueryError};
 use batch_meaning::Refusal;
 use batch_sound::answers_are_sound;
-use call_contexts::{Setting, chains, place_of};
+use call_contexts::{Setting, place_of};
 use domain_laws::{Domain, Steps};
 use imp_syntax::{Location, ProcId};
 use program_table::Checked;
+use selected_chains::chains;
 use std::alloc::Global;
 use std::sync::ledger::Ledger;
 

@@ -13,13 +13,14 @@ use crate::findings::add_findings;
 use crate::frames::Plan;
 use crate::totals::totals;
 use batch_sound::reports_are_sound;
-use call_contexts::{Setting, chains, few_routines};
+use call_contexts::{Setting, few_routines};
 use domain_laws::{Domain, Finding, Findings, Steps};
 use imp_slots::SlotBlock;
 use imp_syntax::ProcId;
 use plain_values::{Items, Memory};
 use program_chains::{chains_go_through_callers, places_are_found};
 use program_table::Checked;
+use selected_chains::chains;
 use std::alloc::Global;
 use std::sync::ledger::Ledger;
 

@@ -1,5 +1,6 @@
 -- What a change takes from a procedure and brings to it is what the procedure has less and more than before.
 use Rattle.std.proofs.lemmas.Bool.{cases_lt}
+use Rattle.std.proofs.lemmas.Option.{same_Some}
 use Rattle.std.proofs.Common.{◌≡◌, ◌≢◌, ℕ, zero, suc, ◌+◌, ◌<◌, ◌≤◌, ◌==◌, ◌⊎◌, inl, inr, cond, Bool, true, false, List, [], ◌∷◌, ◌++◌, length, take, slice_get, Option, Some, None, refl, sym, ap, ◌∙◌, subst, arith, append_assoc, append-nil, length-append}
 use Rattle.std.specs.Prelude.{if◌then◌else◌}
 use Rattle.program_table.proofs.ChangeLemmas.{no_entry}
@@ -25,6 +26,7 @@ use Rattle.call_contexts.specs.Tallies.{literal_lists, one_if, times}
 use Rattle.call_contexts.specs.Differences.{lists_in, lost, gained}
 use Rattle.call_contexts.proofs.LiteralLemmas.{effect_again}
 use Rattle.call_contexts.proofs.TallyLemmas.{times_both}
+use Rattle.plain_values.proofs.Lists.{one_more}
 
 -- A sum over the numbers below a bound.
 abbrev sum_to : (ℕ → ℕ) → ℕ → ℕ
@@ -193,32 +195,25 @@ module _ (k n : ℕ) where
         ∙ both t g (times n bs + times n rs)
         ∙ ap (λ m. cond t m 0) all
 
-  longer : (zs : List Procedure) (q : Procedure) → length (zs ++ q ∷ []) ≡ suc (length zs)
-  longer [] q = refl
-  longer (z ∷ zs) q = ap suc (longer zs q)
-
   none_here : (es ps : List Procedure) → k < length es → counted (entries_from es ps) ≡ 0
   none_here es [] h = refl
   none_here es (q ∷ ps) h =
       let first = counted_block (resolver_at es q) false (context_at (length es)) None None q.body (other (length es) k (λ i. omega (arith, i, h))) in
-      let rest = none_here (es ++ q ∷ []) ps (omega (arith, h, longer es q)) in
+      let rest = none_here (es ++ q ∷ []) ps (omega (arith, h, one_more es q)) in
       omega (arith, counted_both (procedure_entries es q) (entries_from (es ++ q ∷ []) ps), first, rest)
 
   own_here : (es ps : List Procedure) (j : ℕ) (p : Procedure) → slice_get ps j ≡ Some p → k ≡ length es + j → counted (entries_from es ps) ≡ times n (literal_lists (routine_of (es ++ take j ps) p).code)
   own_here es [] j p h e = absurd cc
   own_here es (q ∷ ps) zero p h e =
-      let s : q ≡ p = some q p h in
+      let s : q ≡ p = same_Some q p h in
       let z : length es ≡ k = omega (arith, e) in
       let first = counted_block (resolver_at es q) true (context_at (length es)) None None q.body (ap (λ m. m == k) z ∙ same k) in
-      let rest = none_here (es ++ q ∷ []) ps (omega (arith, z, longer es q)) in
+      let rest = none_here (es ++ q ∷ []) ps (omega (arith, z, one_more es q)) in
       let all : counted (entries_from es (q ∷ ps)) ≡ times n (literal_lists (routine_of es q).code) = omega (arith, counted_both (procedure_entries es q) (entries_from (es ++ q ∷ []) ps), first, rest) in
       all ∙ (λ i. times n (literal_lists (routine_of (sym (append-nil es) i) (s i)).code))
-    where
-      some : (a b : Procedure) → Some a ≡ Some b → a ≡ b
-      some a b e = cc
   own_here es (q ∷ ps) (suc j) p h e =
       let first = counted_block (resolver_at es q) false (context_at (length es)) None None q.body (other (length es) k (λ i. omega (arith, i, e))) in
-      let rest = own_here (es ++ q ∷ []) ps j p h (omega (arith, e, longer es q)) in
+      let rest = own_here (es ++ q ∷ []) ps j p h (omega (arith, e, one_more es q)) in
       let all : counted (entries_from es (q ∷ ps)) ≡ times n (literal_lists (routine_of ((es ++ q ∷ []) ++ take j ps) p).code) = omega (arith, counted_both (procedure_entries es q) (entries_from (es ++ q ∷ []) ps), first, rest) in
       all ∙ ap (λ (z : List Procedure). times n (literal_lists (routine_of z p).code)) (append_assoc es (q ∷ []) (take j ps))
 
@@ -265,10 +260,7 @@ lists_length f (Starts (tree.While m d b) ss) =
 
 count_there : (ps : List Procedure) (k : ℕ) (p : Procedure) → slice_get ps k ≡ Some p → block_count p.body ≤ program_count ps
 count_there [] k p h = absurd cc
-count_there (q ∷ ps) zero p h = let e : q ≡ p = some q p h in omega (arith, ap (λ (z : Procedure). block_count z.body) e)
-  where
-    some : (a b : Procedure) → Some a ≡ Some b → a ≡ b
-    some a b e = cc
+count_there (q ∷ ps) zero p h = let e : q ≡ p = same_Some q p h in omega (arith, ap (λ (z : Procedure). block_count z.body) e)
 count_there (q ∷ ps) (suc k) p h = omega (arith, count_there ps k p h)
 
 pub times_below : (ps : List Procedure) (k n : ℕ) (p : Procedure) → slice_get ps k ≡ Some p → times n (literal_lists (routine_of (take k ps) p).code) ≤ program_count ps

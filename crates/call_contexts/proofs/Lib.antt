@@ -8,7 +8,6 @@ pub mod TallyLemmas
 pub mod Counted
 pub mod Placed
 pub mod Tabled
-pub mod Filtering
 pub mod LiteralLemmas
 pub mod Balance
 pub mod Parted

@@ -1,6 +1,6 @@
 -- The numbers of a procedure are told by its statements.
-use Rattle.std.proofs.lemmas.Option.{slice_get-map}
-use Rattle.std.proofs.Common.{◌≡◌, ℕ, ℤ, zero, suc, ◌<◌, inl, inr, List, [], ◌∷◌, ◌++◌, length, take, slice_get, Option, Some, None, Bool, true, false, refl, sym, ap, ◌∙◌, arith, append_assoc, append-nil}
+use Rattle.std.proofs.lemmas.Option.{same_Some, slice_get-map}
+use Rattle.std.proofs.Common.{◌≡◌, ℕ, ℤ, zero, suc, ◌<◌, inl, inr, List, [], ◌∷◌, ◌++◌, length, take, slice_get, Option, Some, None, Bool, true, false, refl, sym, ap, ◌∙◌, append_assoc, append-nil}
 use Rattle.std.specs.Prelude.{if◌then◌else◌}
 use Rattle.std.specs.Option.{option_map}
 use Rattle.imp_syntax.specs.Plain.{Statements, Ends, Starts, Procedure, numbers}
@@ -22,6 +22,7 @@ use Rattle.program_chains.specs.declared.widening.Widening.{Widening}
 use Rattle.program_chains.specs.Marks.{effect_literals, guard_literals, literals, marks, marks_of}
 use Rattle.call_contexts.specs.Literals.{form_literals, literals_in, literals_by}
 use Rattle.call_contexts.specs.Settings.{all_marks}
+use Rattle.plain_values.proofs.Lists.{get_some}
 
 pub effect_again : (e : Effect) → effect_of (action_of e) ≡ e
 effect_again plain.Skip = refl
@@ -86,10 +87,7 @@ module _ (at : ℕ → Option Entry) where
 -- The procedure at a place, over slots.
 routine_from : (es ps : List Procedure) (k : ℕ) (p : Procedure) → slice_get ps k ≡ Some p → slice_get (routines_from es ps) k ≡ Some (routine_of (es ++ take k ps) p)
 routine_from es [] k p h = absurd cc
-routine_from es (q ∷ ps) zero p h = ap Some (ap (routine_of es) (some q p h) ∙ ap (λ (z : List Procedure). routine_of z p) (sym (append-nil es)))
-  where
-    some : (a b : Procedure) → Some a ≡ Some b → a ≡ b
-    some a b e = cc
+routine_from es (q ∷ ps) zero p h = ap Some (ap (routine_of es) (same_Some q p h) ∙ ap (λ (z : List Procedure). routine_of z p) (sym (append-nil es)))
 routine_from es (q ∷ ps) (suc k) p h = routine_from (es ++ q ∷ []) ps k p h ∙ ap (λ (z : List Procedure). Some (routine_of z p)) (append_assoc es (q ∷ []) (take k ps))
 
 pub routine_there : (ps : List Procedure) (k : ℕ) (p : Procedure) → slice_get ps k ≡ Some p → slice_get (routines_of ps) k ≡ Some (routine_of (take k ps) p)
@@ -98,11 +96,6 @@ routine_there ps k p h = routine_from [] ps k p h
 pub mark_there : (w : Widening) (ps : List Procedure) (k : ℕ) (p : Procedure) → slice_get ps k ≡ Some p → slice_get (all_marks w (routines_of ps)) k ≡ Some (marks w (routine_of (take k ps) p))
 mark_there w ps k p h = slice_get-map (marks w) (routines_of ps) k ∙ ap (option_map (marks w)) (routine_there ps k p h)
 
-pub there : (ps : List Procedure) (k : ℕ) → k < length ps → (p : Procedure) × (slice_get ps k ≡ Some p)
-there [] k h = absurd (omega arith)
-there (p ∷ ps) zero h = (p, refl)
-there (p ∷ ps) (suc k) h = there ps k (omega arith)
-
 -- the numbers of a procedure, where its entries are known
 pub own_literals : (at : ℕ → Option Entry) (ps : List Procedure) (k : ℕ) (p : Procedure) → Known at (procedure_entries (take k ps) p) → literals_by at (numbers p.body) ≡ literals (routine_of (take k ps) p).code
 own_literals at ps k p known = literals_are at (resolver_at (take k ps) p) p.body (context_at (length (take k ps))) None None known
@@ -110,13 +103,13 @@ own_literals at ps k p known = literals_are at (resolver_at (take k ps) p) p.bod
 -- Without thresholds there are no marks.
 pub no_marks : (w : Widening) (ps : List Procedure) (k : ℕ) → k < length ps → w.thresholds ≡ false → slice_get (all_marks w (routines_of ps)) k ≡ Some []
 no_marks w ps k l h =
-    let p = there ps k l in
+    let p = get_some ps k l in
     mark_there w ps k p.0 p.1 ∙ ap (λ (b : Bool). Some (if b then marks_of (literals (routine_of (take k ps) p.0).code) else [])) h
 
 -- With them the marks are those of the numbers of the procedure's statements.
 pub marks_by : (w : Widening) (ps : List Procedure) (k : ℕ) (ms : List ℤ) → k < length ps → AreNumbered ps → w.thresholds ≡ true → ms ≡ marks_of (literals_by (entry_of (entries_of ps)) (numbers_at ps k)) → slice_get (all_marks w (routines_of ps)) k ≡ Some ms
 marks_by w ps k ms l n h e =
-    let p = there ps k l in
+    let p = get_some ps k l in
     let at = entry_of (entries_of ps) in
     let lits : literals_by at (numbers_at ps k) ≡ literals (routine_of (take k ps) p.0).code = ap (λ (o : Option Procedure). literals_by at (body_numbers o)) p.1 ∙ own_literals at ps k p.0 (λ x i. all_known ps n x (own ps k p.0 p.1 x i)) in
     mark_there w ps k p.0 p.1

@@ -30,12 +30,12 @@ use Rattle.call_contexts.specs.Places.{is_loop}
 use Rattle.call_contexts.specs.Settings.{or_no_loops}
 use Rattle.call_contexts.specs.Touches.{stands_in, touches, Brings}
 use Rattle.call_contexts.proofs.Few.{as_many}
-use Rattle.call_contexts.proofs.LiteralLemmas.{routine_there, there}
+use Rattle.call_contexts.proofs.LiteralLemmas.{routine_there}
 use Rattle.call_contexts.proofs.Numbered.{has_both}
-use Rattle.call_contexts.proofs.Placed.{any_loop, any_block}
+use Rattle.call_contexts.proofs.Placed.{any_loop, any_block, or_last}
 use Rattle.call_contexts.proofs.Rising.{has_there, there_has}
 use Rattle.call_contexts.proofs.TallyLemmas.{any_is, rising_sorted, rising_has}
-use Rattle.plain_values.proofs.Lists.{take_item}
+use Rattle.plain_values.proofs.Lists.{get_some, take_item}
 use Rattle.plain_values.proofs.Cases.{by_test}
 use Rattle.program_chains.proofs.Found.{lacks}
 
@@ -44,10 +44,6 @@ or_else : (a b c : Bool) → (a || (b || c)) ≡ (if a then true else if b then 
 or_else true b c = refl
 or_else false true c = refl
 or_else false false c = refl
-
-or_last : (a b : Bool) → (a || b) ≡ (if a then true else b)
-or_last true b = refl
-or_last false b = refl
 
 module _ (n : ℕ) where
   whiles_are : (c : Code) → has n (whiles c) ≡ has_while n c
@@ -149,7 +145,7 @@ loops_there ps k p h = slice_get-map loops (routines_of ps) k ∙ ap (option_map
 -- The loops of a procedure are told by the entries.
 pub loops_tell : (ps : List Procedure) (k : ℕ) (ns : List ℕ) → AreNumbered ps → slice_get (all_loops (routines_of ps)) k ≡ Some ns → (n : ℕ) → has n ns ≡ loop_in k (entry_of (entries_of ps) n)
 loops_tell ps k ns numbered h n =
-    let p = there ps k (omega (arith, slice_get_within (all_loops (routines_of ps)) k ns h, length-map (routines_of ps) loops, as_many [] ps)) in
+    let p = get_some ps k (omega (arith, slice_get_within (all_loops (routines_of ps)) k ns h, length-map (routines_of ps) loops, as_many [] ps)) in
     let e : loops (routine_of (take k ps) p.0) ≡ ns = same_Some (loops (routine_of (take k ps) p.0)) ns (sym (loops_there ps k p.0 p.1) ∙ h) in
     ap (has n) (sym e) ∙ own_loops ps k p.0 numbered p.1 n
 
@@ -162,7 +158,7 @@ same_rising xs ys s t h = btree_set_from_contains nat_cmp_total (keyed xs) (keye
 
 told_loops : (ps : List Procedure) (k : ℕ) (ns : List ℕ) → AreNumbered ps → k < length ps → IsStrictlySortedBy nat_cmp ns → ((n : ℕ) → has n ns ≡ loop_in k (entry_of (entries_of ps) n)) → slice_get (all_loops (routines_of ps)) k ≡ Some ns
 told_loops ps k ns numbered l s h =
-    let p = there ps k l in
+    let p = get_some ps k l in
     let R = routine_of (take k ps) p.0 in
     loops_there ps k p.0 p.1 ∙ ap Some (same_rising (loops R) ns (rising_sorted (whiles R.code)) s (λ n. own_loops ps k p.0 numbered p.1 n ∙ sym (h n)))
 
@@ -187,7 +183,7 @@ loops_made ps k ns none found numbered l s e f h = told_loops ps k ns numbered l
 -- They rise.
 pub loops_rise : (ps : List Procedure) (k : ℕ) (ns : List ℕ) → slice_get (all_loops (routines_of ps)) k ≡ Some ns → IsStrictlySortedBy nat_cmp ns
 loops_rise ps k ns h =
-    let p = there ps k (omega (arith, slice_get_within (all_loops (routines_of ps)) k ns h, length-map (routines_of ps) loops, as_many [] ps)) in
+    let p = get_some ps k (omega (arith, slice_get_within (all_loops (routines_of ps)) k ns h, length-map (routines_of ps) loops, as_many [] ps)) in
     let R = routine_of (take k ps) p.0 in
     subst (IsStrictlySortedBy nat_cmp) (same_Some (loops R) ns (sym (loops_there ps k p.0 p.1) ∙ h)) (rising_sorted (whiles R.code))
 

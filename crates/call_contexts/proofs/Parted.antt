@@ -1,7 +1,7 @@
 -- The marks and the tally of each procedure of a program, and what a change makes of them.
 use Rattle.std.proofs.lemmas.Option.{slice_get-map, slice_get_within, same_Some}
-use Rattle.std.proofs.lemmas.List.{length-map, take_all}
-use Rattle.std.proofs.Common.{◌≡◌, ℕ, ℤ, zero, suc, ◌+◌, ◌-◌, ◌<◌, ◌≤◌, ◌==◌, ◌||◌, ◌&&◌, ◌^◌, Bool, true, false, List, [], ◌∷◌, ◌++◌, length, take, slice_get, get_or, add-one, Option, Some, None, option_map, inl, inr, refl, sym, ap, ◌∙◌, subst, arith}
+use Rattle.std.proofs.lemmas.List.{length-map, length-take-le, take_all}
+use Rattle.std.proofs.Common.{◌≡◌, ℕ, ℤ, ◌+◌, ◌-◌, ◌<◌, ◌≤◌, ◌==◌, ◌||◌, ◌&&◌, ◌^◌, Bool, true, false, List, [], ◌∷◌, ◌++◌, length, take, slice_get, get_or, add-one, Option, Some, None, option_map, inl, inr, refl, sym, ap, ◌∙◌, subst, arith}
 use Rattle.std.specs.Prelude.{if◌then◌else◌, Result, Ok, Err, IfOk}
 use Rattle.std.specs.Bool.{OnTrue}
 use Rattle.std.specs.List.Sorted.{IsStrictlySortedBy}
@@ -34,9 +34,9 @@ use Rattle.call_contexts.specs.Differences.{lists_in, lost, gained, lists_by, Ar
 use Rattle.call_contexts.specs.Touches.{stands_in, touches, Brings}
 use Rattle.call_contexts.proofs.Balance.{counted, counted_block, own_counted, balance, times_below}
 use Rattle.call_contexts.proofs.Few.{as_many}
-use Rattle.call_contexts.proofs.LiteralLemmas.{routine_there, mark_there, there}
+use Rattle.call_contexts.proofs.LiteralLemmas.{routine_there, mark_there}
 use Rattle.call_contexts.proofs.TallyLemmas.{tally_tells, told_once, same_marks}
-use Rattle.plain_values.proofs.Lists.{take_item}
+use Rattle.plain_values.proofs.Lists.{get_some, take_item, take_next}
 use Rattle.plain_values.proofs.Cases.{or_first, or_second}
 
 -- the statements of the procedure at a place, by the numbers of each
@@ -49,7 +49,7 @@ tally_there w ps k p h = slice_get-map (tally_by w) (routines_of ps) k ∙ ap (o
 -- what has a tally is there
 pub had : (w : Widening) (ps : List Procedure) (k : ℕ) (t : List (ℕ × ℕ)) → slice_get (all_tallies w (routines_of ps)) k ≡ Some t → (p : Procedure) × (slice_get ps k ≡ Some p) × (tally_by w (routine_of (take k ps) p) ≡ t)
 had w ps k t h =
-    let p = there ps k (omega (arith, slice_get_within (all_tallies w (routines_of ps)) k t h, length-map (routines_of ps) (tally_by w), as_many [] ps)) in
+    let p = get_some ps k (omega (arith, slice_get_within (all_tallies w (routines_of ps)) k t h, length-map (routines_of ps) (tally_by w), as_many [] ps)) in
     (p.0, p.1, same_Some (tally_by w (routine_of (take k ps) p.0)) t (sym (tally_there w ps k p.0 p.1) ∙ h))
 
 few : (ps : List Procedure) (k : ℕ) (p : Procedure) → check_fault ps ≡ None → slice_get ps k ≡ Some p → (n : ℕ) → times n (lists_at ps k p) < 10001
@@ -82,7 +82,7 @@ pub tally_changed : (w : Widening) (old new : List Procedure) (puts : List Put) 
     → slice_get (all_tallies w (routines_of new)) k ≡ Some u
 tally_changed w old new puts k t u ls gs b e l h d m =
     let p = had w old k t h in
-    let q = there new k l in
+    let q = get_some new k l in
     let P = routine_of (take k old) p.0 in
     let Q = routine_of (take k new) q.0 in
     let was : Tells t (λ n. times n (literal_lists P.code)) = subst (λ (z : List (ℕ × ℕ)). Tells z (λ n. times n (literal_lists P.code))) (sym (by_thresholds w P e) ∙ p.2) (tally_tells P.code) in
@@ -134,7 +134,7 @@ tally_kept : (w : Widening) (old new : List Procedure) (puts : List Put) (k : �
     → slice_get (all_tallies w (routines_of old)) k ≡ Some t → slice_get (all_tallies w (routines_of new)) k ≡ Some t
 tally_kept w old new puts k t b e f l h =
     let p = had w old k t h in
-    let q = there new k l in
+    let q = get_some new k l in
     let P = routine_of (take k old) p.0 in
     let Q = routine_of (take k new) q.0 in
     let same : tally Q.code ≡ tally P.code =
@@ -166,7 +166,7 @@ part_kept w old new puts k c ms t ls b e l m h i f = go w.thresholds refl f
         record { marks_are = marks_kept w old new k ms t t d m h u refl; tally_is = u; loops_are = i }
     go false d f =
         let p = had w old k t h in
-        let q = there new k l in
+        let q = get_some new k l in
         let P = routine_of (take k old) p.0 in
         let Q = routine_of (take k new) q.0 in
         let no_tally : (r : Routine) → tally_by w r ≡ [] = λ r. ap (λ (b : Bool). if b then tally r.code else []) d in
@@ -193,12 +193,12 @@ module _ (at : ℕ → Option Entry) (k n : ℕ) where
 pub tally_made : (w : Widening) (ps : List Procedure) (k : ℕ) (t : List (ℕ × ℕ)) → k < length ps → AreNumbered ps → check_fault ps ≡ None → w.thresholds ≡ true
     → Tells t (λ n. capped (0 + times n (lists_by (entry_of (entries_of ps)) (numbers_at ps k)))) → slice_get (all_tallies w (routines_of ps)) k ≡ Some t
 tally_made w ps k t l numbered faultless e told =
-    let p = there ps k l in
+    let p = get_some ps k l in
     let at = entry_of (entries_of ps) in
     let R = routine_of (take k ps) p.0 in
     let es = procedure_entries (take k ps) p.0 in
     let ns : numbers_at ps k ≡ entry_numbers es = ap body_numbers p.1 ∙ sym (block_numbers (resolver_at (take k ps) p.0) (context_at (length (take k ps))) None None p.0.body) in
-    let place : length (take k ps) ≡ k = taken ps k l in
+    let place : length (take k ps) ≡ k = length-take-le k ps (omega arith) in
     let known : Known at es = λ x i. all_known ps numbered x (own ps k p.0 p.1 x i) in
     let owned : (x : Entry) → In x es → x.context.proc ≡ k = λ x i. procedure_is (resolver_at (take k ps) p.0) p.0.body (context_at (length (take k ps))) None None x i ∙ place in
     let same_times : (n : ℕ) → times n (literal_lists R.code) ≡ capped (0 + times n (lists_by at (numbers_at ps k))) =
@@ -211,25 +211,15 @@ tally_made w ps k t l numbered faultless e told =
       counted_block k n (resolver_at (take k ps) p.0) true (context_at (length (take k ps))) None None p.0.body (ap (λ m. m == k) place ∙ same k),
     ) in
     tally_there w ps k p.0 p.1 ∙ ap Some (by_thresholds w R e ∙ told_once (tally R.code) t (λ n. times n (literal_lists R.code)) (λ n. capped (0 + times n (lists_by at (numbers_at ps k)))) (tally_tells R.code) told same_times)
-  where
-    taken : (ps : List Procedure) (k : ℕ) → k < length ps → length (take k ps) ≡ k
-    taken [] k l = absurd (omega arith)
-    taken (q ∷ ps) zero l = refl
-    taken (q ∷ ps) (suc k) l = ap suc (taken ps k (omega arith))
 
 pub no_tally : (w : Widening) (ps : List Procedure) (k : ℕ) → k < length ps → w.thresholds ≡ false → slice_get (all_tallies w (routines_of ps)) k ≡ Some []
 no_tally w ps k l h =
-    let p = there ps k l in
+    let p = get_some ps k l in
     tally_there w ps k p.0 p.1 ∙ ap (λ (b : Bool). Some (if b then tally (routine_of (take k ps) p.0).code else [])) h
 
 -- What one more procedure adds, and all of them.
 part_more : {A : Type 0} (whole all more : List A) (i : ℕ) (x : A) → all ≡ take i whole → slice_get whole i ≡ Some x → more ≡ all ++ x ∷ [] → more ≡ take (i + 1) whole
-part_more whole all more i x e h p = p ∙ ap (λ zs. zs ++ x ∷ []) e ∙ sym (rw add-one (taken whole i x h))
-  where
-    taken : {A : Type 0} (xs : List A) (i : ℕ) (x : A) → slice_get xs i ≡ Some x → take (suc i) xs ≡ take i xs ++ x ∷ []
-    taken [] i x h = absurd cc
-    taken (y ∷ xs) zero x h = let q : y ≡ x = same_Some y x h in ap (λ z. z ∷ []) q
-    taken (y ∷ xs) (suc i) x h = ap (λ zs. y ∷ zs) (taken xs i x h)
+part_more whole all more i x e h p = p ∙ ap (λ zs. zs ++ x ∷ []) e ∙ sym (rw add-one (take_next whole i x h))
 
 -- The parts of the first procedures.
 pub record SoFar (e : Engine) (program : List Routine) (place : ℕ) (s : Setting) : Type 0 where

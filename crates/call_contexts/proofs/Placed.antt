@@ -25,13 +25,14 @@ use Rattle.batch_meaning.specs.Answers.{found_or, found_loop}
 use Rattle.call_contexts.specs.Places.{is_loop}
 use Rattle.call_contexts.proofs.Numbered.{has_both}
 use Rattle.plain_values.proofs.Cases.{by_test}
+use Rattle.plain_values.proofs.Lists.{one_more}
 
 pub swapped : (m n : ℕ) → (m == n) ≡ (n == m)
 swapped m n = grind (arith, nat_tests)
 
-pub one_more : {A : Type 0} (xs : List A) (x : A) → length (xs ++ x ∷ []) ≡ suc (length xs)
-one_more [] x = refl
-one_more (y ∷ xs) x = ap suc (one_more xs x)
+pub or_last : (a b : Bool) → (a || b) ≡ (if a then true else b)
+or_last true b = refl
+or_last false b = refl
 
 -- The procedure of what is known of a statement.
 abbrev pub proc_of : Option Entry → Option ℕ
@@ -168,11 +169,7 @@ module _ (n : ℕ) where
   any_from es (p ∷ ps) =
       any_both (procedure_entries es p) (entries_from (es ++ p ∷ []) ps)
       ∙ (λ i. any_block (resolver_at es p) (context_at (length es)) None None p.body i || any_from (es ++ p ∷ []) ps i)
-      ∙ go (has_while n (code_in (resolver_at es p) p.body)) (is_while n (routines_from (es ++ p ∷ []) ps))
-    where
-      go : (a r : Bool) → (a || r) ≡ (if a then true else r)
-      go true r = refl
-      go false r = refl
+      ∙ or_last (has_while n (code_in (resolver_at es p) p.body)) (is_while n (routines_from (es ++ p ∷ []) ps))
 
   none_absent : (xs : List Entry) → Absent n (entry_numbers xs) → any_loop xs ≡ false
   none_absent [] a = refl

@@ -19,7 +19,7 @@ use Rattle.call_contexts.proofs.Sorted.{inserted_sorted, inserted_has}
 use Rattle.call_contexts.proofs.TallyLemmas.{any_is, same_test}
 use Rattle.plain_values.proofs.Cases.{by_test}
 use Rattle.std.proofs.lemmas.Option.{slice_get_within, same_Some}
-use Rattle.std.proofs.Math.Bool.{and-false}
+use Rattle.std.proofs.Math.Bool.{and-false, and-true}
 
 -- A number is among others where it has a place.
 pub has_there : (ns : List ℕ) (i n : ℕ) → slice_get ns i ≡ Some n → has n ns ≡ true
@@ -142,8 +142,4 @@ has_removed ns n i q e s = ap (has q) (removed ns n i s e) ∙ has_filtered (λ 
 
 -- One that is not there is none of them.
 pub has_still : (ns : List ℕ) (n i q : ℕ) → IsGap ns n i → has q ns ≡ (has q ns && not (q == n))
-has_still ns n i q g = by_test q n (λ b. has q ns ≡ (has q ns && not b)) (λ h. let e : has q ns ≡ false = ap (λ m. has m ns) h ∙ none_at_gap ns n i g in e ∙ sym (ap (λ b. b && false) e)) (λ h. whole (has q ns))
-  where
-    whole : (b : Bool) → b ≡ (b && true)
-    whole true = refl
-    whole false = refl
+has_still ns n i q g = by_test q n (λ b. has q ns ≡ (has q ns && not b)) (λ h. let e : has q ns ≡ false = ap (λ m. has m ns) h ∙ none_at_gap ns n i g in e ∙ sym (ap (λ b. b && false) e)) (λ h. sym (and-true (has q ns)))

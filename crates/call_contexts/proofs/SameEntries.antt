@@ -16,9 +16,6 @@ use Rattle.std.proofs.lemmas.Option.{same_Some}
 abbrev find : List (ℕ × ℕ) → ℕ → Option ℕ
 find es n = lookup (is_at (nat_cmp n)) es
 
-nothing : (v : ℕ) → Some v ≡ None → ⊥
-nothing v e = cc
-
 at_head : (x : ℕ × ℕ) (xs : List (ℕ × ℕ)) → find (x ∷ xs) x.0 ≡ Some x.1
 at_head x xs = lookup_head (is_at (nat_cmp x.0)) x xs (ap is_eq (tied_itself nat_cmp_total x.0))
 
@@ -27,9 +24,11 @@ past_head n x xs s t = lookup-none (is_at (nat_cmp n)) xs (none_past_head (eq_by
 
 module _ (x y : ℕ × ℕ) (xs ys : List (ℕ × ℕ)) (s : IsStrictlySortedBy nat_cmp (keys_of (x ∷ xs))) (t : IsStrictlySortedBy nat_cmp (keys_of (y ∷ ys))) (h : (n : ℕ) → find (x ∷ xs) n ≡ find (y ∷ ys) n) where
   by_heads : (r : Ordering) → nat_cmp x.0 y.0 ≡ r → nat_cmp x.0 y.0 ≡ Equal
-  by_heads Less p = absurd (nothing x.1 (sym (at_head x xs) ∙ h x.0 ∙ lookup-none (is_at (nat_cmp x.0)) (y ∷ ys) (none_below_head nat_cmp_total x.0 y ys t p)))
+  by_heads Less p = let e : Some x.1 ≡ None = sym (at_head x xs) ∙ h x.0 ∙ lookup-none (is_at (nat_cmp x.0)) (y ∷ ys) (none_below_head nat_cmp_total x.0 y ys t p) in absurd cc
   by_heads Equal p = p
-  by_heads Greater p = absurd (nothing y.1 (sym (at_head y ys) ∙ sym (h y.0) ∙ lookup-none (is_at (nat_cmp y.0)) (x ∷ xs) (none_below_head nat_cmp_total y.0 x xs s (nat_cmp_total.antisymm y.0 x.0 ∙ ap ordering_reverse p))))
+  by_heads Greater p =
+      let e : Some y.1 ≡ None = sym (at_head y ys) ∙ sym (h y.0) ∙ lookup-none (is_at (nat_cmp y.0)) (x ∷ xs) (none_below_head nat_cmp_total y.0 x xs s (nat_cmp_total.antisymm y.0 x.0 ∙ ap ordering_reverse p)) in
+      absurd cc
 
   heads : x.0 ≡ y.0
   heads = exact_unsigned x.0 y.0 (by_heads (nat_cmp x.0 y.0) refl)
@@ -46,8 +45,8 @@ module _ (x y : ℕ × ℕ) (xs ys : List (ℕ × ℕ)) (s : IsStrictlySortedBy 
 
 pub same_entries : (es ds : List (ℕ × ℕ)) → IsStrictlySortedBy nat_cmp (keys_of es) → IsStrictlySortedBy nat_cmp (keys_of ds) → ((n : ℕ) → find es n ≡ find ds n) → es ≡ ds
 same_entries [] [] s t h = refl
-same_entries [] (y ∷ ys) s t h = absurd (nothing y.1 (sym (h y.0 ∙ at_head y ys)))
-same_entries (x ∷ xs) [] s t h = absurd (nothing x.1 (sym (at_head x xs) ∙ h x.0))
+same_entries [] (y ∷ ys) s t h = let e : None ≡ Some y.1 = h y.0 ∙ at_head y ys in absurd cc
+same_entries (x ∷ xs) [] s t h = let e : Some x.1 ≡ None = sym (at_head x xs) ∙ h x.0 in absurd cc
 same_entries (x ∷ xs) (y ∷ ys) s t h =
     let r = same_entries xs ys (sorted_tail nat_cmp x.0 (keys_of xs) s) (sorted_tail nat_cmp y.0 (keys_of ys) t) (tails x y xs ys s t h) in
     λ i. (heads x y xs ys s t h i, values x y xs ys s t h i) ∷ r i

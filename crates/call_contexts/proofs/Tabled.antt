@@ -4,9 +4,10 @@ use Rattle.std.specs.Prelude.{if◌then◌else◌}
 use Rattle.std.proofs.lemmas.Bool.{cases_lt}
 use Rattle.imp_syntax.specs.Plain.{Statements, Ends, Starts, Procedure}
 use Rattle.imp_syntax.specs.Plain as tree
-use Rattle.imp_slots.specs.Plain.{Layout, Invoke, Code, Stop, Simple, If, While, Call, Break, Routine}
-use Rattle.imp_slots.specs.Fits.{FitsCall, FitsCode, FitInTurn, IsChecked}
+use Rattle.imp_slots.specs.Plain.{Layout, Code, Stop, Simple, If, While, Call, Break, Routine}
+use Rattle.imp_slots.specs.Fits.{FitsCode, FitInTurn, IsChecked}
 use Rattle.program_chains.specs.Chains.{calls_to, extended, through, chains_within, chains}
+use Rattle.program_chains.proofs.Found.{callee_before}
 use Rattle.program_chains.specs.Claims.{ChainsAreThroughCallers}
 use Rattle.imp_check.specs.Programs.{AreNumbered}
 use Rattle.imp_check.specs.Slots.{Resolver, callee_in, code_in, routines_from, routines_of}
@@ -17,16 +18,11 @@ use Rattle.imp_check.specs.declared.entry.Which.TheVariants as which
 use Rattle.imp_check.proofs.RebuildLemmas.{Known, all_numbers, found}
 use Rattle.imp_slots.specs.Fits.{Distinct}
 use Rattle.call_contexts.specs.Tables.{chains_up, or_no_chains, chains_in, chains_by, through_sites}
-use Rattle.call_contexts.proofs.Placed.{one_more, swapped}
-use Rattle.plain_values.proofs.Lists.{drop_item, get_last, get_other}
+use Rattle.call_contexts.proofs.Placed.{swapped}
+use Rattle.plain_values.proofs.Lists.{drop_item, get_last, get_other, one_more}
 use Rattle.plain_values.proofs.Cases.{by_test}
-use Rattle.std.proofs.lemmas.Option.{slice_get_within}
 use Rattle.std.proofs.Math.Seq.{drop-length}
 use Rattle.std.proofs.lemmas.List.{length-drop}
-
-pub callee_before : (before : List Routine) (l : Layout) (i : Invoke) (q : ℕ) (o : Option Routine) → o ≡ slice_get before q → FitsCall l i o → q < length before
-callee_before before l i q None e f = absurd f
-callee_before before l i q (Some r) e f = slice_get_within before q r (sym e)
 
 -- a procedure calls none of those from its own place on
 pub no_calls : (before : List Routine) (l : Layout) (p : ℕ) (c : Code) → length before ≤ p → FitsCode before l c → calls_to p c ≡ []

@@ -1,5 +1,5 @@
 -- Tallies, and what one more number or one less makes of them.
-use Rattle.std.proofs.Common.{◌≡◌, ℕ, zero, suc, ◌+◌, ◌==◌, ◌||◌, ◌++◌, cond, Bool, true, false, List, [], ◌∷◌, map, Some, None, refl, sym, ap, ◌∙◌, subst, arith}
+use Rattle.std.proofs.Common.{◌≡◌, ℕ, zero, suc, ◌+◌, ◌==◌, ◌||◌, ◌++◌, cond, Bool, true, false, List, [], ◌∷◌, map, Some, None, refl, sym, ap, ◌∙◌, subst, arith, zero-add}
 use Rattle.std.specs.Prelude.{if◌then◌else◌}
 use Rattle.std.proofs.lemmas.Bool.Decides.{nat_tests}
 use Rattle.std.specs.Cmp.{nat_cmp_total}
@@ -55,10 +55,7 @@ any_times zero = false
 any_times (suc n) = true
 
 times_joined : (a b : ℕ) → any_times (a + b) ≡ (any_times a || any_times b)
-times_joined zero b = ap any_times (none b)
-  where
-    none : (b : ℕ) → 0 + b ≡ b
-    none b = omega arith
+times_joined zero b = ap any_times (zero-add b)
 times_joined (suc a) b = ap any_times (suc-add a b)
 
 one_times : (b : Bool) → any_times (one_if b) ≡ b

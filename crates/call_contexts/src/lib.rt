@@ -1,8 +1,8 @@
 //! What an answer needs of a program beside the values: places, chains, marks, and the join of chains.
 //!
-//! [`place_of`] finds the procedure of a location, or says why there is none. [`chains`] gives the
-//! chains to a procedure that a call string selects, [`targets`] those of a location, in the order in
-//! which their states are joined. [`joined`] sheds one chain's state and joins it behind those before.
+//! [`place_of`] finds the procedure of a location, or says why there is none. [`chains_to`] gives the
+//! chains to a procedure, in the order in which their states are joined. [`joined`] sheds one chain's state and joins it
+//! behind those before.
 //! [`marks`] gives the numbers at which widening stops in a procedure, and a [`Setting`] has those of
 //! all procedures, with how often and how the iterates of a loop are made. It counts in how many statements
 //! each number stands, and knows the loops of each procedure, so after a change of the program [`Setting::after`] looks
@@ -15,7 +15,6 @@
 
 mod counts;
 mod differences;
-mod filtered;
 mod following;
 mod joining;
 mod literals;
@@ -29,10 +28,9 @@ mod table;
 mod tallying;
 mod touched;
 
-pub use filtered::{chains, targets};
 pub use joining::joined;
 pub use marking::marks;
 pub use numbers::holds;
 pub use places::{few_routines, place_of};
 pub use setting::Setting;
-pub use table::{main_place, procedure_count};
+pub use table::{chains_to, main_place, procedure_count};

@@ -125,9 +125,11 @@ fn chains_at(
     Ok(found)
 }
 
-/// The chains to a procedure, by those to the procedures behind it.
+/// The chains to a procedure, by those to the procedures behind it, each with the last call first. There are none to a
+/// procedure that is not there. It takes time linear in the calls of the procedures from this one on and in the chains
+/// to them.
 #[tactic(auto, using(crate::proofs::Tabled::none_past, crate::proofs::Tabled::main_only, crate::proofs::Tabled::up_more))]
-pub(crate) fn chains_to(
+pub fn chains_to(
     alloc: Global,
     prog: &View<'_>,
     proc: ProcId,

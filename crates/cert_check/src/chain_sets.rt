@@ -8,10 +8,11 @@ ghost use Rattle.program_chains.specs.Chains.{chains};
 ghost use Rattle.cert_lines.specs.Lines.{is_chain};
 ghost use Rattle.cert_check.specs.Table.{chain_in, AreChains};
 
-use call_contexts::{chains, procedure_count};
+use call_contexts::procedure_count;
 use imp_syntax::{Chain, ProcId, StmtId};
 use plain_values::{Items, Memory};
 use program_table::View;
+use selected_chains::chains;
 use std::alloc::Global;
 use std::collections::HashSet;
 use std::marker::Model;

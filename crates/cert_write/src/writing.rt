@@ -9,12 +9,13 @@ ghost use Rattle.cert_write.specs.Writing.{behind, bytes_in, lines_before, or_ov
 
 use crate::lines::add_lines;
 use batch_interp::loop_heads;
-use call_contexts::{Setting, chains, few_routines};
+use call_contexts::{Setting, few_routines};
 use imp_syntax::{Chain, ProcId};
 use plain_values::Memory;
 use portable_states::Portable;
 use program_chains::Widening;
 use program_table::Checked;
+use selected_chains::chains;
 use std::alloc::Global;
 use std::sync::ledger::Ledger;
 use step_counter::Steps;

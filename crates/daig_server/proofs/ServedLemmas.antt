@@ -3,7 +3,7 @@ use Rattle.std.proofs.Common.{◌≡◌, ◌∙◌, ◌≤◌, ◌+◌, ◌^◌,
 use Rattle.domain_laws.specs.Operations.{Operations}
 use Rattle.session_machine.specs.Machine.{Machine}
 use Rattle.request_json.specs.Replies.{reply_text}
-use Rattle.session_lines.specs.Followed.{Follows}
+use Rattle.edit_lines.specs.Followed.{Follows}
 use Rattle.line_answers.specs.Readings.{Readings}
 use Rattle.line_answers.specs.Turns.{Turn}
 use Rattle.line_answers.specs.Lines.{Served, line_turn, server}

@@ -1,7 +1,7 @@
 -- A frame that is entered obeys the triangle law where the caller's matrix does: the slots that are copied keep it, those of no
 -- source are 0, and each that has a range stands alone.
 use Rattle.std.specs.Prelude.{◌≡◌, ℕ, ◌<◌, ◌≤◌, ◌+◌, ◌*◌, ◌/◌, ℤ, pos, neg_ℤ, ◌+ℤ◌, ◌≤ℤ◌, Option, Some, None, Bool, true, false, if◌then◌else◌, List, [], ◌∷◌, length, slice_get, refl}
-use Rattle.std.proofs.Common.{arith, suc, zero, ap, sym, ◌∙◌, subst, inl, inr}
+use Rattle.std.proofs.Common.{arith, suc, zero, ap, sym, ◌∙◌, subst, inl, inr, zero-add}
 use Rattle.std.proofs.lemmas.Bool.{cases_eq, cases_lt}
 use Rattle.std.proofs.lemmas.Int.{ints}
 use Rattle.dbm_core.proofs.TableLemmas.{tables-have_entries}
@@ -25,7 +25,7 @@ use Rattle.octagon_meaning.specs.Operations.{copied, entered, meet_sources}
 use Rattle.dom_octagon.proofs.Bounds.{bound-entries}
 use Rattle.dom_octagon.proofs.Copies.{IsRanged, block, copied-none, copies-triangular, copy-block, entered-copied, entered-same, range-block, source_block, zero-block}
 use Rattle.dom_octagon.proofs.Triangles.{entries-obey, single-least, single-miss}
-use Rattle.dom_octagon.specs.Limits.{ObeysTriangles}
+use Rattle.octagon_states.specs.Limits.{ObeysTriangles}
 use Rattle.dom_octagon.specs.Lists.{AreOrdered}
 use Rattle.dbm_close.proofs.SlotLemmas.{even-flip, odd-flip}
 use Rattle.dbm_incremental.proofs.KeepLemmas.{add_zero}
@@ -149,13 +149,10 @@ module _ (m : HalfMatrix) (kinds : List Bool) (ss : List Source) (k : ℕ) (r : 
       let g : IsEntered m kinds ss (meets_end w (2 * k) r.hi) = end-entered (is_beyond w.kinds (2 * k) r.hi) w (with_greatest w (2 * k) r.hi) h (entered-high w h) in
       end-entered (is_beyond (meets_end w (2 * k) r.hi).kinds (2 * k + 1) (neg_ℤ r.lo)) (meets_end w (2 * k) r.hi) (with_greatest (meets_end w (2 * k) r.hi) (2 * k + 1) (neg_ℤ r.lo)) g (entered-low (meets_end w (2 * k) r.hi) g)
 
-next : (k j : ℕ) → k + 1 + j ≡ k + suc j
-next k j = omega arith
-
 sources-entered : (m : HalfMatrix) (kinds : List Bool) (ss : List Source) (w : HalfMatrix) (k : ℕ) (ts : List Source) → ((j : ℕ) → slice_get ss (k + j) ≡ slice_get ts j) → IsEntered m kinds ss w → IsEntered m kinds ss (meet_sources w k ts)
 sources-entered m kinds ss w k [] e h = h
-sources-entered m kinds ss w k (FromSlot x ∷ ts) e h = sources-entered m kinds ss w (k + 1) ts (λ j. ap (slice_get ss) (next k j) ∙ e (suc j)) h
-sources-entered m kinds ss w k (InRange r ∷ ts) e h = sources-entered m kinds ss (meets_range w k r) (k + 1) ts (λ j. ap (slice_get ss) (next k j) ∙ e (suc j)) (elim (cases_lt k (length kinds)) [
+sources-entered m kinds ss w k (FromSlot x ∷ ts) e h = sources-entered m kinds ss w (k + 1) ts (λ j. let next : k + 1 + j ≡ k + suc j = omega arith in ap (slice_get ss) next ∙ e (suc j)) h
+sources-entered m kinds ss w k (InRange r ∷ ts) e h = sources-entered m kinds ss (meets_range w k r) (k + 1) ts (λ j. let next : k + 1 + j ≡ k + suc j = omega arith in ap (slice_get ss) next ∙ e (suc j)) (elim (cases_lt k (length kinds)) [
   | inl l ↦ range-entered m kinds ss k r l (ap (slice_get ss) here ∙ e 0) w h
   | inr l ↦ subst (IsEntered m kinds ss) (range-outside w k r h.matrix (subst (λ b. length b ≤ k) (sym h.same_kinds) l)) h
 ])
@@ -231,9 +228,6 @@ entered-obeys m kinds ss w h t o d = entries-obey kinds (entry w) w (record { ma
         let g : IsRanged (slice_get ss (i / 2)) = subst IsRanged (sym p) tt in
         single-triangles (entry w) (2 * length kinds) (i / 2) zero (ordered-own (slice_get ss (i / 2)) (entry w (2 * (i / 2) + 1) (2 * (i / 2))) (entry w (2 * (i / 2)) (2 * (i / 2) + 1)) g (ordered-at ss o (i / 2)) (d.own (i / 2) l g)) i k j hi hk hj refl ek ej
 
-from-first : (j : ℕ) → 0 + j ≡ j
-from-first j = omega arith
-
 pub enter_obeys : (m : HalfMatrix) (kinds : List Bool) (ss : List Source) → IsClosed m → IsWhole m → length kinds ≤ 16 → AreOrdered ss → ObeysTriangles (meet_sources (matrix_of kinds (entered m ss)) 0 ss)
 enter_obeys m kinds ss h t few o = entered-obeys m kinds ss (meet_sources (matrix_of kinds (entered m ss)) 0 ss) h t o
-    (sources-entered m kinds ss (matrix_of kinds (entered m ss)) 0 ss (λ j. ap (slice_get ss) (from-first j)) (first-entered m kinds ss h.1.matrix few))
+    (sources-entered m kinds ss (matrix_of kinds (entered m ss)) 0 ss (λ j. ap (slice_get ss) (zero-add j)) (first-entered m kinds ss h.1.matrix few))

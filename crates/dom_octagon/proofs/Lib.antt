@@ -2,9 +2,7 @@ pub mod Bounds
 pub mod Copies
 pub mod Entering
 pub mod FirstKinds
-pub mod SameKinds
 pub mod Tables
-pub mod Tight
 pub mod Triangles
 pub mod Words
 pub mod Carried

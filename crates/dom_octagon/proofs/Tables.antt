@@ -7,7 +7,6 @@ use Rattle.dbm_core.proofs.HalfLemmas.{HasEntries-from_kept, entry-coherent, ent
 use Rattle.dbm_core.proofs.LimitLemmas.{AreWithin-entries, IsZeroAtMost-entries, zero-at_most}
 use Rattle.dbm_core.proofs.NodeLemmas.{flip-even}
 use Rattle.dbm_core.proofs.TableLemmas.{tables-determine, tables-have_entries}
-use Rattle.dbm_close.proofs.RoundLemmas.{AreWithin-more}
 use Rattle.dbm_core.specs.Half.{HalfMatrix, HasEntries, IsMatrix, entry, nodes, row_width}
 use Rattle.dbm_core.specs.Limits.{AreWithin, IsLimited, IsWithin, IsZeroAtMost}
 use Rattle.dbm_core.specs.Nodes.{IsCoherent, flip}
@@ -19,7 +18,7 @@ use Rattle.octagon_meaning.specs.declared.source.Source.{Source}
 use Rattle.octagon_meaning.specs.declared.source.Source.TheVariants.{FromSlot, InRange}
 use Rattle.octagon_meaning.specs.Operations.{copied, entered}
 use Rattle.octagon_meaning.proofs.Calls.{entered-coherent, entered-diagonal, zeros-coherent, zeros-diagonal}
-use Rattle.dom_octagon.specs.Limits.{IsReady}
+use Rattle.octagon_states.specs.Limits.{IsReady}
 
 -- a closure's matrix is that of its table
 pub table-if_ok : {E : Type 0} (r : Result HalfMatrix E) (kinds : List Bool) (f : ℕ → ℕ → Option ℤ) → length kinds ≤ 16 → IsCoherent f (2 * length kinds) →
@@ -71,10 +70,6 @@ pub carried-is_ready : (m : HalfMatrix) (x i : ℕ) (c : ℤ) → IsMatrix m →
 unfolding carried
 carried-is_ready m x i c h l w = table-is_ready m.kinds (shifted (entry m) x i c) h.few (shifted-coherent (entry m) x i c (length m.kinds) (entry-coherent m h))
     (shifted-diagonal (entry m) x i c (length m.kinds) (zero-at_most (nodes m) (entry m) l.diagonal)) (shifted-within (entry m) (length m.kinds) x i c l.within w)
-
--- the limits of states are small
-pub limited_ready : (m : HalfMatrix) → IsLimited (2 ^ 64) m → IsReady m
-limited_ready m h = record { diagonal = zero-at_most (nodes m) (entry m) h.diagonal; within = AreWithin-more (nodes m) (2 ^ 64) (2 ^ 70) (entry m) (omega arith) h.within }
 
 -- ---- the tables of layouts and calls
 

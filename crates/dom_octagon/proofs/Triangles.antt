@@ -27,7 +27,7 @@ use Rattle.octagon_meaning.specs.declared.form.Form.TheVariants.{Constant}
 use Rattle.octagon_meaning.specs.Forms.{slot_form}
 use Rattle.octagon_meaning.specs.Matrices.{carried, is_beyond, meets_end, meets_range, shift, shifted, turned, with_equation, with_greatest, without}
 use Rattle.dom_octagon.proofs.Bounds.{bound-entries, without-entries}
-use Rattle.dom_octagon.specs.Limits.{ChangesOnly, ObeysTriangles}
+use Rattle.octagon_states.specs.Limits.{ChangesOnly, ObeysTriangles}
 use Rattle.dbm_close.proofs.SlotLemmas.{even-flip, odd-flip}
 
 pub entries-obey : (kinds : List Bool) (f : ℕ → ℕ → Option ℤ) (r : HalfMatrix) → HasEntries kinds f r → HasZeroDiagonal (2 * length kinds) f → IsTriangular (2 * length kinds) f → ObeysTriangles r

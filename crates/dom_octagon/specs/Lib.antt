@@ -1,4 +1,4 @@
 pub mod Added
-pub mod Kept
-pub mod Limits
+pub mod Checked
+pub mod GoodForms
 pub mod Lists

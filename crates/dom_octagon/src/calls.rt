@@ -7,16 +7,15 @@ ghost use Rattle.dbm_core.specs.Tables.{matrix_of};
 ghost use Rattle.dbm_close.specs.CloseOf.{close_of};
 ghost use Rattle.imp_slots.specs.CallViews.{argument_of};
 ghost use Rattle.octagon_meaning.specs.Operations as operations;
-ghost use Rattle.dom_octagon.specs.Limits.{IsReady, IsTight};
+ghost use Rattle.octagon_states.specs.Limits.{IsReady, IsTight};
 ghost use Rattle.dom_octagon.specs.Lists.{AreOrdered, behind_these};
 
-use crate::OctagonState;
-use crate::close::{close_kept, closed_matrix, closure, empty};
 use crate::evaluate::evaluate;
 use crate::matrices::meet_range;
 use dbm_core::Matrix;
 use imp_slots::{Argument, Entering, Layout, NumericSlot, SlotExpr, SlotExprNode};
 use octagon_meaning::Source;
+use octagon_states::{OctagonState, close_kept, closed_matrix, closure, empty};
 use plain_values::Memory;
 use std::alloc::{AllocError, Global};
 

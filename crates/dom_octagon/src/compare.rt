@@ -6,13 +6,11 @@ ghost use Rattle.dbm_core.specs.Limits.{IsWithin};
 ghost use Rattle.dbm_close.specs.CloseOf.{close_of};
 ghost use Rattle.octagon_meaning.specs.Operations as operations;
 ghost use Rattle.dom_octagon.specs.Added.{IsSmallBound, with_bound_if};
-ghost use Rattle.dom_octagon.specs.Limits.{IsGoodForm, IsTight};
+ghost use Rattle.dom_octagon.specs.GoodForms.{IsGoodForm};
+ghost use Rattle.octagon_states.specs.Limits.{IsTight};
 
-use crate::OctagonState;
 use crate::added::close_with;
-use crate::close::{closure, empty};
 use crate::evaluate::evaluate;
-use crate::joins::joined;
 use crate::matrices::{difference, side_at_least, side_at_most};
 use dbm_core::Matrix;
 use dbm_incremental::Bound;
@@ -20,6 +18,7 @@ use imp_slots::SlotExpr;
 use imp_syntax::Relation;
 use num_bounds::Range;
 use octagon_meaning::Form;
+use octagon_states::{OctagonState, closure, empty, joined};
 use plain_values::Memory;
 use std::alloc::Global;
 

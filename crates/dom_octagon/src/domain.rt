@@ -4,17 +4,15 @@ ghost use Rattle.octagon_meaning.specs.Covers as meaning;
 ghost use Rattle.octagon_meaning.specs.Domain.{octagons};
 ghost use Rattle.octagon_meaning.proofs.Laws.{octagon_laws, octagon_keeps_dead};
 
-use crate::OctagonState;
 use crate::calls::{entered, initial};
-use crate::close::{closed, copy_of, is_empty};
 use crate::guards::assumed;
-use crate::joins::{joined, widened};
 use crate::returns::left;
 use crate::statements::behind;
 use crate::text::state_text;
 use crate::verdicts::verdict;
 use domain_laws::{Domain, Steps, Verdict};
 use imp_slots::{Layout, SlotCall, SlotCond, SlotStmt};
+use octagon_states::{OctagonState, closed, copy_of, is_empty, joined, widened};
 use plain_values::{Memory, Text};
 use std::alloc::Global;
 use std::sync::ledger::Ledger;

@@ -5,7 +5,8 @@ ghost use Rattle.octagon_meaning.specs.Claims.{constant_of};
 ghost use Rattle.octagon_meaning.specs.Forms as forms;
 ghost use Rattle.octagon_meaning.specs.Ranges.{range_at, range_of};
 ghost use Rattle.octagon_meaning.specs.declared.form.Form.TheVariants.{Constant};
-ghost use Rattle.dom_octagon.specs.Limits.{HasShortNode, HasShortNodeIf, IsGoodForm, IsTight};
+ghost use Rattle.dom_octagon.specs.GoodForms.{HasShortNode, HasShortNodeIf, IsGoodForm};
+ghost use Rattle.octagon_states.specs.Limits.{IsTight};
 
 use dbm_close::slot_range;
 use dbm_core::{Matrix, other_sign};

@@ -2,11 +2,9 @@
 ghost use Rattle.std.specs.Prelude.{◌≡◌, IfOk};
 ghost use Rattle.octagon_meaning.specs.Operations as operations;
 
-use crate::OctagonState;
-use crate::close::closed;
 use crate::compare::{compared, opposite_of};
-use crate::joins::joined;
 use imp_slots::{SlotCond, SlotCondNode};
+use octagon_states::{OctagonState, closed, joined};
 use plain_values::Memory;
 use std::alloc::Global;
 

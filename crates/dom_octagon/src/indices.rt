@@ -3,14 +3,13 @@ ghost use Rattle.std.specs.Prelude.{◌≡◌, IfOk};
 ghost use Rattle.imp_slots.specs.Plain.{Literal, Length};
 ghost use Rattle.octagon_meaning.specs.Operations as operations;
 
-use crate::OctagonState;
-use crate::close::{closure, empty};
 use crate::compare::related;
 use crate::evaluate::{evaluate, slot};
 use imp_slots::SlotExpr;
 use imp_syntax::Relation;
 use num_bounds::Range;
 use octagon_meaning::Form;
+use octagon_states::{OctagonState, closure, empty};
 use plain_values::Memory;
 use std::alloc::Global;
 

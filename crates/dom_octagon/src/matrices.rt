@@ -5,7 +5,8 @@ ghost use Rattle.dbm_core.specs.Half.{HalfMatrix};
 ghost use Rattle.dbm_core.specs.Limits.{IsWithin};
 ghost use Rattle.octagon_meaning.specs.Matrices as matrices;
 ghost use Rattle.dom_octagon.specs.Added.{IsSmallBound, with_bound_if};
-ghost use Rattle.dom_octagon.specs.Limits.{IsGoodForm, IsReady};
+ghost use Rattle.dom_octagon.specs.GoodForms.{IsGoodForm};
+ghost use Rattle.octagon_states.specs.Limits.{IsReady};
 
 use dbm_core::{Matrix, other_sign};
 use dbm_incremental::Bound;

@@ -7,13 +7,11 @@ ghost use Rattle.octagon_words.specs.Words as meant;
 ghost use Rattle.octagon_words.specs.Words.{octagon_port, state_in};
 ghost use Rattle.octagon_words.proofs.Portable.{octagon_portable};
 
-use crate::OctagonState;
 use crate::calls::kinds;
-use crate::close::{closure, empty, widened_to};
 use crate::domain::Octagon;
-use crate::state::matrix_of_state;
 use dbm_core::Matrix;
 use imp_slots::Layout;
+use octagon_states::{OctagonState, closure, empty, matrix_of_state, widened_to};
 use plain_values::{Memory, Text};
 use portable_states::Portable;
 use std::alloc::Global;

@@ -2,14 +2,13 @@
 ghost use Rattle.std.specs.Prelude.{◌≡◌, IfOk};
 ghost use Rattle.imp_slots.specs.CallViews.{taken_of};
 ghost use Rattle.octagon_meaning.specs.Operations as operations;
-ghost use Rattle.dom_octagon.specs.Limits.{IsTight};
+ghost use Rattle.octagon_states.specs.Limits.{IsTight};
 
-use crate::OctagonState;
 use crate::assign::close_ranged;
-use crate::close::{closed_copy, closure, empty};
 use crate::evaluate::range;
 use dbm_core::Matrix;
 use imp_slots::Returning;
+use octagon_states::{OctagonState, closed_copy, closure, empty};
 use plain_values::Memory;
 use std::alloc::Global;
 

@@ -7,12 +7,10 @@ ghost use Rattle.dbm_close.specs.CloseOf.{close_of};
 ghost use Rattle.octagon_meaning.specs.Matrices as matrices;
 ghost use Rattle.octagon_meaning.specs.Operations as operations;
 ghost use Rattle.octagon_meaning.specs.States as states;
-ghost use Rattle.dom_octagon.specs.Kept.{closed_if};
-ghost use Rattle.dom_octagon.specs.Limits.{IsTight};
+ghost use Rattle.dom_octagon.specs.Checked.{closed_if};
+ghost use Rattle.octagon_states.specs.Limits.{IsTight};
 
-use crate::OctagonState;
 use crate::assign::{assigned, close_assigned, without};
-use crate::close::{bounded, closed_copy, closed_matrix, closure, empty};
 use crate::evaluate::{evaluate, slot};
 use crate::guards::assumed;
 use crate::indices::{and_length, zero_and};
@@ -21,6 +19,7 @@ use dbm_core::Matrix;
 use imp_slots::{SlotAction, SlotExpr, SlotStmt};
 use imp_syntax::Relation;
 use numeric_slots::LONGEST;
+use octagon_states::{OctagonState, bounded, closed_copy, closed_matrix, closure, empty};
 use plain_values::Memory;
 use std::alloc::Global;
 
@@ -34,7 +33,7 @@ fn in_bounds(alloc: Global, a: u32, e: &SlotExpr, s: &OctagonState) -> Result<Oc
 }
 
 /// What a link's check leaves: the state itself, since closing it twice is closing it once.
-#[tactic(auto, using(crate::proofs::Tight::closed_again))]
+#[tactic(auto, using(octagon_states::proofs::Tight::closed_again))]
 fn linked(s: &OctagonState) -> Option<OctagonState>
     ensures exact { closed_if result s.now ≡ states.closed (states.closed s.now) }
 {

@@ -3,17 +3,16 @@ ghost use Rattle.std.specs.Prelude.{◌≡◌, ◌++◌, ◌+◌, ◌<◌, ◌^�
 ghost use Rattle.dbm_close.specs.Steps.{half};
 ghost use Rattle.dbm_core.specs.Limits.{IsWithin};
 ghost use Rattle.dbm_core.specs.Weights.{add_weight};
-ghost use Rattle.dom_octagon.specs.Limits.{IsTight};
+ghost use Rattle.octagon_states.specs.Limits.{IsTight};
 ghost use Rattle.octagon_meaning.specs.Text as texts;
 
-use crate::OctagonState;
 use crate::calls::bound_at;
-use crate::close::closure;
 use crate::evaluate::range;
 use dbm_core::{Matrix, other_sign};
 use imp_slots::{Layout, NumericSlot};
 use itoa::Buffer;
 use numeric_slots::{put_name, put_range, put_space};
+use octagon_states::{OctagonState, closure};
 use plain_values::{Memory, Text};
 use std::alloc::Global;
 

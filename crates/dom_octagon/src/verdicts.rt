@@ -8,14 +8,12 @@ ghost use Rattle.analysis_words.specs.declared.verdict.Verdict.TheVariants as ve
 ghost use Rattle.octagon_meaning.specs.Operations as operations;
 ghost use Rattle.octagon_meaning.specs.States as states;
 
-use crate::OctagonState;
-use crate::close::{closed, is_empty};
 use crate::guards::assumed;
 use crate::indices::{and_length, zero_and};
-use crate::joins::joined;
 use domain_laws::Verdict;
 use imp_slots::{SlotAction, SlotExpr, SlotStmt};
 use imp_syntax::Relation;
+use octagon_states::{OctagonState, closed, is_empty, joined};
 use plain_values::Memory;
 use std::alloc::Global;
 

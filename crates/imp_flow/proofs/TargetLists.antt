@@ -7,7 +7,7 @@ use Rattle.imp_slots.specs.Fits.{IsChecked}
 use Rattle.program_chains.specs.Chains.{selected}
 use Rattle.batch_meaning.specs.Answers.{In, procedure_of}
 use Rattle.batch_meaning.specs.Places.{if_some}
-use Rattle.call_contexts.specs.Places.{selected_at, targets_of}
+use Rattle.selected_chains.specs.Targets.{selected_at, targets_of}
 use Rattle.cell_rows.specs.Targets.{target, all_targets, targets}
 use Rattle.cell_rows.specs.Targets as plain
 use Rattle.cell_rows.proofs.Ways.{targets_some}

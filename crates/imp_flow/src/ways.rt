@@ -231,7 +231,7 @@ fn all_targets(
 
 /// The targets of a location, one for each chain that a call string selects, in the chains' order: by the text of the
 /// last calls first. The string has the outermost call first. There are none where the program has no such location.
-/// It takes the time of [`targets`](call_contexts::targets), and that of [`target`] for each chain.
+/// It takes the time of [`targets`](selected_chains::targets), and that of [`target`] for each chain.
 ///
 /// # Errors
 ///
@@ -247,6 +247,6 @@ pub fn targets(
 {
     let prog = flow.program();
     prog.procs();
-    let chains = call_contexts::targets(alloc, prog, at, string)?;
+    let chains = selected_chains::targets(alloc, prog, at, string)?;
     all_targets(alloc, flow, at, chains.as_slice())
 }

@@ -1,6 +1,4 @@
-pub mod Replied
+pub mod Halted
 pub mod Places
 pub mod Turned
-pub mod Edited
-pub mod Requested
 pub mod Answered

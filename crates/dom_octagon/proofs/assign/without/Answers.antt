@@ -9,8 +9,8 @@ use Rattle.dbm_incremental.proofs.KeepLemmas.{forget-closed}
 use Rattle.dbm_incremental.proofs.LawLemmas.{closed-same}
 use Rattle.dbm_incremental.specs.ClosedMatrices.{IsClosed}
 use Rattle.dom_octagon.proofs.Bounds.{without-entries}
-use Rattle.dom_octagon.proofs.Tables.{limited_ready}
-use Rattle.dom_octagon.specs.Limits.{IsReady}
+use Rattle.octagon_states.proofs.Tight.{limited_ready}
+use Rattle.octagon_states.specs.Limits.{IsReady}
 use Rattle.dom_octagon.proofs.assign.without.Goals as goal
 
 pub returns-clause-value : goal.returns-clause-value

@@ -4,7 +4,7 @@ use Rattle.octagon_meaning.proofs.Calls.{entered-coherent}
 use Rattle.octagon_meaning.specs.Operations.{entered}
 use Rattle.dbm_core.specs.Tables.{matrix_of}
 use Rattle.dom_octagon.proofs.Tables.{table-if_ok, if_ok-by, coherent-diagonal, entered-is_ready}
-use Rattle.dom_octagon.specs.Limits.{IsReady}
+use Rattle.octagon_states.specs.Limits.{IsReady}
 use Rattle.dom_octagon.proofs.calls.entered_matrix.Goals as goal
 
 pub from_fn-requires-clause-diagonal : goal.from_fn-requires-clause-diagonal

@@ -1,6 +1,7 @@
 use Rattle.std.proofs.Common.{◌≡◌, ◌<◌, ◌≤◌, ◌∙◌, FitsSigned, subst, sym, ap, length, arith, ℤ, ◌≤ℤ◌, to_z, of_z, w64}
 use Rattle.std.proofs.lemmas.Int.{ints}
 use mir.Syntax.{w128}
+use Rattle.plain_values.proofs.Integers.{at_most}
 use Rattle.dbm_core.specs.Half.{entry}
 use Rattle.dbm_close.specs.Close.{slot_high, slot_low}
 use Rattle.num_bounds.specs.Bounds.{IsRange, least, greatest}
@@ -9,30 +10,26 @@ use Rattle.octagon_meaning.proofs.Ranges.{range_at-outside}
 use Rattle.dom_octagon.proofs.Words.{word-fits, word-same, slot-range}
 use Rattle.dom_octagon.proofs.evaluate.range.Goals as goal
 
--- the two ends are those of a range
-between : {a b d : ℤ} → a ≤ℤ b → b ≤ℤ d → a ≤ℤ d
-between p q = omega (arith, ints)
-
 pub overflow_cast-low : goal.overflow_cast-low
 overflow_cast-low c =
     let l : c.args.x < length c.args.m.now.kinds = omega (arith, ap length c.kinds.ensures.value, c.if-x-kinds.true) in
     let r : IsRange (record { lo = slot_low c.args.m.now.kinds (entry c.args.m.now) c.args.x; hi = slot_high c.args.m.now.kinds (entry c.args.m.now) c.args.x }) = slot-range c.args.m.now c.args.x c.requires.tight l in
-    subst (λ z. FitsSigned w64 (to_z w128 (of_z w128 z))) (sym c.slot_range-low.ensures.low) (word-fits (slot_low c.args.m.now.kinds (entry c.args.m.now) c.args.x) r.low (between r.ordered r.high))
+    subst (λ z. FitsSigned w64 (to_z w128 (of_z w128 z))) (sym c.slot_range-low.ensures.low) (word-fits (slot_low c.args.m.now.kinds (entry c.args.m.now) c.args.x) r.low (at_most _ _ _ r.ordered r.high))
 
 pub overflow_cast-high : goal.overflow_cast-high
 overflow_cast-high c =
     let l : c.args.x < length c.args.m.now.kinds = omega (arith, ap length c.kinds.ensures.value, c.if-x-kinds.true) in
     let r : IsRange (record { lo = slot_low c.args.m.now.kinds (entry c.args.m.now) c.args.x; hi = slot_high c.args.m.now.kinds (entry c.args.m.now) c.args.x }) = slot-range c.args.m.now c.args.x c.requires.tight l in
-    subst (λ z. FitsSigned w64 (to_z w128 (of_z w128 z))) (sym c.slot_range-low.ensures.high) (word-fits (slot_high c.args.m.now.kinds (entry c.args.m.now) c.args.x) (between r.low r.ordered) r.high)
+    subst (λ z. FitsSigned w64 (to_z w128 (of_z w128 z))) (sym c.slot_range-low.ensures.high) (word-fits (slot_high c.args.m.now.kinds (entry c.args.m.now) c.args.x) (at_most _ _ _ r.low r.ordered) r.high)
 
 pub from_ends-requires : goal.from_ends-requires
 from_ends-requires c =
     let l : c.args.x < length c.args.m.now.kinds = omega (arith, ap length c.kinds.ensures.value, c.if-x-kinds.true) in
     let r : IsRange (record { lo = slot_low c.args.m.now.kinds (entry c.args.m.now) c.args.x; hi = slot_high c.args.m.now.kinds (entry c.args.m.now) c.args.x }) = slot-range c.args.m.now c.args.x c.requires.tight l in
     let p : to_z w64 (of_z w64 (to_z w128 (of_z w128 c.slot_range-low.result.0))) ≡ slot_low c.args.m.now.kinds (entry c.args.m.now) c.args.x =
-    ap (λ z. to_z w64 (of_z w64 (to_z w128 (of_z w128 z)))) c.slot_range-low.ensures.low ∙ word-same (slot_low c.args.m.now.kinds (entry c.args.m.now) c.args.x) r.low (between r.ordered r.high) in
+    ap (λ z. to_z w64 (of_z w64 (to_z w128 (of_z w128 z)))) c.slot_range-low.ensures.low ∙ word-same (slot_low c.args.m.now.kinds (entry c.args.m.now) c.args.x) r.low (at_most _ _ _ r.ordered r.high) in
     let q : to_z w64 (of_z w64 (to_z w128 (of_z w128 c.slot_range-low.result.1))) ≡ slot_high c.args.m.now.kinds (entry c.args.m.now) c.args.x =
-    ap (λ z. to_z w64 (of_z w64 (to_z w128 (of_z w128 z)))) c.slot_range-low.ensures.high ∙ word-same (slot_high c.args.m.now.kinds (entry c.args.m.now) c.args.x) (between r.low r.ordered) r.high in
+    ap (λ z. to_z w64 (of_z w64 (to_z w128 (of_z w128 z)))) c.slot_range-low.ensures.high ∙ word-same (slot_high c.args.m.now.kinds (entry c.args.m.now) c.args.x) (at_most _ _ _ r.low r.ordered) r.high in
     record { ordered = rw (p, q) r.ordered }
 
 pub returns-then-x-kinds : goal.returns-then-x-kinds
@@ -42,8 +39,8 @@ returns-then-x-kinds c =
     let n : c.slot_range-low.result.0 ≡ slot_low c.args.m.now.kinds (entry c.args.m.now) c.args.x = c.slot_range-low.ensures.low in
     let h : c.slot_range-low.result.1 ≡ slot_high c.args.m.now.kinds (entry c.args.m.now) c.args.x = c.slot_range-low.ensures.high in
     let r : IsRange (record { lo = slot_low c.args.m.now.kinds (entry c.args.m.now) c.args.x; hi = slot_high c.args.m.now.kinds (entry c.args.m.now) c.args.x }) = slot-range c.args.m.now c.args.x c.requires.tight l in
-    let p : least ≤ℤ slot_high c.args.m.now.kinds (entry c.args.m.now) c.args.x = between r.low r.ordered in
-    let q : slot_low c.args.m.now.kinds (entry c.args.m.now) c.args.x ≤ℤ greatest = between r.ordered r.high in
+    let p : least ≤ℤ slot_high c.args.m.now.kinds (entry c.args.m.now) c.args.x = at_most _ _ _ r.low r.ordered in
+    let q : slot_low c.args.m.now.kinds (entry c.args.m.now) c.args.x ≤ℤ greatest = at_most _ _ _ r.ordered r.high in
     record {
       exact = c.from_ends.ensures.exact ∙ (λ i. record {
         lo = (ap (λ z. to_z w64 (of_z w64 (to_z w128 (of_z w128 z)))) n ∙ word-same (slot_low c.args.m.now.kinds (entry c.args.m.now) c.args.x) r.low q) i;

@@ -1,7 +1,7 @@
 use Rattle.std.proofs.Common.{◌≡◌, ◌<◌, ◌++◌, map, reverse, length, Some, slice_get, IfOk, IsSome, sym, ap, subst, ◌∙◌}
 use Rattle.std.specs.FinMap as finite
 use Rattle.std.proofs.lemmas.Option.{slice_get_within}
-use Rattle.call_contexts.specs.Places.{selected_at, targets_of}
+use Rattle.selected_chains.specs.Targets.{selected_at, targets_of}
 use Rattle.program_chains.specs.Chains.{selected}
 use Rattle.named_cells.specs.Named.{AreNumbers}
 use Rattle.named_cells.specs.Same.{same_name}
