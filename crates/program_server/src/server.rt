@@ -20,7 +20,7 @@ use step_counter::Steps;
 
 /// The server of one program: a session with it.
 #[derive(Drop)]
-pub(crate) struct Server<D: Named> {
+pub struct Server<D: Named> {
     session: Session<D>,
 }
 
@@ -37,7 +37,7 @@ fn next_number(table: &Table) -> u32
 
 impl<D: Named> Server<D> {
     /// The server of this program, which remembers so many results. It fails for want of memory alone.
-    pub(crate) fn start(
+    pub fn start(
         alloc: Global,
         domain: D,
         settings: &Settings,
@@ -65,8 +65,8 @@ impl<D: Named> Server<D> {
 }
 
 impl<D: Named> Server<D> {
-    /// How many cells the last question filled.
-    pub(crate) fn cost(&self) -> u64
+    /// How many cells the last question filled. It takes constant time.
+    pub fn cost(&self) -> u64
         ensures is { (m : Machine) → Holds (D.operations self.now.session.engine.domain) self.now.session.engine.store self.now.session.book m → result ≡ m.cost }
     {
         self.session.cost()

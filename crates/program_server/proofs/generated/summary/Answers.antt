@@ -2,8 +2,8 @@ use Rattle.std.proofs.Common.{◌≡◌, string_bytes}
 use Rattle.line_answers.specs.Fine.{opening}
 use Rattle.server_jobs.specs.Jobs.{engine_of}
 use Rattle.server_jobs.specs.Output.{gen_bytes}
-use Rattle.daig_server.proofs.TallyLemmas.{from_opening}
-use Rattle.daig_server.proofs.generated.summary.Goals as goal
+use Rattle.program_server.proofs.TallyLemmas.{from_opening}
+use Rattle.program_server.proofs.generated.summary.Goals as goal
 
 pub returns : goal.returns
 returns g c = record {

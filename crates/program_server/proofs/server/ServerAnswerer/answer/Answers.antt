@@ -1,6 +1,6 @@
 use Rattle.std.proofs.Common.{arith}
-use Rattle.daig_server.proofs.ServedLemmas.{reply_by, next_by, lasts_by}
-use Rattle.daig_server.proofs.server.ServerAnswerer.answer.Goals as goal
+use Rattle.program_server.proofs.ServedLemmas.{reply_by, next_by, lasts_by}
+use Rattle.program_server.proofs.server.ServerAnswerer.answer.Goals as goal
 
 pub answer_line-requires : goal.answer_line-requires
 answer_line-requires g c = record { ready = c.requires.lasts.1.0; room = omega (arith, c.requires.lasts.1.1) }

@@ -107,7 +107,7 @@ fn summed<D: Named, L: Ledger>(
 }
 
 /// The summary of the generated script over the program. It fails for want of memory alone.
-pub(crate) fn summary<D: Named, L: Ledger>(
+pub fn summary<D: Named, L: Ledger>(
     alloc: Global,
     domain: D,
     settings: &Settings,

@@ -4,8 +4,8 @@ use Rattle.script_loop.specs.Lines.{whole_lines}
 use Rattle.script_loop.proofs.LineLemmas.{lines_more, part_more}
 use Rattle.server_jobs.specs.Domains.{meaning_of}
 use Rattle.server_jobs.specs.Output.{served_after, tallied}
-use Rattle.daig_server.proofs.TallyLemmas.{after-append, tallied-append}
-use Rattle.daig_server.proofs.generated.tally_lines.Goals as goal
+use Rattle.program_server.proofs.TallyLemmas.{after-append, tallied-append}
+use Rattle.program_server.proofs.generated.tally_lines.Goals as goal
 
 pub tally_byte-requires : goal.tally_byte-requires
 tally_byte-requires g c = record {

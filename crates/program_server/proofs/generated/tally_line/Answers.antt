@@ -1,8 +1,8 @@
 use Rattle.std.proofs.Common.{◌∙◌, sym}
 use Rattle.line_answers.specs.Lines.{line_turn}
 use Rattle.server_jobs.specs.Domains.{meaning_of}
-use Rattle.daig_server.proofs.TallyLemmas.{line_cost}
-use Rattle.daig_server.proofs.generated.tally_line.Goals as goal
+use Rattle.program_server.proofs.TallyLemmas.{line_cost}
+use Rattle.program_server.proofs.generated.tally_line.Goals as goal
 
 pub returns-clause-added : goal.returns-clause-added
 returns-clause-added g c = λ s stands.

@@ -5,7 +5,7 @@ use Rattle.script_loop.specs.Lines.{last_part, whole_lines}
 use Rattle.line_answers.specs.Lines.{Served}
 use Rattle.server_jobs.specs.Domains.{meaning_of}
 use Rattle.server_jobs.specs.Output.{served_after, tallied}
-use Rattle.daig_server.proofs.generated.tally_lines.Given as goal
+use Rattle.program_server.proofs.generated.tally_lines.Given as goal
 
 -- the lines that end in the bytes so far are tallied
 abbrev pub invariant-loop-byte : goal.invariant-loop-byte

@@ -1,6 +1,6 @@
 use Rattle.std.proofs.Common.{◌∙◌, length, string_bytes, ap, arith}
-use Rattle.daig_server.proofs.TallyLemmas.{script_summed}
-use Rattle.daig_server.proofs.generated.summed.Goals as goal
+use Rattle.program_server.proofs.TallyLemmas.{script_summed}
+use Rattle.program_server.proofs.generated.summed.Goals as goal
 
 pub tally_lines-requires : goal.tally_lines-requires
 tally_lines-requires g c =
