@@ -21,7 +21,7 @@ use Rattle.batch_interp.specs.Passing.{states}
 use Rattle.batch_interp.specs.declared.frames.Frame.{Frame}
 use Rattle.batch_interp.proofs.Procedures.{from_earlier, from_gone}
 use Rattle.batch_interp.proofs.Walkings.{standing, whole}
-use Rattle.cert_check.specs.Table.{state_at}
+use Rattle.cert_reading.specs.Table.{state_at}
 use Rattle.cert_check.specs.Following.{ended, why_of, behind_by, EndsSo, turned, round, calls_in, followed_in}
 use Rattle.cert_check.specs.declared.followed.Followed as code
 use Rattle.cert_check.specs.declared.followed.Followed.TheVariants as came

@@ -1,5 +1,3 @@
 pub mod FollowLemmas
 pub mod LineLemmas
-pub mod TableLemmas
-pub mod ReadLemmas
 pub mod VerifyLemmas

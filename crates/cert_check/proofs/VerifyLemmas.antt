@@ -13,7 +13,7 @@ use Rattle.cert_lines.specs.Verify as plain
 use Rattle.cert_lines.specs.Verify.{of_followed, of_entries, verify, verified_line}
 use Rattle.cert_lines.specs.Theorem.{IsYesSound}
 use Rattle.cert_accepted.specs.Accepted.{HasLines, AreAccepted, IsCertificate}
-use Rattle.cert_check.specs.Table.{state_at, HasEntries}
+use Rattle.cert_reading.specs.Table.{state_at, HasEntries}
 use Rattle.cert_check.specs.Verified.{verified_of, CoversRuns}
 use Rattle.cert_check.specs.declared.verified.Verified.{Verified}
 use Rattle.cert_check.proofs.LineLemmas.{yes_alone}

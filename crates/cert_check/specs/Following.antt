@@ -4,7 +4,7 @@ use Rattle.imp_slots.specs.Plain.{Guard, Code, Routine}
 use Rattle.domain_laws.specs.Operations.{Operations}
 use Rattle.batch_interp.specs.Frames.{earlier}
 use Rattle.cert_meaning.specs.Followed as plain
-use Rattle.cert_check.specs.Table.{state_at}
+use Rattle.cert_reading.specs.Table.{state_at}
 use Rattle.cert_check.specs.declared.followed.Why.{Why}
 use Rattle.cert_check.specs.declared.followed.Why.TheVariants as why
 use Rattle.cert_check.specs.declared.followed.Followed.{Followed}

@@ -1,4 +1,2 @@
-pub mod Table
 pub mod Following
-pub mod Reading
 pub mod Verified

@@ -6,13 +6,13 @@ ghost use Rattle.imp_slots.specs.Plain.{Does, DoBreak};
 ghost use Rattle.imp_slots.specs.ActionViews.{effect_of};
 ghost use Rattle.cert_meaning.specs.Followed as plain;
 ghost use Rattle.cert_meaning.specs.Followed.{joined};
-ghost use Rattle.cert_check.specs.Table.{state_at};
+ghost use Rattle.cert_reading.specs.Table.{state_at};
 ghost use Rattle.cert_check.specs.Following.{ended, why_of, behind_by, turned};
 ghost use Rattle.cert_check.specs.declared.followed.Followed.TheVariants.{Behind};
 
 use crate::followed::{Followed, Follower, Why};
-use crate::written::{Written, loop_key};
 use batch_interp::{Frame, behind_action, behind_break, joined_states};
+use cert_reading::{Written, loop_key};
 use imp_slots::{SlotAction, SlotCall, SlotCond};
 use imp_syntax::StmtId;
 use plain_values::{Items, Memory};

@@ -1,7 +1,7 @@
 //! What following a block is lent, and what it comes to.
 
-use crate::written::Written;
 use batch_interp::Frame;
+use cert_reading::Written;
 use imp_slots::Routine;
 use imp_syntax::{Chain, StmtId};
 use std::alloc::Global;

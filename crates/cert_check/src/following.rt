@@ -4,14 +4,14 @@ ghost use Rattle.std.specs.Option.{option_copied};
 ghost use Rattle.imp_slots.specs.Plain.{Stop, If, While, Call};
 ghost use Rattle.imp_slots.specs.BlockViews.{before_code};
 ghost use Rattle.cert_meaning.specs.Followed.{after, followed_program};
-ghost use Rattle.cert_check.specs.Table.{state_at};
+ghost use Rattle.cert_reading.specs.Table.{state_at};
 ghost use Rattle.cert_check.specs.Following.{ended, calls_in, followed_in, round, EndsSo};
 ghost use Rattle.cert_check.specs.declared.followed.Followed.TheVariants.{Behind};
 
 use crate::behind::{act, end_round, fail, head_of, join_blocks, leave_call, leave_loop};
 use crate::followed::{Followed, Follower, Why};
-use crate::written::Written;
 use batch_interp::Frame;
+use cert_reading::Written;
 use imp_slots::{Routine, SlotBlock, SlotCall, SlotCond, SlotNode};
 use plain_values::{Items, Memory};
 use portable_states::Portable;

@@ -7,17 +7,15 @@ ghost use Rattle.cert_meaning.specs.Followed.{followed_program};
 ghost use Rattle.cert_meaning.specs.Portable.{HasUpperBounds};
 ghost use Rattle.cert_accepted.specs.Accepted.{HasSmallNumbers, IsCertificate, PutsUtf8};
 ghost use Rattle.cert_lines.specs.Verify.{of_followed, verify, verified_line, Yes};
-ghost use Rattle.cert_check.specs.Table.{state_at};
+ghost use Rattle.cert_reading.specs.Table.{state_at};
 ghost use Rattle.cert_check.specs.Verified.{verified_of, CoversRuns};
 
-use crate::chain_sets::ChainSets;
 use crate::followed::Followed;
 use crate::following::follow_main;
-use crate::reading::{Lines, read_lines};
 use crate::verified::{Verified, verified_line};
-use crate::written::Written;
 use cert_accepted::{certificates_are_accepted, checked_programs_have_lines};
 use cert_lines::a_yes_is_sound;
+use cert_reading::{Lines, Written, read_certificate};
 use plain_values::Memory;
 use portable_states::Portable;
 use program_table::Checked;
@@ -56,8 +54,7 @@ fn verified<D: Portable, L: Ledger>(
     ensures fit { IsChecked (routines_of prog.now) }
     ensures short { IfOk result (λ _. length cert.now < 2 ^ 64) }
 {
-    let chains = ChainSets::new(alloc, &prog.view())?;
-    match read_lines(alloc, dom, prog, &chains, cert)? {
+    match read_certificate(alloc, dom, prog, cert)? {
         Lines::Bad(line) => Ok(Verified::BadLine(line)),
         Lines::Read(written) => verify_written(alloc, dom, prog, &written, steps),
     }

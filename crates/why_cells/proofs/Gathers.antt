@@ -3,6 +3,7 @@ use Rattle.std.proofs.Common.{◌≡◌, ◌⊎◌, ℕ, ◌<◌, ◌≤◌, ◌
 use Rattle.std.specs.List.{list_any}
 use Rattle.std.specs.FinMap.{get, len}
 use Rattle.std.proofs.lemmas.Option.{slice_get-get_or, slice_get_within, same_Some}
+use Rattle.std.proofs.lemmas.List.{get_or_default}
 use Rattle.indexmap.specs.IndexSet.{insert_key}
 use Rattle.std.proofs.lemmas.Bool.Decides.{nat_tests}
 use Rattle.plain_values.proofs.Cases.{by_bool}
@@ -13,7 +14,6 @@ use Rattle.cell_removal.specs.Removal.{Cells}
 use Rattle.cell_removal.proofs.Ins.{in_none, in_any, not_any, in_left, in_last, in_pushed}
 use Rattle.cell_removal.proofs.Pigeons.{differ_once, no_more_than}
 use Rattle.why_cells.specs.Reached.{Reached, seed, input, AreReached, Joins}
-use Rattle.why_slice.proofs.Putting.{same_get}
 
 -- what an insertion makes of a list
 data Inserted (old : List ℕ) (n : ℕ) (new : List ℕ) : Type 0 where
@@ -84,7 +84,7 @@ adding_next first more now new i n l at h e = go (inserted now n new e)
     }
 
 pub adding_at : (first more now new : List ℕ) (i d : ℕ) → i < length more → Adding first more i now → new ≡ insert_key nat_eq now (get_or more i d) → Adding first more (i + 1) new
-adding_at first more now new i d l h e = adding_next first more now new i (get_or more i d) l (same_get more i d l) h e
+adding_at first more now new i d l h e = adding_next first more now new i (get_or more i d) l (get_or_default more i d (get_or more i d) l) h e
 
 -- What is kept while the inputs of the cells are looked at in turn: those in front of `next` are done.
 pub record Gathers {V : Type 0} (cells : Cells V) (seeds : List ℕ) (next : ℕ) (out : List ℕ) : Type 0 where

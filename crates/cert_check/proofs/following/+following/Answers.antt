@@ -1,5 +1,5 @@
 use Rattle.std.proofs.Common.{[], sym, ◌∙◌, reverse}
-use Rattle.cert_check.specs.Table.{state_at}
+use Rattle.cert_reading.specs.Table.{state_at}
 use Rattle.cert_check.specs.Following.{calls_in, followed_in, why_of}
 use Rattle.cert_check.proofs.FollowLemmas.{alone_ends, block_end, block_fails, block_step, break_ends, call_comes, call_gone, if_stops, of_callee, round_ends, simple_ends}
 use Rattle.cert_check.proofs.following.+following.Goals as goal

@@ -1,6 +1,0 @@
-use Rattle.imp_check.specs.Slots.{routines_of}
-use Rattle.cert_check.proofs.TableLemmas.{Chained}
-use Rattle.cert_check.proofs.chain_sets.ChainSets.new.Given as goal
-
-abbrev pub invariant-loop-place : goal.invariant-loop-place
-invariant-loop-place l = Chained (routines_of l.prog) l.sets l.place

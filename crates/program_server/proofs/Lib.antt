@@ -1,0 +1,3 @@
+pub mod FewLemmas
+pub mod TallyLemmas
+pub mod ServedLemmas
