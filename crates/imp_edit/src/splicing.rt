@@ -14,9 +14,9 @@ ghost use Rattle.imp_edit.specs.Refusals.{IsRefusal};
 use crate::beside::{ends_stay, ends_with, puts_of};
 use crate::coming::entries_of;
 use crate::error::EditError;
-use crate::gap::Gap;
 use imp_check::{Change, Fault, Found, Head, Table, block_count, nesting};
 use imp_syntax::Block;
+use loop_breaks::Gap;
 use plain_values::{Items, Memory, Text};
 use std::alloc::Global;
 
