@@ -1,9 +1,9 @@
 //! The row of a cell's name: the operation, and the names of its inputs.
 ghost use Rattle.std.specs.Prelude.{◌≡◌, List, option_map};
-ghost use Rattle.imp_flow.specs.Near.{PathFrame};
-ghost use Rattle.imp_flow.specs.Near.{input_name, row_in};
-ghost use Rattle.imp_flow.specs.NodeRows.{iterate_at};
-ghost use Rattle.imp_flow.specs.Inputs.{first_of, second_of, iterate_of, break_of};
+ghost use Rattle.flow_rows.specs.Near.{PathFrame};
+ghost use Rattle.flow_rows.specs.Near.{input_name, row_in};
+ghost use Rattle.flow_rows.specs.NodeRows.{iterate_at};
+ghost use Rattle.flow_rows.specs.Inputs.{first_of, second_of, iterate_of, break_of};
 
 use crate::input::Input;
 use cell_names::{Frame, Point};

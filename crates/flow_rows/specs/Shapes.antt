@@ -3,7 +3,7 @@ use Rattle.std.specs.Prelude.{ℕ, List, Option}
 use Rattle.imp_slots.specs.Plain.{Guard, Invoke}
 use Rattle.imp_slots.specs.declared.actions.SlotStmt.{SlotStmt}
 use Rattle.cell_names.specs.declared.frame.Point.{Point}
-use Rattle.imp_flow.specs.declared.node.Leave.{Leave}
+use Rattle.flow_rows.specs.declared.node.Leave.{Leave}
 
 -- What a statement does to the flow: a simple one acts; an if has the last points of its blocks; a while has that of its
 -- body, and the breaks that leave it, in the order of the text; a call has its callee's place, and the last point of the

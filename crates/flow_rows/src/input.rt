@@ -2,8 +2,8 @@
 ghost use Rattle.std.specs.Prelude.{◌≡◌, ◌<◌, length, IfOk, OnErr};
 ghost use Rattle.cell_names.specs.Paths.{path_at, name_in};
 ghost use Rattle.cell_names.specs.Known.{KeepsNumbers};
-ghost use Rattle.imp_flow.specs.declared.input.Way.TheVariants.{Here, Out, Into};
-ghost use Rattle.imp_flow.specs.Near.{outside, near, input_name};
+ghost use Rattle.flow_rows.specs.declared.input.Way.TheVariants.{Here, Out, Into};
+ghost use Rattle.flow_rows.specs.Near.{outside, near, input_name};
 
 use cell_names::{Frame, Name, Names, PathId, Point};
 use plain_values::Memory;

@@ -8,7 +8,7 @@ use Rattle.cell_names.specs.Paths.{CellName}
 use Rattle.cell_rows.specs.Names.{name}
 use Rattle.cell_rows.specs.Rows.{Row, Init, One, Two, Fixed, Joins}
 use Rattle.cell_rows.specs.Cells.{Cell, asks_row, wants_first}
-use Rattle.imp_flow.specs.NodeRows.{iterate_at}
+use Rattle.flow_rows.specs.NodeRows.{iterate_at}
 
 -- The first: of a fixed point the iterate 0, of a join behind a loop with breaks the left one.
 abbrev pub first_of : Row → Option CellName

@@ -1,7 +1,7 @@
 use Rattle.std.proofs.Common.{◌≡◌, ◌≢◌, rules, sym, ◌∙◌}
-use Rattle.imp_flow.specs.Entered.{leaves_now}
-use Rattle.imp_flow.proofs.LeaveLemmas.{place_found, place_passed}
-use Rattle.imp_flow.proofs.rows.place_of.Goals as goal
+use Rattle.flow_rows.specs.Entered.{leaves_now}
+use Rattle.flow_rows.proofs.LeaveLemmas.{place_found, place_passed}
+use Rattle.flow_rows.proofs.rows.place_of.Goals as goal
 
 pub returns-then-eq-clause-is : goal.returns-then-eq-clause-is
 returns-then-eq-clause-is c =

@@ -1,8 +1,8 @@
 use Rattle.std.proofs.Common.{◌≡◌, ◌+◌, drop, option_map}
 use Rattle.cell_rows.specs.Names.{place_of}
-use Rattle.imp_flow.specs.Entered.{leaves_now}
-use Rattle.imp_flow.specs.NodeRows.{breaks_of}
-use Rattle.imp_flow.proofs.rows.place_of.Given as goal
+use Rattle.flow_rows.specs.Entered.{leaves_now}
+use Rattle.flow_rows.specs.NodeRows.{breaks_of}
+use Rattle.flow_rows.proofs.rows.place_of.Given as goal
 
 -- the break is not among those so far
 abbrev pub invariant-loop-i : goal.invariant-loop-i

@@ -14,13 +14,13 @@ use Rattle.imp_check.specs.declared.entry.Which.{Which}
 use Rattle.imp_check.specs.declared.entry.Which.TheVariants as which
 use Rattle.cell_names.specs.declared.frame.Point.{Point}
 use Rattle.cell_names.specs.declared.frame.Point.TheVariants.{Entry, Then, Else, Body, Post}
-use Rattle.imp_flow.specs.Shapes.{Node, Shape}
-use Rattle.imp_flow.specs.Shapes as shape
-use Rattle.imp_flow.specs.declared.node.Leave.{Leave}
-use Rattle.imp_flow.specs.declared.node.Leaves.{Leaves}
-use Rattle.imp_flow.specs.declared.node.Shape as read
-use Rattle.imp_flow.specs.declared.node.Shape.TheVariants as seen
-use Rattle.imp_flow.specs.declared.node.Node as whole
+use Rattle.flow_rows.specs.Shapes.{Node, Shape}
+use Rattle.flow_rows.specs.Shapes as shape
+use Rattle.flow_rows.specs.declared.node.Leave.{Leave}
+use Rattle.flow_rows.specs.declared.node.Leaves.{Leaves}
+use Rattle.flow_rows.specs.declared.node.Shape as read
+use Rattle.flow_rows.specs.declared.node.Shape.TheVariants as seen
+use Rattle.flow_rows.specs.declared.node.Node as whole
 
 -- what is known of statements by their numbers
 abbrev pub Table : Type 0

@@ -1,34 +1,29 @@
 //! Statements as nodes of the flow, read off the table of statements.
-ghost use Rattle.std.specs.Prelude.{◌≡◌, ◌<◌, ◌++◌, length, reverse, slice_get, option_map, Some, OnOk};
-ghost use Rattle.imp_check.specs.Slots.{routines_of};
-ghost use Rattle.imp_flow.specs.Nodes.{nodes_of, node_of};
-ghost use Rattle.imp_flow.specs.Entered.{known_in, start_of, behind_or, front_point, front_in, end_in, branching, shape_from, head_of, loops_up, node_by, leaves_now, loops_around, shape_now, node_now};
-ghost use Rattle.imp_flow.specs.Reached.{into_loops};
+ghost use Rattle.std.specs.Prelude.{◌≡◌, ◌<◌, length, slice_get, Some};
+ghost use Rattle.flow_rows.specs.Entered.{known_in, start_of, behind_or, front_point, front_in, end_in, branching, shape_from, node_by, leaves_now, shape_now, node_now};
 
-use crate::steps::Step;
 use cell_names::Point;
 use imp_check::{Around, Entry, SlotForm, View, Which};
 use imp_slots::{SlotCall, SlotCond, SlotStmt};
 use imp_syntax::{ProcId, StmtId, StmtNode};
-use plain_values::{Items, Memory};
 
 /// A break that leaves a loop, and the point in front of it.
 #[derive(Clone, Copy, Debug, PartialEq, Eq, Drop)]
-pub(crate) struct Leave {
-    pub(crate) stmt: StmtId,
-    pub(crate) front: Point,
+pub struct Leave {
+    pub stmt: StmtId,
+    pub front: Point,
 }
 
 /// The breaks that leave a loop, in the order of the text.
 #[derive(Clone, Copy, Drop)]
-pub(crate) struct Leaves<'a> {
+pub struct Leaves<'a> {
     prog: &'a View<'a>,
     breaks: &'a [StmtId],
 }
 
 /// What a statement does to the flow.
 #[derive(Clone, Copy, Drop)]
-pub(crate) enum Shape<'a> {
+pub enum Shape<'a> {
     /// A simple statement but a call.
     Act(&'a SlotStmt),
     /// An if: its condition, and the last points of its blocks.
@@ -42,15 +37,17 @@ pub(crate) enum Shape<'a> {
 /// A statement, and where it stands. It is read off the table when it is asked for, in constant time, and takes no
 /// memory.
 #[derive(Clone, Copy, Drop)]
-pub(crate) struct Node<'a> {
-    prog: &'a View<'a>,
-    known: &'a Entry,
-    pub(crate) stmt: StmtId,
+pub struct Node<'a> {
+    /// The program that it is of.
+    pub prog: &'a View<'a>,
+    /// What is known of it.
+    pub known: &'a Entry,
+    pub stmt: StmtId,
     /// Its procedure.
-    pub(crate) place: ProcId,
+    pub place: ProcId,
     /// The point in front of it.
-    pub(crate) front: Point,
-    pub(crate) shape: Shape<'a>,
+    pub front: Point,
+    pub shape: Shape<'a>,
 }
 
 /// The point at which a block begins.
@@ -68,7 +65,7 @@ fn start_of(around: Option<Around>) -> Point
 }
 
 /// Behind a statement, or else this point.
-pub(crate) fn behind_or(first: Point, stmt: Option<StmtId>) -> Point
+pub fn behind_or(first: Point, stmt: Option<StmtId>) -> Point
     ensures is { result ≡ behind_or first stmt }
 {
     match stmt {
@@ -97,7 +94,7 @@ fn front_in(prog: &View<'_>, stmt: StmtId) -> Point
 impl<'a> Leaves<'a> {
     /// How many there are.
     #[tactic(auto, using(crate::proofs::LeaveLemmas::leaves_long))]
-    pub(crate) fn len(&self) -> usize
+    pub fn len(&self) -> usize
         ensures is { result ≡ length (leaves_now self.now) }
     {
         self.breaks.len()
@@ -105,7 +102,7 @@ impl<'a> Leaves<'a> {
 
     /// The break at a place.
     #[tactic(auto, using(crate::proofs::LeaveLemmas::leaves_long, crate::proofs::LeaveLemmas::leave_there))]
-    pub(crate) fn at(&self, place: usize) -> Leave
+    pub fn at(&self, place: usize) -> Leave
         requires there { place < length (leaves_now self.now) }
         ensures is { slice_get (leaves_now self.now) place ≡ Some result }
     {
@@ -160,7 +157,7 @@ fn shape_of<'a>(prog: &'a View<'a>, entry: &'a Entry) -> Shape<'a>
 
 impl<'a> Node<'a> {
     /// A statement of which this is known.
-    pub(crate) fn of(prog: &'a View<'a>, entry: &'a Entry) -> Node<'a>
+    pub fn of(prog: &'a View<'a>, entry: &'a Entry) -> Node<'a>
         ensures is { node_now result ≡ node_by prog.now entry.now }
     {
         Node {
@@ -171,57 +168,5 @@ impl<'a> Node<'a> {
             front: front_of(entry),
             shape: shape_of(prog, entry),
         }
-    }
-
-    /// Adds the steps into the loops around it, outermost first. It takes time linear in the blocks around it.
-    pub(crate) fn enter_loops(&self, steps: &mut Items<Step>) -> Result<(), Memory>
-        ensures added { OnOk result (steps.new ≡ steps.old ++ into_loops (loops_around self.now)) }
-    {
-        let context = self.known.context;
-        enter_loops(self.prog, context.depth, context.head, steps)
-    }
-}
-
-/// The innermost loop around a loop.
-fn head_of(prog: &View<'_>, stmt: StmtId) -> Option<StmtId>
-    ensures is { result ≡ head_of (known_in prog.now stmt) }
-{
-    match prog.entry(stmt) {
-        None => None,
-        Some(entry) => entry.context.head,
-    }
-}
-
-/// Adds the steps into a loop and those around it, at most so many.
-#[tactic(auto, using(crate::proofs::EnteredLemmas::into_more, crate::proofs::EnteredLemmas::into_none, crate::proofs::EnteredLemmas::into_zero))]
-fn enter_loops(
-    prog: &View<'_>,
-    most: u32,
-    head: Option<StmtId>,
-    steps: &mut Items<Step>,
-) -> Result<(), Memory>
-    ensures added { OnOk result (steps.new ≡ steps.old ++ into_loops (loops_up (known_in prog.now) most head)) }
-{
-    if most == 0 {
-        return Ok(());
-    }
-    match head {
-        None => Ok(()),
-        Some(stmt) => {
-            enter_loops(prog, most - 1, head_of(prog, stmt), steps)?;
-            steps.push(Step::Take(stmt))
-        }
-    }
-}
-
-/// The statement of a number.
-#[tactic(auto, using(crate::proofs::EnteredLemmas::node_found, crate::proofs::EnteredLemmas::node_gone))]
-pub(crate) fn node_of<'a>(prog: &'a View<'a>, stmt: StmtId) -> Option<Node<'a>>
-    ensures is { option_map node_now result ≡ node_of (nodes_of (reverse (routines_of prog.now))) stmt }
-{
-    prog.procs();
-    match prog.entry(stmt) {
-        None => None,
-        Some(entry) => Some(Node::of(prog, entry)),
     }
 }

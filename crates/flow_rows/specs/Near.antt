@@ -6,15 +6,15 @@ use Rattle.cell_names.specs.Paths.{CellName}
 use Rattle.cell_rows.specs.Names.{name}
 use Rattle.cell_rows.specs.Rows.{sites_of}
 use Rattle.cell_rows.specs.Rows as plain
-use Rattle.imp_flow.specs.declared.input.Input.{Input}
-use Rattle.imp_flow.specs.declared.input.Way.{Way}
-use Rattle.imp_flow.specs.declared.input.Way.TheVariants.{Here, Out, Into}
-use Rattle.imp_flow.specs.declared.row.Unary.{Unary}
-use Rattle.imp_flow.specs.declared.row.Unary.TheVariants as one
-use Rattle.imp_flow.specs.declared.row.Binary.{Binary}
-use Rattle.imp_flow.specs.declared.row.Binary.TheVariants as two
-use Rattle.imp_flow.specs.declared.row.Row.{Row}
-use Rattle.imp_flow.specs.declared.row.Row.TheVariants.{Init, One, Two, Fixed, Joins}
+use Rattle.flow_rows.specs.declared.input.Input.{Input}
+use Rattle.flow_rows.specs.declared.input.Way.{Way}
+use Rattle.flow_rows.specs.declared.input.Way.TheVariants.{Here, Out, Into}
+use Rattle.flow_rows.specs.declared.row.Unary.{Unary}
+use Rattle.flow_rows.specs.declared.row.Unary.TheVariants as one
+use Rattle.flow_rows.specs.declared.row.Binary.{Binary}
+use Rattle.flow_rows.specs.declared.row.Binary.TheVariants as two
+use Rattle.flow_rows.specs.declared.row.Row.{Row}
+use Rattle.flow_rows.specs.declared.row.Row.TheVariants.{Init, One, Two, Fixed, Joins}
 
 -- a part of a path, under a name that no type of the code has
 abbrev pub PathFrame : Type 0

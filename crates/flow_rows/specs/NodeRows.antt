@@ -10,8 +10,8 @@ use Rattle.cell_names.specs.declared.frame.Point.{Point}
 use Rattle.cell_names.specs.declared.frame.Point.TheVariants.{Iterate, Fix, Exit, Leap}
 use Rattle.cell_rows.specs.Names.{name, place_of, item}
 use Rattle.cell_rows.specs.Rows.{Posts, Assumes, Enters, Exits, JoinsBoth, Leaves, Row, One, Two, Fixed, Joins, next_operation, sites_of}
-use Rattle.imp_flow.specs.declared.node.Leave.{Leave}
-use Rattle.imp_flow.specs.Shapes.{Node, Shape, Act, If, While, Call}
+use Rattle.flow_rows.specs.declared.node.Leave.{Leave}
+use Rattle.flow_rows.specs.Shapes.{Node, Shape, Act, If, While, Call}
 
 abbrev pub breaks_of : List Leave → List ℕ
 breaks_of ls = map (λ (l : Leave). l.stmt) ls

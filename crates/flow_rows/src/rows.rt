@@ -1,11 +1,10 @@
 //! The rows of a statement's points.
 ghost use Rattle.std.specs.Prelude.{◌≡◌, ◌≤◌, ◌<◌, length, option_map, IfSome, List, ◌∷◌};
-ghost use Rattle.imp_flow.specs.Near.{PathFrame};
+ghost use Rattle.flow_rows.specs.Near.{PathFrame};
 ghost use Rattle.cell_rows.specs.Names.{place_of};
-ghost use Rattle.call_contexts.specs.Settings.{engine_of};
-ghost use Rattle.imp_flow.specs.Entered.{leaves_now, node_now};
-ghost use Rattle.imp_flow.specs.Near.{row_in};
-ghost use Rattle.imp_flow.specs.NodeRows.{iterate_at, joined_at, breaks_of, joins_at, behind_loop, post_at, enter_at, branch_at, turn_at, next_at, fix_at, exit_at, leap_at};
+ghost use Rattle.flow_rows.specs.Entered.{leaves_now, node_now};
+ghost use Rattle.flow_rows.specs.Near.{row_in};
+ghost use Rattle.flow_rows.specs.NodeRows.{iterate_at, joined_at, breaks_of, joins_at, behind_loop, post_at, enter_at, branch_at, turn_at, next_at, fix_at, exit_at, leap_at};
 
 use crate::input::Input;
 use crate::node::{Leaves, Node, Shape};
@@ -53,7 +52,7 @@ fn behind_loop<'a>(head: StmtId, cond: &'a SlotCond, leaves: &Leaves<'_>) -> Opt
 }
 
 /// Behind a statement.
-pub(crate) fn post_row<'a>(node: &Node<'a>) -> Option<Row<'a>>
+pub fn post_row<'a>(node: &Node<'a>) -> Option<Row<'a>>
     ensures is { (w : List PathFrame) → option_map (row_in w) result ≡ post_at w (node_now node.now) }
 {
     match &node.shape {
@@ -75,7 +74,7 @@ pub(crate) fn post_row<'a>(node: &Node<'a>) -> Option<Row<'a>>
 }
 
 /// Into the procedure that a statement calls.
-pub(crate) fn enter_row<'a>(node: &Node<'a>) -> Option<Row<'a>>
+pub fn enter_row<'a>(node: &Node<'a>) -> Option<Row<'a>>
     ensures is { (f : PathFrame) (w : List PathFrame) → option_map (row_in (f ∷ w)) result ≡ enter_at w (node_now node.now) }
 {
     match &node.shape {
@@ -88,7 +87,7 @@ pub(crate) fn enter_row<'a>(node: &Node<'a>) -> Option<Row<'a>>
 }
 
 /// Into a block of an if: the first where `sense`.
-pub(crate) fn branch_row<'a>(node: &Node<'a>, sense: bool) -> Option<Row<'a>>
+pub fn branch_row<'a>(node: &Node<'a>, sense: bool) -> Option<Row<'a>>
     ensures is { (w : List PathFrame) → option_map (row_in w) result ≡ branch_at w sense (node_now node.now) }
 {
     match &node.shape {
@@ -101,13 +100,8 @@ pub(crate) fn branch_row<'a>(node: &Node<'a>, sense: bool) -> Option<Row<'a>>
 }
 
 /// Into a round of a loop, from the iterate of this index.
-pub(crate) fn turn_row<'a>(
-    node: &Node<'a>,
-    budget: u32,
-    widening: Widening,
-    index: u32,
-) -> Option<Row<'a>>
-    ensures is { (f : PathFrame) (w : List PathFrame) → option_map (row_in (f ∷ w)) result ≡ turn_at w (engine_of budget widening) index (node_now node.now) }
+pub fn turn_row<'a>(node: &Node<'a>, budget: u32, widening: Widening, index: u32) -> Option<Row<'a>>
+    ensures is { (f : PathFrame) (w : List PathFrame) → option_map (row_in (f ∷ w)) result ≡ turn_at w (record { budget = budget; widening = widening }) index (node_now node.now) }
 {
     match &node.shape {
         Shape::While(cond, _, _) if index < budget => {
@@ -119,14 +113,14 @@ pub(crate) fn turn_row<'a>(
 }
 
 /// The iterate of a loop behind that of this index.
-pub(crate) fn next_row<'a>(
+pub fn next_row<'a>(
     node: &Node<'a>,
     marks: &'a [i64],
     budget: u32,
     widening: Widening,
     index: u32,
 ) -> Option<Row<'a>>
-    ensures is { (w : List PathFrame) → option_map (row_in w) result ≡ next_at w (engine_of budget widening) marks.now index (node_now node.now) }
+    ensures is { (w : List PathFrame) → option_map (row_in w) result ≡ next_at w (record { budget = budget; widening = widening }) marks.now index (node_now node.now) }
 {
     match &node.shape {
         Shape::While(_, end, _) if index < budget => {
@@ -144,7 +138,7 @@ pub(crate) fn next_row<'a>(
 }
 
 /// Where the iterates of a loop stop.
-pub(crate) fn fix_row<'a>(node: &Node<'a>) -> Option<Row<'a>>
+pub fn fix_row<'a>(node: &Node<'a>) -> Option<Row<'a>>
     ensures is { (w : List PathFrame) → option_map (row_in w) result ≡ fix_at w (node_now node.now) }
 {
     match &node.shape {
@@ -154,7 +148,7 @@ pub(crate) fn fix_row<'a>(node: &Node<'a>) -> Option<Row<'a>>
 }
 
 /// Behind a loop with breaks, by its condition alone.
-pub(crate) fn exit_row<'a>(node: &Node<'a>) -> Option<Row<'a>>
+pub fn exit_row<'a>(node: &Node<'a>) -> Option<Row<'a>>
     ensures is { (w : List PathFrame) → option_map (row_in w) result ≡ exit_at w (node_now node.now) }
 {
     match &node.shape {
@@ -181,7 +175,7 @@ fn place_of(leaves: &Leaves<'_>, stmt: StmtId) -> Option<usize>
 }
 
 /// Behind a loop with its breaks up to this one, which is not its last.
-pub(crate) fn leap_row<'a>(node: &Node<'a>, stmt: StmtId) -> Option<Row<'a>>
+pub fn leap_row<'a>(node: &Node<'a>, stmt: StmtId) -> Option<Row<'a>>
     ensures is { (w : List PathFrame) → option_map (row_in w) result ≡ leap_at w stmt (node_now node.now) }
 {
     match &node.shape {
