@@ -7,8 +7,8 @@ use Rattle.cell_names.specs.declared.frame.Point.{Point}
 use Rattle.cell_names.specs.Paths.{CellName}
 use Rattle.cell_rows.specs.Cells.{Cell, cell, asks_row, operation_row}
 use Rattle.imp_flow.specs.Plans.{Plan}
-use Rattle.imp_flow.specs.declared.row.Row.{Row}
-use Rattle.imp_flow.specs.declared.row.Row.TheVariants.{Fixed}
+use Rattle.flow_rows.specs.declared.row.Row.{Row}
+use Rattle.flow_rows.specs.declared.row.Row.TheVariants.{Fixed}
 use Rattle.daig_graph.specs.declared.value.Value.TheVariants.{State}
 use Rattle.loop_unroll.specs.Iterates.{iterate_of, state_in}
 use Rattle.daig_query.specs.declared.held.Held.{Held}

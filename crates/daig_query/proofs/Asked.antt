@@ -14,11 +14,11 @@ use Rattle.cell_rows.specs.Cells.{Cell, asks_row, most_row, by_row, right_of}
 use Rattle.cell_rows.specs.Claims.{rows_of}
 use Rattle.demand_laws.specs.Claims.{Answered}
 use Rattle.demand_laws.proofs.Machine.{answered}
-use Rattle.imp_flow.specs.Near.{row_in}
-use Rattle.imp_flow.specs.NodeRows.{iterate_at}
+use Rattle.flow_rows.specs.Near.{row_in}
+use Rattle.flow_rows.specs.NodeRows.{iterate_at}
 use Rattle.imp_flow.specs.Plans.{Plan}
-use Rattle.imp_flow.specs.declared.row.Row.{Row}
-use Rattle.imp_flow.specs.declared.row.Row.TheVariants.{Init, One, Two, Fixed, Joins}
+use Rattle.flow_rows.specs.declared.row.Row.{Row}
+use Rattle.flow_rows.specs.declared.row.Row.TheVariants.{Init, One, Two, Fixed, Joins}
 use Rattle.daig_graph.specs.Cells.{AreCells}
 use Rattle.daig_graph.specs.declared.value.Value.{Value}
 use Rattle.daig_graph.specs.declared.value.Value.TheVariants.{State, Over}

@@ -10,15 +10,15 @@ use Rattle.cell_names.specs.declared.frame.Frame.{Frame}
 use Rattle.cell_names.specs.declared.frame.Point.{Point}
 use Rattle.cell_names.specs.Paths.{CellName}
 use Rattle.cell_rows.specs.Cells.{Cell, cell, asks_row, operation_row}
-use Rattle.imp_flow.specs.Near.{row_in}
+use Rattle.flow_rows.specs.Near.{row_in}
 use Rattle.imp_flow.specs.Plans.{Plan}
-use Rattle.imp_flow.specs.declared.input.Input.{Input}
-use Rattle.imp_flow.specs.declared.row.Unary.{Unary}
-use Rattle.imp_flow.specs.declared.row.Unary.TheVariants as one
-use Rattle.imp_flow.specs.declared.row.Binary.{Binary}
-use Rattle.imp_flow.specs.declared.row.Binary.TheVariants as two
-use Rattle.imp_flow.specs.declared.row.Row.{Row}
-use Rattle.imp_flow.specs.declared.row.Row.TheVariants.{Init, One, Two, Fixed, Joins}
+use Rattle.flow_rows.specs.declared.input.Input.{Input}
+use Rattle.flow_rows.specs.declared.row.Unary.{Unary}
+use Rattle.flow_rows.specs.declared.row.Unary.TheVariants as one
+use Rattle.flow_rows.specs.declared.row.Binary.{Binary}
+use Rattle.flow_rows.specs.declared.row.Binary.TheVariants as two
+use Rattle.flow_rows.specs.declared.row.Row.{Row}
+use Rattle.flow_rows.specs.declared.row.Row.TheVariants.{Init, One, Two, Fixed, Joins}
 use Rattle.memo_table.specs.declared.operation.Operation.{Operation}
 use Rattle.memo_table.specs.Results.{result_of, operand, both}
 use Rattle.daig_graph.specs.Cells.{AreCells, Filled}

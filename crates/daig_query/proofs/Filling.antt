@@ -17,7 +17,7 @@ use Rattle.memo_table.specs.Results.{AreResults}
 use Rattle.daig_graph.specs.Cells.{AreCells, Filled}
 use Rattle.daig_graph.proofs.Maps.{get-insert-here, get-insert-other}
 use Rattle.daig_query.specs.declared.held.Held.{Held}
-use Rattle.imp_flow.specs.declared.row.Row.{Row}
+use Rattle.flow_rows.specs.declared.row.Row.{Row}
 use Rattle.daig_query.specs.declared.opening.Open.{Open}
 use Rattle.daig_query.specs.declared.store.Store.{Store}
 use Rattle.named_cells.specs.Same.{same_name}

@@ -14,8 +14,8 @@ use Rattle.cell_rows.specs.Cells.{Cell, cell, plain, operation_row, ends_first, 
 use Rattle.demand_laws.specs.Stops.{last_state, stops_with}
 use Rattle.demand_laws.proofs.Stopping.{ends_by_last}
 use Rattle.imp_flow.specs.Plans.{Plan}
-use Rattle.imp_flow.specs.declared.row.Row.{Row}
-use Rattle.imp_flow.specs.declared.row.Row.TheVariants.{Fixed}
+use Rattle.flow_rows.specs.declared.row.Row.{Row}
+use Rattle.flow_rows.specs.declared.row.Row.TheVariants.{Fixed}
 use Rattle.daig_graph.specs.Cells.{AreCells, Filled}
 use Rattle.daig_graph.specs.declared.value.Value.{Value}
 use Rattle.daig_graph.specs.declared.value.Value.TheVariants.{State, Over}

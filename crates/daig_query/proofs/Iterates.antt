@@ -17,12 +17,12 @@ use Rattle.cell_rows.proofs.FlatShapes.{Shaped, flat_shaped}
 use Rattle.demand_laws.specs.Stops.{state_of, last_state, goes_on}
 use Rattle.demand_laws.proofs.Indexing.{iterates_none}
 use Rattle.demand_laws.proofs.Stopping.{wants_by_last}
-use Rattle.imp_flow.specs.Near.{row_in, input_name}
-use Rattle.imp_flow.specs.declared.input.Input.{Input}
-use Rattle.imp_flow.specs.Inputs.{iterate_of as iterate_in}
+use Rattle.flow_rows.specs.Near.{row_in, input_name}
+use Rattle.flow_rows.specs.declared.input.Input.{Input}
+use Rattle.flow_rows.specs.Inputs.{iterate_of as iterate_in}
 use Rattle.imp_flow.specs.Plans.{Plan}
-use Rattle.imp_flow.specs.declared.row.Row.{Row}
-use Rattle.imp_flow.specs.declared.row.Row.TheVariants.{Fixed}
+use Rattle.flow_rows.specs.declared.row.Row.{Row}
+use Rattle.flow_rows.specs.declared.row.Row.TheVariants.{Fixed}
 use Rattle.daig_graph.specs.declared.value.Value.{Value}
 use Rattle.daig_graph.specs.declared.value.Value.TheVariants.{State, Over}
 use Rattle.loop_unroll.specs.Iterates.{iterate_of, Stops, GoesOnTo, StopsWithin}

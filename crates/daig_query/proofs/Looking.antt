@@ -15,7 +15,7 @@ use Rattle.cell_rows.proofs.FlatOnce.{all_fine, flat_once}
 use Rattle.cell_rows.proofs.Package.{inputs_have}
 use Rattle.cell_rows.proofs.TotalRows.{total_inputs}
 use Rattle.imp_flow.specs.Plans.{Plan}
-use Rattle.imp_flow.specs.declared.row.Row.{Row}
+use Rattle.flow_rows.specs.declared.row.Row.{Row}
 use Rattle.daig_graph.specs.Cells.{Filled}
 use Rattle.daig_graph.specs.declared.value.Value.{Value}
 use Rattle.daig_graph.specs.declared.value.Value.TheVariants.{State, Over}

@@ -5,12 +5,12 @@ use Rattle.std.specs.Map.{lookup}
 use Rattle.state_table.specs.Numbers.{AreOnce, KeepsNumbers}
 use Rattle.imp_slots.specs.CallViews.{taken_of, returning_of, returning_from, returning_from-returning_of}
 use Rattle.imp_slots.specs.declared.calls.Returning.{Returning}
-use Rattle.imp_flow.specs.declared.row.Unary.{Unary}
-use Rattle.imp_flow.specs.declared.row.Unary.TheVariants as one
-use Rattle.imp_flow.specs.declared.row.Binary.{Binary}
-use Rattle.imp_flow.specs.declared.row.Binary.TheVariants as two
-use Rattle.imp_flow.specs.declared.row.Row.{Row}
-use Rattle.imp_flow.specs.declared.row.Row.TheVariants.{Init, One, Two, Fixed, Joins}
+use Rattle.flow_rows.specs.declared.row.Unary.{Unary}
+use Rattle.flow_rows.specs.declared.row.Unary.TheVariants as one
+use Rattle.flow_rows.specs.declared.row.Binary.{Binary}
+use Rattle.flow_rows.specs.declared.row.Binary.TheVariants as two
+use Rattle.flow_rows.specs.declared.row.Row.{Row}
+use Rattle.flow_rows.specs.declared.row.Row.TheVariants.{Init, One, Two, Fixed, Joins}
 use Rattle.memo_table.specs.declared.operation.Operation.{Operation}
 use Rattle.memo_table.specs.declared.operation.Operation.TheVariants as owned
 use Rattle.memo_table.specs.contracts.memo.KeyPartialEq.TheImpl as key_impl

@@ -8,7 +8,7 @@ use Rattle.cell_names.specs.Paths.{CellName}
 use Rattle.cell_rows.specs.Cells.{Cell}
 use Rattle.state_table.specs.Numbers.{AreOnce}
 use Rattle.imp_flow.specs.Plans.{Plan}
-use Rattle.imp_flow.specs.declared.row.Row.{Row}
+use Rattle.flow_rows.specs.declared.row.Row.{Row}
 use Rattle.memo_table.specs.declared.operation.Operation.{Operation}
 use Rattle.memo_table.specs.declared.memo.Key.{Key}
 use Rattle.memo_table.specs.Results.{AreResults, IsResult, result_of, operand}

@@ -11,7 +11,7 @@ use Rattle.cell_rows.proofs.Rowed.{has_row}
 use Rattle.cell_rows.specs.Targets.{Target}
 use Rattle.demand_laws.specs.Walks as law
 use Rattle.imp_flow.specs.Plans.{Plan}
-use Rattle.imp_flow.specs.declared.row.Row.{Row}
+use Rattle.flow_rows.specs.declared.row.Row.{Row}
 use Rattle.named_cells.specs.Same.{same_name}
 use Rattle.named_cells.specs.Asked.{inputs}
 use Rattle.named_cells.proofs.Numbers.{filled_number}

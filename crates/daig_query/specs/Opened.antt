@@ -8,9 +8,9 @@ use Rattle.cell_rows.specs.Claims.{HasName}
 use Rattle.cell_rows.specs.Rows as plain
 use Rattle.cell_rows.specs.Flat.{flat_row}
 use Rattle.daig_graph.specs.Cells.{AreCells}
-use Rattle.imp_flow.specs.Near.{row_in}
+use Rattle.flow_rows.specs.Near.{row_in}
 use Rattle.imp_flow.specs.Plans.{Plan}
-use Rattle.imp_flow.specs.declared.row.Row.{Row}
+use Rattle.flow_rows.specs.declared.row.Row.{Row}
 use Rattle.daig_query.specs.declared.opening.Open.{Open}
 use Rattle.daig_query.specs.declared.store.Store.{Store}
 use Rattle.named_cells.specs.Same.{same_name}

@@ -10,7 +10,7 @@ ghost use Rattle.daig_query.specs.Made.{IsFixed, IsOperationOf, alone_in, index_
 ghost use Rattle.daig_query.specs.Recalled.{IsRemembered, IsRecalled};
 ghost use Rattle.daig_query.specs.Opened.{name_of, IsReady, Computes};
 ghost use Rattle.daig_query.specs.Overs.{HasNoOver, HasOver, IsFirstOver};
-ghost use Rattle.imp_flow.specs.declared.row.Row.TheVariants.{Fixed};
+ghost use Rattle.flow_rows.specs.declared.row.Row.TheVariants.{Fixed};
 
 use crate::held::Held;
 use crate::opening::Open;
@@ -19,7 +19,8 @@ use crate::store::Store;
 use cell_names::{Names, PathId};
 use daig_graph::{Graph, SharedChain, Value};
 use domain_laws::{Domain, Steps};
-use imp_flow::{Flow, Row, Unary};
+use flow_rows::{Row, Unary};
+use imp_flow::Flow;
 use imp_syntax::{Chain, StmtId};
 use loop_unroll::converged;
 use memo_table::{Key, Operation};

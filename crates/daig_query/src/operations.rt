@@ -3,7 +3,7 @@ ghost use Rattle.std.specs.Prelude.{◌≡◌, ◌+◌, IsSome, Some, IfOk, opti
 ghost use Rattle.daig_query.specs.Made.{IsUnaryOf, IsBinaryOf, IsOperationOf, unary_state, binary_state, row_result};
 
 use domain_laws::{Domain, Steps};
-use imp_flow::{Binary, Row, Unary};
+use flow_rows::{Binary, Row, Unary};
 use memo_table::Operation;
 use plain_values::Memory;
 use std::alloc::Global;

@@ -8,8 +8,8 @@ use Rattle.cell_names.specs.Paths.{CellName, path_at, name_in}
 use Rattle.cell_rows.specs.Flat.{flat_row}
 use Rattle.daig_graph.specs.Cells.{Filled}
 use Rattle.imp_flow.specs.Plans.{Plan}
-use Rattle.imp_flow.specs.Near.{last_frame, row_in}
-use Rattle.imp_flow.specs.declared.row.Row.{Row}
+use Rattle.flow_rows.specs.Near.{last_frame, row_in}
+use Rattle.flow_rows.specs.declared.row.Row.{Row}
 use Rattle.edit_invalidate.specs.RowCode.{is_nil}
 use Rattle.edit_invalidate.specs.Rows.{AskSame}
 use Rattle.edit_invalidate.specs.Touched.{KeepsCell, or_start, name_at, input_count}

@@ -15,16 +15,16 @@ use Rattle.cell_names.specs.Paths.{CellName}
 use Rattle.cell_names.proofs.Telling.{frame_decides, point_decides}
 use Rattle.cell_rows.specs.Names.{name}
 use Rattle.cell_rows.specs.Rows as plain
-use Rattle.imp_flow.specs.declared.input.Input.{Input}
-use Rattle.imp_flow.specs.declared.input.Way.{Way}
-use Rattle.imp_flow.specs.declared.input.Way.TheVariants.{Here, Out, Into}
-use Rattle.imp_flow.specs.declared.row.Unary.{Unary}
-use Rattle.imp_flow.specs.declared.row.Unary.TheVariants as one
-use Rattle.imp_flow.specs.declared.row.Binary.{Binary}
-use Rattle.imp_flow.specs.declared.row.Binary.TheVariants as two
-use Rattle.imp_flow.specs.declared.row.Row.{Row}
-use Rattle.imp_flow.specs.declared.row.Row.TheVariants.{Init, One, Two, Fixed, Joins}
-use Rattle.imp_flow.specs.Near.{outside, near, input_name, unary_of, binary_of, row_in}
+use Rattle.flow_rows.specs.declared.input.Input.{Input}
+use Rattle.flow_rows.specs.declared.input.Way.{Way}
+use Rattle.flow_rows.specs.declared.input.Way.TheVariants.{Here, Out, Into}
+use Rattle.flow_rows.specs.declared.row.Unary.{Unary}
+use Rattle.flow_rows.specs.declared.row.Unary.TheVariants as one
+use Rattle.flow_rows.specs.declared.row.Binary.{Binary}
+use Rattle.flow_rows.specs.declared.row.Binary.TheVariants as two
+use Rattle.flow_rows.specs.declared.row.Row.{Row}
+use Rattle.flow_rows.specs.declared.row.Row.TheVariants.{Init, One, Two, Fixed, Joins}
+use Rattle.flow_rows.specs.Near.{outside, near, input_name, unary_of, binary_of, row_in}
 use Rattle.kept_set.proofs.Decided.{returning_code, truth_decides, never}
 use Rattle.edit_invalidate.specs.RowCode.{same_ways, same_inputs, same_unary, same_binary, same_row, is_nil}
 use Rattle.edit_invalidate.specs.Rows.{AskSame}

@@ -9,16 +9,16 @@ use Rattle.imp_slots.specs.EnumCodes.{stmt_coded}
 use Rattle.domain_laws.specs.Claims.{same_truth}
 use Rattle.cell_names.specs.contracts.frame.FramePartialEq.TheImpl as frames
 use Rattle.cell_names.specs.contracts.frame.PointPartialEq.TheImpl as points
-use Rattle.imp_flow.specs.declared.input.Input.{Input}
-use Rattle.imp_flow.specs.declared.input.Way.{Way}
-use Rattle.imp_flow.specs.declared.input.Way.TheVariants.{Here, Out, Into}
-use Rattle.imp_flow.specs.declared.row.Unary.{Unary}
-use Rattle.imp_flow.specs.declared.row.Unary.TheVariants as one
-use Rattle.imp_flow.specs.declared.row.Binary.{Binary}
-use Rattle.imp_flow.specs.declared.row.Binary.TheVariants as two
-use Rattle.imp_flow.specs.declared.row.Row.{Row}
-use Rattle.imp_flow.specs.declared.row.Row.TheVariants.{Init, One, Two, Fixed, Joins}
-use Rattle.imp_flow.specs.Near.{PathFrame}
+use Rattle.flow_rows.specs.declared.input.Input.{Input}
+use Rattle.flow_rows.specs.declared.input.Way.{Way}
+use Rattle.flow_rows.specs.declared.input.Way.TheVariants.{Here, Out, Into}
+use Rattle.flow_rows.specs.declared.row.Unary.{Unary}
+use Rattle.flow_rows.specs.declared.row.Unary.TheVariants as one
+use Rattle.flow_rows.specs.declared.row.Binary.{Binary}
+use Rattle.flow_rows.specs.declared.row.Binary.TheVariants as two
+use Rattle.flow_rows.specs.declared.row.Row.{Row}
+use Rattle.flow_rows.specs.declared.row.Row.TheVariants.{Init, One, Two, Fixed, Joins}
+use Rattle.flow_rows.specs.Near.{PathFrame}
 
 -- Outside main's block is main's block.
 abbrev pub same_ways : (in_main : Bool) → Way → Way → Bool

@@ -4,12 +4,12 @@ ghost use Rattle.std.specs.Bool.{Decides};
 ghost use Rattle.plain_values.specs.Equal.{code_same};
 ghost use Rattle.imp_slots.specs.PartCodes.{returning_to};
 ghost use Rattle.imp_slots.specs.CallViews.{taken_of};
-ghost use Rattle.imp_flow.specs.Near.{PathFrame, row_in};
+ghost use Rattle.flow_rows.specs.Near.{PathFrame, row_in};
 ghost use Rattle.domain_laws.specs.Claims.{same_truth};
 ghost use Rattle.edit_invalidate.specs.RowCode.{is_nil, same_binary, same_inputs, same_row, same_unary, same_ways};
 ghost use Rattle.edit_invalidate.specs.Rows.{AskSame};
 
-use imp_flow::{Binary, Input, Row, Unary, Way};
+use flow_rows::{Binary, Input, Row, Unary, Way};
 use imp_slots::Returning;
 
 fn same_ways(in_main: bool, a: Way, b: Way) -> bool

@@ -2,7 +2,7 @@
 ghost use Rattle.std.specs.Prelude.{◌≡◌, ◌<◌, length, IfOk, OnOk};
 ghost use Rattle.std.specs.Bool.{Decides};
 ghost use Rattle.cell_names.specs.Paths.{path_at, name_in};
-ghost use Rattle.imp_flow.specs.Near.{last_frame};
+ghost use Rattle.flow_rows.specs.Near.{last_frame};
 ghost use Rattle.edit_invalidate.specs.Touched.{AddsTouched, AreNamed, AreTouched, KeepsCell, inputs_at, name_at};
 
 use crate::compare::same_rows;

@@ -30,7 +30,7 @@ use Rattle.imp_edit.specs.Edited.{edited, brought}
 use Rattle.imp_edit.specs.Gaps.{gone_gap, behind_gap, then_gap, else_gap, body_gap, start_gap, of_entry, of_place, gap_of}
 use Rattle.imp_edit.specs.Quiet.{part_numbers, part_quiet}
 use Rattle.imp_edit.specs.Refusals.{site_refusal, statement_refusal, entry_refusal, fits}
-use Rattle.imp_edit.specs.declared.gap.Gap.{Gap}
+use Rattle.loop_breaks.specs.declared.gap.Gap.{Gap}
 use Rattle.imp_edit.specs.declared.refusals.Needed.{Needed}
 use Rattle.imp_edit.specs.declared.refusals.Needed.TheVariants as needed
 use Rattle.imp_edit.specs.declared.error.EditError.TheVariants.{NoProcedure, WrongStatement}

@@ -10,10 +10,9 @@ pub mod ApplyLemmas
 pub mod Exchanged
 pub mod AloneLemmas
 pub mod GuardLemmas
-pub mod PutLemmas
 pub mod QuietLemmas
 pub mod GapLemmas
 pub mod SpliceLemmas
-pub mod BreakLemmas
+pub mod BreaksTold
 pub mod ComingLemmas
 pub mod SpliceMade

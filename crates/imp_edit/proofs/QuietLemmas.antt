@@ -1,6 +1,6 @@
 -- A part in which no call stands, as it is found from one statement to the next.
 use Rattle.std.proofs.Common.{◌≡◌, ℕ, zero, suc, ◌-◌, ◌<◌, ◌≤◌, inl, inr, cond, List, [], ◌∷◌, ◌++◌, Option, Some, None, Bool, true, false, ◌&&◌, not, refl, sym, ap, ◌∙◌, arith, append-nil}
-use Rattle.std.proofs.Math.Bool.{and_assoc}
+use Rattle.std.proofs.Math.Bool.{and_assoc, and-true}
 use Rattle.imp_syntax.specs.Plain.{Statement, Statements, Ends, Starts, Procedure, numbers}
 use Rattle.imp_syntax.specs.Plain as tree
 use Rattle.imp_check.specs.Entries.{inside, inside_loop, entry_at, entries_of, entry_of, statement_entries, block_entries}
@@ -16,7 +16,7 @@ use Rattle.imp_check.proofs.RebuildLemmas.{in_left, in_right, Known, known_left,
 use Rattle.imp_check.proofs.WalkLemmas.{walk_is}
 use Rattle.edit_entries.specs.Gaps.{are_quiet}
 use Rattle.imp_edit.specs.Gaps.{gone_gap, of_entry, part_gap}
-use Rattle.imp_edit.specs.declared.gap.Gap.{Gap}
+use Rattle.loop_breaks.specs.declared.gap.Gap.{Gap}
 use Rattle.imp_edit.specs.Quiet.{is_call, quiet_on, quiet_from, part_numbers, part_quiet}
 
 -- Steps.
@@ -33,10 +33,6 @@ pub quiet_none : (at : ℕ → Option Entry) (left : ℕ) (o : Option ℕ) → n
 quiet_none at zero o h = refl
 quiet_none at (suc left) None h = refl
 quiet_none at (suc left) (Some n) h = ap (quiet_on (quiet_from at left)) h
-
-and_true : (a : Bool) → a ≡ (a && true)
-and_true true = refl
-and_true false = refl
 
 module _ (at : ℕ → Option Entry) (f : Resolver) where
   -- a statement whose entry is found, those of its blocks, and those behind it
@@ -115,7 +111,7 @@ module _ (at : ℕ → Option Entry) (f : Resolver) where
       let l : Known at (T ++ E) = λ y i. k y (inr i) in
       ap (λ z. z && quiet_from at m (first_or e None)) (quiet_is m t (inside c n which.Then) None (omega arith) (known_left at T E l))
       ∙ ap (λ z. are_quiet t && z) (quiet_is m e (inside c n which.Else) None (omega arith) (known_right at T E l))
-      ∙ and_true (are_quiet t && are_quiet e)
+      ∙ sym (and-true (are_quiet t && are_quiet e))
   part_quiet_is m (tree.While n d b) c a p h k =
       ap (λ z. z && quiet_from at m None) (quiet_is m b (inside_loop c n) None (omega arith) (λ y i. k y (inr i)))
       ∙ ap (λ z. are_quiet b && z) (no_call m)

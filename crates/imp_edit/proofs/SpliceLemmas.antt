@@ -5,7 +5,6 @@ use Rattle.std.specs.List.{All}
 use Rattle.std.specs.Option.{option_map}
 use Rattle.edit_entries.proofs.Faults.{first_assoc}
 use Rattle.imp_syntax.specs.Plain.{Statement, Statements, Ends, Starts, Procedure, number_of, statements_of}
-use Rattle.program_table.specs.Changes.{AreFalling, AreWithin}
 use Rattle.imp_check.specs.Entries.{entry_of, head_of, heads_of}
 use Rattle.imp_check.specs.Faults.{first, in_procedure}
 use Rattle.imp_check.specs.Parts.{last_or}
@@ -18,17 +17,11 @@ use Rattle.imp_check.specs.declared.fault.Found.{Found}
 use Rattle.imp_check.proofs.RebuildLemmas.{entry_numbers}
 use Rattle.edit_entries.specs.Gaps.{head_with, heads_in, holder_of}
 use Rattle.edit_entries.proofs.Others.{entry_append}
-use Rattle.imp_edit.specs.Gaps.{IsBelow}
+use Rattle.loop_breaks.specs.Bounds.{IsBelow}
 use Rattle.imp_edit.specs.Refusals.{IsRefusal}
 use Rattle.imp_edit.specs.declared.error.EditError.{EditError}
 use Rattle.imp_edit.specs.declared.error.EditError.TheVariants.{NoProcedure, NoStatement, WrongStatement, IsMain, StillCalled, Numbers, Fault, Memory}
 use Rattle.imp_check.proofs.TableLemmas.{head_at, heads_length}
-
-pub none_fall : AreFalling []
-none_fall i j d h l = absurd (omega arith)
-
-pub none_within : (b : ℕ) → AreWithin b []
-none_within b = record { falling = none_fall; below = λ i d l. absurd (omega arith) }
 
 -- The last statement of a block, by its place.
 pub last_there : (b : Statements) (o : Option ℕ) (i : ℕ) (s : Statement) → i ≡ length (statements_of b) - 1 → Some s ≡ slice_get (statements_of b) i → Some (number_of s) ≡ last_or b o

@@ -32,14 +32,15 @@ use Rattle.edit_entries.proofs.Quiet.{numbers_count, quiet_entries}
 use Rattle.edit_entries.proofs.Standing.{all_has, context_proc, own_head}
 use Rattle.edit_entries.proofs.Touched.{context_of}
 use Rattle.imp_edit.specs.Edited.{edited, brought, uses, next_after, counting, Continues}
-use Rattle.imp_edit.specs.Breaks.{loop_breaks}
-use Rattle.imp_edit.specs.Gaps.{AreBelow, IsBelow, IsSplice, count_with, entries_with, gap_of, splice_fault}
+use Rattle.loop_breaks.specs.Breaks.{loop_breaks}
+use Rattle.loop_breaks.specs.Bounds.{IsBelow}
+use Rattle.imp_edit.specs.Gaps.{AreBelow, IsSplice, count_with, entries_with, gap_of, splice_fault}
 use Rattle.imp_edit.specs.Refusals.{IsRefusal, site_refusal}
 use Rattle.imp_edit.specs.Short.{IsMade}
 use Rattle.imp_edit.specs.declared.error.EditError.{EditError}
 use Rattle.imp_edit.specs.declared.error.EditError.TheVariants.{Fault}
-use Rattle.imp_edit.specs.declared.gap.Gap.{Gap}
-use Rattle.imp_edit.proofs.BreakLemmas.{breaks_told}
+use Rattle.loop_breaks.specs.declared.gap.Gap.{Gap}
+use Rattle.imp_edit.proofs.BreaksTold.{breaks_told}
 use Rattle.imp_edit.proofs.GapLemmas.{GapPart, gap_part}
 use Rattle.imp_edit.proofs.Once.{never_absent, counting_low, counting_high, never_below}
 

@@ -1,7 +1,7 @@
 -- Changes of trees, as the code makes them.
-use Rattle.std.proofs.Common.{ℕ, ◌+◌, ◌<◌, ◌≤◌, ◌≡◌, refl, List, [], ◌∷◌, ◌++◌, length, drop, slice_index_or, cond, ◌==◌, true, false, ap, sym, ◌∙◌, arith, append_assoc}
+use Rattle.std.proofs.Common.{ℕ, ◌+◌, ◌<◌, ◌≤◌, ◌≡◌, refl, List, [], ◌∷◌, ◌++◌, length, drop, slice_index_or, cond, ◌==◌, true, false, ap, sym, ◌∙◌, append_assoc}
 use Rattle.std.proofs.lemmas.List.{append-nil, drop_all}
-use Rattle.std.proofs.lemmas.Bool.Decides.{nat_tests}
+use Rattle.plain_values.proofs.Cases.{equal_test}
 use Rattle.imp_syntax.specs.Plain.{Condition, Statement, Simple, Break, Call, If, While, Statements, Ends, Starts, block_of, statements_of, number_of}
 use Rattle.imp_syntax.specs.Changes.{inserted, with_condition}
 use Rattle.imp_syntax.specs.Blocks.{statements_back, block_again, block_rest}
@@ -29,9 +29,6 @@ conditioned d (While n c b) = refl
 abbrev pub to_come : ℕ → (Statement → Statements) → List Statement → ℕ → List Statement
 to_come n made ss i = statements_of (in_block n made (block_of (drop i ss)))
 
-it_is : (m n : ℕ) → m ≡ n → (m == n) ≡ true
-it_is m n e = grind (arith, nat_tests)
-
 met : (n : ℕ) (made : Statement → Statements) (ss : List Statement) (i : ℕ) (s : Statement) → i < length ss → s ≡ slice_index_or ss i s → (number_of s == n) ≡ true → to_come n made ss i ≡ statements_of (made s) ++ drop (i + 1) ss
 met n made ss i s h e q =
     ap (λ b. statements_of (in_block n made b)) (block_rest ss i s h e)
@@ -51,7 +48,7 @@ ended n made ss i h = ap (λ zs. statements_of (in_block n made (block_of zs))) 
 pub met_whole : (n : ℕ) (made : Statement → Statements) (ss : List Statement) (b : Statements) (i : ℕ) (s : Statement) (front met_too all : List Statement) → i < length ss → s ≡ slice_index_or ss i s → number_of s ≡ n → front ++ to_come n made ss i ≡ statements_of (in_block n made b) → met_too ≡ front ++ statements_of (made s) → all ≡ met_too ++ drop (i + 1) ss → block_of all ≡ in_block n made b
 met_whole n made ss b i s front met_too all h e q told r t =
     block_is_of all (in_block n made b)
-    (t ∙ ap (λ zs. zs ++ drop (i + 1) ss) r ∙ append_assoc front (statements_of (made s)) (drop (i + 1) ss) ∙ ap (λ zs. front ++ zs) (sym (met n made ss i s h e (it_is (number_of s) n q))) ∙ told)
+    (t ∙ ap (λ zs. zs ++ drop (i + 1) ss) r ∙ append_assoc front (statements_of (made s)) (drop (i + 1) ss) ∙ ap (λ zs. front ++ zs) (sym (met n made ss i s h e (equal_test (number_of s) n q))) ∙ told)
 
 pub left_whole : (n : ℕ) (made : Statement → Statements) (ss : List Statement) (b : Statements) (i : ℕ) (front : List Statement) → length ss ≤ i → front ++ to_come n made ss i ≡ statements_of (in_block n made b) → block_of front ≡ in_block n made b
 left_whole n made ss b i front h told =

@@ -22,9 +22,10 @@ use Rattle.imp_check.specs.declared.fault.Fault.TheVariants.{Statements as TooMa
 use Rattle.imp_check.specs.declared.fault.Found.{Found}
 use Rattle.edit_entries.specs.Gaps.{ends_with, holder_of, held_in, heads_in, gap_splice, lone}
 use Rattle.edit_entries.specs.Spliced.{spliced}
-use Rattle.imp_edit.specs.Breaks.{loop_breaks}
+use Rattle.loop_breaks.specs.Bounds.{IsBelow}
+use Rattle.loop_breaks.specs.Breaks.{loop_breaks}
+use Rattle.loop_breaks.specs.declared.gap.Gap.{Gap}
 use Rattle.imp_edit.specs.Quiet.{part_numbers, part_quiet}
-use Rattle.imp_edit.specs.declared.gap.Gap.{Gap}
 
 -- in the place of a statement in which no call stands
 abbrev pub gone_gap : (at : ℕ → Option Entry) → (most : ℕ) → Entry → Option Gap
@@ -94,12 +95,7 @@ splice_fault ps h g news = first (size_fault ps g news) (in_procedure h.bare.nam
 abbrev pub entries_with : List Procedure → Head → Gap → Statements → ℕ → Option Entry
 entries_with ps h g news = spliced (gap_splice (resolver_at [] h.bare) g.context g.front g.next g.gone news (loop_breaks ps g news)) (held_in g.context.around (ends_with g.front g.next news)) (entry_of (entries_of ps))
 
--- a number, if there is one, is below a bound
-abbrev pub IsBelow : ℕ → Option ℕ → Type 0
-IsBelow b None = Unit {0}
-IsBelow b (Some n) = n < b
-
--- So are those of the statements around a place, and of those that come and go.
+-- The numbers of the statements around a place, and of those that come and go, are below a bound.
 pub record AreBelow (b : ℕ) (g : Gap) (news : Statements) : Type 0 where
   pub gone : All (λ (n : ℕ). n < b) g.gone
   pub front : IsBelow b g.front

@@ -1,5 +1,4 @@
 pub mod Alone
-pub mod Breaks
 pub mod Changes
 pub mod Edited
 pub mod Gaps

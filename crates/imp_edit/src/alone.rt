@@ -14,6 +14,7 @@ ghost use Rattle.imp_edit.specs.Refusals.{IsRefusal};
 use crate::error::EditError;
 use imp_check::{CheckError, Fault, Found, SlotForm, variables_of};
 use imp_syntax::{Block, Cond, Proc, Program, Stmt, StmtId, StmtNode};
+use loop_breaks::form_again;
 use plain_values::{Items, Memory, Text};
 use program_table::{Table, check_table};
 use std::alloc::Global;
@@ -93,17 +94,6 @@ fn form_of(table: &Table) -> Result<Option<SlotForm>, Memory>
     match table.entry(StmtId::new(1)) {
         Some(entry) => Ok(Some(form_again(&entry.form)?)),
         None => Ok(None),
-    }
-}
-
-/// A copy of a form.
-pub(crate) fn form_again(form: &SlotForm) -> Result<SlotForm, Memory>
-    ensures is { IfOk result (λ copy. copy ≡ form.now) }
-{
-    match form {
-        SlotForm::Stmt(stmt) => Ok(SlotForm::Stmt(stmt.clone()?)),
-        SlotForm::Cond(cond) => Ok(SlotForm::Cond(cond.clone()?)),
-        SlotForm::Call(call, callee) => Ok(SlotForm::Call(call.clone()?, *callee)),
     }
 }
 

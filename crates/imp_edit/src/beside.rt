@@ -12,16 +12,14 @@ ghost use Rattle.imp_check.specs.declared.entry.BlockEnds.{BlockEnds};
 ghost use Rattle.imp_check.specs.declared.entry.Entry.{Entry};
 ghost use Rattle.edit_entries.specs.Gaps.{ends_in, ends_with, held_in, holder_of, with_ends};
 ghost use Rattle.edit_entries.specs.Spliced.{is, rebroken, with_front, with_next};
-ghost use Rattle.imp_edit.specs.Breaks.{loop_breaks};
-ghost use Rattle.imp_edit.specs.Gaps.{AreBelow, IsBelow, entries_with};
+ghost use Rattle.loop_breaks.specs.Breaks.{loop_breaks};
+ghost use Rattle.loop_breaks.specs.Bounds.{IsBelow};
+ghost use Rattle.imp_edit.specs.Gaps.{AreBelow, entries_with};
 
-use crate::alone::form_again;
 use crate::blocks::{first_or, last_or};
-use crate::breaks::{loop_puts, rebroken};
-use crate::gap::Gap;
-use crate::puts::put_at;
 use imp_check::{Around, BlockEnds, Entry, Head, Place, Which};
 use imp_syntax::{Block, StmtId};
+use loop_breaks::{Gap, entry_again, loop_puts, put_at, rebroken};
 use plain_values::Memory;
 use program_table::{Put, Table};
 use std::alloc::Global;
@@ -39,26 +37,6 @@ pub(crate) fn ends_with(gap: &Gap, news: &Block, ends: BlockEnds) -> BlockEnds
         None => last_or(news, gap.front),
     };
     BlockEnds { first, last }
-}
-
-/// A copy of an entry.
-pub(crate) fn entry_again(entry: &Entry) -> Result<Entry, Memory>
-    ensures is { IfOk result (λ copy. copy ≡ entry.now) }
-{
-    let breaks = entry.breaks.clone()?;
-    let part = entry.part.clone()?;
-    let form = form_again(&entry.form)?;
-    Ok(Entry {
-        number: entry.number,
-        part,
-        form,
-        context: entry.context,
-        front: entry.front,
-        next: entry.next,
-        inner: entry.inner,
-        other: entry.other,
-        breaks,
-    })
 }
 
 /// What stands at a number, with another statement behind it.

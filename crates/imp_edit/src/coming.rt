@@ -17,12 +17,12 @@ ghost use Rattle.imp_edit.specs.Refusals.{IsRefusal};
 
 use crate::alone::{condition_alone, form_alone};
 use crate::error::EditError;
-use crate::gap::Gap;
 use imp_check::{
     Context, Entry, Head, SlotForm, Which, breaks_of, first_ends, part_of, second_ends,
 };
 use imp_slots::SlotStmt;
 use imp_syntax::{Block, Stmt, StmtId, StmtNode};
+use loop_breaks::Gap;
 use plain_values::Memory;
 use std::alloc::Global;
 

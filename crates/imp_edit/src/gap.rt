@@ -1,4 +1,4 @@
-//! Places in blocks where statements come, or from which a statement goes.
+//! The places where edits put statements, or from which one goes.
 ghost use Rattle.std.specs.Prelude.{◌≡◌, ◌++◌, ◌&&◌, IfOk, Some, true};
 ghost use Rattle.imp_check.specs.Entries.{entries_of, entry_of, heads_of};
 ghost use Rattle.imp_check.specs.Walks.{walk};
@@ -8,22 +8,10 @@ ghost use Rattle.imp_edit.specs.Quiet.{quiet_from};
 use crate::quiet::{add_quiet, is_call};
 use imp_check::{Context, Entry, Which};
 use imp_syntax::{Edit, Place, ProcId, StmtId};
+use loop_breaks::Gap;
 use plain_values::{Items, Memory};
 use program_table::Table;
 use std::alloc::Global;
-
-/// A place in a block where statements come: between two of it, where a statement may go.
-#[derive(Drop)]
-pub(crate) struct Gap {
-    /// The block.
-    pub(crate) context: Context,
-    /// The statement in front.
-    pub(crate) front: Option<StmtId>,
-    /// The statement behind.
-    pub(crate) next: Option<StmtId>,
-    /// The statement that goes, between the two, and those inside it; none is a call.
-    pub(crate) gone: Items<StmtId>,
-}
 
 /// Where an edit puts statements or takes one away in which no call stands; `None` for other edits. It takes time in
 /// proportion to the statements that go, or, for the place of a procedure's name, to the procedures.

@@ -13,7 +13,7 @@
 //! The change is found from the tree of the program, or, for another condition and for statements that come and go, from
 //! what is known of the statements beside them and in them, in time that the size of the program does not enter: where no
 //! call stands in them, and each break that comes has a loop. Where one comes to a loop that keeps others, its place among
-//! them is found by a walk through the statements of that loop in front of it.
+//! them is found by a walk through the statements of that loop in front of it (`loop_breaks`).
 //!
 //! An edit's own statements carry the numbers from `next` on, so a number is never used again, and numbers of the new
 //! program stand once.
@@ -23,14 +23,11 @@ mod alone;
 mod applying;
 mod beside;
 mod blocks;
-mod breaks;
 mod coming;
 mod error;
 mod gap;
-mod leaving;
 mod numbers;
 mod procedures;
-mod puts;
 mod quiet;
 mod refusals;
 mod short;

@@ -1,13 +1,11 @@
 //! The numbers of a part in which no call stands, found from one statement to the next.
 ghost use Rattle.std.specs.Prelude.{◌≡◌, ◌++◌, IfOk, true};
-ghost use Rattle.std.specs.Option.{option_copied};
 ghost use Rattle.imp_check.specs.Entries.{entries_of, entry_of};
-ghost use Rattle.imp_check.specs.Rebuilt.{next_in};
 ghost use Rattle.imp_check.specs.Walks.{walk};
 ghost use Rattle.imp_edit.specs.Quiet.{is_call, quiet_from};
 
-use imp_check::Entry;
 use imp_syntax::{Stmt, StmtId, StmtNode};
+use loop_breaks::next_in;
 use plain_values::{Items, Memory};
 use program_table::Table;
 
@@ -20,19 +18,6 @@ pub(crate) fn is_call(stmt: &Stmt) -> bool
         StmtNode::Simple(_) | StmtNode::Break | StmtNode::If(_, _, _) | StmtNode::While(_, _) => {
             false
         }
-    }
-}
-
-/// What stands at a number, if so many more statements there are.
-pub(crate) fn next_in(table: &Table, most: u32, at: Option<StmtId>) -> Option<&Entry>
-    ensures is { option_copied result ≡ next_in (entry_of (entries_of table.now.program)) most at }
-{
-    if most == 0 {
-        return None;
-    }
-    match at {
-        Some(id) => table.entry(id),
-        None => None,
     }
 }
 

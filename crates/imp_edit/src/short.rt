@@ -14,12 +14,12 @@ ghost use Rattle.imp_edit.specs.Refusals.{IsRefusal, fits, site_refusal};
 ghost use Rattle.imp_edit.specs.Short.{IsMade};
 
 use crate::alone::{condition_alone, form_alone};
-use crate::blocks::closed_at;
 use crate::error::EditError;
-use crate::gap::{Gap, gap_of};
+use crate::gap::gap_of;
 use crate::splicing::splice;
 use imp_check::{Entry, Place, SlotForm};
 use imp_syntax::{Block, Cond, Edit, Stmt, StmtId};
+use loop_breaks::{Gap, closed_at};
 use plain_values::{Items, Memory};
 use program_table::{Change, Put, Table};
 use std::alloc::Global;

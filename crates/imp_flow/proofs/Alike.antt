@@ -9,10 +9,10 @@ use Rattle.cell_names.specs.declared.frame.Frame.{Frame}
 use Rattle.cell_names.specs.declared.frame.Frame.TheVariants.{InLoop}
 use Rattle.cell_rows.specs.Names.{name}
 use Rattle.cell_rows.specs.Rows.{Row, Two, JoinsBoth, Widens, next_operation}
-use Rattle.imp_flow.specs.Shapes.{Node, Shape}
-use Rattle.imp_flow.specs.Shapes as shape
+use Rattle.flow_rows.specs.Shapes.{Node, Shape}
+use Rattle.flow_rows.specs.Shapes as shape
 use Rattle.imp_flow.specs.Nodes.{node_of}
-use Rattle.imp_flow.specs.NodeRows.{Looping, looping, where_so, iterate_at, enter_at, branch_at, turn_at, post_at, next_at, fix_at, exit_at, leap_at}
+use Rattle.flow_rows.specs.NodeRows.{Looping, looping, where_so, iterate_at, enter_at, branch_at, turn_at, post_at, next_at, fix_at, exit_at, leap_at}
 use Rattle.imp_flow.specs.Plans.{Plan, marks_at, plan_nodes}
 use Rattle.imp_flow.specs.Changed.{Stays, is_looping}
 use Rattle.imp_flow.proofs.ChangedRows.{part, Kept, Keeps, kept_by}

@@ -17,12 +17,15 @@ use Rattle.cell_names.proofs.Telling.{point_decides}
 use Rattle.cell_rows.specs.Names.{name, next_place, place_of, item}
 use Rattle.cell_rows.specs.Rows.{Row, One, Joins, Assumes}
 use Rattle.cell_rows.proofs.BatchTie.{place_is}
-use Rattle.imp_flow.specs.declared.node.Leave.{Leave}
-use Rattle.imp_flow.specs.contracts.node.LeavePartialEq.TheImpl as leaves
-use Rattle.imp_flow.specs.contracts.node.LeaveEq.TheImpl.Laws as laws
-use Rattle.imp_flow.specs.NodeRows.{breaks_of, joined_at, joins_at, behind_loop}
+use Rattle.flow_rows.specs.declared.node.Leave.{Leave}
+use Rattle.flow_rows.specs.contracts.node.LeavePartialEq.TheImpl as leaves
+use Rattle.flow_rows.specs.contracts.node.LeaveEq.TheImpl.Laws as laws
+use Rattle.flow_rows.specs.NodeRows.{breaks_of, joined_at, joins_at, behind_loop}
 use Rattle.imp_flow.specs.Changed.{last_leave, same_ends, same_leaves}
-use Rattle.imp_flow.proofs.ChangedLeaves.{Split, none, some, split, last_behind, front_at, break_at, there, count_breaks, SameLeaves, same_but_last, leaping, found_leap, leap_there}
+use Rattle.plain_values.proofs.Lists.{get_last, get_some, one_more}
+use Rattle.flow_rows.proofs.LeaveLemmas.{front_at, break_at}
+use Rattle.imp_flow.proofs.EnteredLemmas.{get_front}
+use Rattle.imp_flow.proofs.ChangedLeaves.{Split, none, some, split, last_behind, count_breaks, SameLeaves, same_but_last, leaping, found_leap, leap_there}
 
 leave_tells : (x y : Leave) → leaves.ghosts.eq x y ≡ true → x ≡ y
 leave_tells x y h =
@@ -97,7 +100,7 @@ same_count n ls ks d zero zero h k a e = refl
 same_count n ls ks d zero (suc j) h k a e = absurd cc
 same_count n ls ks d (suc i) zero h k a e = absurd cc
 same_count n ls ks d (suc i) (suc j) h k a e =
-    let l = there ls i (omega arith) in
+    let l = get_some ls i (omega arith) in
     let m : slice_get ks i ≡ Some l.0 = sym (a i (omega arith)) ∙ l.1 in
     let f : item (breaks_of ks) j ≡ item (breaks_of ls) i = cc in
     let c = count_breaks ks in
@@ -122,7 +125,7 @@ module _ (w : List Frame) (n : ℕ) where
       leaping w n ks l.stmt ≡ Some (joined_row true ls i l.front) → ⊥
   lost_leap ls ks d i l h g a differ e =
       let f = found_leap w n ks l.stmt (joined_row true ls i l.front) e in
-      let m = there ks f.0 (omega (arith, f.2)) in
+      let m = get_some ks f.0 (omega (arith, f.2)) in
       let b = both_joined true ls ks i f.0 l m.0 m.1 f.3 in
       let s : f.0 ≡ i = same_count n ls ks d i f.0 (omega arith) (omega (arith, f.2)) a b.0 in
       let t : m.0.stmt ≡ l.stmt = sym (break_at ks f.0 m.0 m.1) ∙ found_item (breaks_of ks) l.stmt f.0 f.1 in
@@ -143,19 +146,6 @@ module _ (w : List Frame) (n : ℕ) where
   lost_plain : (g : Guard) (ks : List Leave) (j : ℕ) (m : Leave) → length ks ≡ suc j → slice_get ks j ≡ Some m → behind_loop w n g ks (length ks) ≡ Some (One (Assumes g false) (name w (Fix n))) → ⊥
   lost_plain g ks j m k f e = let h = sym (behind_there g ks j m k f) ∙ e in cc
 
-get_left : (xs zs : List Leave) (k : ℕ) → k < length xs → slice_get (xs ++ zs) k ≡ slice_get xs k
-get_left [] zs k h = absurd (omega arith)
-get_left (x ∷ xs) zs zero h = refl
-get_left (x ∷ xs) zs (suc k) h = get_left xs zs k (omega arith)
-
-get_end : (xs : List Leave) (l : Leave) → slice_get (xs ++ l ∷ []) (length xs) ≡ Some l
-get_end [] l = refl
-get_end (x ∷ xs) l = get_end xs l
-
-count_end : (xs : List Leave) (l : Leave) → length (xs ++ l ∷ []) ≡ suc (length xs)
-count_end [] l = refl
-count_end (x ∷ xs) l = ap suc (count_end xs l)
-
 -- A row behind the loop n that has the breaks ls, which it has not with ks.
 pub data LostLeaves (n : ℕ) (g : Guard) (ls ks : List Leave) : Type 0 where
   post : (r : Row) → behind_loop [] n g ls (length ls) ≡ Some r → (behind_loop [] n g ks (length ks) ≡ Some r → ⊥) → LostLeaves n g ls ks
@@ -172,23 +162,23 @@ module _ (n : ℕ) (g : Guard) (xs ys : List Leave) (l m : Leave) where
   module _ (c : Distinct (breaks_of ls)) (d : Distinct (breaks_of ks)) where
     agree_both : (i : ℕ) → i ≤ length xs → Agree xs ys i → Agree ls ks i
     agree_both i h a k q =
-        let x = there xs k (omega arith) in
+        let x = get_some xs k (omega arith) in
         let y : slice_get ys k ≡ Some x.0 = sym (a k q) ∙ x.1 in
-        get_left xs (l ∷ []) k (omega arith) ∙ a k q ∙ sym (get_left ys (m ∷ []) k (slice_get_within ys k x.0 y))
+        get_front xs (l ∷ []) k (omega arith) ∙ a k q ∙ sym (get_front ys (m ∷ []) k (slice_get_within ys k x.0 y))
 
     lost_inner : (i : ℕ) → Differ xs ys i → i < length xs → LostLeaves n g ls ks
     lost_inner i e h =
-        let x = there xs i h in
-        let at : slice_get ls i ≡ Some x.0 = get_left xs (l ∷ []) i h ∙ x.1 in
-        let s : suc i < length ls = omega (arith, count_end xs l) in
+        let x = get_some xs i h in
+        let at : slice_get ls i ≡ Some x.0 = get_front xs (l ∷ []) i h ∙ x.1 in
+        let s : suc i < length ls = omega (arith, one_more xs l) in
         let p : place_of x.0.stmt (breaks_of ls) ≡ Some i = ap (λ b. place_of b (breaks_of ls)) (sym (break_at ls i x.0 at)) ∙ place_is (breaks_of ls) i c (omega (arith, count_breaks ls)) in
         leap x.0.stmt (joined_row [] n true ls i x.0.front) (leap_there [] n ls x.0.stmt i p s ∙ joins_there [] n true ls i x.0 at)
-        (lost_leap [] n ls ks d i x.0 s at (agree_both i e.1 e.0) (λ t f. e.2 (sym (get_left xs (l ∷ []) i h) ∙ f ∙ get_left ys (m ∷ []) i (omega (arith, count_end ys m)))))
+        (lost_leap [] n ls ks d i x.0 s at (agree_both i e.1 e.0) (λ t f. e.2 (sym (get_front xs (l ∷ []) i h) ∙ f ∙ get_front ys (m ∷ []) i (omega (arith, one_more ys m)))))
 
     lost_last : (Agree ls ks (length xs)) → (length ys ≡ length xs → m.front ≡ l.front → ⊥) → LostLeaves n g ls ks
     lost_last a differ =
-        post (joined_row [] n false ls (length xs) l.front) (behind_there [] n g ls (length xs) l (count_end xs l) (get_end xs l))
-        (lost_post [] n g ls ks d (length xs) (length ys) l m (count_end xs l) (count_end ys m) (get_end ys m) a differ)
+        post (joined_row [] n false ls (length xs) l.front) (behind_there [] n g ls (length xs) l (one_more xs l) (get_last xs l))
+        (lost_post [] n g ls ks d (length xs) (length ys) l m (one_more xs l) (one_more ys m) (get_last ys m) a differ)
 
     lost_more : (i : ℕ) → Differ xs ys i → length xs ≤ i → LostLeaves n g ls ks
     lost_more i e h =
@@ -226,10 +216,10 @@ told_leaves n g ls ks c d = go ls ks (split ls) (split ks) c d
     go _ _ none none c d = none_same
     go _ _ none (some ys m) c d =
         subst (λ o. MatchBool (same_ends None o) (SameLeaves [] (ys ++ m ∷ [])) (LostLeaves n g [] (ys ++ m ∷ []))) (sym (last_behind ys m))
-        (post (One (Assumes g false) (name [] (Fix n))) refl (lost_plain [] n g (ys ++ m ∷ []) (length ys) m (count_end ys m) (get_end ys m)))
+        (post (One (Assumes g false) (name [] (Fix n))) refl (lost_plain [] n g (ys ++ m ∷ []) (length ys) m (one_more ys m) (get_last ys m)))
     go _ _ (some xs l) none c d =
         subst (λ o. MatchBool (same_ends o None) (SameLeaves (xs ++ l ∷ []) []) (LostLeaves n g (xs ++ l ∷ []) [])) (sym (last_behind xs l))
-        (exit (omega (arith, count_end xs l)) refl)
+        (exit (omega (arith, one_more xs l)) refl)
     go _ _ (some xs l) (some ys m) c d =
         subst (λ o. MatchBool (same_ends o (last_leave (ys ++ m ∷ []))) (SameLeaves (xs ++ l ∷ []) (ys ++ m ∷ [])) (LostLeaves n g (xs ++ l ∷ []) (ys ++ m ∷ []))) (sym (last_behind xs l))
         (subst (λ o. MatchBool (same_ends (Some (l, xs)) o) (SameLeaves (xs ++ l ∷ []) (ys ++ m ∷ [])) (LostLeaves n g (xs ++ l ∷ []) (ys ++ m ∷ []))) (sym (last_behind ys m))

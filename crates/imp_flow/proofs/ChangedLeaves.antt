@@ -1,8 +1,7 @@
 -- The breaks of two loops that give different rows.
 use Rattle.std.proofs.lemmas.Bool.Decides.{nat_tests}
-use Rattle.std.proofs.lemmas.Option.{slice_get-map, same_Some}
-use Rattle.std.proofs.Common.{◌≡◌, ◌≢◌, ℕ, zero, suc, ◌<◌, if◌then◌else◌, nat_lt, List, [], ◌∷◌, ◌++◌, length, Option, Some, None, Bool, true, false, slice_get, refl, sym, ap, subst, ◌∙◌, arith}
-use Rattle.std.specs.Option.{option_map}
+use Rattle.std.proofs.lemmas.Option.{same_Some}
+use Rattle.std.proofs.Common.{◌≡◌, ◌≢◌, ℕ, zero, suc, ◌<◌, if◌then◌else◌, nat_lt, List, [], ◌∷◌, ◌++◌, length, Option, Some, None, Bool, true, false, refl, sym, ap, subst, ◌∙◌, arith}
 use Rattle.imp_slots.specs.Plain.{Guard}
 use Rattle.batch_meaning.specs.Places.{if_some}
 use Rattle.plain_values.proofs.Cases.{by_test}
@@ -10,8 +9,8 @@ use Rattle.cell_names.specs.declared.frame.Frame.{Frame}
 use Rattle.cell_names.specs.declared.frame.Point.TheVariants.{Leap}
 use Rattle.cell_rows.specs.Names.{next_place, place_of, item}
 use Rattle.cell_rows.specs.Rows.{Row}
-use Rattle.imp_flow.specs.declared.node.Leave.{Leave}
-use Rattle.imp_flow.specs.NodeRows.{breaks_of, fronts_of, joined_at, joins_at, behind_loop}
+use Rattle.flow_rows.specs.declared.node.Leave.{Leave}
+use Rattle.flow_rows.specs.NodeRows.{breaks_of, fronts_of, joined_at, joins_at, behind_loop}
 use Rattle.imp_flow.specs.Changed.{last_of, last_leave}
 
 last_of_behind : (y : Leave) (xs : List Leave) (l : Leave) → last_of y (xs ++ l ∷ []) ≡ (l, y ∷ xs)
@@ -34,20 +33,6 @@ last_of_is l (m ∷ ls) = ap (λ k. l ∷ k) (last_of_is m ls)
 pub split : (ls : List Leave) → Split ls
 split [] = none
 split (l ∷ ls) = subst Split (last_of_is l ls) (some (last_of l ls).1 (last_of l ls).0)
-
--- A break at its place.
-pub front_at : (ls : List Leave) (i : ℕ) (l : Leave) → slice_get ls i ≡ Some l → slice_get (fronts_of ls) i ≡ Some l.front
-front_at ls i l e = slice_get-map (λ (x : Leave). x.front) ls i ∙ ap (option_map (λ (x : Leave). x.front)) e
-
-pub break_at : (ls : List Leave) (i : ℕ) (l : Leave) → slice_get ls i ≡ Some l → item (breaks_of ls) i ≡ l.stmt
-break_at [] i l e = absurd cc
-break_at (x ∷ ls) zero l e = ap (λ (x : Leave). x.stmt) (same_Some x l e)
-break_at (x ∷ ls) (suc i) l e = break_at ls i l e
-
-pub there : (ls : List Leave) (i : ℕ) → i < length ls → (l : Leave) × (slice_get ls i ≡ Some l)
-there [] i h = absurd (omega arith)
-there (l ∷ ls) zero h = (l, refl)
-there (l ∷ ls) (suc i) h = there ls i (omega arith)
 
 pub count_breaks : (ls : List Leave) → length (breaks_of ls) ≡ length ls
 count_breaks [] = refl

@@ -30,9 +30,9 @@ use Rattle.call_contexts.specs.Places.{is_loop}
 use Rattle.call_contexts.proofs.Looped.{loop_there}
 use Rattle.cell_names.specs.declared.frame.Point.{Point}
 use Rattle.cell_names.specs.declared.frame.Point.TheVariants.{Entry, Body}
-use Rattle.imp_flow.specs.Shapes.{Shape}
-use Rattle.imp_flow.specs.Shapes as shape
-use Rattle.imp_flow.specs.Entered.{Table, behind_or, leave_at, front_in, front_point, end_of, end_in, branching, shape_from, known_in, node_by}
+use Rattle.flow_rows.specs.Shapes.{Shape}
+use Rattle.flow_rows.specs.Shapes as shape
+use Rattle.flow_rows.specs.Entered.{Table, behind_or, leave_at, front_in, front_point, end_of, end_in, branching, shape_from, known_in, node_by}
 use Rattle.imp_flow.specs.Plans.{Plan, plan_of, marks_at, loops_at}
 use Rattle.imp_flow.specs.Changed.{AreChanged, Stays, is_looping}
 use Rattle.imp_flow.specs.declared.search.Search.{Search}

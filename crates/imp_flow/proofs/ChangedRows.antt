@@ -7,8 +7,8 @@ use Rattle.cell_names.specs.declared.frame.Frame.TheVariants.{InCall, InLoop}
 use Rattle.cell_names.specs.declared.frame.Point.{Point}
 use Rattle.cell_names.specs.declared.frame.Point.TheVariants.{Entry, Then, Else, Body, Post, Iterate, Fix, Exit, Leap}
 use Rattle.cell_rows.specs.Rows.{Row}
-use Rattle.imp_flow.specs.Shapes.{Node}
-use Rattle.imp_flow.specs.NodeRows.{post_at, enter_at, branch_at, turn_at, next_at, fix_at, exit_at, leap_at}
+use Rattle.flow_rows.specs.Shapes.{Node}
+use Rattle.flow_rows.specs.NodeRows.{post_at, enter_at, branch_at, turn_at, next_at, fix_at, exit_at, leap_at}
 use Rattle.imp_flow.specs.Owners.{owner}
 use Rattle.imp_flow.specs.Changed.{is_start}
 

@@ -17,8 +17,8 @@ use Rattle.cell_rows.specs.Flat.{flat_row}
 use Rattle.cell_rows.proofs.Checked.{distinct_part, break_part, once_nested}
 use Rattle.imp_slots.proofs.Distinct.{left_once, right_once}
 use Rattle.cell_rows.proofs.FlatOnce.{once_reversed}
-use Rattle.imp_flow.specs.Shapes.{Node, Shape}
-use Rattle.imp_flow.specs.Shapes as shape
+use Rattle.flow_rows.specs.Shapes.{Node, Shape}
+use Rattle.flow_rows.specs.Shapes as shape
 use Rattle.imp_flow.specs.Nodes.{shape_of, node_in, block_nodes, nodes_of, node_of}
 use Rattle.imp_flow.specs.Plans.{Plan, marks_at, plan_nodes, node_row}
 use Rattle.imp_flow.specs.Owners.{owner}
@@ -161,10 +161,7 @@ module _ (old new : Plan) (one : old.engine ≡ new.engine) (n : ℕ) where
   pub bare_stays : (x : Node) → here_old ≡ Some x → is_bare x.shape ≡ true → Stays old new n
   bare_stays x e h =
       kept_stays (Some x) here_new e refl
-      (record { all = λ w p r had. let f = bare_shape old.engine (marks_at old x.place) x.stmt x.place x.loops x.front x.shape h w p in absurd (clash (sym f ∙ had)) })
-    where
-      clash : {r : Row} → None ≡ Some r → ⊥
-      clash e = cc
+      (record { all = λ w p r had. let f : None ≡ Some r = sym (bare_shape old.engine (marks_at old x.place) x.stmt x.place x.loops x.front x.shape h w p) ∙ had in absurd cc })
 
   -- the statement is gone
   pub gone_changed : (x : Node) → here_old ≡ Some x → is_bare x.shape ≡ false → here_new ≡ None → IsChanged old new n

@@ -1,6 +1,6 @@
 -- The node of each statement of a program is told by what is known of it, of its breaks, and of its callee.
 use Rattle.std.proofs.lemmas.List.{length-reverse, map-append, reverse-append, reverse-reverse}
-use Rattle.std.proofs.lemmas.Bool.{ltb-true, lt-ltb}
+use Rattle.std.proofs.lemmas.Bool.{ltb-true, ltb-false}
 use Rattle.std.proofs.lemmas.Option.{slice_get_past, same_Some}
 use Rattle.std.proofs.Common.{◌≡◌, ◌≢◌, ℕ, zero, suc, ◌+◌, ◌-◌, ◌<◌, ◌≤◌, ◌⊎◌, inl, inr, cond, nat_lt, List, [], ◌∷◌, ◌++◌, length, map, reverse, slice_get, Option, Some, None, Bool, true, false, refl, sym, ap, ◌∙◌, subst, arith, append_assoc, append-nil}
 use Rattle.std.specs.Prelude.{if◌then◌else◌}
@@ -28,15 +28,16 @@ use Rattle.cell_names.specs.declared.frame.Point.{Point}
 use Rattle.cell_names.specs.declared.frame.Point.TheVariants.{Entry, Then, Else, Body, Post}
 use Rattle.cell_rows.specs.Rows.{last_point}
 use Rattle.cell_rows.proofs.FlatOnce.{once_reversed}
-use Rattle.imp_flow.specs.Shapes.{Node, Shape}
-use Rattle.imp_flow.specs.Shapes as shape
+use Rattle.flow_rows.specs.Shapes.{Node, Shape}
+use Rattle.flow_rows.specs.Shapes as shape
 use Rattle.imp_flow.specs.declared.steps.Step.{Step}
 use Rattle.imp_flow.specs.declared.steps.Step.TheVariants.{Take}
 use Rattle.imp_flow.specs.Nodes.{leaving as leaves, body_end, callee_end, node_in, block_nodes, nodes_of, node_of}
-use Rattle.imp_flow.specs.Entered.{Table, start_of, behind_or, front_in, leave_at, end_of, end_in, head_of as outer_of, loops_up, node_from, known_in, node_by}
+use Rattle.flow_rows.specs.Entered.{Table, start_of, behind_or, front_in, leave_at, end_of, end_in, head_of as outer_of, loops_up, node_from, known_in, node_by}
 use Rattle.imp_flow.specs.Reached.{into_loops}
 use Rattle.imp_flow.proofs.NumberLemmas.{all_numbers as all_nodes, found_there}
 use Rattle.imp_check.proofs.SlotLemmas.{routines_push}
+use Rattle.imp_check.proofs.StandLemmas.{either}
 use Rattle.call_contexts.proofs.Few.{as_many}
 
 -- The last point of a block is told by its last statement.
@@ -178,16 +179,7 @@ in_front es ps q = go (nat_lt q (length es)) refl
   where
     go : (b : Bool) → nat_lt q (length es) ≡ b → end_of (slice_get es q) ≡ (if b then end_of (slice_get (es ++ ps) q) else None)
     go true e = ap end_of (sym (get_front es ps q (ltb-true q (length es) e)))
-    go false e = ap end_of (slice_get_past es q (not_below e))
-      where
-        not_below : nat_lt q (length es) ≡ false → length es ≤ q
-        not_below e = at_least q (length es) (λ h. clash (sym (lt-ltb q (length es) h) ∙ e))
-          where
-            clash : true ≡ false → ⊥
-            clash e = cc
-
-            at_least : (a b : ℕ) → (a < b → ⊥) → b ≤ a
-            at_least a b h = omega arith
+    go false e = ap end_of (slice_get_past es q (ltb-false q (length es) e))
 
 counted : (es ps : List Procedure) → length (reverse (routines_from es ps)) ≡ length ps
 counted es ps = length-reverse (routines_from es ps) ∙ as_many es ps
@@ -220,11 +212,6 @@ mapped g e [] h = absurd h
 mapped g e (x ∷ xs) (inl q) = subst (λ z. Member (g z) (g x ∷ map g xs)) (sym q) here
 mapped g e (x ∷ xs) (inr h) = there (mapped g e xs h)
 
-in_either : (e : known.Entry) (xs ys : List known.Entry) → In e (xs ++ ys) → In e xs ⊎ In e ys
-in_either e [] ys h = inr h
-in_either e (x ∷ xs) ys (inl q) = inl (inl q)
-in_either e (x ∷ xs) ys (inr h) = elim (in_either e xs ys h) [ inl a ↦ inl (inr a) | inr b ↦ inr b ]
-
 module _ (P : List Procedure) (at : Table) where
   abbrev N : known.Entry → Node
   N x = node_from at (end_in P x.context.proc) x
@@ -241,7 +228,7 @@ module _ (P : List Procedure) (at : Table) where
   there_all : (es ps : List Procedure) → P ≡ es ++ ps → Known at (entries_from es ps) → (e : known.Entry) → In e (entries_from es ps) → Member (N e) (nodes_of (all_back es ps))
   there_all es [] s k e h = absurd h
   there_all es (p ∷ ps) s k e h =
-      go (there_all (es ++ p ∷ []) ps (s ∙ sym (append_assoc es (p ∷ []) ps)) (known_right at (procedure_entries es p) (entries_from (es ++ p ∷ []) ps) k) e) (in_either e (procedure_entries es p) (entries_from (es ++ p ∷ []) ps) h)
+      go (there_all (es ++ p ∷ []) ps (s ∙ sym (append_assoc es (p ∷ []) ps)) (known_right at (procedure_entries es p) (entries_from (es ++ p ∷ []) ps) k) e) (either e (procedure_entries es p) (entries_from (es ++ p ∷ []) ps) h)
     where
       go : (In e (entries_from (es ++ p ∷ []) ps) → Member (N e) (nodes_of (all_back (es ++ p ∷ []) ps))) → In e (procedure_entries es p) ⊎ In e (entries_from (es ++ p ∷ []) ps) → Member (N e) (nodes_of (all_back es (p ∷ ps)))
       go ih (inl i) =

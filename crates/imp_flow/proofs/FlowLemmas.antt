@@ -7,20 +7,19 @@ use Rattle.cell_names.specs.declared.frame.Frame.TheVariants.{InCall, InLoop}
 use Rattle.cell_names.specs.declared.frame.Point.{Point}
 use Rattle.cell_names.specs.declared.frame.Point.TheVariants.{Entry, Body, Iterate}
 use Rattle.cell_rows.specs.Rows.{Row, Init}
-use Rattle.imp_flow.specs.Shapes.{Node}
+use Rattle.flow_rows.specs.Shapes.{Node}
 use Rattle.imp_flow.specs.Nodes.{node_of}
-use Rattle.imp_flow.specs.NodeRows.{enter_at, turn_at, next_at}
-use Rattle.imp_flow.specs.declared.row.Row as declared
-use Rattle.imp_flow.specs.Near.{last_frame, row_in}
+use Rattle.flow_rows.specs.NodeRows.{enter_at, turn_at, next_at}
+use Rattle.flow_rows.specs.declared.row.Row as declared
+use Rattle.flow_rows.specs.Near.{last_frame, row_in}
 use Rattle.imp_flow.specs.Plans.{Plan, marks_at, plan_nodes, next_of, node_row}
 use Rattle.std.proofs.lemmas.Option.{same_Some}
 
-one_less : (k : ℕ) → suc k - 1 ≡ k
-one_less k = omega arith
-
 pub iterate_found : (plan : Plan) (w : List Frame) (n k : ℕ) (x : Node) → k ≢ 0 → node_of (plan_nodes plan) n ≡ Some x → next_at w plan.engine (marks_at plan x.place) (k - 1) x ≡ node_row plan w (Iterate n k)
 iterate_found plan w n zero x h e = absurd (h refl)
-iterate_found plan w n (suc k) x h e = rw (one_less k) (sym (ap (λ o. if_some o (next_of plan w k)) e))
+iterate_found plan w n (suc k) x h e =
+    let p : suc k - 1 ≡ k = omega arith in
+    rw p (sym (ap (λ o. if_some o (next_of plan w k)) e))
 
 abbrev nowhere : Option Row
 nowhere = None

@@ -1,6 +1,5 @@
 pub mod Ties
 pub mod FlowLemmas
-pub mod LeaveLemmas
 pub mod TargetLists
 pub mod TargetTies
 pub mod ShiftCode

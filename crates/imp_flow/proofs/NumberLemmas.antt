@@ -6,7 +6,7 @@ use Rattle.plain_values.proofs.Cases.{by_test}
 use Rattle.plain_values.proofs.Members.{Member, here, there}
 use Rattle.cell_names.specs.declared.frame.Point.{Point}
 use Rattle.cell_names.specs.declared.frame.Point.TheVariants.{Entry, Then, Else, Body, Post}
-use Rattle.imp_flow.specs.Shapes.{Node}
+use Rattle.flow_rows.specs.Shapes.{Node}
 use Rattle.imp_flow.specs.Nodes.{block_nodes, nodes_of, node_of}
 
 abbrev pub node_numbers : List Node → List ℕ

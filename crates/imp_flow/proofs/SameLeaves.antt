@@ -4,11 +4,10 @@ use Rattle.std.specs.Cmp.Lexicographic.{pointwise}
 use Rattle.std.proofs.lemmas.List.{drop_all}
 use Rattle.std.proofs.Math.Bool.{and-false}
 use Rattle.cell_names.specs.contracts.frame.PointPartialEq.TheImpl as points
-use Rattle.imp_flow.specs.declared.node.Leave.{Leave}
-use Rattle.imp_flow.specs.contracts.node.LeavePartialEq.TheImpl as leaves
+use Rattle.flow_rows.specs.declared.node.Leave.{Leave}
+use Rattle.flow_rows.specs.contracts.node.LeavePartialEq.TheImpl as leaves
 use Rattle.imp_flow.specs.Changed.{last_of, same_leaves}
-use Rattle.imp_flow.proofs.ChangedLeaves.{there}
-use Rattle.imp_flow.proofs.LeaveLemmas.{drop_item}
+use Rattle.plain_values.proofs.Lists.{drop_from, get_some}
 
 and_swap : (a b c : Bool) → (a && (b && c)) ≡ (b && (a && c))
 and_swap true b c = refl
@@ -42,7 +41,7 @@ pub last_same : (ls ks : List Leave) (i : ℕ) (l k : Leave) (b : Bool) → leng
     same_leaves (drop i ls) (drop i ks) ≡ (b && same_leaves (drop (i + 1) ls) (drop (i + 1) ks))
 last_same ls ks i l k b n e f h t =
     let ended = leaves_end ls ks (i + 1) (omega arith) n in
-    (λ j. same_leaves (drop_item ls i l e j) (drop_item ks i k f j))
+    (λ j. same_leaves (drop_from ls i l e j) (drop_from ks i k f j))
     ∙ (λ j. same_leaves (l ∷ drop_all (i + 1) ls (omega arith) j) (k ∷ drop_all (i + 1) ks (omega arith) j))
     ∙ ap (λ c. c && true) (sym t)
     ∙ ap (λ c. b && c) (sym ended)
@@ -51,11 +50,11 @@ last_same ls ks i l k b n e f h t =
 pub more_same : (ls ks : List Leave) (i : ℕ) (l k : Leave) (b : Bool) → length ks ≡ length ls → slice_get ls i ≡ Some l → slice_get ks i ≡ Some k → i < length ls → i + 1 ≢ length ls → b ≡ leaves.ghosts.eq l k →
     same_leaves (drop i ls) (drop i ks) ≡ (b && same_leaves (drop (i + 1) ls) (drop (i + 1) ks))
 more_same ls ks i l k b n e f w h t =
-    let m = there ls (i + 1) (omega arith) in
-    let o = there ks (i + 1) (omega arith) in
-    let u = drop_item ls (i + 1) m.0 m.1 in
-    let v = drop_item ks (i + 1) o.0 o.1 in
-    (λ j. same_leaves (drop_item ls i l e j) (drop_item ks i k f j))
+    let m = get_some ls (i + 1) (omega arith) in
+    let o = get_some ks (i + 1) (omega arith) in
+    let u = drop_from ls (i + 1) m.0 m.1 in
+    let v = drop_from ks (i + 1) o.0 o.1 in
+    (λ j. same_leaves (drop_from ls i l e j) (drop_from ks i k f j))
     ∙ (λ j. same_leaves (l ∷ u j) (k ∷ v j))
     ∙ and_swap (points.ghosts.eq (last_of m.0 (drop ((i + 1) + 1) ls)).0.front (last_of o.0 (drop ((i + 1) + 1) ks)).0.front) (leaves.ghosts.eq l k) (pointwise leaves.ghosts.eq (last_of m.0 (drop ((i + 1) + 1) ls)).1 (last_of o.0 (drop ((i + 1) + 1) ks)).1)
     ∙ ap (λ c. c && same_leaves (m.0 ∷ drop ((i + 1) + 1) ls) (o.0 ∷ drop ((i + 1) + 1) ks)) (sym t)

@@ -12,9 +12,9 @@ use Rattle.batch_meaning.proofs.Procedures.{from_behind}
 use Rattle.cell_rows.specs.Names.{number}
 use Rattle.cell_rows.specs.Rows.{last_point}
 use Rattle.cell_rows.specs.Targets.{Text, text, deeper, texts}
-use Rattle.imp_flow.specs.declared.node.Leave.{Leave}
-use Rattle.imp_flow.specs.Shapes.{Shape}
-use Rattle.imp_flow.specs.Shapes as shape
+use Rattle.flow_rows.specs.declared.node.Leave.{Leave}
+use Rattle.flow_rows.specs.Shapes.{Shape}
+use Rattle.flow_rows.specs.Shapes as shape
 use Rattle.imp_flow.specs.Nodes.{leaving, body_end, callee_end, shape_of}
 use Rattle.imp_flow.specs.Shifts.{shift, shift_code, shift_routine}
 

@@ -15,7 +15,7 @@ use Rattle.batch_meaning.proofs.Places.{found_member}
 use Rattle.cell_rows.specs.Names.{Mark, mark, Place, bare}
 use Rattle.cell_rows.specs.Rows.{Row, enter_row, turn_row, branch_row, post_row, next_row, fix_row, exit_row, leap_row}
 use Rattle.cell_rows.specs.Flat.{Flat, flat, stand_in, by_text, flat_row}
-use Rattle.imp_slots.proofs.Distinct.{right_once}
+use Rattle.imp_slots.proofs.Distinct.{absent_left, absent_right, not_in, right_once}
 use Rattle.cell_rows.proofs.FlatOnce.{keys_flat, once_reversed, apart}
 use Rattle.imp_flow.specs.Shifts.{shift_routine, put_in, KeepRows}
 use Rattle.imp_flow.specs.Owners.{owner}
@@ -87,11 +87,6 @@ module _ (engine : Engine) (ps : List Routine) where
   owned w (Leap n k) = λ row e. inr (by_number engine ps w n (leap_row engine bare w k) row e)
 
 -- A number of the procedure that is put in is not of the others.
-not_there : (n : ℕ) (xs : List ℕ) → Absent n xs → Member n xs → ⊥
-not_there n [] a m = elim m [ ]
-not_there n (x ∷ xs) a here = a.0 refl
-not_there n (x ∷ xs) a (there m) = not_there n xs a.1 m
-
 absent_or : (n : ℕ) (xs : List ℕ) → Absent n xs ⊎ Member n xs
 absent_or n [] = inl tt
 absent_or n (x ∷ xs) =
@@ -103,16 +98,8 @@ absent_or n (x ∷ xs) =
     ])
 
 absent_part : (n : ℕ) (xs : List Routine) (r : Routine) (ys : List Routine) → Absent n (routine_numbers (xs ++ r ∷ ys)) → Absent n (code_numbers r.code)
-absent_part n [] r ys h = absent_left (code_numbers r.code) (routine_numbers ys) h
-  where
-    absent_left : (ms ns : List ℕ) → Absent n (ms ++ ns) → Absent n ms
-    absent_left [] ns h = tt
-    absent_left (m ∷ ms) ns h = (h.0, absent_left ms ns h.1)
-absent_part n (x ∷ xs) r ys h = absent_part n xs r ys (absent_right (code_numbers x.code) (routine_numbers (xs ++ r ∷ ys)) h)
-  where
-    absent_right : (ms ns : List ℕ) → Absent n (ms ++ ns) → Absent n ns
-    absent_right [] ns h = h
-    absent_right (m ∷ ms) ns h = absent_right ms ns h.1
+absent_part n [] r ys h = absent_left n (code_numbers r.code) (routine_numbers ys) h
+absent_part n (x ∷ xs) r ys h = absent_part n xs r ys (absent_right n (code_numbers x.code) (routine_numbers (xs ++ r ∷ ys)) h)
 
 module _ (k : ℕ) (b : List Routine) (r : Routine) (n : ℕ) (m : Member n (code_numbers r.code)) where
   put : (a : List Routine) → Member n (routine_numbers (map (shift_routine k) a ++ r ∷ b))
@@ -150,7 +137,7 @@ module _ (engine : Engine) (program : List Routine) (k : ℕ) (r : Routine) (wit
       ∙ ap (λ (ps : List Routine). flat_row engine ps w p) (sym (split_back k program))
 
   not_more : IsChecked New → (n : ℕ) → Member n (code_numbers r.code) → (n ≡ 0) ⊎ Member n (routine_numbers (reverse program)) → ⊥
-  not_more h n m (inl z) = not_there n (code_numbers r.code) (subst (λ (j : ℕ). Absent j (code_numbers r.code)) (sym z) (absent_part 0 (take k program) r (map (shift_routine k) (drop k program)) h.no_zero)) m
+  not_more h n m (inl z) = not_in n (code_numbers r.code) (subst (λ (j : ℕ). Absent j (code_numbers r.code)) (sym z) (absent_part 0 (take k program) r (map (shift_routine k) (drop k program)) h.no_zero)) m
   not_more h n m (inr i) =
       not_others k (behind k program) r n m (front k program)
       (subst (λ (ps : List Routine). Distinct (routine_numbers ps)) (put_in_back k r program) (once_reversed New h.numbers_once))

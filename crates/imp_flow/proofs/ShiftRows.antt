@@ -17,10 +17,10 @@ use Rattle.cell_rows.specs.Rows.{Row, Init, enter_row, turn_row, branch_row, pos
 use Rattle.cell_rows.specs.Targets.{Text, texts}
 use Rattle.cell_rows.specs.Flat.{Flat, flat_of, flat, stand_in, by_text, flat_row}
 use Rattle.cell_rows.proofs.Arriving.{keys_texts}
-use Rattle.imp_flow.specs.Shapes.{Shape}
-use Rattle.imp_flow.specs.Shapes as shape
+use Rattle.flow_rows.specs.Shapes.{Shape}
+use Rattle.flow_rows.specs.Shapes as shape
 use Rattle.imp_flow.specs.Nodes.{shape_of, node_in}
-use Rattle.imp_flow.specs.NodeRows.{post_at, enter_at, branch_at, turn_at, next_at, fix_at, exit_at, leap_at}
+use Rattle.flow_rows.specs.NodeRows.{post_at, enter_at, branch_at, turn_at, next_at, fix_at, exit_at, leap_at}
 use Rattle.imp_flow.specs.Owners.{owner}
 use Rattle.imp_flow.specs.Shifts.{shift_routine}
 use Rattle.imp_flow.proofs.Ties.{all_stand, post_is, enter_is, branch_is, turn_is, next_is, fix_is, exit_is, leap_is}

@@ -21,8 +21,8 @@ use Rattle.cell_rows.specs.Targets.{Text, text, texts, takes, to_point, callee_o
 use Rattle.cell_rows.specs.Targets as plain
 use Rattle.imp_slots.proofs.Distinct.{right_once}
 use Rattle.cell_rows.proofs.FlatOnce.{flat_once}
-use Rattle.imp_flow.specs.Shapes.{Node}
-use Rattle.imp_flow.specs.Shapes as shape
+use Rattle.flow_rows.specs.Shapes.{Node}
+use Rattle.flow_rows.specs.Shapes as shape
 use Rattle.imp_flow.specs.declared.steps.Step.{Step}
 use Rattle.imp_flow.specs.declared.steps.Step.TheVariants.{Go}
 use Rattle.imp_flow.specs.declared.steps.Target.{Target}

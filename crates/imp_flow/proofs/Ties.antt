@@ -18,12 +18,12 @@ use Rattle.cell_rows.specs.Names.{name, Mark, mark, Place, bare, number, breaks,
 use Rattle.cell_rows.specs.Rows.{Row, One, Two, Fixed as FixedRow, Assumes, Enters, Exits, Leaves, next_operation, last_point, leave_points, joined_point, joins_row, loop_row, enter_row, turn_row, branch_row, post_row, next_row, fix_row, exit_row, leap_row, sites_of}
 use Rattle.cell_rows.specs.Targets.{Text, text, deeper, texts}
 use Rattle.cell_rows.specs.Flat.{Flat, flat_of, flat, stand_in, by_text, flat_row}
-use Rattle.imp_flow.specs.declared.node.Leave.{Leave}
+use Rattle.flow_rows.specs.declared.node.Leave.{Leave}
 use Rattle.call_contexts.specs.Settings.{or_no_marks}
 use Rattle.call_contexts.proofs.LiteralLemmas.{effect_again}
-use Rattle.imp_flow.specs.Shapes.{Node}
+use Rattle.flow_rows.specs.Shapes.{Node}
 use Rattle.imp_flow.specs.Nodes.{leaving, body_end, shape_of, node_in, block_nodes, nodes_of, node_of}
-use Rattle.imp_flow.specs.NodeRows.{breaks_of, fronts_of, iterate_at, joined_at, where_so, joins_at, behind_loop, post_at, enter_at, branch_at, turn_at, next_at, fix_at, exit_at, leap_at}
+use Rattle.flow_rows.specs.NodeRows.{breaks_of, fronts_of, iterate_at, joined_at, where_so, joins_at, behind_loop, post_at, enter_at, branch_at, turn_at, next_at, fix_at, exit_at, leap_at}
 use Rattle.imp_flow.specs.Plans.{Plan, marks_at, by_node, next_of, node_row}
 use Rattle.std.proofs.lemmas.Option.{same_Some}
 

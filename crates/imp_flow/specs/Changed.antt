@@ -17,9 +17,9 @@ use Rattle.cell_rows.specs.Rows.{Row}
 use Rattle.cell_rows.specs.Flat.{flat_row}
 use Rattle.imp_flow.specs.Owners.{owner}
 use Rattle.imp_flow.specs.declared.changed.Pair.{Pair}
-use Rattle.imp_flow.specs.declared.node.Leave.{Leave}
-use Rattle.imp_flow.specs.contracts.node.LeavePartialEq.TheImpl as leaves
-use Rattle.imp_flow.specs.Shapes.{Shape, Act, If, While, Call}
+use Rattle.flow_rows.specs.declared.node.Leave.{Leave}
+use Rattle.flow_rows.specs.contracts.node.LeavePartialEq.TheImpl as leaves
+use Rattle.flow_rows.specs.Shapes.{Shape, Act, If, While, Call}
 use Rattle.imp_flow.specs.Plans.{Plan, marks_at}
 
 -- A point of the statement that has a row in the old program, and not the same one in the new.

@@ -1,10 +1,5 @@
-pub mod Near
-pub mod Shapes
 pub mod Nodes
-pub mod Entered
-pub mod NodeRows
 pub mod Plans
-pub mod Inputs
 pub mod PlanCode
 pub mod Reached
 pub mod Owners

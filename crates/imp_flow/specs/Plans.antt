@@ -10,9 +10,9 @@ use Rattle.cell_names.specs.declared.frame.Point.{Point}
 use Rattle.cell_names.specs.declared.frame.Point.TheVariants.{Entry, Then, Else, Body, Post, Iterate, Fix, Exit, Leap}
 use Rattle.cell_rows.specs.Rows.{Row, Init}
 use Rattle.cell_rows.specs.Flat.{RowsAt, row_by}
-use Rattle.imp_flow.specs.Shapes.{Node}
+use Rattle.flow_rows.specs.Shapes.{Node}
 use Rattle.imp_flow.specs.Nodes.{nodes_of, node_of}
-use Rattle.imp_flow.specs.NodeRows.{post_at, enter_at, branch_at, turn_at, next_at, fix_at, exit_at, leap_at}
+use Rattle.flow_rows.specs.NodeRows.{post_at, enter_at, branch_at, turn_at, next_at, fix_at, exit_at, leap_at}
 
 -- A program, in the order of the text, and how its loops are interpreted.
 pub record Plan : Type 0 where

@@ -9,9 +9,9 @@ use Rattle.cell_names.specs.declared.frame.Point.TheVariants.{Entry, Post, Fix}
 use Rattle.cell_rows.specs.Rows.{last_point}
 use Rattle.cell_rows.specs.Targets.{to_point}
 use Rattle.cell_rows.specs.Targets as plain
-use Rattle.imp_flow.specs.Shapes.{Node, Shape, Act, If, While, Call}
-use Rattle.imp_flow.specs.declared.node.Node as whole
-use Rattle.imp_flow.specs.Entered.{loops_around}
+use Rattle.flow_rows.specs.Shapes.{Node, Shape, Act, If, While, Call}
+use Rattle.flow_rows.specs.declared.node.Node as whole
+use Rattle.flow_rows.specs.Entered.{loops_around}
 use Rattle.imp_flow.specs.declared.steps.Step.{Step}
 use Rattle.imp_flow.specs.declared.steps.Step.TheVariants.{Take, Go}
 use Rattle.imp_flow.specs.declared.steps.Target.{Target}

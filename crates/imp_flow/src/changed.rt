@@ -1,15 +1,15 @@
 //! Whether a statement keeps its rows in another program.
 ghost use Rattle.std.specs.Prelude.{◌≡◌, ◌+◌, ◌<◌, drop, length, ◌&&◌, MatchBool, Some};
 ghost use Rattle.imp_slots.specs.Fits.{IsChecked};
-ghost use Rattle.imp_flow.specs.Entered.{leaves_now, shape_now};
-ghost use Rattle.imp_flow.specs.Shapes as plain;
+ghost use Rattle.flow_rows.specs.Entered.{leaves_now, shape_now};
+ghost use Rattle.flow_rows.specs.Shapes as plain;
 ghost use Rattle.imp_flow.specs.Changed.{IsTold, IsChanged, Stays, is_bare, same_leaves, same_marks, same_rounds, same_shapes};
 ghost use Rattle.imp_flow.specs.Nodes.{node_of};
 ghost use Rattle.imp_flow.specs.Plans.{marks_at, plan_nodes};
 
 use crate::flow::Flow;
-use crate::node::{Leaves, Node, Shape};
 use cell_names::Point;
+use flow_rows::{Leaves, Node, Shape};
 use imp_syntax::{ProcId, StmtId};
 
 /// A procedure of the old program and one of the new, and whether they have the same marks.

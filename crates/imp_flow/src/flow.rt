@@ -7,18 +7,17 @@ ghost use Rattle.call_contexts.specs.Settings.{setting_of};
 ghost use Rattle.cell_names.specs.declared.frame.Point.TheVariants.{Entry, Body, Iterate};
 ghost use Rattle.cell_rows.specs.Rows.{Init};
 ghost use Rattle.cell_rows.specs.Flat.{flat_row};
-ghost use Rattle.imp_flow.specs.Entered.{node_now};
-ghost use Rattle.imp_flow.specs.Near.{PathFrame, last_frame, row_in};
+ghost use Rattle.flow_rows.specs.Entered.{node_now};
+ghost use Rattle.flow_rows.specs.Near.{PathFrame, last_frame, row_in};
 ghost use Rattle.imp_flow.specs.Nodes.{node_of};
 ghost use Rattle.imp_flow.specs.Plans.{loops_at, marks_at, plan_nodes, plan_of, by_node, point_at, node_row};
 
-use crate::node::{Node, node_of};
-use crate::row::Row;
-use crate::rows::{
-    branch_row, enter_row, exit_row, fix_row, leap_row, next_row, post_row, turn_row,
-};
+use crate::nodes::node_of;
 use call_contexts::{Setting, main_place};
 use cell_names::{Frame, Point};
+use flow_rows::{
+    Node, Row, branch_row, enter_row, exit_row, fix_row, leap_row, next_row, post_row, turn_row,
+};
 use imp_slots::Layout;
 use imp_syntax::{ProcId, StmtId};
 use program_chains::Widening;

@@ -1,15 +1,10 @@
 //! The flow of a checked program: from what each cell is computed, looked up by the number of one statement.
 //!
 //! A cell has a name, a path and a point of the block that the path leads to (`cell_names`). Its *row* is its
-//! operation and its inputs, left to right. [`Flow::row`] reads the row of a name off the program's table of statements
-//! (`program_table`), by the last frame of its path and its point, and follows no path: what the points' rows need of a
-//! statement, its *node*, is told by what is known of the statement, of the breaks that leave it, and of the last
-//! statement of its callee (`specs/Entered.antt`). `flat_row` of crate `cell_rows` is what it answers, exactly. A row's
-//! inputs are relative to the path of its name ([`Input`]), and [`Input::name`] gives them their numbers.
-//!
-//! Inputs that are known only by values found before are asked of the row one by one: [`Row::iterate`] for a fixed
-//! point, [`Row::before_break`] for a join behind a loop with breaks, in the loop's last round.
-//! [`inputs_are_asked`] ties them to the machine of demands.
+//! operation and its inputs, left to right ([`flow_rows::Row`]). [`Flow::row`] reads the row of a name off the program's
+//! table of statements (`program_table`), by the last frame of its path and its point, and follows no path: it looks up the
+//! statement of the point, and the statement's node ([`flow_rows::Node`]) tells the row. `flat_row` of crate `cell_rows` is
+//! what it answers, exactly. [`inputs_are_asked`] ties the inputs of rows to the machine of demands.
 //!
 //! [`targets`] gives what a query demands at a location under a call string: for each chain the loops and calls on
 //! the way, and a last point.
@@ -24,20 +19,15 @@
 
 mod changed;
 mod flow;
-mod input;
 mod laws;
-mod node;
-mod row;
-mod rows;
+mod nodes;
 mod search;
 mod shifts;
 mod steps;
 mod ways;
 
 pub use flow::Flow;
-pub use input::{Input, Way};
 pub use laws::inputs_are_asked;
-pub use row::{Binary, Row, Unary};
 pub use search::points_changed;
 pub use shifts::procedures_shift_no_rows;
 pub use steps::{Step, Target};

@@ -6,14 +6,15 @@ ghost use Rattle.imp_slots.specs.Fits.{IsChecked};
 ghost use Rattle.analysis_words.specs.declared.refusal.Refusal.{Refusal};
 ghost use Rattle.batch_meaning.specs.Answers.{In, Misses, procedure_of};
 ghost use Rattle.cell_rows.specs.Targets.{target, targets};
-ghost use Rattle.imp_flow.specs.Entered.{node_now, shape_now};
+ghost use Rattle.flow_rows.specs.Entered.{node_now, shape_now};
 ghost use Rattle.imp_flow.specs.Reached.{target_of, those_there, is_while, into_loops, loops_of, ending_of, reached, node_in_place, way_into, way_along, ending_at, target_from};
 
 use crate::flow::Flow;
-use crate::node::{Node, Shape, behind_or};
+use crate::nodes::enter_loops_around;
 use crate::steps::{Step, Target};
 use call_contexts::main_place;
 use cell_names::Point;
+use flow_rows::{Node, Shape, behind_or};
 use imp_syntax::{Chain, Location, ProcId, StmtId};
 use plain_values::{Items, Memory, Text};
 use std::alloc::Global;
@@ -39,7 +40,7 @@ fn enter_loops(around: &Option<Node<'_>>, steps: &mut Items<Step>) -> Result<(),
 {
     match around {
         None => Ok(()),
-        Some(node) => node.enter_loops(steps),
+        Some(node) => enter_loops_around(node, steps),
     }
 }
 
@@ -74,7 +75,7 @@ fn enter_call(flow: &Flow<'_>, caller: Reached, site: StmtId) -> Result<Option<R
     };
     match &node.shape {
         Shape::Call(_, callee, Some(_)) => {
-            node.enter_loops(&mut steps)?;
+            enter_loops_around(&node, &mut steps)?;
             steps.push(Step::Go(site))?;
             Ok(Some(Reached {
                 steps,

@@ -1,6 +1,6 @@
 use Rattle.std.proofs.Common.{◌≡◌, refl, sym, ap, subst, ◌∙◌}
 use Rattle.std.specs.FinMap.{get}
-use Rattle.imp_flow.specs.Near.{input_name}
+use Rattle.flow_rows.specs.Near.{input_name}
 use Rattle.cell_names.specs.Known.{Known, KeepsNumbers, IsOnce}
 use Rattle.domain_laws.specs.Operations.{Operations}
 use Rattle.imp_flow.specs.Plans.{Plan}

@@ -1,6 +1,6 @@
 use Rattle.std.proofs.Common.{ℕ, OnOk, Option, sym, subst}
 use Rattle.program_table.specs.Changes.{AreWithin}
-use Rattle.imp_edit.specs.Gaps.{IsBelow}
+use Rattle.loop_breaks.specs.Bounds.{IsBelow}
 use Rattle.imp_edit.proofs.beside.put_front.Goals as goal
 
 pub returns-in_ok-place-in-Some-clause-within : goal.returns-in_ok-place-in-Some-clause-within

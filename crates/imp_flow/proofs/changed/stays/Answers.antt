@@ -1,6 +1,6 @@
 use Rattle.std.proofs.Common.{◌&&◌, MatchBool, sym, ap, subst, ◌∙◌}
 use Rattle.std.specs.Option.{option_map}
-use Rattle.imp_flow.specs.Entered.{node_now}
+use Rattle.flow_rows.specs.Entered.{node_now}
 use Rattle.imp_flow.specs.Plans.{marks_at}
 use Rattle.imp_flow.specs.Changed.{Stays, IsChanged, same_shapes}
 use Rattle.imp_flow.proofs.ChangedRows.{by_verdict}

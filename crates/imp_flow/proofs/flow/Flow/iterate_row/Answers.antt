@@ -1,7 +1,7 @@
 use Rattle.std.proofs.Common.{◌-◌, ◌∙◌, sym}
 use Rattle.call_contexts.specs.Settings.{engine_of}
-use Rattle.imp_flow.specs.Entered.{node_now}
-use Rattle.imp_flow.specs.NodeRows.{next_at}
+use Rattle.flow_rows.specs.Entered.{node_now}
+use Rattle.flow_rows.specs.NodeRows.{next_at}
 use Rattle.imp_flow.proofs.FlowLemmas.{iterate_found}
 use Rattle.imp_flow.proofs.flow.Flow.iterate_row.Goals as goal
 

@@ -1,4 +1,0 @@
-use Rattle.imp_flow.proofs.node.+enter_loops.Given as goal
-
-abbrev pub decreases-enter_loops : goal.decreases-enter_loops
-decreases-enter_loops l = l.most

@@ -1,0 +1,2 @@
+pub mod BreakLemmas
+mod PutLemmas
