@@ -1,5 +1,5 @@
 -- Casts of numbers of 64 bits, and the ends of ranges.
-use Rattle.std.proofs.Common.{◌≡◌, sym, subst, ℕ, ◌<◌, ◌≤◌, ◌*◌, ◌+◌, ℤ, pos, neg_ℤ, ◌≤ℤ◌, FitsSigned, to_z, of_z, w64, Bool, true, false, length, slice_index_or, Option, Some, None, arith, inl, inr}
+use Rattle.std.proofs.Common.{◌≡◌, sym, subst, ℕ, ◌<◌, ◌*◌, ◌+◌, ℤ, pos, neg_ℤ, ◌≤ℤ◌, FitsSigned, to_z, of_z, w64, Bool, true, false, length, slice_index_or, Option, Some, None, arith, inl, inr}
 use Rattle.std.proofs.lemmas.Bool.{cases_lt}
 use Rattle.std.specs.Int.{int_max, int_min, int_div_euclid}
 use Rattle.std.proofs.lemmas.Int.{to_z-of_z, ints, clamps}

@@ -1,5 +1,4 @@
-use Rattle.std.proofs.Common.{◌≡◌, ◌<◌, ◌≤◌, ◌∙◌, FitsSigned, subst, sym, ap, length, arith, ℤ, ◌≤ℤ◌, to_z, of_z, w64}
-use Rattle.std.proofs.lemmas.Int.{ints}
+use Rattle.std.proofs.Common.{◌≡◌, ◌<◌, ◌∙◌, FitsSigned, subst, sym, ap, length, arith, ◌≤ℤ◌, to_z, of_z, w64}
 use mir.Syntax.{w128}
 use Rattle.plain_values.proofs.Integers.{at_most}
 use Rattle.dbm_core.specs.Half.{entry}
