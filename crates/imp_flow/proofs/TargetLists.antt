@@ -1,6 +1,6 @@
 -- Targets of chains, one after another.
 use Rattle.std.proofs.lemmas.List.{reverse-append, take-append-drop}
-use Rattle.std.proofs.Common.{◌≡◌, ℕ, zero, suc, ◌+◌, ◌<◌, List, [], ◌∷◌, ◌++◌, length, map, reverse, take, drop, get_or, Option, Some, None, Result, Ok, Err, IfOk, refl, sym, ap, ◌∙◌, arith, add-one}
+use Rattle.std.proofs.Common.{◌≡◌, ℕ, ◌+◌, ◌<◌, List, [], ◌∷◌, ◌++◌, length, map, reverse, take, drop, get_or, Option, Some, None, Result, Ok, Err, IfOk, refl, sym, ap, ◌∙◌}
 use Rattle.imp_syntax.specs.declared.edit.Location.{Location}
 use Rattle.imp_slots.specs.Plain.{Routine}
 use Rattle.imp_slots.specs.Fits.{IsChecked}
@@ -15,16 +15,7 @@ use Rattle.imp_flow.specs.declared.steps.Target.{Target}
 use Rattle.imp_flow.specs.declared.ways.Reached.{Reached}
 use Rattle.imp_flow.specs.Plans.{Plan}
 use Rattle.imp_flow.specs.Reached.{target_of, with_one, those_there, way_into, way_along}
-use Rattle.plain_values.proofs.Lists.{all_back}
-
--- the next item of a list, behind those so far and in front of those to come
-back : (xs : List ℕ) (i x : ℕ) → i < length xs → x ≡ get_or xs i x → reverse (take (i + 1) xs) ≡ x ∷ reverse (take i xs)
-back xs i x h e = ap reverse (one_more xs i h e) ∙ reverse-append (take i xs) (x ∷ [])
-  where
-    one_more : (xs : List ℕ) (i : ℕ) → i < length xs → x ≡ get_or xs i x → take (i + 1) xs ≡ take i xs ++ x ∷ []
-    one_more [] i h e = absurd (omega arith)
-    one_more (y ∷ ys) zero h e = ap (λ k. k ∷ []) (sym e)
-    one_more (y ∷ ys) (suc i) h e = rw add-one (ap (λ k. y ∷ k) (ap (λ n. take n ys) (sym (add-one i)) ∙ one_more ys i (omega arith) e))
+use Rattle.plain_values.proofs.Lists.{all_back, take_back}
 
 module _ (plan : Plan) where
   gone_more : (ys z : List ℕ) → way_along plan z ≡ None → way_along plan (ys ++ z) ≡ None
@@ -34,7 +25,7 @@ module _ (plan : Plan) where
   -- A chain that is gone at a call is gone with all longer ones.
   pub chain_gone : (xs : List ℕ) (i x : ℕ) (now : Reached) → i < length xs → x ≡ get_or xs i x → way_along plan (reverse (take i xs)) ≡ Some now → None ≡ way_into plan x now → None ≡ way_along plan (reverse xs)
   chain_gone xs i x now h e a g =
-      let here : way_along plan (reverse (take (i + 1) xs)) ≡ None = ap (way_along plan) (back xs i x h e) ∙ ap (λ o. if_some o (way_into plan x)) a ∙ sym g in
+      let here : way_along plan (reverse (take (i + 1) xs)) ≡ None = ap (way_along plan) (take_back xs i x h e) ∙ ap (λ o. if_some o (way_into plan x)) a ∙ sym g in
       let all : reverse (drop (i + 1) xs) ++ reverse (take (i + 1) xs) ≡ reverse xs = sym (reverse-append (take (i + 1) xs) (drop (i + 1) xs)) ∙ ap reverse (take-append-drop (i + 1) xs) in
       sym (ap (way_along plan) (sym all) ∙ gone_more (reverse (drop (i + 1) xs)) (reverse (take (i + 1) xs)) here)
 
