@@ -1,5 +1,5 @@
 -- What is known at the heads of loops, one at a time, and that it is the value at that location.
-use Rattle.std.proofs.Common.{ℕ, zero, suc, ◌≡◌, ◌+◌, ◌<◌, ◌≤◌, List, [], ◌∷◌, ◌++◌, length, map, drop, reverse, get_or, slice_get, Option, Some, None, Result, Ok, Err, IfOk, true, false, refl, sym, ap, subst, ◌∙◌, arith, append_assoc}
+use Rattle.std.proofs.Common.{ℕ, suc, ◌≡◌, ◌+◌, ◌<◌, ◌≤◌, List, [], ◌∷◌, ◌++◌, length, map, drop, reverse, get_or, slice_get, Option, Some, None, Result, Ok, Err, IfOk, true, false, refl, sym, ap, subst, ◌∙◌, append_assoc}
 use Rattle.std.specs.Prelude.{Contains}
 use Rattle.std.proofs.lemmas.List.{map-append, drop_all}
 use Rattle.std.proofs.lemmas.Option.{slice_get_within}
@@ -17,7 +17,7 @@ use Rattle.batch_meaning.specs.Batch.{Engine, behind}
 use Rattle.batch_meaning.specs.Places.{Spot, if_some, head_value, entry, value_in, value_at}
 use Rattle.cert_meaning.specs.Written.{loops}
 use Rattle.plain_values.proofs.Lists.{drop_item}
-use Rattle.plain_values.proofs.Members.{Member, here, there, in_left, in_right, keys, keys_both}
+use Rattle.plain_values.proofs.Members.{Member, here, there, in_left, in_right, keys, keys_both, member_of}
 use Rattle.batch_meaning.proofs.Places.{found}
 use Rattle.batch_interp.specs.Answered.{value_of}
 use Rattle.batch_interp.specs.Frames.{Plan, earlier, passed, calls_in}
@@ -153,14 +153,6 @@ module _ {S : Type 0} (dom : Operations S) (plan : Plan) where
       ∙ ap (map found_at) (m ∙ (λ i. loop_values dom plan (p i) (q i) (b i) (value_of e.before)))
       ∙ are_heads place z r (value_of e.before) checked g en
 
-  member_of : {A : Type 0} (xs : List A) (x : A) → Contains xs x → Member x xs
-  member_of {A} xs x c = at xs c.0 c.1 c.2
-    where
-      at : (xs : List A) (k : ℕ) → k < length xs → get_or xs k x ≡ x → Member x xs
-      at [] k h e = absurd (omega arith)
-      at (y ∷ ys) zero h e = subst (λ v. Member v (y ∷ ys)) e here
-      at (y ∷ ys) (suc k) h e = there (at ys k (omega arith) e)
-
   -- the heads that are found of a procedure that is entered
   pub heads_come : {E : Type 0} (x : Result (List (Head S)) E) (engine : Engine) (program : List Routine) (proc place : ℕ) (z : List ℕ) (r : Routine) (body : Code) (e : Entered S) → IsChecked program → plan ≡ record { program = program; engine = engine } → place ≡ proc → Some r ≡ slice_get plan.program place → body ≡ r.code → entry dom plan.engine (reverse plan.program) z ≡ Some (earlier plan.program (suc place), value_of e.before) → e.frame.place ≡ place → e.frame.sites ≡ z → IfOk x (λ hs. map loop_value hs ≡ loop_values dom plan e.frame.place e.frame.sites body (value_of e.before)) → IfOk x (λ hs. map head_told hs ≡ heads_under dom engine program proc z)
   heads_come (Err error) engine program proc place z r body e checked same at g b en p q m = m
@@ -173,5 +165,5 @@ module _ {S : Type 0} (dom : Operations S) (plan : Plan) where
   -- a chain to a procedure leads to it
   pub chain_leads : (engine : Engine) (program : List Routine) (proc place : ℕ) (z : List ℕ) (r : Routine) → IsChecked program → ChainsAreThroughCallers → plan ≡ record { program = program; engine = engine } → place ≡ proc → Some r ≡ slice_get plan.program place → Contains (chains program proc) z → LeadsTo dom plan place z
   chain_leads engine program proc place z r checked law same at g c =
-      let m : Member z (chains plan.program place) = subst (λ (p : Plan). Member z (chains p.program place)) (sym same) (subst (λ k. Member z (chains program k)) (sym at) (member_of (chains program proc) z c)) in
+      let m : Member z (chains plan.program place) = subst (λ (p : Plan). Member z (chains p.program place)) (sym same) (subst (λ k. Member z (chains program k)) (sym at) (member_of z (chains program proc) c)) in
       leads dom plan (subst (λ (p : Plan). IsChecked p.program) (sym same) checked) law z place (slice_get_within plan.program place r (sym g)) m

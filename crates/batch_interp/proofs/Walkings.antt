@@ -20,7 +20,7 @@ use Rattle.batch_interp.specs.declared.value.Answer.{Answer}
 use Rattle.batch_interp.specs.declared.spots.Seen.{Seen}
 use Rattle.batch_interp.specs.declared.walks.Entered.{Entered}
 use Rattle.std.proofs.lemmas.Option.{slice_get_within}
-use Rattle.plain_values.proofs.Lists.{get_take, take_item, take_next}
+use Rattle.plain_values.proofs.Lists.{get_take, take_next, take_back}
 use Rattle.std.proofs.Math.Seq.{take-length}
 use Rattle.batch_interp.proofs.Procedures.{from_earlier, from_gone}
 use Rattle.batch_interp.proofs.Lists.{if_ok_along}
@@ -88,13 +88,10 @@ module _ {S : Type 0} (dom : Operations S) (plan : Plan) where
   gone_more [] z h = h
   gone_more (y ∷ ys) z h = gone_on y (ys ++ z) (entry dom plan.engine (reverse plan.program) (ys ++ z)) (gone_more ys z h)
 
-  back : (xs : List ℕ) (i : ℕ) (x : ℕ) → i < length xs → x ≡ get_or xs i x → reverse (take (i + 1) xs) ≡ x ∷ reverse (take i xs)
-  back xs i x h e = ap reverse (take_item xs i x h e) ∙ reverse-append (take i xs) (x ∷ [])
-
   pub chain_gone : (xs : List ℕ) (i x : ℕ) (z : List ℕ) (e : Entered S) → i < length xs → x ≡ get_or xs i x → z ≡ reverse (take i xs) → entry dom plan.engine (reverse plan.program) (reverse (take i xs)) ≡ Some (entered_of plan.program e) → IsGone (entered dom plan.engine x z (entered_of plan.program e)) → IsGone (entry dom plan.engine (reverse plan.program) (reverse xs))
   chain_gone xs i x z e h k s t g =
       let here : entry dom plan.engine (reverse plan.program) (reverse (take (i + 1) xs)) ≡ entered dom plan.engine x z (entered_of plan.program e) =
-      ap (entry dom plan.engine (reverse plan.program)) (back xs i x h k) ∙ ap (λ o. if_some o (entered dom plan.engine x (reverse (take i xs)))) t ∙ ap (λ y. entered dom plan.engine x y (entered_of plan.program e)) (sym s) in
+      ap (entry dom plan.engine (reverse plan.program)) (take_back xs i x h k) ∙ ap (λ o. if_some o (entered dom plan.engine x (reverse (take i xs)))) t ∙ ap (λ y. entered dom plan.engine x y (entered_of plan.program e)) (sym s) in
       let all : reverse (drop (i + 1) xs) ++ reverse (take (i + 1) xs) ≡ reverse xs = sym (reverse-append (take (i + 1) xs) (drop (i + 1) xs)) ∙ ap reverse (take-append-drop (i + 1) xs) in
       subst (λ z. IsGone (entry dom plan.engine (reverse plan.program) z)) all (gone_more (reverse (drop (i + 1) xs)) (reverse (take (i + 1) xs)) (subst IsGone (sym here) g))
 
@@ -106,10 +103,10 @@ module _ {S : Type 0} (dom : Operations S) (plan : Plan) where
   pub chain_on : (xs : List ℕ) (i x : ℕ) (e f : Entered S) → i < length xs → x ≡ get_or xs i x → Along xs i e → IsEntered plan.program (x ∷ e.frame.sites) (Some f) (entered dom plan.engine x e.frame.sites (entered_of plan.program e)) → Along xs (i + 1) f
   chain_on xs i x e f h k a g = record {
     comes =
-        ap (entry dom plan.engine (reverse plan.program)) (back xs i x h k) ∙ ap (λ o. if_some o (entered dom plan.engine x (reverse (take i xs)))) a.comes
+        ap (entry dom plan.engine (reverse plan.program)) (take_back xs i x h k) ∙ ap (λ o. if_some o (entered dom plan.engine x (reverse (take i xs)))) a.comes
         ∙ ap (λ y. entered dom plan.engine x y (entered_of plan.program e)) (sym a.sites) ∙ g.0;
     there = g.1;
-    sites = g.2 ∙ ap (λ z. x ∷ z) a.sites ∙ sym (back xs i x h k);
+    sites = g.2 ∙ ap (λ z. x ∷ z) a.sites ∙ sym (take_back xs i x h k);
   }
 
   pub chain_end : (xs : List ℕ) (i : ℕ) (e : Entered S) → length xs ≤ i → Along xs i e → IsEntered plan.program (reverse xs) (Some e) (entry dom plan.engine (reverse plan.program) (reverse xs))

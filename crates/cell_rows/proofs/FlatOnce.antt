@@ -2,12 +2,12 @@
 use Rattle.std.proofs.lemmas.List.{reverse-append, length-reverse}
 use Rattle.std.proofs.Common.{◌<◌, reverse, slice_get, Option, None, append_assoc, append-nil, ◌≡◌, ℕ, List, [], ◌∷◌, ◌++◌, length, map, Some, refl, sym, ap, ◌∙◌, subst, inl, inr}
 use Rattle.std.proofs.lemmas.Option.{slice_get_within}
-use Rattle.imp_slots.proofs.Distinct.{not_in, left_once, right_once, absent_both}
+use Rattle.imp_slots.proofs.Distinct.{left_once, right_once, apart, once_both}
 use Rattle.imp_slots.specs.Plain.{Layout, Code, Stop, Simple, If, While, Call, Break, Routine, code_numbers}
-use Rattle.imp_slots.specs.Fits.{Absent, Distinct, FitsCall, FitsCode, IsChecked, routine_numbers}
+use Rattle.imp_slots.specs.Fits.{Distinct, FitsCall, FitsCode, IsChecked, routine_numbers}
 use Rattle.cell_names.specs.declared.frame.Point.TheVariants.{Entry}
 use Rattle.batch_meaning.proofs.Procedures.{FitBack, fit_back}
-use Rattle.plain_values.proofs.Members.{Member, here, there, in_left, in_right, keys, either, keys_both}
+use Rattle.plain_values.proofs.Members.{Member, in_left, in_right, keys, either, keys_both}
 use Rattle.cell_rows.specs.Names.{CallsBelow, AllFine}
 use Rattle.cell_rows.specs.Targets.{Text, texts}
 use Rattle.cell_rows.specs.Flat.{flat_of, flat}
@@ -26,14 +26,6 @@ keys_flat (c ∷ earlier) =
     ∙ ap (λ k. k ++ keys (flat earlier)) (keys_flat_of c earlier (texts c.code Entry) ∙ keys_texts c.code Entry)
     ∙ ap (λ k. code_numbers c.code ++ k) (keys_flat earlier)
 
-absent_of : (n : ℕ) (xs : List ℕ) → (Member n xs → ⊥) → Absent n xs
-absent_of n [] h = tt
-absent_of n (x ∷ xs) h = ((λ e. h (subst (λ (k : ℕ). Member n (k ∷ xs)) e here)), absent_of n xs (λ m. h (there m)))
-
-distinct_both : (xs ys : List ℕ) → Distinct xs → Distinct ys → ((k : ℕ) → Member k xs → Absent k ys) → Distinct (xs ++ ys)
-distinct_both [] ys d e h = e
-distinct_both (x ∷ xs) ys d e h = (absent_both x xs ys d.0 (h x here), distinct_both xs ys d.1 e (λ k m. h k (there m)))
-
 pub numbers_both : (xs ys : List Routine) → routine_numbers (xs ++ ys) ≡ routine_numbers xs ++ routine_numbers ys
 numbers_both [] ys = refl
 numbers_both (x ∷ xs) ys = ap (λ k. code_numbers x.code ++ k) (numbers_both xs ys) ∙ sym (append_assoc (code_numbers x.code) (routine_numbers xs) (routine_numbers ys))
@@ -49,19 +41,14 @@ in_reversed n (c ∷ ps) m =
       | inr b ↦ in_left (routine_numbers ps) b
     ]
 
-pub apart : (k : ℕ) (xs ys : List ℕ) → Distinct (xs ++ ys) → Member k xs → Member k ys → ⊥
-apart k [] ys d m i = elim m [ ]
-apart k (x ∷ xs) ys d here i = not_in x (xs ++ ys) d.0 (in_right xs i)
-apart k (x ∷ xs) ys d (there m) i = apart k xs ys d.1 m i
-
 pub once_reversed : (ps : List Routine) → Distinct (routine_numbers ps) → Distinct (routine_numbers (reverse ps))
 once_reversed [] d = d
 once_reversed (c ∷ ps) d =
     subst Distinct (sym (reversed c ps))
-    (distinct_both (routine_numbers (reverse ps)) (code_numbers c.code)
+    (once_both (routine_numbers (reverse ps)) (code_numbers c.code)
     (once_reversed ps (right_once (code_numbers c.code) (routine_numbers ps) d))
     (left_once (code_numbers c.code) (routine_numbers ps) d)
-    (λ k m. absent_of k (code_numbers c.code) (λ i. apart k (code_numbers c.code) (routine_numbers ps) d i (in_reversed k ps m))))
+    (λ k m i. apart k (code_numbers c.code) (routine_numbers ps) d i (in_reversed k ps m)))
 
 pub flat_once : (program : List Routine) → IsChecked program → Distinct (keys (flat (reverse program)))
 flat_once program h = subst Distinct (sym (keys_flat (reverse program))) (once_reversed program h.numbers_once)

@@ -183,11 +183,6 @@ looped_in n (r ∷ rs) e = go (has_while n r.code) refl e (looped_in n rs)
     go true i e f = (0, r, refl, i)
     go false i e f = let x = f e in (suc x.0, x.1, x.2, x.3)
 
-pub in_flat : (c : Routine) (e : List Routine) (q : ℕ × Text) (xs : List (ℕ × Text)) → Member q xs → Member (flat_of c e q) (map (flat_of c e) xs)
-in_flat c e q [] m = elim m [ ]
-in_flat c e q (y ∷ xs) here = here
-in_flat c e q (y ∷ xs) (there m) = there (in_flat c e q xs m)
-
 pub flat_behind : (ps : List Routine) (q : ℕ) (x : ℕ × Flat) → Member x (flat (from ps q)) → Member x (flat ps)
 flat_behind [] q x m = m
 flat_behind (b ∷ ps) q x m =
@@ -288,7 +283,7 @@ module _ (program : List Routine) (checked : IsChecked program) where
   in_table : (p : ℕ) (r : Routine) (earlier : List Routine) (n : ℕ) (t : Text) → from back p ≡ r ∷ earlier → Member (n, t) (texts r.code Entry) → find n (flat back) ≡ Some (record { routine = r; earlier = earlier; text = t })
   in_table p r earlier n t e m =
       found (n, record { routine = r; earlier = earlier; text = t }) (flat back) (flat_once program checked)
-      (flat_behind back p _ (subst (λ ps. Member (n, record { routine = r; earlier = earlier; text = t }) (flat ps)) (sym e) (in_left (flat earlier) (in_flat r earlier (n, t) (texts r.code Entry) m))))
+      (flat_behind back p _ (subst (λ ps. Member (n, record { routine = r; earlier = earlier; text = t }) (flat ps)) (sym e) (in_left (flat earlier) (in_map (flat_of r earlier) (n, t) (texts r.code Entry) m))))
 
   -- a while is a loop in its procedure's text
   loop_there : (n p : ℕ) (s : Stated n p) → is_while n program ≡ true → is_loop s.text.code ≡ true

@@ -5,9 +5,9 @@ use Rattle.plain_values.proofs.Cases.{by_test}
 use Rattle.plain_values.proofs.Members.{Member, here, there, either, Each, none_there, each_more}
 use Rattle.imp_slots.specs.Plain.{Routine, code_numbers}
 use Rattle.imp_slots.specs.Fits.{Distinct, routine_numbers}
-use Rattle.imp_slots.proofs.Distinct.{not_in, left_once, right_once}
+use Rattle.imp_slots.proofs.Distinct.{not_in, left_once, right_once, once_both, apart}
 use Rattle.program_chains.specs.Chains.{calls_to, extended, through, chains_within, chains}
-use Rattle.cert_accepted.proofs.Lists.{once_both, apart_in, made, map_once, thins_in, thins_once}
+use Rattle.cert_accepted.proofs.Lists.{made, map_once, thins_in, thins_once}
 use Rattle.cert_accepted.proofs.Numbers.{calls_thin, number_there}
 
 -- A chain that ends in one of these calls, behind one of these chains.
@@ -77,7 +77,7 @@ through_once of k (r ∷ rs) p d e =
     (λ y a b.
     let j = extends (of k) (calls_to p r.code) y a in
     let x = goes of (suc k) rs p y b in
-    apart_in (code_numbers r.code) (routine_numbers rs) d j.last (thins_in j.last (calls_thin p r.code) j.call)
+    apart j.last (code_numbers r.code) (routine_numbers rs) d (thins_in j.last (calls_thin p r.code) j.call)
     (subst (λ n. Member n (routine_numbers rs)) (same_last x.last j.last x.before j.before (sym x.is ∙ j.is)) (goes_number of (suc k) rs p y x)))
 
 module _ (program : List Routine) (once : Distinct (routine_numbers program)) where

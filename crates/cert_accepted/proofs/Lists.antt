@@ -1,23 +1,9 @@
 -- Lists in which each item stands once, maps of them, and lists without some of their items.
 use Rattle.std.specs.Prelude.{◌≡◌, List, [], ◌∷◌, ◌++◌, map}
-use Rattle.std.proofs.Common.{refl, subst, inl, inr}
-use Rattle.plain_values.proofs.Members.{Member, here, there, in_right, either}
-use Rattle.imp_slots.specs.Fits.{Absent, Distinct}
-use Rattle.imp_slots.proofs.Distinct.{not_in}
-
-pub absent_if : {A : Type 0} (x : A) (xs : List A) → (Member x xs → ⊥) → Absent x xs
-absent_if x [] h = tt
-absent_if x (y ∷ xs) h = (λ e. h (subst (λ y. Member x (y ∷ xs)) e here), absent_if x xs (λ m. h (there m)))
-
-pub once_both : {A : Type 0} (xs ys : List A) → Distinct xs → Distinct ys → ((x : A) → Member x xs → Member x ys → ⊥) → Distinct (xs ++ ys)
-once_both [] ys d e apart = e
-once_both (x ∷ xs) ys d e apart =
-    (absent_if x (xs ++ ys) (λ m. elim (either x xs ys m) [ inl a ↦ not_in x xs d.0 a | inr b ↦ apart x here b ]), once_both xs ys d.1 e (λ y a b. apart y (there a) b))
-
-pub apart_in : {A : Type 0} (xs ys : List A) → Distinct (xs ++ ys) → (x : A) → Member x xs → Member x ys → ⊥
-apart_in [] ys d x a b = elim a [ ]
-apart_in (y ∷ xs) ys d x here b = not_in x (xs ++ ys) d.0 (in_right xs b)
-apart_in (y ∷ xs) ys d x (there a) b = apart_in xs ys d.1 x a b
+use Rattle.std.proofs.Common.{refl, subst}
+use Rattle.plain_values.proofs.Members.{Member, here, there}
+use Rattle.imp_slots.specs.Fits.{Distinct}
+use Rattle.imp_slots.proofs.Distinct.{not_in, absent_if}
 
 -- an item of a map, and what it is made of
 pub record Made {A B : Type 0} (f : A → B) (xs : List A) (y : B) : Type 0 where

@@ -4,11 +4,11 @@ use Rattle.std.proofs.Common.{refl, sym, ap, subst, arith, inl, inr}
 use Rattle.plain_values.proofs.Members.{Member, here, there, in_left, in_right, either, in_map}
 use Rattle.imp_slots.specs.Plain.{Routine, code_numbers}
 use Rattle.imp_slots.specs.Fits.{Distinct, routine_numbers}
-use Rattle.imp_slots.proofs.Distinct.{not_in, left_once, right_once}
+use Rattle.imp_slots.proofs.Distinct.{not_in, left_once, right_once, once_both, apart}
 use Rattle.program_chains.specs.Chains.{chains}
 use Rattle.cert_meaning.specs.Written.{loops}
 use Rattle.cert_lines.specs.Certificate.{under, loops_from}
-use Rattle.cert_accepted.proofs.Lists.{once_both, apart_in, made, map_once, thins_once}
+use Rattle.cert_accepted.proofs.Lists.{made, map_once, thins_once}
 use Rattle.cert_accepted.proofs.Numbers.{loops_thin, loop_number}
 use Rattle.cert_accepted.proofs.Chains.{chains_once}
 use Rattle.std.proofs.lemmas.Option.{same_Some}
@@ -76,4 +76,4 @@ module _ (program : List Routine) (once : Distinct (routine_numbers program)) wh
       (under_once (loops r.code) (chains program k) (thins_once (loops_thin r.code) (left_once (code_numbers r.code) (routine_numbers rs) d)) (chains_once program once (length program) k))
       (loops_once (suc k) rs (right_once (code_numbers r.code) (routine_numbers rs) d))
       (λ x a b.
-      apart_in (code_numbers r.code) (routine_numbers rs) d x.1 (loop_number x.1 r.code (under_in (loops r.code) (chains program k) x a).1) (loops_number (suc k) rs x b))
+      apart x.1 (code_numbers r.code) (routine_numbers rs) d (loop_number x.1 r.code (under_in (loops r.code) (chains program k) x a).1) (loops_number (suc k) rs x b))

@@ -6,7 +6,7 @@ use Rattle.std.proofs.lemmas.List.{reverse-append, length-reverse, length-append
 use Rattle.std.proofs.lemmas.Option.{slice_get_within, same_Some}
 use Rattle.std.proofs.lemmas.Slice.Eq.{bytes_eq-Decides}
 use Rattle.plain_values.proofs.Cases.{by_test}
-use Rattle.plain_values.proofs.Members.{Member, here, there, in_left, in_right, either, in_map}
+use Rattle.plain_values.proofs.Members.{Member, here, there, in_left, in_right, either, in_map, member_of}
 use Rattle.imp_syntax.specs.Plain as tree
 use Rattle.imp_syntax.specs.Plain.{Statement, Statements, Starts, Ends, Procedure}
 use Rattle.imp_slots.specs.Plain.{Layout, Code, Stop, Simple, If, While, Call, Break, Routine}
@@ -22,7 +22,6 @@ use Rattle.imp_check.specs.Slots.{Resolver, layout_in, statement_in, code_in, ro
 use Rattle.imp_check.proofs.FewLemmas.{first_none, unless_lt, at_none, in_none}
 use Rattle.cert_accepted.specs.Accepted.{CheckedHaveLines}
 use Rattle.cert_accepted.proofs.Chains.{goes}
-use Rattle.cert_accepted.proofs.Standing.{member}
 use Rattle.program_chains.proofs.Found.{callee_before}
 use Rattle.call_contexts.proofs.Few.{as_many}
 
@@ -214,4 +213,4 @@ module _ (ps : List Procedure) (checked : IsChecked (routines_of ps)) where
   short_chains faultless p z m = short_at p z (chain_place (length (routines_of ps)) p z m) m faultless
 
 pub checked_have_lines : CheckedHaveLines
-checked_have_lines ps faultless checked small = record { small = small; short = λ p z c. short_chains ps checked faultless p z (member z (chains (routines_of ps) p) c) }
+checked_have_lines ps faultless checked small = record { small = small; short = λ p z c. short_chains ps checked faultless p z (member_of z (chains (routines_of ps) p) c) }

@@ -1,12 +1,11 @@
 -- The loops of a program under its chains are those that a line may name.
-use Rattle.std.specs.Prelude.{◌≡◌, ◌≢◌, ℕ, zero, suc, List, [], ◌∷◌, ◌++◌, length, reverse, slice_get, Some, Bool, true, false, Contains, slice_index_or, ◌<◌, if◌then◌else◌}
+use Rattle.std.specs.Prelude.{◌≡◌, ◌≢◌, ℕ, zero, suc, List, [], ◌∷◌, ◌++◌, slice_get, Some, Bool, true, false, if◌then◌else◌}
 use Rattle.std.specs.Str.{bytes_eq}
-use Rattle.std.proofs.Common.{refl, sym, subst, arith, inl, inr}
+use Rattle.std.proofs.Common.{refl, sym, subst, inl, inr}
 use Rattle.std.proofs.lemmas.Bool.{and_from}
-use Rattle.std.proofs.lemmas.List.{reverse-append}
 use Rattle.std.proofs.lemmas.Slice.Eq.{bytes_eq-Decides}
 use Rattle.plain_values.proofs.Cases.{by_test}
-use Rattle.plain_values.proofs.Members.{Member, here, there, in_left, either}
+use Rattle.plain_values.proofs.Members.{Member, here, there, either}
 use Rattle.imp_slots.specs.Plain.{Code, Stop, Simple, If, While, Call, Break, Routine, code_numbers}
 use Rattle.imp_slots.specs.Fits.{IsChecked}
 use Rattle.program_chains.specs.Chains.{chains, holder, has_while, is_while}
@@ -16,21 +15,6 @@ use Rattle.cert_meaning.specs.Written.{loops}
 use Rattle.cert_lines.specs.Lines.{is_chain, is_chain_to, is_loop_under}
 use Rattle.cert_accepted.proofs.Numbers.{loop_number}
 use Rattle.std.proofs.lemmas.Option.{same_Some}
-
-pub member : {A : Type 0} (x : A) (xs : List A) → Contains xs x → Member x xs
-member {A} x xs c = at xs c.0 c.1 c.2
-  where
-    at : (xs : List A) (k : ℕ) → k < length xs → slice_index_or xs k x ≡ x → Member x xs
-    at [] k h e = absurd (omega arith)
-    at (y ∷ xs) zero h e = subst (λ y. Member x (y ∷ xs)) (sym e) here
-    at (y ∷ xs) (suc k) h e = there (at xs k (omega arith) e)
-
-pub of_reverse : {A : Type 0} (x : A) (xs : List A) → Member x (reverse xs) → Member x xs
-of_reverse x [] m = m
-of_reverse x (y ∷ xs) m = elim (either x (reverse xs) (y ∷ []) (subst (Member x) (reverse-append (y ∷ []) xs) m)) [
-  | inl a ↦ there (of_reverse x xs a)
-  | inr b ↦ in_left xs b
-]
 
 behind : {A : Type 0} (x y : A) (xs : List A) → Member x (y ∷ xs) → x ≢ y → Member x xs
 behind x y xs here e = absurd (e refl)

@@ -2,7 +2,7 @@
 use Rattle.std.specs.Prelude.{◌≡◌, ◌<◌, ◌≤◌, ◌^◌, ◌+◌, ℕ, List, [], ◌∷◌, ◌++◌, length, reverse, slice_get, Option, Some, None, true, Contains, MatchOption, option_and_then, option_map, if◌then◌else◌}
 use Rattle.std.proofs.Common.{refl, ap, ◌∙◌, subst, arith}
 use Rattle.std.proofs.lemmas.List.{length-append, length-reverse, reverse-reverse}
-use Rattle.plain_values.proofs.Members.{Member, here, there, Each, none_there, each_more}
+use Rattle.plain_values.proofs.Members.{Member, here, there, Each, none_there, each_more, member_of, of_reverse, contains_of}
 use Rattle.imp_slots.specs.Plain.{Routine}
 use Rattle.imp_slots.specs.Fits.{routine_numbers, IsChecked}
 use Rattle.concrete_sem.specs.Values.{Variables, Heap}
@@ -19,7 +19,6 @@ use Rattle.cert_meaning.specs.Followed.{Followed, Passes, Fails, followed_progra
 use Rattle.cert_meaning.specs.Portable.{Portable, PortableLaws}
 use Rattle.cert_meaning.specs.Written.{loops, state_in}
 use Rattle.cert_complete.specs.Theorem.{IsLoopUnder, DoesPass, CertificatesHold, HeadsAreOfFrames}
-use Rattle.cert_complete.proofs.Loops.{contains}
 use Rattle.cert_lines.specs.Certificate.{Certificate, Lines, Gives, all_loops, certificate_of, certificate, lines_text, certificate_text}
 use Rattle.cert_lines.specs.Lines.{line_of, written_in, is_loop_under, entry_in, entries}
 use Rattle.cert_lines.specs.Verify.{Yes, of_followed, of_entries, verify}
@@ -29,7 +28,7 @@ use Rattle.cert_accepted.proofs.Texts.{lines_back}
 use Rattle.cert_accepted.proofs.Numbers.{loop_number, number_there}
 use Rattle.cert_accepted.proofs.Chains.{call_numbers}
 use Rattle.cert_accepted.proofs.Once.{Stands, stands, stands_there, loops_once}
-use Rattle.cert_accepted.proofs.Standing.{member, of_reverse, loop_is_under}
+use Rattle.cert_accepted.proofs.Standing.{loop_is_under}
 use Rattle.cert_accepted.proofs.Entries.{value_of, line_with, entry_with, no_over, each_line, IsReadBack, Come, come}
 
 are_ids : (ns : List ℕ) → ((n : ℕ) → Member n ns → n < 2 ^ 32) → AreIds ns
@@ -59,13 +58,13 @@ module _ {S : Type 0} (dom : Operations S) (covers : S → Heap → List Variabl
     chain = let e : 0 + own.place ≡ own.place = omega arith in subst (λ p. Member x.0 (chains program p)) e own.chain
 
     id : x.1 ≤ greatest_id
-    id = omega (arith, fits.small x.1 (contains x.1 (routine_numbers program) (number_there program own.place own.routine x.1 own.at (loop_number x.1 own.routine.code own.loop))))
+    id = omega (arith, fits.small x.1 (contains_of x.1 (routine_numbers program) (number_there program own.place own.routine x.1 own.at (loop_number x.1 own.routine.code own.loop))))
 
     ids : AreIds (reverse x.0)
-    ids = are_ids (reverse x.0) (λ n m. fits.small n (contains n (routine_numbers program) ((call_numbers program checked.numbers_once own.place x.0 chain).at n (of_reverse n x.0 m))))
+    ids = are_ids (reverse x.0) (λ n m. fits.small n (contains_of n (routine_numbers program) ((call_numbers program checked.numbers_once own.place x.0 chain).at n (of_reverse n x.0 m))))
 
     few : length (reverse x.0) ≤ 8
-    few = omega (arith, length-reverse x.0, fits.short own.place x.0 (contains x.0 (chains program own.place) chain))
+    few = omega (arith, length-reverse x.0, fits.short own.place x.0 (contains_of x.0 (chains program own.place) chain))
 
     under : is_loop_under program x.1 x.0 ≡ true
     under = loop_is_under program checked places own.place own.routine x.1 x.0 own.at own.loop chain
@@ -106,7 +105,7 @@ module _ {S : Type 0} (dom : Operations S) (covers : S → Heap → List Variabl
     there_of p n z None at l c = absurd l
     there_of p n z (Some r) at l c =
         let e : p ≡ 0 + p = omega arith in
-        stands_there program checked.numbers_once 0 program p r z n at (member n (loops r.code) l) (subst (λ p. Member z (chains program p)) e (member z (chains program p) c))
+        stands_there program checked.numbers_once 0 program p r z n at (member_of n (loops r.code) l) (subst (λ p. Member z (chains program p)) e (member_of z (chains program p) c))
 
     in_all : (p n : ℕ) (z : List ℕ) → IsLoopUnder program p n z → Member (z, n) (all_loops program)
     in_all p n z u = there_of p n z (slice_get program p) refl u.loop u.chain

@@ -1,6 +1,5 @@
 -- What has a head is a loop.
-use Rattle.std.specs.Prelude.{◌≡◌, ℕ, suc, ℤ, List, [], ◌∷◌, Some, Contains}
-use Rattle.std.proofs.Common.{refl, arith}
+use Rattle.std.specs.Prelude.{◌≡◌, ℕ, ℤ, List, Some}
 use Rattle.plain_values.proofs.Members.{Member, here, there, in_left, in_right, Each, none_there, each_more, each_both, each_as}
 use Rattle.imp_slots.specs.Plain.{Code, Stop, Simple, If, While, Call, Break}
 use Rattle.domain_laws.specs.Operations.{Operations}
@@ -8,11 +7,6 @@ use Rattle.batch_meaning.specs.Values.{Value}
 use Rattle.batch_meaning.specs.Batch.{Engine, Fixed}
 use Rattle.batch_meaning.specs.Places.{Spot, spots}
 use Rattle.cert_meaning.specs.Written.{loops}
-
-pub contains : {A : Type 0} (x : A) (xs : List A) → Member x xs → Contains xs x
-contains x [] m = elim m [ ]
-contains x (y ∷ xs) here = (0, omega arith, refl)
-contains x (y ∷ xs) (there m) = let c = contains x xs m in (suc c.0, omega (arith, c.1), c.2)
 
 module _ {S : Type 0} (dom : Operations S) (engine : Engine) (marks : List ℤ) (z : List ℕ) (calls : ℕ → ℕ → Value S → Value S) where
   abbrev all : Code → Value S → List (ℕ × Spot S)

@@ -11,7 +11,7 @@ use Rattle.program_chains.specs.Claims.{MarksRise, ChainsAreThroughCallers, Plac
 use Rattle.domain_laws.specs.Operations.{Operations}
 use Rattle.domain_laws.specs.Laws.{Laws}
 use Rattle.plain_values.proofs.Cases.{by_test}
-use Rattle.plain_values.proofs.Members.{Member, here, there, in_left, in_right}
+use Rattle.plain_values.proofs.Members.{Member, here, there, in_left, in_right, contains_of}
 use Rattle.batch_meaning.specs.Values.{Value, State, Over, lift, lift2}
 use Rattle.batch_meaning.specs.Batch.{Engine, Passed, Fixed, joined as joined_values, head_of, behind, batch, procedure, calls_of}
 use Rattle.batch_meaning.specs.Places.{Spot, spot, spots, find, from, if_some, head_value, value_in, entered, entry, value_at}
@@ -26,7 +26,7 @@ use Rattle.cert_meaning.specs.Written.{loops, state_in}
 use Rattle.cert_sound.proofs.Fitting.{InProgram, earlier_in, last_at}
 use Rattle.cert_complete.specs.Theorem.{IsLoopUnder, HasNoOver, AreHeads}
 use Rattle.cert_complete.proofs.Heads.{head_is_up}
-use Rattle.cert_complete.proofs.Loops.{are_loops, contains}
+use Rattle.cert_complete.proofs.Loops.{are_loops}
 use Rattle.std.proofs.lemmas.Option.{slice_get_within}
 use Rattle.std.proofs.lemmas.List.{map-append}
 
@@ -118,9 +118,9 @@ module _ {S : Type 0} (dom : Operations S) (engine : Engine) (covers : S → Hea
     loop_here : (n : ℕ) (x : Spot S) (h : Fixed S) → At n x → x.head ≡ Some h → IsLoopUnder program (length f.earlier) n f.z
     loop_here n x h at e = record {
       loop =
-          let among = contains n (loops f.routine.code) ((are_loops dom engine (marks engine.widening f.routine) f.z (calls_of dom engine f.earlier f.z) f.routine.code (State f.first)).at (n, x) at h e) in
+          let among = contains_of n (loops f.routine.code) ((are_loops dom engine (marks engine.widening f.routine) f.z (calls_of dom engine f.earlier f.z) f.routine.code (State f.first)).at (n, x) at h e) in
           subst (λ o. MatchOption o ⊥ (λ (r : Routine). Contains (loops r.code) n)) (sym place_get) among;
-      chain = contains f.z _ met.chain;
+      chain = contains_of f.z _ met.chain;
     }
 
     head_is : (n : ℕ) (v : Value S) → IsLoopUnder program (length f.earlier) n f.z → value_at dom engine program (Head n) f.z ≡ Some v → HeadIs n v

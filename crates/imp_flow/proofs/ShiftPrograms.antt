@@ -15,8 +15,8 @@ use Rattle.batch_meaning.proofs.Places.{found_member}
 use Rattle.cell_rows.specs.Names.{Mark, mark, Place, bare}
 use Rattle.cell_rows.specs.Rows.{Row, enter_row, turn_row, branch_row, post_row, next_row, fix_row, exit_row, leap_row}
 use Rattle.cell_rows.specs.Flat.{Flat, flat, stand_in, by_text, flat_row}
-use Rattle.imp_slots.proofs.Distinct.{absent_left, absent_right, not_in, right_once}
-use Rattle.cell_rows.proofs.FlatOnce.{keys_flat, once_reversed, apart}
+use Rattle.imp_slots.proofs.Distinct.{absent_left, absent_right, not_in, right_once, apart}
+use Rattle.cell_rows.proofs.FlatOnce.{keys_flat, once_reversed}
 use Rattle.imp_flow.specs.Shifts.{shift_routine, put_in, KeepRows}
 use Rattle.imp_flow.specs.Owners.{owner}
 use Rattle.imp_flow.proofs.ShiftCode.{numbers_shift}

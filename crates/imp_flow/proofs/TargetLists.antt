@@ -15,11 +15,7 @@ use Rattle.imp_flow.specs.declared.steps.Target.{Target}
 use Rattle.imp_flow.specs.declared.ways.Reached.{Reached}
 use Rattle.imp_flow.specs.Plans.{Plan}
 use Rattle.imp_flow.specs.Reached.{target_of, with_one, those_there, way_into, way_along}
-use Rattle.plain_values.proofs.Lists.{all_back, take_item}
-
--- the next item of a list, behind those so far and in front of those to come
-back : (xs : List ℕ) (i x : ℕ) → i < length xs → x ≡ get_or xs i x → reverse (take (i + 1) xs) ≡ x ∷ reverse (take i xs)
-back xs i x h e = ap reverse (take_item xs i x h e) ∙ reverse-append (take i xs) (x ∷ [])
+use Rattle.plain_values.proofs.Lists.{all_back, take_back}
 
 module _ (plan : Plan) where
   gone_more : (ys z : List ℕ) → way_along plan z ≡ None → way_along plan (ys ++ z) ≡ None
@@ -29,7 +25,7 @@ module _ (plan : Plan) where
   -- A chain that is gone at a call is gone with all longer ones.
   pub chain_gone : (xs : List ℕ) (i x : ℕ) (now : Reached) → i < length xs → x ≡ get_or xs i x → way_along plan (reverse (take i xs)) ≡ Some now → None ≡ way_into plan x now → None ≡ way_along plan (reverse xs)
   chain_gone xs i x now h e a g =
-      let here : way_along plan (reverse (take (i + 1) xs)) ≡ None = ap (way_along plan) (back xs i x h e) ∙ ap (λ o. if_some o (way_into plan x)) a ∙ sym g in
+      let here : way_along plan (reverse (take (i + 1) xs)) ≡ None = ap (way_along plan) (take_back xs i x h e) ∙ ap (λ o. if_some o (way_into plan x)) a ∙ sym g in
       let all : reverse (drop (i + 1) xs) ++ reverse (take (i + 1) xs) ≡ reverse xs = sym (reverse-append (take (i + 1) xs) (drop (i + 1) xs)) ∙ ap reverse (take-append-drop (i + 1) xs) in
       sym (ap (way_along plan) (sym all) ∙ gone_more (reverse (drop (i + 1) xs)) (reverse (take (i + 1) xs)) here)
 

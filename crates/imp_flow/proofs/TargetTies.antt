@@ -12,7 +12,7 @@ use Rattle.cell_names.specs.declared.frame.Point.{Point}
 use Rattle.cell_names.specs.declared.frame.Point.TheVariants.{Entry, Post, Fix}
 use Rattle.plain_values.proofs.Cases.{by_test}
 use Rattle.batch_meaning.proofs.Procedures.{look_get, look_from, look_below, from_behind, from_from, from_place, from_self}
-use Rattle.plain_values.proofs.Members.{Member, in_left, in_right, keys, keys_both}
+use Rattle.plain_values.proofs.Members.{Member, in_left, in_right, keys, keys_both, in_map}
 use Rattle.batch_meaning.proofs.Places.{found, found_member, find_both, or_else}
 use Rattle.cell_rows.specs.Names.{number}
 use Rattle.cell_rows.specs.Rows.{last_point}
@@ -31,7 +31,7 @@ use Rattle.imp_flow.specs.Nodes.{shape_of, node_in, node_of, body_end}
 use Rattle.imp_flow.specs.Plans.{Plan}
 use Rattle.imp_flow.specs.Reached.{step_of, target_of, into_loops, if_in, callee_at, is_while, reached, node_in_place, way_into, way_along, ending_at, target_from, target_along}
 use Rattle.imp_flow.proofs.Ties.{flat_node, nodes_are, Stands, all_stand, find_node}
-use Rattle.cell_rows.proofs.Ways.{flat_behind, in_flat}
+use Rattle.cell_rows.proofs.Ways.{flat_behind}
 use Rattle.std.proofs.lemmas.Option.{same_Some}
 
 takes_are : (ns : List ℕ) → map step_of (into_loops ns) ≡ takes ns
@@ -91,7 +91,7 @@ once_only : (b : Routine) (ps : List Routine) (k n : ℕ) (r : Routine) (earlier
 once_only b ps k n r earlier t d h f e None i = refl
 once_only b ps k n r earlier t d h f e (Some s) i =
     let first : find n (flat (b ∷ ps)) ≡ Some (in_table b ps t) = find_in b ps n ∙ ap (λ o. or_else (option_map (in_table b ps) o) (find n (flat ps))) e in
-    let m : Member (n, in_table r earlier s) (flat (r ∷ earlier)) = in_left (flat earlier) (in_flat r earlier (n, s) (texts r.code Entry) (found_member n s (texts r.code Entry) i)) in
+    let m : Member (n, in_table r earlier s) (flat (r ∷ earlier)) = in_left (flat earlier) (in_map (flat_of r earlier) (n, s) (texts r.code Entry) (found_member n s (texts r.code Entry) i)) in
     let j : Member (n, in_table r earlier s) (flat ps) = flat_behind ps k (n, in_table r earlier s) (subst (λ rs. Member (n, in_table r earlier s) (flat rs)) (sym f) m) in
     let second : find n (flat (b ∷ ps)) ≡ Some (in_table r earlier s) = found (n, in_table r earlier s) (flat (b ∷ ps)) d (in_right (map (flat_of b ps) (texts b.code Entry)) j) in
     let same : ps ≡ earlier = ap (λ (u : Flat). u.earlier) (same_Some (in_table b ps t) (in_table r earlier s) (sym first ∙ second)) in

@@ -1,7 +1,7 @@
 -- Places in lists.
 use Rattle.std.proofs.Common.{ℕ, zero, suc, ◌≡◌, ◌≢◌, ◌+◌, ◌-◌, ◌<◌, ◌⊎◌, inl, inr, ◌∙◌, subst, List, [], ◌∷◌, ◌++◌, length, take, drop, get_or, slice_get, Some, Option, arith, refl, sym, ap, add-one, drop-cons, None, map, reverse, ◌≤◌}
 use Rattle.std.specs.Prelude.{All}
-use Rattle.std.proofs.lemmas.List.{length_push, length-drop, reverse-reverse, take_all}
+use Rattle.std.proofs.lemmas.List.{length_push, length-drop, reverse-reverse, take_all, reverse-append}
 use Rattle.std.proofs.lemmas.Option.{slice_get_within, get_or_from_slice_get, same_Some}
 
 pub drop_item : {A : Type 0} (xs : List A) (i : ℕ) (x : A) → i < length xs → x ≡ get_or xs i x → drop i xs ≡ x ∷ drop (i + 1) xs
@@ -14,6 +14,9 @@ take_item xs i x h e = rw add-one (go xs i x h e)
     go [] i x h e = absurd (omega arith)
     go (y ∷ ys) zero x h e = ap (λ z. z ∷ []) (sym e)
     go (y ∷ ys) (suc i) x h e = ap (λ zs. y ∷ zs) (go ys i x (omega arith) e)
+
+pub take_back : {A : Type 0} (xs : List A) (i : ℕ) (x : A) → i < length xs → x ≡ get_or xs i x → reverse (take (i + 1) xs) ≡ x ∷ reverse (take i xs)
+take_back xs i x h e = ap reverse (take_item xs i x h e) ∙ reverse-append (take i xs) (x ∷ [])
 
 pub get_last : {A : Type 0} (xs : List A) (x : A) → slice_get (xs ++ (x ∷ [])) (length xs) ≡ Some x
 get_last [] x = refl

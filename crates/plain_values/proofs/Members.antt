@@ -1,6 +1,7 @@
 -- Members of lists, what holds of each, and the keys of entries.
-use Rattle.std.specs.Prelude.{ℕ, ◌≡◌, ◌⊎◌, List, [], ◌∷◌, ◌++◌, map}
-use Rattle.std.proofs.Common.{refl, ap, inl, inr}
+use Rattle.std.specs.Prelude.{ℕ, zero, suc, ◌≡◌, ◌<◌, ◌⊎◌, List, [], ◌∷◌, ◌++◌, length, map, reverse, slice_index_or, Contains}
+use Rattle.std.proofs.Common.{refl, sym, ap, subst, inl, inr, arith}
+use Rattle.std.proofs.lemmas.List.{reverse-append}
 
 pub data Member {A : Type 0} : A → List A → Type 0 where
   here : {x : A} {xs : List A} → Member x (x ∷ xs)
@@ -58,3 +59,25 @@ pub in_map : {A B : Type 0} (f : A → B) (x : A) (xs : List A) → Member x xs 
 in_map f x [] m = elim m [ ]
 in_map f x (y ∷ xs) here = here
 in_map f x (y ∷ xs) (there m) = there (in_map f x xs m)
+
+-- the items of a list that is turned round
+pub of_reverse : {A : Type 0} (x : A) (xs : List A) → Member x (reverse xs) → Member x xs
+of_reverse x [] m = m
+of_reverse x (y ∷ xs) m = elim (either x (reverse xs) (y ∷ []) (subst (Member x) (reverse-append (y ∷ []) xs) m)) [
+  | inl a ↦ there (of_reverse x xs a)
+  | inr b ↦ in_left xs b
+]
+
+-- members by their places
+pub contains_of : {A : Type 0} (x : A) (xs : List A) → Member x xs → Contains xs x
+contains_of x [] m = elim m [ ]
+contains_of x (y ∷ xs) here = (0, omega arith, refl)
+contains_of x (y ∷ xs) (there m) = let c = contains_of x xs m in (suc c.0, omega (arith, c.1), c.2)
+
+pub member_of : {A : Type 0} (x : A) (xs : List A) → Contains xs x → Member x xs
+member_of {A} x xs c = at xs c.0 c.1 c.2
+  where
+    at : (xs : List A) (k : ℕ) → k < length xs → slice_index_or xs k x ≡ x → Member x xs
+    at [] k h e = absurd (omega arith)
+    at (y ∷ xs) zero h e = subst (λ y. Member x (y ∷ xs)) (sym e) here
+    at (y ∷ xs) (suc k) h e = there (at xs k (omega arith) e)

@@ -3,7 +3,7 @@ use Rattle.std.proofs.Common.{◌≡◌, ◌↔◌, ℕ, List, [], ◌∷◌, �
 use Rattle.std.specs.FinMap.{get}
 use Rattle.std.proofs.lemmas.List.{reverse-append}
 use Rattle.imp_syntax.specs.declared.edit.Location.{Location}
-use Rattle.plain_values.proofs.Members.{Member, here, there, in_left, in_right, either}
+use Rattle.plain_values.proofs.Members.{Member, here, there, in_left, in_right, either, of_reverse}
 use Rattle.program_chains.specs.Chains.{selected}
 use Rattle.domain_laws.specs.Operations.{Operations}
 use Rattle.demand_order.specs.Order.{member, System}
@@ -45,14 +45,6 @@ none_left w e = go w.left e
     go (t ∷ ts) e = absurd cc
 
 -- the items of lists that are turned round
-of_reverse : (ns : List ℕ) (n : ℕ) → Member n (reverse ns) → Member n ns
-of_reverse [] n m = m
-of_reverse (k ∷ ns) n m =
-    elim (either n (reverse ns) (k ∷ []) (subst (Member n) (reverse-append (k ∷ []) ns) m)) [
-      | inl a ↦ there (of_reverse ns n a)
-      | inr b ↦ in_left ns b
-    ]
-
 in_reverse : (ns : List ℕ) (n : ℕ) → Member n ns → Member n (reverse ns)
 in_reverse [] n m = m
 in_reverse (k ∷ ns) _ here = subst (Member k) (sym (reverse-append (k ∷ []) ns)) (in_right (reverse ns) here)
@@ -62,7 +54,7 @@ of_turned : (nss : List (List ℕ)) (n : ℕ) → Member n (all_of (map reverse 
 of_turned [] n m = m
 of_turned (ns ∷ nss) n m =
     elim (either n (reverse ns) (all_of (map reverse nss)) m) [
-      | inl a ↦ in_left (all_of nss) (of_reverse ns n a)
+      | inl a ↦ in_left (all_of nss) (of_reverse n ns a)
       | inr b ↦ in_right ns (of_turned nss n b)
     ]
 

@@ -1,10 +1,10 @@
 -- The list of the statements that an answer depends on has exactly those.
 use Rattle.std.specs.Ordering.{nat_cmp}
 use Rattle.std.specs.Cmp.{nat_cmp_is}
-use Rattle.std.specs.List.{AllByRecursion, slice_index_or}
+use Rattle.std.specs.List.{AllByRecursion}
 use Rattle.std.specs.List.Sorted.{IsStrictlySortedBy}
 use Rattle.std.proofs.lemmas.Bool.{or_left, or_right, or_cases}
-use Rattle.std.proofs.Common.{◌≡◌, ◌↔◌, ℕ, zero, suc, ◌<◌, List, [], ◌∷◌, ◌++◌, length, reverse, Option, Some, None, Bool, true, false, if◌then◌else◌, Contains, Less, refl, sym, subst, inl, inr, arith}
+use Rattle.std.proofs.Common.{◌≡◌, ◌↔◌, ℕ, ◌<◌, List, [], ◌∷◌, ◌++◌, reverse, Option, Some, None, Bool, true, false, if◌then◌else◌, Contains, Less, refl, sym, subst, inl, inr}
 use Rattle.imp_syntax.specs.declared.edit.Location.{Location}
 use Rattle.imp_slots.specs.Plain.{Routine}
 use Rattle.imp_slots.specs.Fits.{IsChecked}
@@ -15,7 +15,7 @@ use Rattle.demand_order.specs.Order.{member}
 use Rattle.demand_order.proofs.AskingProofs.{system-acyclic}
 use Rattle.demand_order.proofs.TheoremProofs.{needed}
 use Rattle.cell_names.specs.Paths.{CellName}
-use Rattle.plain_values.proofs.Members.{Member, here, there, in_left, in_right, either}
+use Rattle.plain_values.proofs.Members.{Member, here, there, in_left, in_right, either, contains_of, member_of}
 use Rattle.cell_rows.specs.Names.{IsSame}
 use Rattle.cell_rows.specs.Rows.{Row}
 use Rattle.cell_rows.specs.Flat.{flat_row}
@@ -24,19 +24,6 @@ use Rattle.demand_laws.specs.Claims.{found_by, names_of}
 use Rattle.demand_laws.proofs.Machine.{rows, law}
 use Rattle.why_slice.specs.Upstream.{located, listed, all_of, pointed, matters, HangsOn, NeededBy, IsUpstream, at_location, in_chain, by_name, hung_on, all_hung, needed_by, upstream}
 use Rattle.why_slice.proofs.Rising.{Strict, rising_strict, in_rising, of_rising}
-
-pub contains_of : {A : Type 0} (xs : List A) (x : A) → Member x xs → Contains xs x
-contains_of [] x m = elim m [ ]
-contains_of (y ∷ xs) _ here = (0, omega arith, refl)
-contains_of (y ∷ xs) x (there m) = let c = contains_of xs x m in let l : c.0 < length xs = c.1 in (suc c.0, omega arith, c.2)
-
-pub member_of : {A : Type 0} (xs : List A) (x : A) → Contains xs x → Member x xs
-member_of [] x c = let l : c.0 < 0 = c.1 in absurd (omega arith)
-member_of {A} (y ∷ xs) x c = go c.0 c.1 c.2 (member_of xs x)
-  where
-    go : (k : ℕ) → k < length (y ∷ xs) → slice_index_or (y ∷ xs) k x ≡ x → (Contains xs x → Member x xs) → Member x (y ∷ xs)
-    go zero l e f = subst (λ (z : A). Member x (z ∷ xs)) (sym e) here
-    go (suc k) l e f = there (f (k, omega arith, e))
 
 pub is_member : {A : Type 0} (same : A → A → Bool) → ((x y : A) → same x y ≡ true → x ≡ y) → (xs : List A) (x : A) → member same xs x ≡ true → Member x xs
 is_member same eq [] x m = absurd cc
@@ -116,20 +103,20 @@ module _ {S : Type 0} (dom : Operations S) (engine : Engine) (program : List Rou
     unfolding chains
     told n = (
       λ c.
-          elim (either n (listed (located l)) (all_of chains ++ all_hung dom engine program same (needed_by dom engine program same ts)) (of_rising _ n (member_of _ n c))) [
+          elim (either n (listed (located l)) (all_of chains ++ all_hung dom engine program same (needed_by dom engine program same ts)) (of_rising _ n (member_of n _ c))) [
             | inl a ↦ at_location (listed_only (located l) n a)
             | inr b ↦ elim (either n (all_of chains) (all_hung dom engine program same (needed_by dom engine program same ts)) b) [
-              | inl d ↦ (let z = all_only chains n d in in_chain z.0 (contains_of chains z.0 z.1) (contains_of z.0 n z.2))
+              | inl d ↦ (let z = all_only chains n d in in_chain z.0 (contains_of z.0 chains z.1) (contains_of n z.0 z.2))
               | inr h ↦ (let x = all_hung_only (needed_by dom engine program same ts) n h in by_name x.0 ((needs x.0).0 (as_member same is.same_refl (needed_by dom engine program same ts) x.0 x.1)) x.2)
             ]
           ],
-      λ u. contains_of _ n (in_rising _ n (there_if u)),
+      λ u. contains_of n _ (in_rising _ n (there_if u)),
     )
       where
         there_if : IsUpstream dom engine program same l string p ts n → Member n (listed (located l) ++ (all_of (selected program p string) ++ all_hung dom engine program same (needed_by dom engine program same ts)))
         there_if (at_location e) = in_left (all_of (selected program p string) ++ all_hung dom engine program same (needed_by dom engine program same ts)) (listed_there (located l) n e)
         there_if (in_chain z c k) =
-            in_right (listed (located l)) (in_left (all_hung dom engine program same (needed_by dom engine program same ts)) (all_there (selected program p string) z n (member_of (selected program p string) z c) (member_of z n k)))
+            in_right (listed (located l)) (in_left (all_hung dom engine program same (needed_by dom engine program same ts)) (all_there (selected program p string) z n (member_of z (selected program p string) c) (member_of n z k)))
         there_if (by_name x k h) =
             in_right (listed (located l)) (in_right (all_of (selected program p string))
             (all_hung_there (needed_by dom engine program same ts) x n (is_member same is.same_true (needed_by dom engine program same ts) x ((needs x).1 k)) h))
