@@ -5,7 +5,7 @@ use Rattle.imp_slots.specs.Fits.{FitsCode, FitInTurn, IsChecked}
 use Rattle.program_chains.specs.Chains.{calls_to}
 use Rattle.std.proofs.lemmas.List.{append-nil}
 use Rattle.plain_values.proofs.Members.{Member}
-use Rattle.call_contexts.proofs.Tabled.{no_calls}
+use Rattle.program_chains.proofs.Found.{called_earlier}
 use Rattle.plain_values.proofs.Lists.{none_past}
 
 fit_at : (before rs : List Routine) (k : ℕ) (r : Routine) → FitInTurn before rs → slice_get rs k ≡ Some r → FitsCode (before ++ take k rs) r.layout r.code
@@ -24,4 +24,4 @@ called_before program k p r n checked e m = go (slice_get (take k program) p) re
   where
     go : (o : Option Routine) → slice_get (take k program) p ≡ o → (c : Routine) × (slice_get (take k program) p ≡ Some c)
     go (Some c) h = (c, h)
-    go None h = absurd (nothing_in n (calls_to p r.code) (no_calls (take k program) r.layout p r.code (none_past (take k program) p h) (fit_at [] program k r checked.fit e)) m)
+    go None h = absurd (nothing_in n (calls_to p r.code) (called_earlier (take k program) r.layout p r.code (fit_at [] program k r checked.fit e) (none_past (take k program) p h)) m)

@@ -3,11 +3,11 @@ use Rattle.std.specs.Prelude.{◌≡◌, ◌<◌, ◌≤◌, ℕ, zero, suc, Lis
 use Rattle.std.proofs.Common.{refl, sym, ap, ◌∙◌, arith, subst}
 use Rattle.imp_slots.specs.Plain.{Layout, Guard, Effect, Does, Invoke, Code, Stop, Simple, If, While, Call, Break, Routine}
 use Rattle.imp_slots.specs.Fits.{fits_guard, fits_invoke, FitsCode}
-use Rattle.concrete_sem.specs.Values.{Variables, Heap, Attempt, Gives, Faults, LacksInput}
+use Rattle.concrete_sem.specs.Values.{Variables, Heap, Gives}
 use Rattle.concrete_sem.specs.Evaluation.{truth_of}
 use Rattle.concrete_sem.specs.Effects.{effect_of}
 use Rattle.concrete_sem.specs.Passing.{pass, back}
-use Rattle.concrete_sem.specs.Steps.{Work, Ret, Do, Done, Test, Frame, In, Config, Step, Next, Faulted, InputsUsedUp, Ended, push, leave_loop, chosen, goes_on, step_at, step_if_some, turn, returns_to, enters, step_frame, step_frames, step}
+use Rattle.concrete_sem.specs.Steps.{Work, Ret, Do, Done, Test, Frame, In, Config, Step, Next, Faulted, InputsUsedUp, Ended, push, leave_loop, chosen, goes_on, step_if_some, turn, returns_to, enters, step_frame, step_frames, step}
 use Rattle.concrete_sem.specs.Reach.{after_step, after_steps}
 use Rattle.concrete_sem.specs.Proper.{IsProper}
 use Rattle.concrete_sem.specs.Keeping.{EffectsKeep, PassingKeeps, ReturnsKeep, LastAloneKeeps, StartKeeps}
@@ -23,6 +23,7 @@ use Rattle.batch_meaning.proofs.Procedures.{look, look_get, look_from, from_look
 use Rattle.plain_values.proofs.Members.{Member, here, there, in_left, in_right}
 use Rattle.batch_sound.proofs.Fitting.{callee, FitPassed, block_fit, procedure_fit}
 use Rattle.std.proofs.lemmas.Option.{same_Some}
+use Rattle.concrete_sem.proofs.Forms.{AtNext, at_next, next_of}
 
 -- What steps keep, and that marks rise.
 pub record Kept : Type 0 where
@@ -34,14 +35,6 @@ pub record Kept : Type 0 where
   pub rises : MarksRise
 
 -- A step that is taken.
-data AtNext {A : Type 0} (o : Attempt A) (f : A → Step) (d : Config) : Type 0 where
-  at_next : (a : A) → o ≡ Gives a → f a ≡ Next d → AtNext o f d
-
-next_of : {A : Type 0} (n : ℕ) (o : Attempt A) (f : A → Step) (d : Config) → step_at n o f ≡ Next d → AtNext o f d
-next_of n (Gives a) f d e = at_next a refl e
-next_of n (Faults k) f d e = absurd cc
-next_of n LacksInput f d e = absurd cc
-
 record AtSome {A : Type 0} (o : Option A) (f : A → Step) (d : Config) : Type 0 where
   value : A
   was : o ≡ Some value

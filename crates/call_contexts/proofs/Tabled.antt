@@ -4,10 +4,10 @@ use Rattle.std.specs.Prelude.{if◌then◌else◌}
 use Rattle.std.proofs.lemmas.Bool.{cases_lt}
 use Rattle.imp_syntax.specs.Plain.{Statements, Ends, Starts, Procedure}
 use Rattle.imp_syntax.specs.Plain as tree
-use Rattle.imp_slots.specs.Plain.{Layout, Code, Stop, Simple, If, While, Call, Break, Routine}
-use Rattle.imp_slots.specs.Fits.{FitsCode, FitInTurn, IsChecked}
+use Rattle.imp_slots.specs.Plain.{Simple, If, While, Call, Break, Routine}
+use Rattle.imp_slots.specs.Fits.{FitInTurn, IsChecked}
 use Rattle.program_chains.specs.Chains.{calls_to, extended, through, chains_within, chains}
-use Rattle.program_chains.proofs.Found.{callee_before}
+use Rattle.program_chains.proofs.Found.{called_earlier}
 use Rattle.program_chains.specs.Claims.{ChainsAreThroughCallers}
 use Rattle.imp_check.specs.Programs.{AreNumbered}
 use Rattle.imp_check.specs.Slots.{Resolver, callee_in, code_in, routines_from, routines_of}
@@ -24,24 +24,12 @@ use Rattle.plain_values.proofs.Cases.{by_test}
 use Rattle.std.proofs.Math.Seq.{drop-length}
 use Rattle.std.proofs.lemmas.List.{length-drop}
 
--- a procedure calls none of those from its own place on
-pub no_calls : (before : List Routine) (l : Layout) (p : ℕ) (c : Code) → length before ≤ p → FitsCode before l c → calls_to p c ≡ []
-no_calls before l p Stop h f = refl
-no_calls before l p (Simple n e r) h f = no_calls before l p r h f.1
-no_calls before l p (If n g t e r) h f = λ i. no_calls before l p t h f.1 i ++ (no_calls before l p e h f.2 i ++ no_calls before l p r h f.3 i)
-no_calls before l p (While n g b r) h f = λ i. no_calls before l p b h f.1 i ++ no_calls before l p r h f.2 i
-no_calls before l p (Call n i q r) h f =
-    by_test p q (λ c. (if c then n ∷ calls_to p r else calls_to p r) ≡ [])
-    (λ e. absurd (omega (arith, callee_before before l i q (slice_get before q) refl f.0)))
-    (λ e. no_calls before l p r h f.1)
-no_calls before l p (Break n r) h f = no_calls before l p r h f
-
--- so its chains go through those behind it
+-- a procedure calls none of those from its own place on, so its chains go through those behind it
 through_later : (f : ℕ → List (List ℕ)) (before rs : List Routine) (k j p : ℕ) → k ≡ length before → FitInTurn before rs → k + j ≤ suc p → through f k rs p ≡ through f (k + j) (drop j rs) p
 through_later f before rs k zero p l t h = ap (λ m. through f m rs p) (omega arith)
 through_later f before [] k (suc j) p l t h = refl
 through_later f before (r ∷ rs) k (suc j) p l t h =
-    let none : calls_to p r.code ≡ [] = no_calls before r.layout p r.code (omega arith) t.0.code in
+    let none : calls_to p r.code ≡ [] = called_earlier before r.layout p r.code t.0.code (omega arith) in
     let next : k + suc j ≡ suc k + j = omega arith in
     ap (λ ns. extended (f k) ns ++ through f (suc k) rs p) none
     ∙ through_later f (before ++ (r ∷ [])) rs (suc k) j p (ap suc l ∙ sym (one_more before r)) t.1 (omega arith)

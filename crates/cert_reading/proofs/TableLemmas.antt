@@ -1,5 +1,5 @@
 -- Tables of states and of chains, one entry at a time.
-use Rattle.std.proofs.Common.{ℕ, ◌≡◌, ◌+◌, ◌<◌, ◌≤◌, Bool, true, false, List, [], ◌∷◌, ◌++◌, length, slice_get, refl, sym, ap, ◌∙◌, arith}
+use Rattle.std.proofs.Common.{ℕ, ◌≡◌, ◌+◌, ◌<◌, ◌≤◌, true, List, [], ◌∷◌, ◌++◌, length, slice_get, refl, sym, ap, ◌∙◌, arith}
 use Rattle.std.specs.Prelude.{◌==◌, ◌||◌, nat_lt, if◌then◌else◌}
 use Rattle.std.specs.Str.{bytes_eq}
 use Rattle.std.specs.List.{list_any}
@@ -14,16 +14,12 @@ use Rattle.plain_values.proofs.Lists.{get_last, get_other}
 use Rattle.call_contexts.proofs.Tabled.{none_past}
 use Rattle.cert_lines.specs.Lines.{is_chain}
 use Rattle.cert_reading.specs.Table.{in_set, chain_in, AreChains}
-use Rattle.call_contexts.proofs.Placed.{same_names}
+use Rattle.call_contexts.proofs.Placed.{same_names, or_last}
 
 -- chains of a set are looked for from the first on
 pub any_chain : (z : List ℕ) (zs : List (List ℕ)) → list_any (bytes_eq z) zs ≡ is_chain z zs
 any_chain z [] = refl
-any_chain z (y ∷ ys) = either (bytes_eq z y) (list_any (bytes_eq z) ys) ∙ ap (λ b. if bytes_eq z y then true else b) (any_chain z ys)
-  where
-    either : (a b : Bool) → (a || b) ≡ (if a then true else b)
-    either true b = refl
-    either false b = refl
+any_chain z (y ∷ ys) = or_last (bytes_eq z y) (list_any (bytes_eq z) ys) ∙ ap (λ b. if bytes_eq z y then true else b) (any_chain z ys)
 
 -- a chain is put into a set
 pub set_put : (before behind : List (List ℕ)) (key : List ℕ) → ((q : List ℕ) → list_any (bytes_eq q) behind ≡ (if bytes_eq key q then true else list_any (bytes_eq q) before)) → (z : List ℕ) → is_chain z behind ≡ (if bytes_eq z key then true else is_chain z before)

@@ -54,6 +54,15 @@ leaves p body (Do c w) t i = let k = leaves p body w t i.3 in record { rest = k.
 leaves p body (Done n o w) t i = let k = leaves p body w t i.1 in record { rest = k.rest; is = k.is; work = k.work }
 leaves p body (Test n g b w) t i = record { rest = Done n None w; is = refl; work = ((While n g b i.0.0, i.0.1, refl, refl), i.1) }
 
+-- One step of a frame.
+pub data AtNext {A : Type 0} (o : Attempt A) (f : A → Step) (d : Config) : Type 0 where
+  at_next : (a : A) → o ≡ Gives a → f a ≡ Next d → AtNext o f d
+
+pub next_of : {A : Type 0} (n : ℕ) (o : Attempt A) (f : A → Step) (d : Config) → step_at n o f ≡ Next d → AtNext o f d
+next_of n (Gives a) f d e = at_next a refl e
+next_of n (Faults k) f d e = absurd cc
+next_of n LacksInput f d e = absurd cc
+
 module _ (program : List Routine) (checked : IsChecked program) where
   -- A well-formed configuration, by its last frame.
   record Top (h : Heap) (p : ℕ) (v : Variables) (w : Work) (below : List Frame) : Type 0 where
@@ -98,15 +107,6 @@ module _ (program : List Routine) (checked : IsChecked program) where
   code_fits : (h : Heap) (p : ℕ) (v : Variables) (w : Work) (below : List Frame) → (x : Top h p v w below) → (c : Code) → StandsIn x.routine.code c → (k : Known program p x.routine) × FitsCode k.before x.routine.layout c
   code_fits h p v w below x c s =
       let k = known program p x.routine checked x.at in (k, block_fits k.before x.routine.layout x.routine.code c k.fits.code s)
-
-  -- One step of a frame.
-  data AtNext {A : Type 0} (o : Attempt A) (f : A → Step) (d : Config) : Type 0 where
-    at_next : (a : A) → o ≡ Gives a → f a ≡ Next d → AtNext o f d
-
-  next_of : {A : Type 0} (n : ℕ) (o : Attempt A) (f : A → Step) (d : Config) → step_at n o f ≡ Next d → AtNext o f d
-  next_of n (Gives a) f d e = at_next a refl e
-  next_of n (Faults k) f d e = absurd cc
-  next_of n LacksInput f d e = absurd cc
 
   well : (c d : Config) → Next c ≡ Next d → IsWellFormed program c → IsWellFormed program d
   well c d e i = let k : c ≡ d = cc in subst (IsWellFormed program) k i

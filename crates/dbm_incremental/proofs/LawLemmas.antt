@@ -30,5 +30,5 @@ pub closed-same : ClosedIsItsClose
 closed-same m c = sym (close_of-only m (Matrix m) c.1.matrix (closed-zero m c) (closed-close m c))
 
 -- a closed matrix has a diagonal of 0 and bounds from -2^64 to 2^64
-pub closed-limited : (m : HalfMatrix) → IsClosed m → IsLimited (2 ^ 64) m
-closed-limited m c = subst IsLimitedAnswer (closed-same m c) (close_of-keeps m c.1.matrix (closed-zero m c)).limited
+pub closed_limited : (m : HalfMatrix) → IsClosed m → IsLimited (2 ^ 64) m
+closed_limited m c = subst IsLimitedAnswer (closed-same m c) (close_of-keeps m c.1.matrix (closed-zero m c)).limited

@@ -1,5 +1,5 @@
 -- What an assignment makes of a closed matrix obeys the triangle law where the matrix does, and has its bounds on other slots.
-use Rattle.std.specs.Prelude.{◌≡◌, ℕ, ◌<◌, ◌≤◌, ◌+◌, ◌*◌, ◌/◌, ◌||◌, ℤ, pos, neg_ℤ, ◌+ℤ◌, ◌-ℤ◌, ◌≤ℤ◌, Option, Some, None, Bool, true, false, if◌then◌else◌, List, length, refl}
+use Rattle.std.specs.Prelude.{◌≡◌, ℕ, ◌<◌, ◌≤◌, ◌+◌, ◌*◌, ◌/◌, ◌||◌, ℤ, pos, neg_ℤ, ◌+ℤ◌, ◌-ℤ◌, ◌≤ℤ◌, Option, Some, Bool, true, false, if◌then◌else◌, List, length, refl}
 use Rattle.std.proofs.Common.{arith, ap, sym, ◌∙◌, subst, inl, inr}
 use Rattle.std.proofs.lemmas.Bool.{cases_lt, eq-eqb, ne_eqb}
 use Rattle.std.proofs.lemmas.Int.{ints}
@@ -29,6 +29,7 @@ use Rattle.octagon_meaning.specs.Matrices.{carried, is_beyond, meets_end, meets_
 use Rattle.dom_octagon.proofs.Bounds.{bound-entries, without-entries}
 use Rattle.octagon_states.specs.Limits.{ChangesOnly, ObeysTriangles}
 use Rattle.dbm_close.proofs.SlotLemmas.{even-flip, odd-flip}
+use Rattle.dbm_incremental.proofs.SlotLemmas.{nothing_added}
 
 pub entries-obey : (kinds : List Bool) (f : ℕ → ℕ → Option ℤ) (r : HalfMatrix) → HasEntries kinds f r → HasZeroDiagonal (2 * length kinds) f → IsTriangular (2 * length kinds) f → ObeysTriangles r
 entries-obey kinds f r h z t = let n : length r.kinds ≡ length kinds = ap length h.same_kinds in record {
@@ -50,14 +51,7 @@ carried_obeys m x i c h w = entries-obey m.kinds (shifted (entry m) x i c) (carr
 
 -- the bounds on other slots stay
 shifted-rest : (d : ℕ → ℕ → Option ℤ) (x i : ℕ) (c : ℤ) (a b : ℕ) → (IsOfSlot x a b → ⊥) → shifted d x i c a b ≡ d a b
-shifted-rest d x i c a b n = rw (ne_eqb (a / 2) x (λ e. n (inl e)), ne_eqb (b / 2) x (λ e. n (inr e))) (nothing (d a b))
-  where
-    zero-more : (v : ℤ) → v +ℤ (pos 0 -ℤ pos 0) ≡ v
-    zero-more v = omega (arith, ints)
-
-    nothing : (v : Option ℤ) → add_weight v (Some (pos 0 -ℤ pos 0)) ≡ v
-    nothing None = refl
-    nothing (Some v) = ap Some (zero-more v)
+shifted-rest d x i c a b n = rw (ne_eqb (a / 2) x (λ e. n (inl e)), ne_eqb (b / 2) x (λ e. n (inr e))) (nothing_added (d a b))
 
 pub carried_updated : (m u : HalfMatrix) (x i : ℕ) (c : ℤ) → IsMatrix m → IsMatrix u → u.kinds ≡ m.kinds →
     ((a b : ℕ) → a < nodes m → b < row_width a → IsOfSlot x a b → entry u a b ≡ shifted (entry m) x i c a b) →

@@ -33,24 +33,24 @@ walk_none at zero o h = refl
 walk_none at (suc left) None h = refl
 walk_none at (suc left) (Some n) h = ap (walked (walk at left)) h
 
+pub walk_nothing : (at : ℕ → Option Entry) (m : ℕ) → walk at m None ≡ []
+walk_nothing at zero = refl
+walk_nothing at (suc m) = refl
+
 module _ (at : ℕ → Option Entry) (f : Resolver) where
   -- a statement whose entry is found, those inside it, and those behind it
   step : (m : ℕ) (x : Entry) (xs ys zs : List ℕ) → at x.number ≡ Some x → walk at m x.inner.first ≡ xs → walk at m x.other.first ≡ ys → walk at m x.next ≡ zs → walk at (suc m) (Some x.number) ≡ x.number ∷ (xs ++ (ys ++ zs))
   step m x xs ys zs k p q r = ap (walked (walk at m)) k ∙ (λ i. x.number ∷ (p i ++ (q i ++ r i)))
 
-  nothing : (m : ℕ) → walk at m None ≡ []
-  nothing zero = refl
-  nothing (suc m) = refl
-
   pub walk_is : (m : ℕ) (b : Statements) (c : Context) (a : Option ℕ) → block_count b < m → Known at (block_entries f c a None b) → walk at m (first_or b None) ≡ numbers b
   walk_is zero b c a h k = absurd (omega arith)
   walk_is (suc m) Ends c a h k = refl
   walk_is (suc m) (Starts (tree.Simple n x) ss) c a h k =
-      step m (entry_at f c a (first_or ss None) (tree.Simple n x)) [] [] (numbers ss) (k (entry_at f c a (first_or ss None) (tree.Simple n x)) (inl refl)) (nothing m) (nothing m) (walk_is m ss c (Some n) (omega arith) (λ y i. k y (inr i)))
+      step m (entry_at f c a (first_or ss None) (tree.Simple n x)) [] [] (numbers ss) (k (entry_at f c a (first_or ss None) (tree.Simple n x)) (inl refl)) (walk_nothing at m) (walk_nothing at m) (walk_is m ss c (Some n) (omega arith) (λ y i. k y (inr i)))
   walk_is (suc m) (Starts (tree.Break n) ss) c a h k =
-      step m (entry_at f c a (first_or ss None) (tree.Break n)) [] [] (numbers ss) (k (entry_at f c a (first_or ss None) (tree.Break n)) (inl refl)) (nothing m) (nothing m) (walk_is m ss c (Some n) (omega arith) (λ y i. k y (inr i)))
+      step m (entry_at f c a (first_or ss None) (tree.Break n)) [] [] (numbers ss) (k (entry_at f c a (first_or ss None) (tree.Break n)) (inl refl)) (walk_nothing at m) (walk_nothing at m) (walk_is m ss c (Some n) (omega arith) (λ y i. k y (inr i)))
   walk_is (suc m) (Starts (tree.Call n x g es) ss) c a h k =
-      step m (entry_at f c a (first_or ss None) (tree.Call n x g es)) [] [] (numbers ss) (k (entry_at f c a (first_or ss None) (tree.Call n x g es)) (inl refl)) (nothing m) (nothing m) (walk_is m ss c (Some n) (omega arith) (λ y i. k y (inr i)))
+      step m (entry_at f c a (first_or ss None) (tree.Call n x g es)) [] [] (numbers ss) (k (entry_at f c a (first_or ss None) (tree.Call n x g es)) (inl refl)) (walk_nothing at m) (walk_nothing at m) (walk_is m ss c (Some n) (omega arith) (λ y i. k y (inr i)))
   walk_is (suc m) (Starts (tree.If n d t e) ss) c a h k =
       let x = entry_at f c a (first_or ss None) (tree.If n d t e) in
       let T = block_entries f (inside c n which.Then) None None t in
@@ -68,7 +68,7 @@ module _ (at : ℕ → Option Entry) (f : Resolver) where
       let R = block_entries f c (Some n) None ss in
       step m x (numbers b) [] (numbers ss) (k x (inl refl))
       (walk_is m b (inside_loop c n) None (omega arith) (λ y i. k y (inr (in_left y B R i))))
-      (nothing m)
+      (walk_nothing at m)
       (walk_is m ss c (Some n) (omega arith) (λ y i. k y (inr (in_right y B R i))))
 
 -- The statements of a procedure are statements of the program.

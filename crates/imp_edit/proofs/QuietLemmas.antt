@@ -13,7 +13,7 @@ use Rattle.imp_check.specs.declared.entry.Context.{Context}
 use Rattle.imp_check.specs.declared.entry.Entry.{Entry}
 use Rattle.imp_check.specs.declared.entry.Which.TheVariants as which
 use Rattle.imp_check.proofs.RebuildLemmas.{in_left, in_right, Known, known_left, known_right}
-use Rattle.imp_check.proofs.WalkLemmas.{walk_is}
+use Rattle.imp_check.proofs.WalkLemmas.{walk_is, walk_nothing}
 use Rattle.edit_entries.specs.Gaps.{are_quiet}
 use Rattle.imp_edit.specs.Gaps.{gone_gap, of_entry, part_gap}
 use Rattle.loop_breaks.specs.declared.gap.Gap.{Gap}
@@ -47,10 +47,6 @@ module _ (at : ℕ → Option Entry) (f : Resolver) where
   no_call : (m : ℕ) → quiet_from at m None ≡ true
   no_call zero = refl
   no_call (suc m) = refl
-
-  nothing : (m : ℕ) → walk at m None ≡ []
-  nothing zero = refl
-  nothing (suc m) = refl
 
   quiet_is : (m : ℕ) (b : Statements) (c : Context) (a : Option ℕ) → block_count b < m → Known at (block_entries f c a None b) → quiet_from at m (first_or b None) ≡ are_quiet b
   quiet_is zero b c a h k = absurd (omega arith)
@@ -86,9 +82,9 @@ module _ (at : ℕ → Option Entry) (f : Resolver) where
 
   -- Of a statement whose entry and those inside it are found, the numbers are found ..
   pub part_numbers_is : (m : ℕ) (s : Statement) (c : Context) (a p : Option ℕ) → block_count (Starts s Ends) < m → Known at (statement_entries f c a p s) → part_numbers at m (entry_at f c a p s) ≡ numbers (Starts s Ends)
-  part_numbers_is m (tree.Simple n x) c a p h k = ap (λ ns. n ∷ (ns ++ walk at m None)) (nothing m) ∙ ap (λ ns. n ∷ ns) (nothing m)
-  part_numbers_is m (tree.Break n) c a p h k = ap (λ ns. n ∷ (ns ++ walk at m None)) (nothing m) ∙ ap (λ ns. n ∷ ns) (nothing m)
-  part_numbers_is m (tree.Call n x g es) c a p h k = ap (λ ns. n ∷ (ns ++ walk at m None)) (nothing m) ∙ ap (λ ns. n ∷ ns) (nothing m)
+  part_numbers_is m (tree.Simple n x) c a p h k = ap (λ ns. n ∷ (ns ++ walk at m None)) (walk_nothing at m) ∙ ap (λ ns. n ∷ ns) (walk_nothing at m)
+  part_numbers_is m (tree.Break n) c a p h k = ap (λ ns. n ∷ (ns ++ walk at m None)) (walk_nothing at m) ∙ ap (λ ns. n ∷ ns) (walk_nothing at m)
+  part_numbers_is m (tree.Call n x g es) c a p h k = ap (λ ns. n ∷ (ns ++ walk at m None)) (walk_nothing at m) ∙ ap (λ ns. n ∷ ns) (walk_nothing at m)
   part_numbers_is m (tree.If n d t e) c a p h k =
       let T = block_entries f (inside c n which.Then) None None t in
       let E = block_entries f (inside c n which.Else) None None e in
@@ -98,7 +94,7 @@ module _ (at : ℕ → Option Entry) (f : Resolver) where
       ∙ ap (λ ns. n ∷ ns) (sym (append-nil (numbers t ++ numbers e)))
   part_numbers_is m (tree.While n d b) c a p h k =
       ap (λ ns. n ∷ (ns ++ walk at m None)) (walk_is at f m b (inside_loop c n) None (omega arith) (λ y i. k y (inr i)))
-      ∙ ap (λ ns. n ∷ (numbers b ++ ns)) (nothing m)
+      ∙ ap (λ ns. n ∷ (numbers b ++ ns)) (walk_nothing at m)
 
   -- .. and whether it calls is told.
   pub part_quiet_is : (m : ℕ) (s : Statement) (c : Context) (a p : Option ℕ) → block_count (Starts s Ends) < m → Known at (statement_entries f c a p s) → part_quiet at m (entry_at f c a p s) ≡ are_quiet (Starts s Ends)

@@ -10,7 +10,6 @@ use lib.Pointwise.{pointwise, pointwise_decides}
 use Rattle.plain_values.proofs.Cases.{by_bool}
 use Rattle.imp_slots.specs.Plain.{Layout}
 use Rattle.shape_graph.specs.Shape.{Shape, In}
-use Rattle.cert_words.proofs.Numbers.{word_Decides}
 use Rattle.cert_words.specs.Claims.{AreSmall}
 use Rattle.cert_words.specs.States.{AreWords}
 use Rattle.cert_words.specs.Words.{is_number, words_text}
@@ -23,6 +22,7 @@ use Rattle.listseg_words.specs.Words.{graph_told, told, number_of, word_at, afte
 use Rattle.listseg_words.proofs.Back.{All-fit, graphs-back, number-back}
 use Rattle.listseg_words.proofs.Small.{small-graphs, text-long}
 use Rattle.std.proofs.lemmas.Option.{same_Some}
+use Rattle.plain_values.proofs.Integers.{word_Decides}
 
 abbrev same_words : List (Option ℤ) → List (Option ℤ) → Bool
 same_words = pointwise (option_eq int_eq)

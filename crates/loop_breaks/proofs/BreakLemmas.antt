@@ -13,6 +13,7 @@ use Rattle.edit_entries.specs.Spliced.{among, breaking, is, left_of, rebroken}
 use Rattle.edit_entries.proofs.Breaks.{among_all, among_none}
 use Rattle.loop_breaks.specs.Breaks.{above, breaks_of, breaks_with, counted, front_count, known_at, leaving_from, leaving_on, leaving_part, loop_breaks, passed}
 use Rattle.loop_breaks.specs.declared.gap.Gap.{Gap}
+use Rattle.edit_entries.proofs.Table.{is_some}
 
 -- Steps.
 pub leaving_step : (at : ℕ → Option Entry) (left : ℕ) (o : Option ℕ) (e : Entry) → next_in at left o ≡ Some e → leaving_from at left o ≡ leaving_part (leaving_from at (left - 1)) e e.part ++ leaving_from at (left - 1) e.next
@@ -57,12 +58,8 @@ module _ (ps : List Procedure) (g : Gap) (news : Statements) where
   abbrev at : ℕ → Option Entry
   at = entry_of (entries_of ps)
 
-  some_is : (o : Option ℕ) (m : ℕ) → is o m ≡ true → o ≡ Some m
-  some_is None m h = cc
-  some_is (Some n) m h = ap Some (grind (arith, nat_tests))
-
   pub loop_breaks_is : (m : ℕ) (x : Entry) → is g.context.head m ≡ true → at m ≡ Some x → loop_breaks ps g news ≡ breaks_with ps g news x
-  loop_breaks_is m x h k = ap (λ o. breaks_of (breaks_with ps g news) (known_at at o)) (some_is g.context.head m h) ∙ ap (breaks_of (breaks_with ps g news)) k
+  loop_breaks_is m x h k = ap (λ o. breaks_of (breaks_with ps g news) (known_at at o)) (is_some g.context.head m h) ∙ ap (breaks_of (breaks_with ps g news)) k
 
   module _ (h : ℕ) (x : Entry) (around : g.context.head ≡ Some h) (known : at h ≡ Some x) where
     pub with_loop : loop_breaks ps g news ≡ breaks_with ps g news x

@@ -7,18 +7,15 @@ use Rattle.dbm_core.specs.Limits.{IsLimited, IsZeroAtMost}
 use Rattle.dbm_close.proofs.RoundLemmas.{AreWithin-more}
 use Rattle.dbm_close.specs.CloseOf.{close_of}
 use Rattle.dbm_close.specs.declared.closed.Closed.{Closed}
-use Rattle.dbm_incremental.proofs.LawLemmas.{close_of-closed, closed-limited, closed-same}
+use Rattle.dbm_incremental.proofs.LawLemmas.{close_of-closed, closed_limited, closed-same}
 use Rattle.dbm_incremental.specs.Answers.{IsClosedAnswer}
 use Rattle.dbm_incremental.specs.ClosedMatrices.{IsClosed}
 use Rattle.octagon_meaning.specs.States.{closed}
 use Rattle.octagon_states.specs.Kept.{bounded_if}
 use Rattle.octagon_states.specs.Limits.{IsReady, IsTight}
 
-pub closed_limited : (m : HalfMatrix) → IsClosed m → IsLimited (2 ^ 64) m
-closed_limited = closed-limited
-
 pub closed_tight : (m : HalfMatrix) → IsClosed m → IsTight m
-closed_tight m c = record { closed = c; limited = closed-limited m c; ranges = c.1.ranges }
+closed_tight m c = record { closed = c; limited = closed_limited m c; ranges = c.1.ranges }
 
 -- what closing answers is closed
 pub answer_closed : (m : HalfMatrix) (c : Closed) → IsMatrix m → IsZeroAtMost (nodes m) (entry m) → c ≡ close_of m → IsClosedAnswer c

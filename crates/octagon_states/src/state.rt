@@ -32,7 +32,7 @@ impl Model for OctagonState {
 }
 
 /// The matrix of a state, closed or not, if there is one.
-#[tactic(auto, using(crate::proofs::Tight::closed_limited))]
+#[tactic(auto, using(dbm_incremental::proofs::LawLemmas::closed_limited))]
 pub fn matrix_of_state(s: &OctagonState) -> Option<&Matrix>
     ensures exact { bounded_if (option_copied result) ≡ s.now }
     ensures limited { IfSome (option_copied result) (IsLimited (2 ^ 64)) }

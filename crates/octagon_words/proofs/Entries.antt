@@ -8,14 +8,13 @@ use Rattle.std.proofs.lemmas.Bool.{and_parts, and_from}
 use Rattle.std.proofs.lemmas.Int.{ints}
 use Rattle.dbm_core.specs.Limits.{HasZeroDiagonal}
 use Rattle.dbm_core.specs.Nodes.{IsCoherent, flip}
-use Rattle.cert_words.proofs.Numbers.{word_Decides}
 use Rattle.cert_words.specs.Claims.{IsSmall, AreSmall}
 use Rattle.octagon_meaning.specs.Covers.{in_limits}
 use Rattle.octagon_words.specs.Words.{is_entry, are_entries, word_at}
 use Rattle.octagon_words.proofs.Below.{pairs-true, true-pairs}
 use Rattle.octagon_meaning.proofs.Fitting.{eq-true}
 use Rattle.plain_values.proofs.Cases.{equal_test}
-use Rattle.plain_values.proofs.Integers.{lower_of}
+use Rattle.plain_values.proofs.Integers.{lower_of, word_Decides}
 
 -- the table of these words is that of a state
 pub record AreEntries (ws : List (Option ℤ)) (n : ℕ) : Type 0 where

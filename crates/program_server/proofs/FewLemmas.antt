@@ -1,19 +1,16 @@
 -- A program without faults is small.
-use Rattle.std.proofs.Common.{◌≡◌, ℕ, ◌<◌, nat_lt, true, List, [], ◌∷◌, length, Option, Some, None, length-append, refl, arith}
+use Rattle.std.proofs.Common.{◌≡◌, ◌<◌, nat_lt, true, List, [], ◌∷◌, length, None, length-append, refl, arith}
 use Rattle.std.proofs.lemmas.Bool.Decides.{nat_tests}
-use Rattle.imp_syntax.specs.Plain.{Statement, Simple, Break, Call, If, While, Statements, Ends, Starts, Procedure, numbers_in, numbers, program_numbers}
+use Rattle.imp_syntax.specs.Plain.{Procedure, program_numbers}
 use Rattle.imp_check.specs.declared.fault.Fault.TheVariants.{Procedures, Statements as TooMany, Nesting}
 use Rattle.imp_check.specs.Faults.{unless, first, at, in_procedure}
-use Rattle.imp_check.specs.Programs.{statement_count, block_count, program_count, deepest, size_fault, procedures_fault, ending_fault, check_fault, name_of, last_of}
-use Rattle.imp_check.proofs.FewLemmas.{unless_none, at_none, first_left, first_right}
-
-none_in : (p : List ℕ) (s : Option _) → in_procedure p s ≡ None → s ≡ None
-none_in p None is = refl
-none_in p (Some s) is = cc
+use Rattle.imp_check.specs.Programs.{program_count, deepest, size_fault, procedures_fault, ending_fault, check_fault, name_of, last_of}
+use Rattle.imp_check.proofs.FewLemmas.{unless_none, at_none, first_left, first_right, in_none}
+use Rattle.edit_entries.proofs.Quiet.{numbers_count}
 
 size_holds : (ps : List Procedure) → check_fault ps ≡ None → size_fault ps ≡ None
 size_holds ps is =
-    at_none 0 (size_fault ps) (none_in (name_of (last_of ps)) (at 0 (size_fault ps))
+    at_none 0 (size_fault ps) (in_none (name_of (last_of ps)) (at 0 (size_fault ps))
     (first_left (in_procedure (name_of (last_of ps)) (at 0 (size_fault ps))) (first (procedures_fault [] ps) (in_procedure (name_of (last_of ps)) (at 0 (ending_fault ps)))) is))
 
 few_statements : (ps : List Procedure) → check_fault ps ≡ None → program_count ps < 10001
@@ -22,21 +19,9 @@ few_statements ps is =
     let test : nat_lt (program_count ps) 10001 ≡ true = unless_none (nat_lt (program_count ps) 10001) TooMany (first_left (unless (nat_lt (program_count ps) 10001) TooMany) (unless (nat_lt (deepest ps) 33) Nesting) rest) in
     grind (arith, nat_tests)
 
-mutual
-  count_of_statement : (s : Statement) → length (numbers_in s) ≡ statement_count s
-  count_of_statement (Simple n a) = refl
-  count_of_statement (Break n) = refl
-  count_of_statement (Call n x f es) = refl
-  count_of_statement (If n c t e) = simp length-append (omega (arith, count_of_block t, count_of_block e))
-  count_of_statement (While n c b) = omega (arith, count_of_block b)
-
-  count_of_block : (ss : Statements) → length (numbers ss) ≡ block_count ss
-  count_of_block Ends = refl
-  count_of_block (Starts s ss) = simp length-append (omega (arith, count_of_statement s, count_of_block ss))
-
 pub number_count : (ps : List Procedure) → length (program_numbers ps) ≡ program_count ps
 number_count [] = refl
-number_count (p ∷ ps) = simp length-append (omega (arith, count_of_block p.body, number_count ps))
+number_count (p ∷ ps) = simp length-append (omega (arith, numbers_count p.body, number_count ps))
 
 pub few_numbers : (ps : List Procedure) → check_fault ps ≡ None → length (program_numbers ps) < 10001
 few_numbers ps is = let few : program_count ps < 10001 = few_statements ps is in omega (arith, number_count ps)

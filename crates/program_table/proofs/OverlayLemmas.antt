@@ -70,10 +70,7 @@ back_within at ps room w = record {
 pub at_same : (xs ys : List Put) (i : ℕ) (d : Put) → i < length xs → i < length ys → drop i xs ≡ drop i ys → slice_index_or xs i d ≡ slice_index_or ys i d
 at_same [] ys i d h k e = absurd (omega arith)
 at_same (x ∷ xs) [] i d h k e = absurd (omega arith)
-at_same (x ∷ xs) (y ∷ ys) zero d h k e = head x y xs ys e
-  where
-    head : (x y : Put) (xs ys : List Put) → x ∷ xs ≡ y ∷ ys → x ≡ y
-    head x y xs ys e = cc
+at_same (x ∷ xs) (y ∷ ys) zero d h k e = let q : x ≡ y = cc in q
 at_same (x ∷ xs) (y ∷ ys) (suc i) d h k e = at_same xs ys i d (omega arith) (omega arith) e
 
 next_drop : (xs : List Put) (i : ℕ) → drop (suc i) xs ≡ drop 1 (drop i xs)
