@@ -10,13 +10,14 @@ ghost use Rattle.line_answers.specs.Fine.{opening};
 ghost use Rattle.line_answers.specs.Lines.{Served};
 ghost use Rattle.server_jobs.specs.Works.{program_in, task_in, IsNumbered, Remembers};
 
+use crate::generated::summary;
+use crate::server::Server;
 use command_words::{DomainName, Settings};
 use dom_interval::Interval;
 use dom_listseg::ListSeg;
 use dom_octagon::Octagon;
 use dom_product::Pair;
 use io_edge::{Failed, Sink, Source};
-use program_server::{Server, summary};
 use program_table::{Checked, Table};
 use script_loop::{Answerer, Stop, answer_script, write_all};
 use server_jobs::{Drawn, Named, Status, Work, listed};

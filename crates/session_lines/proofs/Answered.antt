@@ -9,9 +9,8 @@ use Rattle.request_json.specs.declared.request.Request.TheVariants as asks
 use Rattle.line_answers.specs.Readings.{Readings}
 use Rattle.line_answers.specs.Turns.{Turn, run_turn}
 use Rattle.line_answers.specs.Lines.{request_turn}
-use Rattle.session_lines.specs.Followed.{missing_of, Fills, IsHalted}
-use Rattle.edit_lines.specs.Asked.{Edits}
-use Rattle.edit_lines.proofs.Replied.{IsFollowed, Writes, follows}
+use Rattle.session_lines.specs.Followed.{missing_of, Edits, Fills, IsHalted}
+use Rattle.session_lines.proofs.Replied.{IsFollowed, Writes, follows}
 
 module _ {V E S : Type 0} (r : Result V E) (items : V → List ℕ) (dom : Operations S) (m : Machine) (stands : Machine → Type 0) where
   -- a request has the turn of what it is

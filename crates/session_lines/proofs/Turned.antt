@@ -43,10 +43,8 @@ use Rattle.request_json.specs.declared.reply.Refusal.TheVariants as refusal
 use Rattle.line_replies.specs.States.{answer_reply, layout_at}
 use Rattle.line_answers.specs.Turns.{Turn, ask_by, ask_turn, cancel_by, goes, move_turn, refused, state_by, state_turn, step_by, step_of, told, why_by, why_turn}
 use Rattle.session_lines.proofs.Places.{missing_answered, says_answered, short_not_long}
-use Rattle.session_lines.specs.Followed.{ask_refusal, missing_for_ticket, move_refusal, query_refusal, step_refusal, IsHalted, TellsTurn}
-use Rattle.edit_lines.specs.Followed.{Follows, Tells}
-use Rattle.edit_lines.proofs.Replied.{IsFollowed, IsReplied, Writes, follows}
-use Rattle.session_lines.proofs.Halted.{halted_after, halted_before, never_ok, on_error}
+use Rattle.session_lines.specs.Followed.{ask_refusal, missing_for_ticket, move_refusal, query_refusal, step_refusal, Follows, IsHalted, Tells, TellsTurn}
+use Rattle.session_lines.proofs.Replied.{IsFollowed, IsReplied, Writes, follows, halted_after, halted_before, never_ok, on_error}
 
 -- the ticket that is found has the number
 pub number_found : (n : ℕ) (ts : List Ticket) → IfSome (ticket_of n ts) (λ t. t.number ≡ n)

@@ -1,4 +1,4 @@
--- What is written for a line, and what stands where memory is wanting.
+-- What is written for a line, and which machine stands after it.
 use Rattle.std.specs.Prelude.{◌≡◌, ◌⊎◌, ℕ, List, [], Option, Some, None, Result, Ok, Err, IfOk}
 use Rattle.imp_syntax.specs.declared.edit.Location.{Location}
 use Rattle.imp_check.specs.Slots.{routines_of}
@@ -25,8 +25,17 @@ use Rattle.request_json.specs.declared.reply.Reply.TheVariants as r
 use Rattle.request_json.specs.declared.reply.Refusal.{Refusal}
 use Rattle.request_json.specs.declared.reply.Refusal.TheVariants as refusal
 use Rattle.request_json.specs.Replies.{reply_text}
+use Rattle.imp_syntax.specs.declared.edit.Edit.{Edit}
 use Rattle.line_replies.specs.States.{answer_reply, layout_at}
+use Rattle.line_answers.specs.Edits.{IsTextError, replace_of, insert_of, delete_of, guard_of, declare_of, add_of, drop_of}
+use Rattle.line_answers.specs.Readings.{Readings}
+use Rattle.line_answers.specs.declared.edits.TextError.{TextError}
 use Rattle.line_answers.specs.Turns.{Turn}
+
+-- The reply of a turn is written, and what stands is its machine.
+pub record Follows (turn : Turn) (stands : Machine → Type 0) (line : List ℕ) : Type 0 where
+  pub reply : line ≡ reply_text turn.reply
+  pub machine : stands turn.machine
 
 -- a request that fills names: after want of memory some of them may be filled, and all else is as it was
 abbrev pub Fills : Result Request ReadError → Type 0
@@ -74,8 +83,40 @@ abbrev pub move_refusal : UndoError → (otherwise : Refusal) → Option Refusal
 move_refusal undo.Nothing otherwise = Some otherwise
 move_refusal undo.Memory otherwise = None
 
+-- The line tells this refusal; for want of memory there is no line.
+abbrev pub Tells : {V E : Type 0} → Result V E → (items : V → List ℕ) → Option Refusal → Type 0
+Tells line items (Some why) = IfOk line (λ v. items v ≡ reply_text (r.Refused why))
+Tells line items None = IfOk line (λ v. ⊥)
+
 -- The line tells how many cells a step filled, or what it answers at a location.
 abbrev pub TellsTurn : {V E S : Type 0} → Result V E → (items : V → List ℕ) → Operations S → (stands : Machine → Type 0) → Location → stepping.Turn S → Type 0
 TellsTurn line items dom stands at (Pending n) = IfOk line (λ v. items v ≡ reply_text (r.Pending n))
 TellsTurn {S = S} line items dom stands at (Done v) = (m : Machine) (a : Answer S) → stands m → Says a (Some v) →
     IfOk line (λ w. items w ≡ reply_text (answer_reply dom (layout_at (routines_of m.program) at) a))
+
+-- a request for an edit
+abbrev pub Edits : Request → Type 0
+Edits (q.Replace id text) = Unit {0}
+Edits (q.Insert place text) = Unit {0}
+Edits (q.Delete id) = Unit {0}
+Edits (q.Guard id text) = Unit {0}
+Edits (q.Declare proc name kind) = Unit {0}
+Edits (q.Add before text) = Unit {0}
+Edits (q.Drop proc) = Unit {0}
+Edits request = ⊥
+
+-- the edit that a request asks for, whose new statements carry the numbers from the next one on
+abbrev pub edit_asked : Readings → (next : ℕ) → Request → Result Edit Refusal
+edit_asked readings next (q.Replace id text) = replace_of readings next id text
+edit_asked readings next (q.Insert place text) = insert_of readings next place text
+edit_asked readings next (q.Delete id) = delete_of id
+edit_asked readings next (q.Guard id text) = guard_of readings id text
+edit_asked readings next (q.Declare proc name kind) = declare_of proc name kind
+edit_asked readings next (q.Add before text) = add_of readings next before text
+edit_asked readings next (q.Drop proc) = drop_of proc
+edit_asked readings next request = Err refusal.NoRequest
+
+-- what is made of a text is this edit, or why the text gives none
+abbrev pub Makes : Result Edit Refusal → Result Edit TextError → Type 0
+Makes e (Ok edit) = e ≡ Ok edit
+Makes e (Err error) = IsTextError e error

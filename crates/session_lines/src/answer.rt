@@ -7,15 +7,15 @@ ghost use Rattle.request_json.specs.Requests.{request_of};
 ghost use Rattle.line_replies.specs.Refusals.{line_refusal};
 ghost use Rattle.line_answers.specs.Readings.{Readings};
 ghost use Rattle.line_answers.specs.Lines.{line_turn, request_turn};
-ghost use Rattle.session_lines.specs.Followed.{missing_of, Fills, IsHalted};
-ghost use Rattle.edit_lines.specs.Followed.{Follows};
+ghost use Rattle.session_lines.specs.Followed.{missing_of, Fills, Follows, IsHalted};
 
+use crate::edits::edit_request;
 use crate::questions::{report_line, state_line, why_line};
 use crate::tickets::{ask_line, cancel_line, redo_line, step_line, undo_line};
 use crate::told::{cost_line, listing_line, program_line, run_line};
+use crate::written::line_of;
 use daig_session::Session;
 use domain_laws::{Domain, Steps};
-use edit_lines::{edit_request, line_of};
 use line_replies::line_refusal;
 use plain_values::Memory;
 use request_json::{ReadError, Reply, Request, read_request};

@@ -7,8 +7,10 @@
 #![tactic(auto)]
 
 mod answer;
+mod edits;
 mod questions;
 mod tickets;
 mod told;
+mod written;
 
 pub use answer::answer_line;

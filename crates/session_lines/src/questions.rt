@@ -9,13 +9,12 @@ ghost use Rattle.request_json.specs.Replies.{reply_text};
 ghost use Rattle.line_replies.specs.States.{answer_reply, layout_at};
 ghost use Rattle.imp_check.specs.Slots.{routines_of};
 ghost use Rattle.line_answers.specs.Turns.{report_turn, state_turn, why_turn};
-ghost use Rattle.session_lines.specs.Followed.{query_refusal, IsHalted};
-ghost use Rattle.edit_lines.specs.Followed.{Follows};
+ghost use Rattle.session_lines.specs.Followed.{query_refusal, Follows, IsHalted};
 
+use crate::written::{line_of, refused_if};
 use daig_graph::Value;
 use daig_session::{QueryError, Session};
 use domain_laws::{Domain, Steps};
-use edit_lines::{line_of, refused_if};
 use imp_syntax::Location;
 use line_replies::{numbers_of, over_reply, state_reply};
 use plain_values::Memory;

@@ -3,13 +3,12 @@ ghost use Rattle.std.specs.Prelude.{◌≡◌, ◌+◌, ◌<◌, ◌≤◌, ◌^
 ghost use Rattle.session_machine.specs.Machine.{Machine, ticket_of};
 ghost use Rattle.daig_session.specs.Holds.{Holds, IsReady};
 ghost use Rattle.line_answers.specs.Turns.{ask_turn, cancel_turn, redo_turn, step_turn, undo_turn};
-ghost use Rattle.session_lines.specs.Followed.{ask_refusal, missing_for_ticket, move_refusal, step_refusal, IsHalted, TellsTurn};
-ghost use Rattle.edit_lines.specs.Followed.{Follows};
+ghost use Rattle.session_lines.specs.Followed.{ask_refusal, missing_for_ticket, move_refusal, step_refusal, Follows, IsHalted, TellsTurn};
 
 use crate::questions::value_line;
+use crate::written::{line_of, refused, refused_if};
 use daig_session::{AskError, Session, StepError, Turn, UndoError};
 use domain_laws::{Domain, Steps};
-use edit_lines::{line_of, refused, refused_if};
 use imp_syntax::Location;
 use line_replies::numbers_of;
 use plain_values::Memory;

@@ -6,9 +6,9 @@ ghost use Rattle.daig_session.specs.Holds.{Holds, IsReady};
 ghost use Rattle.request_json.specs.Replies.{reply_text};
 ghost use Rattle.line_answers.specs.Turns.{cost_turn, listing_turn, program_turn, run_turn};
 
+use crate::written::line_of;
 use daig_session::Session;
 use domain_laws::Domain;
-use edit_lines::line_of;
 use imp_syntax::Location;
 use line_replies::{asked_run, listing, program_reply};
 use plain_values::Memory;

@@ -7,10 +7,8 @@ use Rattle.request_json.specs.declared.reply.Reply.TheVariants as r
 use Rattle.request_json.specs.Requests.{request_of}
 use Rattle.line_replies.specs.Refusals.{line_refusal}
 use Rattle.line_answers.specs.Lines.{line_turn, read_turn}
-use Rattle.session_lines.specs.Followed.{missing_of, Fills, IsHalted}
-use Rattle.edit_lines.specs.Followed.{Follows}
-use Rattle.edit_lines.proofs.Replied.{IsReplied, follows_where}
-use Rattle.session_lines.proofs.Halted.{halted_before, on_error}
+use Rattle.session_lines.specs.Followed.{missing_of, Fills, Follows, IsHalted}
+use Rattle.session_lines.proofs.Replied.{IsReplied, follows_where, halted_before, on_error}
 use Rattle.session_lines.proofs.answer.answer_line.Goals as goal
 
 pub returns-in-Ok-clause-turn : goal.returns-in-Ok-clause-turn

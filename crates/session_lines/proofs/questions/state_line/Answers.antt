@@ -6,8 +6,8 @@ use Rattle.daig_session.specs.Turns.{Fails, Questions}
 use Rattle.request_json.specs.declared.reply.Refusal.{Refusal}
 use Rattle.line_replies.specs.States.{answer_reply, layout_at}
 use Rattle.line_answers.specs.Turns.{state_by, state_turn}
-use Rattle.edit_lines.specs.Followed.{Tells}
-use Rattle.edit_lines.proofs.Replied.{Writes, follows}
+use Rattle.session_lines.specs.Followed.{Tells}
+use Rattle.session_lines.proofs.Replied.{Writes, follows}
 use Rattle.session_lines.proofs.Turned.{state_answered, unanswered_follows, unanswered_halts}
 use Rattle.session_lines.proofs.questions.state_line.Goals as goal
 

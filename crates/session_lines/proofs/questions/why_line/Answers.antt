@@ -5,9 +5,8 @@ use Rattle.daig_session.specs.Turns.{Explains, Fails}
 use Rattle.request_json.specs.declared.reply.Reply.TheVariants as r
 use Rattle.request_json.specs.declared.reply.Refusal.{Refusal}
 use Rattle.line_answers.specs.Turns.{why_by, why_turn}
-use Rattle.edit_lines.specs.Followed.{Tells}
-use Rattle.edit_lines.proofs.Replied.{follows}
-use Rattle.session_lines.proofs.Halted.{halted_after}
+use Rattle.session_lines.specs.Followed.{Tells}
+use Rattle.session_lines.proofs.Replied.{follows, halted_after}
 use Rattle.session_lines.proofs.Turned.{why_answered, unanswered_follows, unanswered_halts}
 use Rattle.session_lines.proofs.questions.why_line.Goals as goal
 

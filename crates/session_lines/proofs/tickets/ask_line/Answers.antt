@@ -2,8 +2,8 @@ use Rattle.std.proofs.Common.{ℕ, List, Option, Err, subst}
 use Rattle.daig_session.specs.Holds.{Holds}
 use Rattle.daig_session.specs.Turns.{Opens}
 use Rattle.request_json.specs.declared.reply.Refusal.{Refusal}
-use Rattle.edit_lines.specs.Followed.{Tells}
-use Rattle.session_lines.proofs.Halted.{on_error}
+use Rattle.session_lines.specs.Followed.{Tells}
+use Rattle.session_lines.proofs.Replied.{on_error}
 use Rattle.session_lines.proofs.Turned.{unopened_follows, unopened_stays}
 use Rattle.session_lines.proofs.tickets.ask_line.Goals as goal
 

@@ -2,8 +2,7 @@ use Rattle.session_machine.specs.Machine.{ticket_of}
 use Rattle.request_json.specs.declared.reply.Reply.TheVariants as r
 use Rattle.line_answers.specs.Turns.{cancel_turn}
 use Rattle.daig_session.specs.Holds.{Holds}
-use Rattle.edit_lines.proofs.Replied.{line_follows}
-use Rattle.session_lines.proofs.Halted.{on_error}
+use Rattle.session_lines.proofs.Replied.{line_follows, on_error}
 use Rattle.session_lines.proofs.Turned.{cancel_done, cancel_stays, number_found}
 use Rattle.session_lines.proofs.tickets.cancel_line.Goals as goal
 

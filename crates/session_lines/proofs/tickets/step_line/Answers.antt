@@ -2,8 +2,7 @@ use Rattle.std.proofs.Common.{◌≡◌, Option, Some, option_map, subst, ap, �
 use Rattle.session_machine.specs.Machine.{Ticket, ticket_of}
 use Rattle.daig_session.specs.Holds.{Holds}
 use Rattle.request_json.specs.declared.reply.Refusal.{Refusal}
-use Rattle.edit_lines.specs.Followed.{Tells}
-use Rattle.session_lines.specs.Followed.{TellsTurn}
+use Rattle.session_lines.specs.Followed.{Tells, TellsTurn}
 use Rattle.session_lines.proofs.Turned.{checked_here, step_follows, step_halts, ticket_short, unstepped_follows, unstepped_halts}
 use Rattle.session_lines.proofs.tickets.step_line.Goals as goal
 

@@ -3,8 +3,8 @@ use Rattle.session_machine.specs.Turns.{undone}
 use Rattle.daig_session.specs.Holds.{Holds}
 use Rattle.request_json.specs.declared.reply.Refusal.{Refusal}
 use Rattle.request_json.specs.declared.reply.Refusal.TheVariants as refusal
-use Rattle.edit_lines.specs.Followed.{Tells}
-use Rattle.session_lines.proofs.Halted.{on_error}
+use Rattle.session_lines.specs.Followed.{Tells}
+use Rattle.session_lines.proofs.Replied.{on_error}
 use Rattle.session_lines.proofs.Turned.{unmoved_follows, unmoved_stays}
 use Rattle.session_lines.proofs.tickets.undo_line.Goals as goal
 

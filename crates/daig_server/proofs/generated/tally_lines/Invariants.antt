@@ -1,0 +1,23 @@
+use Rattle.std.proofs.Common.{◌≡◌, ◌≤◌, ◌+◌, ◌^◌, ℕ, [], take}
+use Rattle.gen_summary.specs.Summary.{nothing, IsWithin}
+use Rattle.daig_session.specs.Holds.{Holds, IsReady}
+use Rattle.script_loop.specs.Lines.{last_part, whole_lines}
+use Rattle.line_answers.specs.Lines.{Served}
+use Rattle.server_jobs.specs.Domains.{meaning_of}
+use Rattle.server_jobs.specs.Output.{served_after, tallied}
+use Rattle.daig_server.proofs.generated.tally_lines.Given as goal
+
+-- the lines that end in the bytes so far are tallied
+abbrev pub invariant-loop-byte : goal.invariant-loop-byte
+invariant-loop-byte g l =
+    let started = l.initial.server.session in
+    let now = l.server.session in
+    let dom = (meaning_of g.D.Named.name).operations in
+    let lines = whole_lines [] (take l.byte-index l.script) in
+    record {
+      pending : l.line.items ≡ last_part [] (take l.byte-index l.script);
+      lasts : (n : ℕ) → (started.book.tickets.next + (l.byte-index + n) ≤ 2 ^ 63) → IsReady (g.D.Domain.operations now.engine.domain) now.engine.store now.book × (now.book.tickets.next + n ≤ 2 ^ 63);
+      within : IsWithin l.byte-index l.tally;
+      next : (s : Served) → Holds (g.D.Domain.operations started.engine.domain) started.engine.store started.book s.machine → Holds (g.D.Domain.operations now.engine.domain) now.engine.store now.book (served_after dom lines s).machine;
+      tally : (s : Served) → Holds (g.D.Domain.operations started.engine.domain) started.engine.store started.book s.machine → l.tally ≡ tallied dom lines s nothing;
+    }

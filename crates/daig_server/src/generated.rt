@@ -1,0 +1,123 @@
+//! The generated script over a generated program, summed up.
+ghost use Rattle.std.specs.Prelude.{◌≡◌, ◌<◌, ◌+◌, ◌^◌, ℕ, [], ◌∷◌, suc, length, IfOk, OnOk};
+ghost use Rattle.std.specs.String.{string_bytes};
+ghost use Rattle.gen_summary.specs.Summary.{added, nothing, IsWithin};
+ghost use Rattle.script_loop.specs.Lines.{last_part, whole_lines};
+ghost use Rattle.line_answers.specs.Fine.{opening};
+ghost use Rattle.line_answers.specs.Lines.{Served, line_turn, server as machine};
+ghost use Rattle.line_answers.specs.Readings.{Readings};
+ghost use Rattle.server_jobs.specs.Domains.{meaning_of};
+ghost use Rattle.server_jobs.specs.Jobs.{engine_of};
+ghost use Rattle.server_jobs.specs.Output.{gen_bytes, served_after, tallied};
+ghost use Rattle.server_jobs.specs.Works.{IsNumbered};
+
+use crate::server::Server;
+use command_words::Settings;
+use gen_summary::Tally;
+use plain_values::Memory;
+use program_table::Table;
+use script_loop::Answerer;
+use server_jobs::{Drawn, Named};
+use std::alloc::Global;
+use std::sync::ledger::Ledger;
+use step_counter::Steps;
+
+/// How many results of operations are remembered for a generated script.
+const MEMO: u32 = 1024;
+
+/// Answers a line, and adds the reply to the tally.
+fn tally_line<D: Named, L: Ledger>(
+    alloc: Global,
+    server: &mut Server<D>,
+    line: &[u8],
+    tally: &mut Tally,
+    steps: &mut Steps<L>,
+) -> Result<(), Memory>
+    requires lasts { (n : ℕ) × ⟦<Server<D> as Answerer>⟧.lasts server.old (suc n) }
+    requires room { (n : ℕ) × (n < 2 ^ 62) × IsWithin n tally.old }
+    ensures lasts { OnOk result ((n : ℕ) → ⟦<Server<D> as Answerer>⟧.lasts server.old (suc n) → ⟦<Server<D> as Answerer>⟧.lasts server.new n) }
+    ensures within { OnOk result ((n : ℕ) → IsWithin n tally.old → IsWithin (n + 1) tally.new) }
+    ensures next { OnOk result ((s : Served) → ⟦<Server<D> as Answerer>⟧.stands server.old s → ⟦<Server<D> as Answerer>⟧.stands server.new ((machine (meaning_of D.name).operations).next s line.now)) }
+    ensures added { OnOk result ((s : Served) → ⟦<Server<D> as Answerer>⟧.stands server.old s → tally.new ≡ added (line_turn s.readings (meaning_of D.name).operations line.now s.machine).reply tally.old) }
+{
+    let reply = server.answer(alloc, line, steps)?;
+    tally.add(reply.as_slice(), server.cost());
+    Ok(())
+}
+
+/// Goes on by one byte: LF ends the pending line, which is answered; any other byte goes on with it.
+#[tactic(auto, using(crate::proofs::TallyLemmas::within_more))]
+fn tally_byte<D: Named, L: Ledger>(
+    alloc: Global,
+    server: &mut Server<D>,
+    line: &mut Vec<u8>,
+    byte: u8,
+    tally: &mut Tally,
+    steps: &mut Steps<L>,
+) -> Result<(), Memory>
+    requires lasts { (n : ℕ) × ⟦<Server<D> as Answerer>⟧.lasts server.old (suc n) }
+    requires room { (n : ℕ) × (n < 2 ^ 62) × IsWithin n tally.old }
+    ensures line { OnOk result (line.new.items ≡ last_part line.old.items (byte ∷ [])) }
+    ensures lasts { OnOk result ((n : ℕ) → ⟦<Server<D> as Answerer>⟧.lasts server.old (suc n) → ⟦<Server<D> as Answerer>⟧.lasts server.new n) }
+    ensures within { OnOk result ((n : ℕ) → IsWithin n tally.old → IsWithin (n + 1) tally.new) }
+    ensures next { OnOk result ((s : Served) → ⟦<Server<D> as Answerer>⟧.stands server.old s → ⟦<Server<D> as Answerer>⟧.stands server.new (served_after (meaning_of D.name).operations (whole_lines line.old.items (byte ∷ [])) s)) }
+    ensures tally { OnOk result ((s : Served) → ⟦<Server<D> as Answerer>⟧.stands server.old s → tally.new ≡ tallied (meaning_of D.name).operations (whole_lines line.old.items (byte ∷ [])) s tally.old) }
+{
+    if byte == b'\n' {
+        tally_line(alloc, server, line.as_slice(), tally, steps)?;
+        line.clear();
+    } else {
+        line.push(byte)?;
+    }
+    Ok(())
+}
+
+/// Answers the lines of a script, each with its LF, and tallies the replies.
+fn tally_lines<D: Named, L: Ledger>(
+    alloc: Global,
+    server: &mut Server<D>,
+    script: &[u8],
+    steps: &mut Steps<L>,
+) -> Result<Tally, Memory>
+    requires lasts { ⟦<Server<D> as Answerer>⟧.lasts server.old (length script.now) }
+    requires few { length script.now < 2 ^ 62 }
+    ensures tally { IfOk result (λ t. (s : Served) → ⟦<Server<D> as Answerer>⟧.stands server.old s → t ≡ tallied (meaning_of D.name).operations (whole_lines [] script.now) s nothing) }
+{
+    let mut tally = Tally::new();
+    let mut line = Vec::new(alloc);
+    for byte in script {
+        tally_byte(alloc, server, &mut line, *byte, &mut tally, steps)?;
+    }
+    Ok(tally)
+}
+
+/// The summary of the generated script, which a server answers.
+fn summed<D: Named, L: Ledger>(
+    alloc: Global,
+    server: &mut Server<D>,
+    drawn: Drawn,
+    steps: &mut Steps<L>,
+) -> Result<String, Memory>
+    requires lasts { ⟦<Server<D> as Answerer>⟧.lasts server.old (2 ^ 40) }
+    ensures line { IfOk result (λ v. (first : Served) → ⟦<Server<D> as Answerer>⟧.stands server.old first → string_bytes v ≡ gen_bytes D.name first drawn.seed drawn.size) }
+{
+    let script = daig_gen::script(alloc, drawn.seed, drawn.size)?;
+    let tally = tally_lines(alloc, server, script.as_slice(), steps)?;
+    tally.line(alloc)
+}
+
+/// The summary of the generated script over the program. It fails for want of memory alone.
+pub(crate) fn summary<D: Named, L: Ledger>(
+    alloc: Global,
+    domain: D,
+    settings: &Settings,
+    table: Table,
+    drawn: Drawn,
+    steps: &mut Steps<L>,
+) -> Result<String, Memory>
+    requires numbered { IsNumbered table.program }
+    ensures line { IfOk result (λ v. (readings : Readings) → string_bytes v ≡ gen_bytes D.name (opening readings (engine_of settings.now) table.program) drawn.seed drawn.size) }
+{
+    let mut server = Server::start(alloc, domain, settings, MEMO, table)?;
+    summed(alloc, &mut server, drawn, steps)
+}

@@ -1,0 +1,102 @@
+//! The server of one program, which answers each line as the machine `server` of `line_answers` does.
+ghost use Rattle.std.specs.Prelude.{◌≡◌, ◌<◌, ◌≤◌, ◌+◌, ◌^◌, IfOk};
+ghost use Rattle.session_machine.specs.Machine.{beginning, Machine};
+ghost use Rattle.daig_session.specs.Holds.{Holds, IsReady};
+ghost use Rattle.server_jobs.specs.Jobs.{engine_of};
+ghost use Rattle.line_answers.specs.Fine.{next_number};
+ghost use Rattle.server_jobs.specs.Works.{IsNumbered};
+
+use command_words::Settings;
+use daig_session::Session;
+use line_replies::long_line;
+use plain_values::Memory;
+use program_table::Table;
+use script_loop::Answerer;
+use server_jobs::Named;
+use session_lines::answer_line;
+use std::alloc::Global;
+use std::sync::ledger::Ledger;
+use step_counter::Steps;
+
+/// The server of one program: a session with it.
+#[derive(Drop)]
+pub(crate) struct Server<D: Named> {
+    session: Session<D>,
+}
+
+/// The next number of a statement of a program that is numbered from 1 on.
+#[tactic(auto, using(crate::proofs::FewLemmas::few_numbers, crate::proofs::FewLemmas::number_count))]
+fn next_number(table: &Table) -> u32
+    ensures number { result ≡ next_number table.now.program }
+    ensures some { 0 < result }
+    ensures low { result ≤ 1000001 }
+{
+    table.procs();
+    table.view().count() + 1
+}
+
+impl<D: Named> Server<D> {
+    /// The server of this program, which remembers so many results. It fails for want of memory alone.
+    pub(crate) fn start(
+        alloc: Global,
+        domain: D,
+        settings: &Settings,
+        memo: u32,
+        table: Table,
+    ) -> Result<Server<D>, Memory>
+        requires memo { 0 < memo }
+        requires numbered { IsNumbered table.program }
+        ensures begins { IfOk result (λ s. Holds (D.operations s.session.engine.domain) s.session.engine.store s.session.book (beginning table.program (engine_of settings.now) (next_number table.program))) }
+        ensures ready { IfOk result (λ s. IsReady (D.operations s.session.engine.domain) s.session.engine.store s.session.book) }
+        ensures first { IfOk result (λ s. s.session.book.tickets.next ≡ 1) }
+    {
+        let next = next_number(&table);
+        let session = Session::start(
+            alloc,
+            domain,
+            table,
+            next,
+            settings.budget,
+            settings.widening,
+            memo as usize,
+        )?;
+        Ok(Server { session })
+    }
+}
+
+impl<D: Named> Server<D> {
+    /// How many cells the last question filled.
+    pub(crate) fn cost(&self) -> u64
+        ensures is { (m : Machine) → Holds (D.operations self.now.session.engine.domain) self.now.session.engine.store self.now.session.book m → result ≡ m.cost }
+    {
+        self.session.cost()
+    }
+}
+
+impl<D: Named> Answerer for Server<D> {
+    ghost use Rattle.std.specs.Prelude.{◌≤◌, ◌+◌, ◌^◌};
+    ghost use Rattle.daig_session.specs.Holds.{Holds, IsReady};
+    ghost use Rattle.line_answers.specs.Lines.{Served, server};
+    ghost use Rattle.server_jobs.specs.Domains.{meaning_of};
+
+    ghost State = { Served };
+
+    ghost machine = { server (meaning_of D.name).operations };
+
+    ghost stands = { λ s m. Holds (D.operations s.session.engine.domain) s.session.engine.store s.session.book m.machine };
+
+    ghost lasts = { λ s n. IsReady (D.operations s.session.engine.domain) s.session.engine.store s.session.book × (s.session.book.tickets.next + n ≤ 2 ^ 63) };
+
+    fn answer<L: Ledger>(
+        &mut self,
+        alloc: Global,
+        line: &[u8],
+        steps: &mut Steps<L>,
+    ) -> Result<Vec<u8>, Memory> {
+        answer_line(alloc, &mut self.session, line, steps)
+    }
+
+    fn answer_long(&self, alloc: Global) -> Result<Vec<u8>, Memory> {
+        long_line(alloc)
+    }
+}

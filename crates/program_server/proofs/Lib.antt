@@ -1,3 +1,0 @@
-pub mod FewLemmas
-pub mod TallyLemmas
-pub mod ServedLemmas
