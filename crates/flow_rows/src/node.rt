@@ -6,6 +6,7 @@ use cell_names::Point;
 use imp_check::{Around, Entry, SlotForm, Which};
 use imp_slots::{SlotCall, SlotCond, SlotStmt};
 use imp_syntax::{ProcId, StmtId, StmtNode};
+use program_table::View;
 
 /// A break that leaves a loop, and the point in front of it.
 #[derive(Clone, Copy, Debug, PartialEq, Eq, Drop)]
