@@ -20,7 +20,7 @@ use Rattle.batch_interp.specs.declared.value.Answer.{Answer}
 use Rattle.batch_interp.specs.declared.spots.Seen.{Seen}
 use Rattle.batch_interp.specs.declared.walks.Entered.{Entered}
 use Rattle.std.proofs.lemmas.Option.{slice_get_within}
-use Rattle.plain_values.proofs.Lists.{get_take, take_next, take_back}
+use Rattle.plain_values.proofs.Lists.{get_take, get_there, take_next, take_back}
 use Rattle.std.proofs.Math.Seq.{take-length}
 use Rattle.batch_interp.proofs.Procedures.{from_earlier, from_gone}
 use Rattle.batch_interp.proofs.Lists.{if_ok_along}
