@@ -57,6 +57,7 @@ impl Names {
     }
 
     /// The path that goes on from another one by a frame, with a new number where it had none.
+    #[inline]
     pub fn add_path(&mut self, before: PathId, frame: Frame) -> Result<PathId, Memory>
         requires there { before < length self.old.paths }
         ensures path { IfOk result (Adds self.old.paths self.new.paths (frame ∷ path_at self.old.paths before)) }
@@ -68,6 +69,7 @@ impl Names {
     }
 
     /// The number of a name, or `None` where it has none. It takes no memory.
+    #[inline]
     pub fn find(&self, name: &Name) -> Option<usize>
         requires there { name.now.path < length self.now.paths }
         ensures name { IfSome result (λ n. slice_get self.now.names n ≡ Some (name_in self.now.paths name.now)) }
@@ -77,6 +79,7 @@ impl Names {
     }
 
     /// The number of a name, a new one where it had none.
+    #[inline]
     pub fn add(&mut self, name: Name) -> Result<usize, Memory>
         requires there { name.path < length self.old.paths }
         ensures name { IfOk result (Adds self.old.names self.new.names (name_in self.old.paths name)) }
@@ -89,6 +92,7 @@ impl Names {
     }
 
     /// The name that has a number.
+    #[inline]
     pub fn get(&self, number: usize) -> Name
         requires there { number < length self.now.names }
         ensures name { slice_get self.now.names number ≡ Some (name_in self.now.paths result) }
@@ -98,6 +102,7 @@ impl Names {
     }
 
     /// A path's last frame, and the path before it; `None` for the empty path.
+    #[inline]
     pub fn last_frame(&self, path: PathId) -> Option<(PathId, Frame)>
         requires there { path < length self.now.paths }
         ensures empty { IfNone result (path_at self.now.paths path ≡ []) }
@@ -129,6 +134,7 @@ impl Names {
     }
 
     // the call whose frame ends a path, or 0
+    #[inline]
     fn site_of(&self, path: PathId) -> u32
         requires there { path < length self.now.paths }
         ensures is { result ≡ owner (path_at self.now.paths path) Entry }
@@ -143,6 +149,7 @@ impl Names {
     }
 
     // the loop whose frame ends a path, or 0
+    #[inline]
     fn head_of(&self, path: PathId) -> u32
         requires there { path < length self.now.paths }
         ensures is { result ≡ owner (path_at self.now.paths path) Body }
@@ -158,6 +165,7 @@ impl Names {
 
     /// The number of the statement that a name belongs to: with the path it alone tells the name's row.
     /// The start of `main` belongs to 0, which is no statement's number.
+    #[inline]
     pub fn owner(&self, name: &Name) -> u32
         requires there { name.now.path < length self.now.paths }
         ensures is { result ≡ owner (path_at self.now.paths name.now.path) name.now.point }

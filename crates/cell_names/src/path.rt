@@ -22,6 +22,7 @@ ghost use Rattle.std.specs.Prelude.{◌≡◌, suc, ◌<◌, ◌^◌};
 
 impl PathId {
     /// The empty path.
+    #[inline]
     pub fn root() -> PathId
         ensures is { result ≡ 0 }
     {
@@ -29,6 +30,7 @@ impl PathId {
     }
 
     /// The path of a step: the one behind the empty path and the steps before.
+    #[inline]
     pub(crate) fn after(step: usize) -> PathId
         requires small { step < 2 ^ 63 }
         ensures is { result ≡ suc step }
@@ -36,6 +38,7 @@ impl PathId {
         PathId { number: step + 1 }
     }
 
+    #[inline]
     pub(crate) fn number(self) -> usize
         ensures is { result ≡ self }
     {

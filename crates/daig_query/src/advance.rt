@@ -69,6 +69,7 @@ fn turn_walk<D: Domain>(
 
 /// The name on top gets the cell of the name that was filled for it: its next input. For want of memory it does not, and
 /// finds it again by its name.
+#[inline]
 fn hand_down(stack: &mut Vec<Open>, cell: usize)
     ensures hands { HandsDown cell stack.old.items stack.new.items }
 {
@@ -78,6 +79,7 @@ fn hand_down(stack: &mut Vec<Open>, cell: usize)
 }
 
 /// A name goes on the stack, and the next of its inputs on top of it.
+#[inline]
 fn push_both(stack: &mut Vec<Open>, entry: Open, input: Open) -> Result<(), Memory>
     ensures pushed { OnOk result (stack.new.items ≡ (stack.old.items ++ entry ∷ []) ++ input ∷ []) }
     ensures err { OnErr result ((stack.new.items ≡ stack.old.items) ⊎ (stack.new.items ≡ stack.old.items ++ entry ∷ [])) }
@@ -89,6 +91,7 @@ fn push_both(stack: &mut Vec<Open>, entry: Open, input: Open) -> Result<(), Memo
 
 /// With a name on top of the stack, which is taken off: its first missing input is pushed on it, or it is filled, and
 /// handed down.
+#[inline]
 fn turn_open<D: Domain, L: Ledger>(
     alloc: Global,
     dom: &D,
@@ -133,6 +136,7 @@ fn turn_open<D: Domain, L: Ledger>(
 }
 
 /// A turn of the machine. Where `spent`, nothing is filled.
+#[inline]
 fn take_turn<D: Domain, L: Ledger>(
     alloc: Global,
     dom: &D,

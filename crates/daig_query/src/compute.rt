@@ -31,6 +31,7 @@ use std::hash::Hash;
 use std::sync::ledger::Ledger;
 
 /// The first of these cells that holds an Over: its loop and its chain.
+#[inline]
 fn first_over<'a>(graph: &'a Graph<Held>, cells: &[usize]) -> Option<(StmtId, &'a SharedChain)>
     ensures is { MatchOption result (HasNoOver graph.now.cells cells.now (length cells.now)) (λ r. IsFirstOver graph.now.cells cells.now r.0 r.1.now) }
 {
@@ -43,6 +44,7 @@ fn first_over<'a>(graph: &'a Graph<Held>, cells: &[usize]) -> Option<(StmtId, &'
 }
 
 /// What the cell at a place among these holds, where that is a state.
+#[inline]
 fn held_at(graph: &Graph<Held>, cells: &[usize], place: usize) -> Option<Held>
     ensures is { result ≡ state_in (iterate_of graph.now.cells cells.now place) }
 {
@@ -53,6 +55,7 @@ fn held_at(graph: &Graph<Held>, cells: &[usize], place: usize) -> Option<Held>
 }
 
 /// Of iterates that stop at one that is the state of the iterate before it: that state, with that one's index.
+#[inline]
 fn settled(graph: &Graph<Held>, cells: &[usize]) -> Held
     requires equal { IsEqual (iterate_of graph.now.cells cells.now) (length cells.now - 1) }
     requires small { length cells.now ≤ 2 ^ 32 }
@@ -69,6 +72,7 @@ fn settled(graph: &Graph<Held>, cells: &[usize]) -> Held
 }
 
 /// The call sites of a path, outermost first.
+#[inline]
 fn chain_of(alloc: Global, names: &Names, path: PathId) -> Result<SharedChain, Memory>
     requires there { path < length names.now.paths }
     ensures is { IfOk result (λ chain. chain ≡ reverse (sites_of (path_at names.now.paths path))) }
@@ -82,6 +86,7 @@ fn chain_of(alloc: Global, names: &Names, path: PathId) -> Result<SharedChain, M
 }
 
 /// Where the iterates of a loop stop, all of them states.
+#[inline]
 fn fixed<D: Domain>(
     alloc: Global,
     dom: &D,
@@ -106,6 +111,7 @@ fn fixed<D: Domain>(
 }
 
 /// The index that a row passes on from its left input.
+#[inline]
 fn index_of(row: &Row<'_>, left: Option<Held>) -> u32
     ensures is { result ≡ index_in row.now left }
 {
@@ -117,6 +123,7 @@ fn index_of(row: &Row<'_>, left: Option<Held>) -> u32
 }
 
 /// The left input of a join behind a loop with breaks, where it is alone.
+#[inline]
 fn alone(row: &Row<'_>, left: Option<Held>, right: Option<Held>) -> Option<Held>
     ensures is { result ≡ alone_in row.now left right }
 {
@@ -127,6 +134,7 @@ fn alone(row: &Row<'_>, left: Option<Held>, right: Option<Held>) -> Option<Held>
 }
 
 /// The number of the state that is held.
+#[inline]
 fn number(held: Option<Held>) -> Option<usize>
     ensures is { result ≡ number held }
 {
@@ -137,6 +145,7 @@ fn number(held: Option<Held>) -> Option<usize>
 }
 
 /// The state that has a number.
+#[inline]
 fn operand<S: Eq + Hash + Drop>(states: &Table<S>, number: Option<usize>) -> Option<&S>
     requires known { IfSome number (λ n. n < length states.now) }
     ensures is { option_copied result ≡ state_at states.now number }
@@ -148,6 +157,7 @@ fn operand<S: Eq + Hash + Drop>(states: &Table<S>, number: Option<usize>) -> Opt
 }
 
 /// The number of a row's operation, owned, among those that were met.
+#[inline]
 fn operation_number(
     alloc: Global,
     operations: &mut Table<Operation>,
@@ -162,6 +172,7 @@ fn operation_number(
 }
 
 /// The number of what a row makes of the states that have these numbers, made anew. It ticks.
+#[inline]
 fn make_state<D: Domain, L: Ledger>(
     alloc: Global,
     dom: &D,
@@ -191,6 +202,7 @@ fn make_state<D: Domain, L: Ledger>(
 }
 
 /// The number of what a row makes of the states that have these numbers. It ticks where that is not remembered.
+#[inline]
 fn result_of<D: Domain, L: Ledger>(
     alloc: Global,
     dom: &D,
@@ -226,6 +238,7 @@ fn result_of<D: Domain, L: Ledger>(
 }
 
 /// What a row that is no fixed point makes of inputs that all are states.
+#[inline]
 fn applied<D: Domain, L: Ledger>(
     alloc: Global,
     dom: &D,
@@ -268,6 +281,7 @@ fn applied<D: Domain, L: Ledger>(
 /// The value of a name all of whose inputs are found: an Over among them, the left one first; else what its row makes of
 /// their states. It ticks for an operation that is not remembered, and neither for a fixed point nor where an input is an
 /// Over.
+#[inline]
 pub(crate) fn compute<D: Domain, L: Ledger>(
     alloc: Global,
     dom: &D,

@@ -17,6 +17,7 @@ use imp_flow::Flow;
 use loop_unroll::next_wanted;
 
 /// Of an operation on one value or two, behind so many inputs.
+#[inline]
 fn next_of_operation(row: &Row<'_>, count: usize) -> Option<Input>
     ensures is { (w : List PathFrame) → option_map (input_name w) result ≡ by_count count (row_in w row.now) }
 {
@@ -28,6 +29,7 @@ fn next_of_operation(row: &Row<'_>, count: usize) -> Option<Input>
 }
 
 /// Of a fixed point: the next iterate, where the loop goes on.
+#[inline]
 fn next_iterate(graph: &Graph<Held>, budget: u32, row: &Row<'_>, found: &[usize]) -> Option<Input>
     requires cells { AreCells graph.now.cells found.now }
     requires earlier { GoesOnTo budget (iterate_of graph.now.cells found.now) (length found.now) }
@@ -39,6 +41,7 @@ fn next_iterate(graph: &Graph<Held>, budget: u32, row: &Row<'_>, found: &[usize]
 }
 
 /// The index that a cell passes on, where it holds a state.
+#[inline]
 fn last_round(graph: &Graph<Held>, budget: u32, cell: usize) -> Option<u32>
     ensures is { result ≡ round_of budget (value_at graph.now.cells cell) }
 {
@@ -49,6 +52,7 @@ fn last_round(graph: &Graph<Held>, budget: u32, cell: usize) -> Option<u32>
 }
 
 /// Of a join behind a loop with breaks: what is in front of the break in the loop's last round, if it has one.
+#[inline]
 fn next_joined(graph: &Graph<Held>, budget: u32, row: &Row<'_>, found: &[usize]) -> Option<Input>
     ensures is { (w : List PathFrame) → option_map (input_name w) result ≡ joined_next budget graph.now.cells found.now (row_in w row.now) }
 {
@@ -60,6 +64,7 @@ fn next_joined(graph: &Graph<Held>, budget: u32, row: &Row<'_>, found: &[usize])
 }
 
 /// The next input of a name that is being filled, by its row.
+#[inline]
 pub(crate) fn next_input<D: Domain>(
     dom: &D,
     flow: &Flow<'_>,

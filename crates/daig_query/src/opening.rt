@@ -32,6 +32,7 @@ pub(crate) struct Open {
 }
 
 /// A name none of whose inputs is found yet.
+#[inline]
 pub(crate) fn opened(alloc: Global, cell: usize, name: &Name) -> Open
     ensures is { result ≡ record { cell = cell; name = name.now; inputs = [] } }
 {
@@ -43,6 +44,7 @@ pub(crate) fn opened(alloc: Global, cell: usize, name: &Name) -> Open
 }
 
 /// Whether there is a cell of this number.
+#[inline]
 pub(crate) fn has_cell(graph: &Graph<Held>, cell: usize) -> bool
     ensures is { result ≡ is_some (map.get graph.now.cells cell) }
 {
@@ -53,6 +55,7 @@ pub(crate) fn has_cell(graph: &Graph<Held>, cell: usize) -> bool
 }
 
 /// The row of a name.
+#[inline]
 pub(crate) fn row_of<'a>(flow: &'a Flow<'_>, names: &Names, name: &Name) -> Option<Row<'a>>
     requires there { name.now.path < length names.now.paths }
     ensures is { option_map (row_in (path_at names.now.paths name.now.path)) result ≡ row_at flow.now (name_in names.now.paths name.now) }
@@ -65,6 +68,7 @@ pub(crate) fn row_of<'a>(flow: &'a Flow<'_>, names: &Names, name: &Name) -> Opti
 }
 
 /// Finds the inputs of a name from left to right, up to the first that has no cell, which is given.
+#[inline]
 pub(crate) fn next_absent<D: Domain>(
     alloc: Global,
     dom: &D,
@@ -92,6 +96,7 @@ pub(crate) fn next_absent<D: Domain>(
 
 /// Fills a name all of whose inputs are found. It ticks for an operation that is not remembered, and neither for a fixed
 /// point nor where an input is an Over.
+#[inline]
 pub(crate) fn fill<D: Domain, L: Ledger>(
     alloc: Global,
     dom: &D,

@@ -10,6 +10,7 @@ use std::alloc::Global;
 use std::sync::ledger::Ledger;
 
 /// The operation on one value, owned.
+#[inline]
 fn of_unary(op: &Unary<'_>) -> Result<Operation, Memory>
     ensures is { IfOk result (IsUnaryOf op.now) }
 {
@@ -22,6 +23,7 @@ fn of_unary(op: &Unary<'_>) -> Result<Operation, Memory>
 }
 
 /// The operation on two values, owned.
+#[inline]
 fn of_binary(alloc: Global, op: &Binary<'_>) -> Result<Operation, Memory>
     ensures is { IfOk result (IsBinaryOf op.now) }
 {
@@ -33,6 +35,7 @@ fn of_binary(alloc: Global, op: &Binary<'_>) -> Result<Operation, Memory>
 }
 
 /// The operation of a row, owned. That of a fixed point, which makes no state, counts as a join.
+#[inline]
 pub(crate) fn operation_of(alloc: Global, row: &Row<'_>) -> Result<Operation, Memory>
     ensures is { IfOk result (IsOperationOf row.now) }
 {
@@ -46,6 +49,7 @@ pub(crate) fn operation_of(alloc: Global, row: &Row<'_>) -> Result<Operation, Me
 }
 
 /// An operation on one state.
+#[inline]
 fn apply_unary<D: Domain, L: Ledger>(
     alloc: Global,
     dom: &D,
@@ -65,6 +69,7 @@ fn apply_unary<D: Domain, L: Ledger>(
 }
 
 /// An operation on two states.
+#[inline]
 fn apply_binary<D: Domain, L: Ledger>(
     alloc: Global,
     dom: &D,
@@ -84,6 +89,7 @@ fn apply_binary<D: Domain, L: Ledger>(
 }
 
 /// What a row makes of the states that it is applied to: of `Init` of none, of a join behind a loop with breaks of both.
+#[inline]
 pub(crate) fn apply<D: Domain, L: Ledger>(
     alloc: Global,
     dom: &D,

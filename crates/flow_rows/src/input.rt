@@ -28,6 +28,7 @@ pub struct Input {
 
 impl Input {
     /// A point in the same path.
+    #[inline]
     pub(crate) fn here(point: Point) -> Input
         ensures is { result ≡ record { way = Here; point = point } }
     {
@@ -38,6 +39,7 @@ impl Input {
     }
 
     /// A point in the path without its last frame.
+    #[inline]
     pub(crate) fn out(point: Point) -> Input
         ensures is { result ≡ record { way = Out; point = point } }
     {
@@ -48,6 +50,7 @@ impl Input {
     }
 
     /// A point in the path with a further frame.
+    #[inline]
     pub(crate) fn inside(frame: Frame, point: Point) -> Input
         ensures is { result ≡ record { way = Into frame; point = point } }
     {
@@ -63,6 +66,7 @@ impl Input {
     /// # Errors
     ///
     /// [`Memory`]: then the names are as before.
+    #[inline]
     pub fn name(self, names: &mut Names, path: PathId) -> Result<Name, Memory>
         requires there { path < length names.old.paths }
         ensures is { IfOk result (λ x. name_in names.new.paths x ≡ input_name (path_at names.old.paths path) self) }
@@ -78,6 +82,7 @@ impl Input {
 }
 
 /// A path without its last frame; the empty path stays.
+#[inline]
 fn outside(names: &Names, path: PathId) -> PathId
     requires there { path < length names.now.paths }
     ensures is { path_at names.now.paths result ≡ outside (path_at names.now.paths path) }
@@ -90,6 +95,7 @@ fn outside(names: &Names, path: PathId) -> PathId
 }
 
 /// The path of an input.
+#[inline]
 fn near(names: &mut Names, path: PathId, way: Way) -> Result<PathId, Memory>
     requires there { path < length names.old.paths }
     ensures is { IfOk result (λ p. path_at names.new.paths p ≡ near (path_at names.old.paths path) way) }

@@ -52,6 +52,7 @@ pub struct Node<'a> {
 }
 
 /// The point at which a block begins.
+#[inline]
 fn start_of(around: Option<Around>) -> Point
     ensures is { result ≡ start_of around }
 {
@@ -66,6 +67,7 @@ fn start_of(around: Option<Around>) -> Point
 }
 
 /// Behind a statement, or else this point.
+#[inline]
 pub fn behind_or(first: Point, stmt: Option<StmtId>) -> Point
     ensures is { result ≡ behind_or first stmt }
 {
@@ -76,6 +78,7 @@ pub fn behind_or(first: Point, stmt: Option<StmtId>) -> Point
 }
 
 /// The point in front of a statement.
+#[inline]
 fn front_of(entry: &Entry) -> Point
     ensures is { result ≡ front_point entry.now }
 {
@@ -83,6 +86,7 @@ fn front_of(entry: &Entry) -> Point
 }
 
 /// The point in front of the statement of a number.
+#[inline]
 fn front_in(prog: &View<'_>, stmt: StmtId) -> Point
     ensures is { result ≡ front_in (known_in prog.now stmt) }
 {
@@ -95,6 +99,7 @@ fn front_in(prog: &View<'_>, stmt: StmtId) -> Point
 impl<'a> Leaves<'a> {
     /// How many there are.
     #[tactic(auto, using(crate::proofs::LeaveLemmas::leaves_long))]
+    #[inline]
     pub fn len(&self) -> usize
         ensures is { result ≡ length (leaves_now self.now) }
     {
@@ -103,6 +108,7 @@ impl<'a> Leaves<'a> {
 
     /// The break at a place.
     #[tactic(auto, using(crate::proofs::LeaveLemmas::leaves_long, crate::proofs::LeaveLemmas::leave_there))]
+    #[inline]
     pub fn at(&self, place: usize) -> Leave
         requires there { place < length (leaves_now self.now) }
         ensures is { slice_get (leaves_now self.now) place ≡ Some result }
@@ -114,6 +120,7 @@ impl<'a> Leaves<'a> {
 }
 
 /// The last point of the body of a procedure that stands in front of another one.
+#[inline]
 fn end_in(prog: &View<'_>, place: ProcId, callee: ProcId) -> Option<Point>
     ensures is { result ≡ end_in prog.now place callee }
 {
@@ -127,6 +134,7 @@ fn end_in(prog: &View<'_>, place: ProcId, callee: ProcId) -> Option<Point>
 }
 
 /// What a statement with a condition does to the flow.
+#[inline]
 fn branching<'a>(prog: &'a View<'a>, entry: &'a Entry, cond: &'a SlotCond) -> Shape<'a>
     ensures is { shape_now result ≡ branching (known_in prog.now) entry.now cond.now entry.now.part }
 {
@@ -144,6 +152,7 @@ fn branching<'a>(prog: &'a View<'a>, entry: &'a Entry, cond: &'a SlotCond) -> Sh
     }
 }
 
+#[inline]
 fn shape_of<'a>(prog: &'a View<'a>, entry: &'a Entry) -> Shape<'a>
     ensures is { shape_now result ≡ shape_from (known_in prog.now) (end_in prog.now entry.now.context.proc) entry.now entry.now.form }
 {
@@ -158,6 +167,7 @@ fn shape_of<'a>(prog: &'a View<'a>, entry: &'a Entry) -> Shape<'a>
 
 impl<'a> Node<'a> {
     /// A statement of which this is known.
+    #[inline]
     pub fn of(prog: &'a View<'a>, entry: &'a Entry) -> Node<'a>
         ensures is { node_now result ≡ node_by prog.now entry.now }
     {

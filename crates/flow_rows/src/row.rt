@@ -49,6 +49,7 @@ pub enum Row<'a> {
 
 impl<'a> Row<'a> {
     /// The first input: of a fixed point the iterate 0, of a join behind a loop with breaks the left one; none of `Init`.
+    #[inline]
     pub fn first(&self) -> Option<Input>
         ensures is { (w : List PathFrame) → option_map (input_name w) result ≡ first_of (row_in w self.now) }
     {
@@ -62,6 +63,7 @@ impl<'a> Row<'a> {
     }
 
     /// The second input of an operation on two values.
+    #[inline]
     pub fn second(&self) -> Option<Input>
         ensures is { (w : List PathFrame) → option_map (input_name w) result ≡ second_of (row_in w self.now) }
     {
@@ -72,6 +74,7 @@ impl<'a> Row<'a> {
     }
 
     /// The iterate of an index, of a fixed point.
+    #[inline]
     pub fn iterate(&self, index: u32) -> Option<Input>
         ensures is { (w : List PathFrame) → option_map (input_name w) result ≡ iterate_of index (row_in w self.now) }
     {
@@ -82,6 +85,7 @@ impl<'a> Row<'a> {
     }
 
     /// The right input of a join behind a loop with breaks, where the loop's index is this.
+    #[inline]
     pub fn before_break(&self, index: u32) -> Option<Input>
         ensures is { (w : List PathFrame) → option_map (input_name w) result ≡ break_of index (row_in w self.now) }
     {
@@ -95,6 +99,7 @@ impl<'a> Row<'a> {
 }
 
 /// The iterate of an index, of a loop behind a point.
+#[inline]
 pub(crate) fn iterate_at(head: StmtId, front: Point, index: u32) -> Point
     ensures is { result ≡ iterate_at head front index }
 {

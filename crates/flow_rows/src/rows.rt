@@ -40,6 +40,7 @@ fn joins_row<'a>(stays: bool, head: StmtId, leaves: &Leaves<'_>, place: usize) -
     }
 }
 
+#[inline]
 fn behind_loop<'a>(head: StmtId, cond: &'a SlotCond, leaves: &Leaves<'_>) -> Option<Row<'a>>
     ensures is { (w : List PathFrame) → option_map (row_in w) result ≡ behind_loop w head cond.now (leaves_now leaves.now) (length (leaves_now leaves.now)) }
 {
@@ -52,6 +53,7 @@ fn behind_loop<'a>(head: StmtId, cond: &'a SlotCond, leaves: &Leaves<'_>) -> Opt
 }
 
 /// Behind a statement.
+#[inline]
 pub fn post_row<'a>(node: &Node<'a>) -> Option<Row<'a>>
     ensures is { (w : List PathFrame) → option_map (row_in w) result ≡ post_at w (node_now node.now) }
 {
@@ -74,6 +76,7 @@ pub fn post_row<'a>(node: &Node<'a>) -> Option<Row<'a>>
 }
 
 /// Into the procedure that a statement calls.
+#[inline]
 pub fn enter_row<'a>(node: &Node<'a>) -> Option<Row<'a>>
     ensures is { (f : PathFrame) (w : List PathFrame) → option_map (row_in (f ∷ w)) result ≡ enter_at w (node_now node.now) }
 {
@@ -87,6 +90,7 @@ pub fn enter_row<'a>(node: &Node<'a>) -> Option<Row<'a>>
 }
 
 /// Into a block of an if: the first where `sense`.
+#[inline]
 pub fn branch_row<'a>(node: &Node<'a>, sense: bool) -> Option<Row<'a>>
     ensures is { (w : List PathFrame) → option_map (row_in w) result ≡ branch_at w sense (node_now node.now) }
 {
@@ -100,6 +104,7 @@ pub fn branch_row<'a>(node: &Node<'a>, sense: bool) -> Option<Row<'a>>
 }
 
 /// Into a round of a loop, from the iterate of this index.
+#[inline]
 pub fn turn_row<'a>(node: &Node<'a>, budget: u32, widening: Widening, index: u32) -> Option<Row<'a>>
     ensures is { (f : PathFrame) (w : List PathFrame) → option_map (row_in (f ∷ w)) result ≡ turn_at w (record { budget = budget; widening = widening }) index (node_now node.now) }
 {
@@ -113,6 +118,7 @@ pub fn turn_row<'a>(node: &Node<'a>, budget: u32, widening: Widening, index: u32
 }
 
 /// The iterate of a loop behind that of this index.
+#[inline]
 pub fn next_row<'a>(
     node: &Node<'a>,
     marks: &'a [i64],
@@ -138,6 +144,7 @@ pub fn next_row<'a>(
 }
 
 /// Where the iterates of a loop stop.
+#[inline]
 pub fn fix_row<'a>(node: &Node<'a>) -> Option<Row<'a>>
     ensures is { (w : List PathFrame) → option_map (row_in w) result ≡ fix_at w (node_now node.now) }
 {
@@ -148,6 +155,7 @@ pub fn fix_row<'a>(node: &Node<'a>) -> Option<Row<'a>>
 }
 
 /// Behind a loop with breaks, by its condition alone.
+#[inline]
 pub fn exit_row<'a>(node: &Node<'a>) -> Option<Row<'a>>
     ensures is { (w : List PathFrame) → option_map (row_in w) result ≡ exit_at w (node_now node.now) }
 {

@@ -76,6 +76,7 @@ impl<'a> Flow<'a> {
     }
 
     /// The most rounds that a loop takes.
+    #[inline]
     pub fn budget(&self) -> u32
         ensures is { result ≡ self.now.engine.budget }
     {
@@ -83,6 +84,7 @@ impl<'a> Flow<'a> {
     }
 
     /// How loops are widened.
+    #[inline]
     pub fn widening(&self) -> Widening
         ensures is { result ≡ self.now.engine.widening }
     {
@@ -90,6 +92,7 @@ impl<'a> Flow<'a> {
     }
 
     /// The statement of a number. It takes constant time.
+    #[inline]
     pub(crate) fn node(&self, stmt: StmtId) -> Option<Node<'_>>
         ensures is { option_map node_now result ≡ node_of (plan_nodes self.now) stmt }
     {
@@ -97,6 +100,7 @@ impl<'a> Flow<'a> {
     }
 
     /// The marks of a procedure.
+    #[inline]
     pub(crate) fn marks(&self, proc: ProcId) -> &[i64]
         ensures is { result.now ≡ marks_at self.now proc }
     {
@@ -111,6 +115,7 @@ impl<'a> Flow<'a> {
     }
 
     /// The start of main.
+    #[inline]
     fn main_row(&self) -> Option<Row<'_>>
         ensures is { (w : List PathFrame) → option_map (row_in w) result ≡ Some (Init (main_layout (reverse self.now.program))) }
     {
@@ -118,6 +123,7 @@ impl<'a> Flow<'a> {
     }
 
     /// The start of a procedure's body.
+    #[inline]
     fn entry_row(&self, frame: Frame) -> Option<Row<'_>>
         ensures is { (w : List PathFrame) → option_map (row_in (frame ∷ w)) result ≡ node_row self.now (frame ∷ w) Entry }
     {
@@ -131,6 +137,7 @@ impl<'a> Flow<'a> {
     }
 
     /// The start of a loop's body.
+    #[inline]
     fn body_row(&self, frame: Frame) -> Option<Row<'_>>
         ensures is { (w : List PathFrame) → option_map (row_in (frame ∷ w)) result ≡ node_row self.now (frame ∷ w) Body }
     {
@@ -144,6 +151,7 @@ impl<'a> Flow<'a> {
     }
 
     /// The start of a procedure's body, or of main's.
+    #[inline]
     fn first_row(&self, frame: Option<Frame>) -> Option<Row<'_>>
         ensures is { (w : List PathFrame) → last_frame w ≡ frame → option_map (row_in w) result ≡ node_row self.now w Entry }
     {
@@ -154,6 +162,7 @@ impl<'a> Flow<'a> {
     }
 
     /// The start of a loop's body.
+    #[inline]
     fn turn_row(&self, frame: Option<Frame>) -> Option<Row<'_>>
         ensures is { (w : List PathFrame) → last_frame w ≡ frame → option_map (row_in w) result ≡ node_row self.now w Body }
     {
@@ -164,6 +173,7 @@ impl<'a> Flow<'a> {
     }
 
     #[tactic(auto, using(crate::proofs::FlowLemmas::iterate_found, crate::proofs::FlowLemmas::iterate_gone))]
+    #[inline]
     fn iterate_row(&self, stmt: StmtId, index: u32) -> Option<Row<'_>>
         ensures is { (w : List PathFrame) → option_map (row_in w) result ≡ node_row self.now w (Iterate stmt index) }
     {
@@ -180,6 +190,7 @@ impl<'a> Flow<'a> {
     }
 
     /// The row of a statement's point, but for an iterate.
+    #[inline]
     fn stmt_row(&self, point: Point, stmt: StmtId) -> Option<Row<'_>>
         ensures is { (w : List PathFrame) → option_map (row_in w) result ≡ by_node self.now stmt (point_at w point) }
     {
@@ -197,6 +208,7 @@ impl<'a> Flow<'a> {
         }
     }
 
+    #[inline]
     fn node_row(&self, frame: Option<Frame>, point: Point) -> Option<Row<'_>>
         ensures is { (w : List PathFrame) → last_frame w ≡ frame → option_map (row_in w) result ≡ node_row self.now w point }
     {
@@ -218,6 +230,7 @@ impl<'a> Flow<'a> {
     /// there is `None` where the program has no such point. It takes constant time, but for a [`Point::Leap`], which
     /// takes time linear in the breaks of its loop.
     #[tactic(auto, using(crate::proofs::Ties::rows_tie))]
+    #[inline]
     pub fn row(&self, frame: Option<Frame>, point: Point) -> Option<Row<'_>>
         ensures is { (w : List PathFrame) → last_frame w ≡ frame → option_map (row_in w) result ≡ flat_row self.now.engine (reverse self.now.program) w point }
     {

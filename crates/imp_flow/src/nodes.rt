@@ -53,6 +53,7 @@ pub(crate) fn enter_loops_around(node: &Node<'_>, steps: &mut Items<Step>) -> Re
 
 /// The statement of a number.
 #[tactic(auto, using(crate::proofs::EnteredLemmas::node_found, crate::proofs::EnteredLemmas::node_gone))]
+#[inline]
 pub(crate) fn node_of<'a>(prog: &'a View<'a>, stmt: StmtId) -> Option<Node<'a>>
     ensures is { option_map node_now result ≡ node_of (nodes_of (reverse (routines_of prog.now))) stmt }
 {

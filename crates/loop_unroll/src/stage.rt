@@ -22,6 +22,7 @@ pub(crate) enum Stage {
 }
 
 /// What the last iterate is, where they stop at none before it.
+#[inline]
 pub(crate) fn stage_of<V: Eq>(graph: &Graph<V>, budget: u32, cells: &[usize]) -> Stage
     requires equality { IsDecided V.eq }
     requires cells { AreCells graph.now.cells cells.now }
@@ -47,6 +48,7 @@ pub(crate) fn stage_of<V: Eq>(graph: &Graph<V>, budget: u32, cells: &[usize]) ->
 }
 
 /// The budget is used up at its own number.
+#[inline]
 fn spent_at(budget: u32, last: usize) -> Stage
     ensures is { result ≡ spent_or_open budget last }
 {
@@ -58,6 +60,7 @@ fn spent_at(budget: u32, last: usize) -> Stage
 }
 
 /// Whether an iterate has the state of the one before it.
+#[inline]
 fn repeats<V: Eq>(graph: &Graph<V>, cells: &[usize], last: usize, state: &V) -> bool
     requires equality { IsDecided V.eq }
     requires within { last < length cells.now }
@@ -74,6 +77,7 @@ fn repeats<V: Eq>(graph: &Graph<V>, cells: &[usize], last: usize, state: &V) -> 
 }
 
 /// The state that a cell holds, if it holds one.
+#[inline]
 fn state_at<V>(graph: &Graph<V>, cell: usize) -> Option<&V>
     ensures is { option_copied result ≡ state_in (value_at graph.now.cells cell) }
 {

@@ -8,6 +8,7 @@ use crate::stage::{Stage, stage_of};
 use daig_graph::Graph;
 
 /// The index of the next iterate that is wanted, or `None` where the iterates so far hold the one at which they stop.
+#[inline]
 pub fn next_wanted<V: Eq>(graph: &Graph<V>, budget: u32, cells: &[usize]) -> Option<usize>
     requires equality { IsDecided V.eq }
     requires cells { AreCells graph.now.cells cells.now }
@@ -22,6 +23,7 @@ pub fn next_wanted<V: Eq>(graph: &Graph<V>, budget: u32, cells: &[usize]) -> Opt
 }
 
 /// Whether the iterates stop at one that is the state of the iterate before it.
+#[inline]
 pub fn converged<V: Eq>(graph: &Graph<V>, budget: u32, cells: &[usize]) -> bool
     requires equality { IsDecided V.eq }
     requires cells { AreCells graph.now.cells cells.now }
@@ -32,6 +34,7 @@ pub fn converged<V: Eq>(graph: &Graph<V>, budget: u32, cells: &[usize]) -> bool
 }
 
 /// Whether the iterates stop at an Over, or with the budget used up.
+#[inline]
 pub fn over<V: Eq>(graph: &Graph<V>, budget: u32, cells: &[usize]) -> bool
     requires equality { IsDecided V.eq }
     requires cells { AreCells graph.now.cells cells.now }

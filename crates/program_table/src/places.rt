@@ -10,6 +10,7 @@ use imp_check::{Entry, Place};
 use plain_values::Memory;
 
 /// What stands at a number.
+#[inline]
 pub(crate) fn entry_in(places: &[Place], number: u32) -> Option<&Entry>
     ensures is { option_copied result ≡ entry_in places.now number }
 {
@@ -72,6 +73,7 @@ fn put_in(places: &mut [Place], puts: &mut [Put])
 /// What comes at a number by a change, or `None` where the change has no such number. It takes time logarithmic in the
 /// change.
 #[tactic(auto, using(crate::proofs::FallingLemmas::overlay_at, crate::proofs::FallingLemmas::overlay_gone, crate::proofs::FallingLemmas::greater_more, crate::proofs::FallingLemmas::less_more))]
+#[inline]
 pub(crate) fn put_of(puts: &[Put], number: u32) -> Option<&Put>
     requires falling { AreFalling puts.now }
     ensures is { MatchOption result ((at : ℕ → Option Entry) → overlay puts.now at number ≡ at number) (λ put. (at : ℕ → Option Entry) → overlay puts.now at number ≡ put.now.entry) }

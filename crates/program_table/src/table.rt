@@ -71,6 +71,7 @@ impl Table {
 
     /// The statement of a number, with where it stands and with its slots, or `None` where the program has no such
     /// statement. It takes constant time.
+    #[inline]
     pub fn entry(&self, id: StmtId) -> Option<&Entry>
         ensures is { option_copied result ≡ entry_of (entries_of self.now.program) id }
     {
@@ -97,6 +98,7 @@ impl Table {
     }
 
     /// The program as it is read. It takes constant time.
+    #[inline]
     pub fn view(&self) -> View<'_>
         ensures is { result ≡ self.now.program }
     {

@@ -50,6 +50,7 @@ impl<'a> Model for View<'a> {
 
 impl<'a> View<'a> {
     /// The program of these parts.
+    #[inline]
     pub(crate) fn new(
         table: &'a Table,
         puts: &'a [Put],
@@ -72,6 +73,7 @@ impl<'a> View<'a> {
 
     /// The statement of a number, with where it stands and with its slots, or `None` where the program has no such
     /// statement. It takes constant time, or where a change stands over the table, time logarithmic in the change.
+    #[inline]
     pub fn entry(&self, id: StmtId) -> Option<&'a Entry>
         ensures is { option_copied result ≡ entry_of (entries_of self.now) id }
     {
@@ -93,6 +95,7 @@ impl<'a> View<'a> {
     }
 
     /// A procedure without its statements, or `None` where there is no such procedure.
+    #[inline]
     pub fn head(&self, proc: ProcId) -> Option<&'a Head>
         ensures is { option_copied result ≡ slice_get (heads_of self.now) proc }
     {
@@ -119,6 +122,7 @@ impl<'a> View<'a> {
     }
 
     /// The ends of a procedure's body, or `None` where there is no such procedure.
+    #[inline]
     pub fn body(&self, proc: ProcId) -> Option<BlockEnds>
         ensures is { result ≡ option_map (λ (p : Procedure). ends_of p.body) (slice_get self.now proc) }
     {
@@ -129,6 +133,7 @@ impl<'a> View<'a> {
     }
 
     /// The variables of a procedure as slots, or `None` where there is no such procedure.
+    #[inline]
     pub fn layout(&self, proc: ProcId) -> Option<&'a Layout>
         ensures is { option_copied result ≡ option_map layout_in (slice_get self.now proc) }
     {
