@@ -1,6 +1,5 @@
 -- Items of lists.
 use Rattle.std.proofs.Common.{◌≡◌, ℕ, zero, suc, ◌<◌, ◌⊎◌, List, [], ◌∷◌, ◌++◌, take, Some, slice_get, Bool, true, false, ◌||◌, nat_eq, refl, sym, ap, ◌∙◌, inl, inr, arith}
-use Rattle.std.specs.Bool.{Decides}
 use Rattle.std.specs.List.{list_any}
 use Rattle.std.proofs.lemmas.Bool.Decides.{nat_tests}
 use Rattle.plain_values.proofs.Cases.{by_bool, equal_test}
@@ -90,10 +89,3 @@ not_any n (x ∷ xs) h m = go (not_any n xs) (nat_eq n x) refl h (in_cases n x x
 
 pub in_or_not : (n : ℕ) (xs : List ℕ) → IsIn xs n ⊎ (IsIn xs n → ⊥)
 in_or_not n xs = by_bool (list_any (nat_eq n) xs) (λ e. inl (in_any n xs e)) (λ e. inr (not_any n xs e))
-
-pub any_decides : (b : Bool) (n : ℕ) (xs : List ℕ) → b ≡ list_any (nat_eq n) xs → Decides b (IsIn xs n)
-any_decides b n xs e = (λ t. in_any n xs (sym e ∙ t), λ m. go b (sym e) m)
-  where
-    go : (c : Bool) → list_any (nat_eq n) xs ≡ c → IsIn xs n → c ≡ true
-    go true h m = refl
-    go false h m = absurd (not_any n xs h m)

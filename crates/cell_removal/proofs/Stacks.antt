@@ -40,10 +40,10 @@ module _ {V : Type 0} (cells : Cells V) (rank : ℕ → ℕ) where
   Stands planned (o ∷ above) =
       ((y : ℕ) → Uses cells y o.cell → IsIn planned y ⊎ (IsLeft o.users y ⊎ IsIn (cells_of above) y)) × Above (rank o.cell) (cells_of above) × Stands planned above
 
-  in_push : (stack : List Open) (o : Open) (y : ℕ) → IsIn (cells_of (stack ++ o ∷ [])) y → IsIn (cells_of stack) y ⊎ (o.cell ≡ y)
+  pub in_push : (stack : List Open) (o : Open) (y : ℕ) → IsIn (cells_of (stack ++ o ∷ [])) y → IsIn (cells_of stack) y ⊎ (o.cell ≡ y)
   in_push stack o y m = in_pushed y o.cell (cells_of stack) (subst (λ xs. IsIn xs y) (cells_push stack o) m)
 
-  push_in : (stack : List Open) (o : Open) (y : ℕ) → IsIn (cells_of stack) y ⊎ (o.cell ≡ y) → IsIn (cells_of (stack ++ o ∷ [])) y
+  pub push_in : (stack : List Open) (o : Open) (y : ℕ) → IsIn (cells_of stack) y ⊎ (o.cell ≡ y) → IsIn (cells_of (stack ++ o ∷ [])) y
   push_in stack o y (inl m) = subst (λ xs. IsIn xs y) (sym (cells_push stack o)) (in_left y (cells_of stack) (o.cell ∷ []) m)
   push_in stack o y (inr e) = subst (λ xs. IsIn xs y) (sym (cells_push stack o)) (subst (λ z. IsIn (cells_of stack ++ o.cell ∷ []) z) e (in_last o.cell (cells_of stack)))
 
@@ -239,7 +239,7 @@ module _ {V : Type 0} (cells : Cells V) (rank : ℕ → ℕ) where
         omega arith
 
     -- One of its users comes above it.
-    module _ (rising : (x y : ℕ) → Uses cells y x → rank x < rank y) (r p : Open) (same : r.cell ≡ o.cell) (found : IsFirst planned o.users r.users p.cell)
+    module _ (rising : (x y : ℕ) → Uses cells y x → rank x < rank y) (r p : Open) (same : r.cell ≡ o.cell) (found : IsFirst (IsIn planned) o.users r.users p.cell)
         (is_user : Uses cells p.cell o.cell) (users : (y : ℕ) → Uses cells y p.cell → IsLeft p.users y) where
       there_more : (x : ℕ) → Uses cells p.cell x → IsSome (get cells p.cell)
       there_more x u = let f = u.1 in subst IsSome (sym f.1) refl

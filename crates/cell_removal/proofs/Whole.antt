@@ -5,6 +5,7 @@ use Rattle.std.proofs.lemmas.Option.{slice_get-get_or}
 use Rattle.std.specs.FinMap.{get}
 use Rattle.daig_graph.specs.Cells.{AreCells}
 use Rattle.daig_graph.specs.Held.{IsIn}
+use Rattle.cell_removal.specs.Marks.{HasMark, AreMarked}
 use Rattle.cell_removal.specs.Removal.{Cells, LeadsTo, itself, through, IsOrder, Removes, Adds}
 use Rattle.cell_removal.proofs.Ins.{in_none, in_left, in_last, in_pushed}
 
@@ -22,8 +23,8 @@ leads_in cells plan order n (through m _ l u) =
 
 module _ {V : Type 0} (cells : Cells V) where
   -- a cell that is planned already
-  pub adds_there : (cell : ℕ) (old : List ℕ) → IsIn old cell → Adds cells cell old old
-  adds_there cell old m = record { here = m; kept = λ x k. k; only = λ x k. inl k }
+  pub adds_there : (cell : ℕ) (marks old : List ℕ) → AreMarked marks old → HasMark marks cell → Adds cells cell old old
+  adds_there cell marks old marked h = let m = (marked cell).0 h in record { here = m; kept = λ x k. k; only = λ x k. inl k }
 
   pub removes_none : (plan : List ℕ) → plan ≡ [] → Removes cells (IsIn []) plan
   removes_none plan e = subst (Removes cells (IsIn [])) (sym e) (record {

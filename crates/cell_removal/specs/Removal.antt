@@ -46,17 +46,17 @@ module _ {V : Type 0} (cells : Cells V) where
     pub kept : (x : ℕ) → IsIn old x → IsIn new x
     pub only : (x : ℕ) → IsIn new x → IsIn old x ⊎ LeadsTo cells (λ y. y ≡ cell) x
 
--- the first user that is not planned, and what is left behind it; all others in front are planned
-pub record IsFirst (planned : List ℕ) (users rest : List Use) (cell : ℕ) : Type 0 where
+-- the first user that is not marked, and what is left behind it; all others in front are marked
+pub record IsFirst (marked : ℕ → Type 0) (users rest : List Use) (cell : ℕ) : Type 0 where
   pub place : ℕ
   pub there : IsIn users (record { cell = cell; place = place })
-  pub new : IsIn planned cell → ⊥
-  pub others : (u : Use) → IsIn users u → IsIn planned u.cell ⊎ ((u.cell ≡ cell) ⊎ IsIn rest u)
+  pub new : marked cell → ⊥
+  pub others : (u : Use) → IsIn users u → marked u.cell ⊎ ((u.cell ≡ cell) ⊎ IsIn rest u)
   pub less : (u : Use) → IsIn rest u → IsIn users u
 
--- that user; or all are planned
-abbrev pub IsNext : (planned : List ℕ) → (users rest : List Use) → Option ℕ → Type 0
-IsNext planned users rest found = MatchOption found ((u : Use) → IsIn users u → IsIn planned u.cell) (IsFirst planned users rest)
+-- that user; or all are marked
+abbrev pub IsNext : (marked : ℕ → Type 0) → (users rest : List Use) → Option ℕ → Type 0
+IsNext marked users rest found = MatchOption found ((u : Use) → IsIn users u → marked u.cell) (IsFirst marked users rest)
 
 -- The cells of a plan are gone, and the others are as they were.
 abbrev pub RestStays : Type 0 → Type 0

@@ -7,6 +7,7 @@ use daig_graph::Graph;
 
 /// Takes the planned cells away; the others stay as they are. It takes no memory, and as many steps as the cells have
 /// inputs.
+#[inline]
 pub fn commit<V>(graph: &mut Graph<V>, plan: RemovalOrder)
 where
     V: Drop,

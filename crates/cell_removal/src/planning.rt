@@ -1,14 +1,14 @@
 //! The cells that are computed from some cells, in the order in which they can be taken away.
 ghost use Rattle.std.specs.Prelude.{◌≡◌, IsSome, IfOk, OnOk};
-ghost use Rattle.std.specs.Bool.{Decides};
 ghost use Rattle.std.specs.FinMap as map;
 ghost use Rattle.daig_graph.specs.Held.{IsIn};
 ghost use Rattle.daig_graph.specs.Cells.{AreCells};
 ghost use Rattle.cell_removal.specs.Removal.{Adds, IsNext, IsOrder, IsRising, Removes};
+ghost use Rattle.cell_removal.specs.Marks.{AreMarked, HasMark};
 ghost use Rattle.cell_removal.specs.Turns.{IsOpened, Turns};
 
+use crate::marks::Marks;
 use daig_graph::{Graph, Iter, Use};
-use indexmap::IndexSet;
 use plain_values::Memory;
 use std::alloc::Global;
 use std::marker::Model;
@@ -16,7 +16,7 @@ use std::marker::Model;
 /// Cells that can be taken away, each behind those that use it.
 #[derive(Drop)]
 pub struct RemovalOrder {
-    cells: IndexSet<usize>,
+    cells: Vec<usize>,
 }
 
 impl Model for RemovalOrder {
@@ -24,11 +24,12 @@ impl Model for RemovalOrder {
 
     ghost Value = { List ℕ };
 
-    ghost view = { λ p. p.cells.keys };
+    ghost view = { λ p. p.cells.items };
 }
 
 impl RemovalOrder {
     /// The cells, in the order of removal.
+    #[inline]
     pub fn cells(&self) -> &[usize]
         ensures same { result.now ≡ self.now }
     {
@@ -43,21 +44,14 @@ struct Open<'a> {
     users: Iter<'a, Use>,
 }
 
-/// Whether a cell is planned.
-#[tactic(auto, using(crate::proofs::Ins::any_decides))]
-fn is_planned(planned: &IndexSet<usize>, cell: usize) -> bool
-    ensures is { Decides result (IsIn planned.now.keys cell) }
-{
-    planned.contains(&cell)
-}
-
-/// The next user that is not planned yet.
+/// The next user that is not marked yet.
 #[tactic(auto, using(crate::proofs::Users::behind_first, crate::proofs::Users::behind_next, crate::proofs::Users::behind_found, crate::proofs::Users::behind_all))]
-fn next_user(users: &mut Iter<'_, Use>, planned: &IndexSet<usize>) -> Option<usize>
-    ensures next { IsNext planned.now.keys users.old users.new result }
+#[inline]
+fn next_user(users: &mut Iter<'_, Use>, marks: &Marks) -> Option<usize>
+    ensures next { IsNext (HasMark marks.now) users.old users.new result }
 {
     'users: while let Some(user) = users.next() {
-        if !is_planned(planned, user.cell) {
+        if !marks.has(user.cell) {
             return Some(user.cell);
         }
     }
@@ -66,6 +60,7 @@ fn next_user(users: &mut Iter<'_, Use>, planned: &IndexSet<usize>) -> Option<usi
 
 /// A cell with all its uses.
 #[tactic(auto, using(crate::proofs::Turns::opens))]
+#[inline]
 fn opened<V>(graph: &Graph<V>, cell: usize) -> Open<'_>
     ensures opened { IsOpened graph.now.cells cell result }
 {
@@ -75,21 +70,24 @@ fn opened<V>(graph: &Graph<V>, cell: usize) -> Open<'_>
     }
 }
 
-/// Goes on with a cell: its next user that is not planned comes above it; where there is none, it is planned.
+/// Goes on with a cell: its next user that is not marked is marked and comes above it; where there is none, it is planned.
 #[tactic(auto, using(crate::proofs::Turns::takes, crate::proofs::Turns::goes))]
+#[inline]
 fn turn<'a, V>(
     graph: &'a Graph<V>,
     mut top: Open<'a>,
-    planned: &mut IndexSet<usize>,
+    marks: &mut Marks,
+    planned: &mut Vec<usize>,
     stack: &mut Vec<Open<'a>>,
 ) -> Result<(), Memory>
-    ensures turns { OnOk result (Turns graph.now.cells top.entry planned.old.keys planned.new.keys stack.old.items stack.new.items) }
+    ensures turns { OnOk result (Turns graph.now.cells top.entry marks.old planned.old.items marks.new planned.new.items stack.old.items stack.new.items) }
 {
-    match next_user(&mut top.users, &*planned) {
+    match next_user(&mut top.users, &*marks) {
         None => {
-            planned.insert(top.cell)?;
+            planned.push(top.cell)?;
         }
         Some(user) => {
+            marks.add(user)?;
             stack.push(top)?;
             stack.push(opened(graph, user))?;
         }
@@ -97,28 +95,33 @@ fn turn<'a, V>(
     Ok(())
 }
 
-/// Plans a cell and all that are computed from it, depth first: each cell behind its users.
-#[tactic(auto, using(crate::proofs::Turns::walks_first, crate::proofs::Turns::walks_turn, crate::proofs::Turns::turns_fall, crate::proofs::Turns::walks_last, crate::proofs::Whole::adds_there))]
+/// Plans a cell and all that are computed from it, depth first: each cell behind its users. What is planned is marked.
+#[tactic(auto, using(crate::proofs::Turns::walking_first, crate::proofs::Turns::walking_turn, crate::proofs::Turns::turns_fall, crate::proofs::Turns::walking_last, crate::proofs::Whole::adds_there))]
+#[inline]
 fn add<V>(
     alloc: Global,
     graph: &Graph<V>,
     cell: usize,
-    planned: &mut IndexSet<usize>,
+    marks: &mut Marks,
+    planned: &mut Vec<usize>,
 ) -> Result<(), Memory>
     requires rising { IsRising graph.now.cells }
     requires there { IsSome (map.get graph.now.cells cell) }
-    requires order { IsOrder graph.now.cells planned.old.keys }
-    ensures order { OnOk result (IsOrder graph.now.cells planned.new.keys) }
-    ensures adds { OnOk result (Adds graph.now.cells cell planned.old.keys planned.new.keys) }
+    requires order { IsOrder graph.now.cells planned.old.items }
+    requires marked { AreMarked marks.old planned.old.items }
+    ensures order { OnOk result (IsOrder graph.now.cells planned.new.items) }
+    ensures adds { OnOk result (Adds graph.now.cells cell planned.old.items planned.new.items) }
+    ensures marked { OnOk result (AreMarked marks.new planned.new.items) }
 {
-    if is_planned(&*planned, cell) {
+    if marks.has(cell) {
         return Ok(());
     }
+    marks.add(cell)?;
     let mut stack = Vec::new(alloc);
     let first = opened(graph, cell);
     stack.push(first)?;
     'users: while let Some(top) = stack.pop() {
-        turn(graph, top, planned, &mut stack)?;
+        turn(graph, top, marks, planned, &mut stack)?;
     }
     Ok(())
 }
@@ -129,6 +132,7 @@ fn add<V>(
 ///
 /// [`Memory`] alone.
 #[tactic(auto, using(crate::proofs::Whole::removes_none, crate::proofs::Whole::removes_more, crate::proofs::Whole::touched_there, crate::proofs::Whole::removes_all))]
+#[inline]
 pub fn removal<V>(
     alloc: Global,
     graph: &Graph<V>,
@@ -138,9 +142,10 @@ pub fn removal<V>(
     requires cells { AreCells graph.now.cells touched.now }
     ensures removes { IfOk result (Removes graph.now.cells (IsIn touched.now)) }
 {
-    let mut cells = IndexSet::new(alloc);
+    let mut cells = Vec::new(alloc);
+    let mut marks = Marks::new(alloc);
     for cell in touched {
-        add(alloc, graph, *cell, &mut cells)?;
+        add(alloc, graph, *cell, &mut marks, &mut cells)?;
     }
     Ok(RemovalOrder { cells })
 }

@@ -13,3 +13,4 @@ pub mod AgreeingAlong
 pub mod CellFilled
 pub mod CellGone
 pub mod Owning
+pub mod Replacing

@@ -1,8 +1,9 @@
 -- What a graph holds.
 use Rattle.std.specs.Prelude.{◌≡◌, ◌≢◌, ℕ, List, Some, IsSome, slice_get}
 use Rattle.std.specs.Ordering.{nat_cmp}
-use Rattle.std.specs.FinMap.{FinMap, get}
+use Rattle.std.specs.FinMap.{FinMap, get, insert}
 use Rattle.daig_graph.specs.declared.value.Value.{Value}
+use Rattle.daig_graph.specs.declared.value.Value.TheVariants.{State}
 use Rattle.daig_graph.specs.declared.graph.Use.{Use}
 
 -- what a cell was filled with: the statement that it belongs to, its value, and its inputs from left to right
@@ -31,3 +32,11 @@ module _ {V : Type 0} (cells : FinMap nat_cmp (Filled V)) where
   -- no cell has this one as an input
   abbrev pub IsUnused : ℕ → Type 0
   IsUnused x = (y i : ℕ) (f : Filled V) → get cells y ≡ Some f → slice_get f.inputs i ≢ Some x
+
+  -- a cell holds a state
+  abbrev pub HoldsState : ℕ → Type 0
+  HoldsState x = (f : Filled V) × (v : V) × (get cells x ≡ Some f) × (f.value ≡ State v)
+
+  -- The cell holds this state in place of what it held; all else is as it was.
+  abbrev pub ReplacesHeld : ℕ → V → FinMap nat_cmp (Filled V) → Type 0
+  ReplacesHeld x v later = (f : Filled V) → get cells x ≡ Some f → later ≡ insert cells x (record f { value = State v })

@@ -1,11 +1,12 @@
 //! Filling cells and taking them away.
-ghost use Rattle.std.specs.Prelude.{◌≡◌, ℕ, ◌≤◌, ◌<◌, None, Some, IsSome, OnOk, OnErr, length, slice_get};
+ghost use Rattle.std.specs.Prelude.{◌≡◌, ◌≢◌, ℕ, ◌≤◌, ◌<◌, None, Some, IsSome, OnOk, OnErr, length, slice_get};
 ghost use Rattle.std.specs.FinMap as map;
-ghost use Rattle.slab.specs.Slab.{HasRoomFor};
+ghost use Rattle.slab.specs.Slab.{get, HasRoomFor};
 ghost use Rattle.daig_graph.specs.Held.{held, IsOnce};
 ghost use Rattle.daig_graph.specs.Keys.{key_at};
 ghost use Rattle.daig_graph.specs.Uses.{Links, Unlinks};
-ghost use Rattle.daig_graph.specs.Cells.{AreCells, IsUnused};
+ghost use Rattle.daig_graph.specs.Cells.{AreCells, HoldsState, IsUnused, ReplacesHeld};
+ghost use Rattle.daig_graph.specs.declared.value.Value.TheVariants.{State};
 
 use crate::graph::{Cell, Graph, Use};
 use crate::index::{Index, Link};
@@ -19,6 +20,7 @@ use std::alloc::{AllocError, Global};
 
 impl<V> Graph<V> {
     /// No cells. It takes no memory yet.
+    #[inline]
     pub fn new(alloc: Global) -> Graph<V>
         ensures empty { result.cells ≡ map.empty }
     {
@@ -37,6 +39,7 @@ impl<V> Graph<V> {
     /// # Errors
     ///
     /// [`Memory`] for want of memory. The cells are what they were then.
+    #[inline]
     pub fn fill(
         &mut self,
         cell: usize,
@@ -78,7 +81,21 @@ impl<V> Graph<V> {
         Ok(())
     }
 
+    /// Another value in place of the state that a cell holds. It takes constant time, and no memory.
+    #[inline]
+    pub fn replace_held(&mut self, cell: usize, held: V)
+    where
+        V: Drop,
+        requires state { HoldsState self.old.cells cell }
+        ensures replaces { ReplacesHeld self.old.cells cell held self.new.cells }
+    {
+        if let Some(key) = self.keys.get(cell).key() {
+            set_held(&mut self.cells, key, held);
+        }
+    }
+
     /// Takes a cell away that is an input of no other. It takes as many steps as the cell has inputs, and no memory.
+    #[inline]
     pub fn remove(&mut self, cell: usize)
     where
         V: Drop,
@@ -97,6 +114,7 @@ impl<V> Graph<V> {
 }
 
 /// Room for a cell of a statement with so many inputs, and a place for its number. All that is held stays as it is.
+#[inline]
 fn make_room<V>(
     cells: &mut Slab<Cell<V>>,
     keys: &mut Index,
@@ -124,8 +142,20 @@ fn make_room<V>(
     uses.reserve(inputs, cell)
 }
 
+/// The cell at a key holds this state.
+#[inline]
+fn set_held<V: Drop>(cells: &mut Slab<Cell<V>>, key: usize, held: V)
+    ensures set { (c : _) → get cells.old key ≡ Some c → get cells.new key ≡ Some (record c { value = State held }) }
+    ensures others { (k : ℕ) → k ≢ key → get cells.new k ≡ get cells.old k }
+{
+    if let Some(cell) = cells.get_mut(key) {
+        cell.value = Value::State(held);
+    }
+}
+
 /// Puts the uses of these inputs into their lists, and their keys in place of what `keys` has.
-fn link_inputs(uses: &mut Lists<Use>, cell: usize, inputs: &[usize], keys: &mut SmallVec<usize, 4>)
+#[inline]
+fn link_inputs(uses: &mut Lists<Use>, cell: usize, inputs: &[usize], keys: &mut SmallVec<usize, 2>)
     requires as_many { length keys.old.items ≡ length inputs.now }
     requires room { length inputs.now ≤ uses.old.room }
     requires placed { (i x : ℕ) → slice_get inputs.now i ≡ Some x → x < uses.old.places }
@@ -137,6 +167,7 @@ fn link_inputs(uses: &mut Lists<Use>, cell: usize, inputs: &[usize], keys: &mut 
 }
 
 /// Puts the uses of these inputs into their lists, and their keys into `keys`.
+#[inline]
 fn link(uses: &mut Lists<Use>, cell: usize, inputs: &[usize], keys: &mut [usize])
     requires as_many { length keys.old ≡ length inputs.now }
     requires room { length inputs.now ≤ uses.old.room }
@@ -150,6 +181,7 @@ fn link(uses: &mut Lists<Use>, cell: usize, inputs: &[usize], keys: &mut [usize]
 }
 
 /// Takes the uses under these keys out of their lists.
+#[inline]
 fn unlink(uses: &mut Lists<Use>, keys: &[usize])
     requires there { (i u : ℕ) → slice_get keys.now i ≡ Some u → IsSome (held uses.old u) }
     requires once { IsOnce keys.now }

@@ -20,9 +20,9 @@ pub(crate) struct Cell<V> {
     pub(crate) value: Value<V>,
     // its key among the cells of its owner
     pub(crate) own: usize,
-    pub(crate) inputs: SmallVec<usize, 4>,
+    pub(crate) inputs: SmallVec<usize, 2>,
     // the keys of its uses of them
-    pub(crate) uses: SmallVec<usize, 4>,
+    pub(crate) uses: SmallVec<usize, 2>,
 }
 
 /// Cells, each called by a number, with its inputs and dependents.

@@ -30,6 +30,7 @@ impl Model for Link {
 
 impl Link {
     /// No key.
+    #[inline]
     pub(crate) fn none() -> Link
         ensures none { result ≡ None }
     {
@@ -37,6 +38,7 @@ impl Link {
     }
 
     /// This key of a slab.
+    #[inline]
     pub(crate) fn to<T>(slab: &Slab<T>, key: usize) -> Link
         requires below { key < slab.now.capacity }
         ensures key { result ≡ Some key }
@@ -46,6 +48,7 @@ impl Link {
     }
 
     /// The key, or none.
+    #[inline]
     pub(crate) fn key(self) -> Option<usize>
         ensures key { result ≡ self }
     {
@@ -72,6 +75,7 @@ impl Model for Index {
 
 impl Index {
     /// No number has a place. It takes no memory yet.
+    #[inline]
     pub(crate) fn new(alloc: Global) -> Index
         ensures empty { result ≡ [] }
     {
@@ -81,6 +85,7 @@ impl Index {
     }
 
     /// The key of a number, or none.
+    #[inline]
     pub(crate) fn get(&self, number: usize) -> Link
         ensures key { result ≡ key_at self.now number }
     {
@@ -91,6 +96,7 @@ impl Index {
     }
 
     /// A place for this number, and for all below it. It takes as many steps as there are new places.
+    #[inline]
     pub(crate) fn reserve(&mut self, number: usize) -> Result<(), AllocError>
         ensures place { OnOk result (number < length self.new) }
         ensures same { (n : ℕ) → key_at self.new n ≡ key_at self.old n }
@@ -103,6 +109,7 @@ impl Index {
     }
 
     /// Another key, or none, for a number that has a place.
+    #[inline]
     pub(crate) fn set(&mut self, number: usize, key: Link)
         requires place { number < length self.old }
         ensures set { self.new ≡ slice_set self.old number key }

@@ -7,12 +7,12 @@ use std::alloc::Global;
 use std::marker::Model;
 
 /// The inputs of a cell that is to be filled, from left to right, with the memory that the cell will need for them.
-/// Four take none.
+/// Two take none.
 #[derive(Drop)]
 pub struct Inputs {
-    pub(crate) cells: SmallVec<usize, 4>,
+    pub(crate) cells: SmallVec<usize, 2>,
     // room for the keys of the uses of these cells
-    pub(crate) uses: SmallVec<usize, 4>,
+    pub(crate) uses: SmallVec<usize, 2>,
 }
 
 impl Model for Inputs {
@@ -27,6 +27,7 @@ impl Model for Inputs {
 
 impl Inputs {
     /// No inputs. It takes no memory.
+    #[inline]
     pub fn new(alloc: Global) -> Inputs
         ensures empty { result ≡ [] }
     {
@@ -37,6 +38,7 @@ impl Inputs {
     }
 
     /// One input more, on the right.
+    #[inline]
     pub fn push(&mut self, cell: usize) -> Result<(), Memory>
         ensures added { OnOk result (self.new ≡ self.old ++ cell ∷ []) }
         ensures err { OnErr result (self.new ≡ self.old) }
@@ -48,6 +50,7 @@ impl Inputs {
     }
 
     /// The inputs, from left to right.
+    #[inline]
     pub fn as_slice(&self) -> &[usize]
         ensures same { result.now ≡ self.now }
     {
@@ -55,6 +58,7 @@ impl Inputs {
     }
 
     /// How many there are.
+    #[inline]
     pub fn len(&self) -> usize
         ensures count { result ≡ length self.now }
     {

@@ -12,6 +12,7 @@ use std::alloc::{AllocError, Global};
 
 impl<T: Copy> Lists<T> {
     /// Lists without items. It takes no memory yet.
+    #[inline]
     pub(crate) fn new(alloc: Global) -> Lists<T>
         ensures empty { (k : ℕ) → held result k ≡ None }
     {
@@ -22,6 +23,7 @@ impl<T: Copy> Lists<T> {
     }
 
     /// Room for so many items more, and a place for a list.
+    #[inline]
     pub(crate) fn reserve(&mut self, items: usize, list: usize) -> Result<(), AllocError>
         ensures room { OnOk result (items ≤ self.new.room) }
         ensures place { OnOk result (list < self.new.places) }
@@ -33,6 +35,7 @@ impl<T: Copy> Lists<T> {
     }
 
     /// Puts an item in front of a list, and gives its key.
+    #[inline]
     pub(crate) fn push(&mut self, list: usize, item: T) -> usize
         requires room { 0 < self.old.room }
         requires place { list < self.old.places }
@@ -54,6 +57,7 @@ impl<T: Copy> Lists<T> {
     }
 
     /// The items of a list, the one that was put in last first.
+    #[inline]
     pub(crate) fn items(&self, list: usize) -> Iter<'_, T>
         ensures items { AreItems self.now list result }
     {
@@ -64,6 +68,7 @@ impl<T: Copy> Lists<T> {
     }
 
     /// Takes an item out of its list.
+    #[inline]
     pub(crate) fn remove(&mut self, key: usize)
         requires there { IsSome (held self.old key) }
         ensures takes { Takes self.old self.new key }
@@ -82,6 +87,7 @@ impl<T: Copy> Lists<T> {
 }
 
 /// Another member, or none, comes in front of the one at a key.
+#[inline]
 fn set_before<T: Copy>(members: &mut Slab<Member<T>>, key: Link, before: Link)
     ensures set { (k : ℕ) (m : _) → key ≡ Some k → get members.old k ≡ Some m → get members.new k ≡ Some (record m { before = before }) }
     ensures others { (k : ℕ) → key ≢ Some k → get members.new k ≡ get members.old k }
@@ -95,6 +101,7 @@ fn set_before<T: Copy>(members: &mut Slab<Member<T>>, key: Link, before: Link)
 }
 
 /// Another member, or none, comes behind the one at a key.
+#[inline]
 fn set_next<T: Copy>(members: &mut Slab<Member<T>>, key: Link, next: Link)
     ensures set { (k : ℕ) (m : _) → key ≡ Some k → get members.old k ≡ Some m → get members.new k ≡ Some (record m { next = next }) }
     ensures others { (k : ℕ) → key ≢ Some k → get members.new k ≡ get members.old k }
@@ -108,6 +115,7 @@ fn set_next<T: Copy>(members: &mut Slab<Member<T>>, key: Link, next: Link)
 }
 
 /// Another member, or none, is the first of a list, where nothing comes in front of it.
+#[inline]
 fn set_first(firsts: &mut Index, list: usize, before: Link, first: Link)
     requires place { before ≡ None → list < length firsts.old }
     ensures first { before ≡ None → key_at firsts.new list ≡ first }

@@ -11,6 +11,7 @@ use crate::walk::Iter;
 
 impl<V> Graph<V> {
     /// The value of a cell, or `None` where it is not there.
+    #[inline]
     pub fn value(&self, cell: usize) -> Option<&Value<V>>
         ensures value { option_copied result ≡ option_map (λ f. f.value) (map.get self.now.cells cell) }
     {
@@ -21,6 +22,7 @@ impl<V> Graph<V> {
     }
 
     /// The inputs of a cell from left to right, or `None` where it is not there. They are cells.
+    #[inline]
     pub fn inputs(&self, cell: usize) -> Option<&[usize]>
         ensures inputs { option_copied result ≡ option_map (λ f. f.inputs) (map.get self.now.cells cell) }
         ensures cells { IfSome result (λ inputs. AreCells self.now.cells inputs.now) }
@@ -33,6 +35,7 @@ impl<V> Graph<V> {
 
     /// The cells of which a cell is an input, each with the place where it stands among its inputs; none where the cell
     /// is not there. No two are alike.
+    #[inline]
     pub fn dependents(&self, cell: usize) -> Iter<'_, Use>
         ensures once { IsOnce result }
         ensures uses { (u : Use) → IsIn result u ↔ IsUse self.now.cells cell u }
@@ -41,6 +44,7 @@ impl<V> Graph<V> {
     }
 
     /// The cells that belong to a statement, each once.
+    #[inline]
     pub fn cells_of_statement(&self, statement: u32) -> Iter<'_, usize>
         ensures once { IsOnce result }
         ensures cells { (x : ℕ) → IsIn result x ↔ IsOwned self.now.cells statement x }
@@ -49,12 +53,14 @@ impl<V> Graph<V> {
     }
 
     /// How many cells there are.
+    #[inline]
     pub fn kept_count(&self) -> usize
         ensures count { result ≡ map.len self.now.cells }
     {
         self.cells.len()
     }
 
+    #[inline]
     fn cell(&self, number: usize) -> Option<&Cell<V>>
         ensures filled { option_map filled (option_copied result) ≡ map.get self.now.cells number }
         ensures cells { IfSome result (λ c. AreCells self.now.cells c.now.inputs.items) }

@@ -33,6 +33,7 @@ impl<'a, T: Copy> Iterator for Iter<'a, T> {
 
     ghost remaining = { item_count (λ rest. rest) };
 
+    #[inline]
     fn next(&mut self) -> Option<T> {
         let member = self.members.get(self.next.key()?)?;
         self.next = member.next;
