@@ -38,6 +38,7 @@ impl<S> Model for Memo<S> {
 
 impl<S> Memo<S> {
     /// No entries, and room for so many.
+    #[inline]
     pub fn new(alloc: Global, capacity: usize) -> Result<Memo<S>, Memory>
         requires some { 0 < capacity }
         ensures empty { IfOk result (λ m. m ≡ lru_cache [] capacity) }
@@ -54,8 +55,16 @@ impl<S> Memo<S> {
         }
     }
 
+    /// Forgets all entries. There is room for as many as before.
+    pub fn clear(&mut self)
+        ensures empty { self.new ≡ lru_cache [] self.old.cap }
+    {
+        self.cache.clear();
+    }
+
     /// The number of the state that is kept for a key, or `None` where none is. It makes the entry the most recent, and
     /// takes no memory. Where all entries are results, so is this.
+    #[inline]
     pub fn get(&mut self, key: &Key) -> Option<usize>
         ensures value { result ≡ lookup (⟦<Key as PartialEq>⟧.eq key.now) self.old.entries }
         ensures recent { self.new ≡ lru_cache (promoted (⟦<Key as PartialEq>⟧.eq key.now) self.old.entries) self.old.cap }
@@ -67,6 +76,7 @@ impl<S> Memo<S> {
 
     /// Keeps the number of a state for a key, as the most recent entry. Where the memory is full and the key is new, the
     /// least recent entry goes. Want of memory changes nothing, and never comes for a key that is there.
+    #[inline]
     pub fn keep(&mut self, key: Key, value: usize) -> Result<(), Memory>
         ensures kept { OnOk result (self.new ≡ lru_cache (put_entries ⟦<Key as PartialEq>⟧.eq self.old key value) self.old.cap) }
         ensures unchanged { OnErr result (self.new ≡ self.old) }

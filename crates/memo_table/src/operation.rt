@@ -25,6 +25,7 @@ pub enum Operation {
 
 impl Operation {
     /// Of a simple statement, which it shares.
+    #[inline]
     pub fn post(stmt: &SlotStmt) -> Result<Operation, Memory>
         ensures is { IfOk result (λ o. o ≡ Operation.Post stmt.now) }
     {
@@ -32,6 +33,7 @@ impl Operation {
     }
 
     /// Of a condition, which it shares, and its truth value.
+    #[inline]
     pub fn assume(condition: &SlotCond, sense: bool) -> Result<Operation, Memory>
         ensures is { IfOk result (λ o. o ≡ Operation.Assume condition.now sense) }
     {
@@ -39,6 +41,7 @@ impl Operation {
     }
 
     /// Of entering a call, whose arguments it shares.
+    #[inline]
     pub fn enter(call: &SlotCall) -> Result<Operation, Memory>
         ensures is { IfOk result (λ o. o ≡ Operation.Enter call.now.entering) }
     {
@@ -46,6 +49,7 @@ impl Operation {
     }
 
     /// Of widening at these marks, which it copies.
+    #[inline]
     pub fn widen(alloc: Global, marks: &[i64]) -> Result<Operation, Memory>
         ensures is { IfOk result (λ o. o ≡ Operation.Widen marks.now) }
     {

@@ -1,3 +1,4 @@
 pub mod NumberLemmas
 pub mod FindLemmas
 pub mod AddLemmas
+pub mod MarkLemmas

@@ -1,10 +1,10 @@
 //! The table: one number for a state, and one state for a number.
 
-ghost use Rattle.std.specs.Prelude.{◌≡◌, ℕ, ◌<◌, ◌^◌, ◌↔◌, true, List, [], length, Option, Some, slice_get, position, IfOk, IfSome, OnErr, OnOk, IsTrue};
+ghost use Rattle.std.specs.Prelude.{◌≡◌, ℕ, ◌+◌, ◌≤◌, ◌<◌, ◌^◌, ◌↔◌, true, List, [], length, Option, Some, slice_get, position, IfOk, IfSome, OnErr, OnOk, IsTrue};
 ghost use Rattle.std.specs.List.{position_or_len};
 ghost use Rattle.state_table.specs.Numbers.{with_state, IsNumberOf, KeepsNumbers, AreOnce, TellsApart, Adds};
 
-use indexmap::IndexSet;
+use indexmap::IndexMap;
 use number_hash::NumberHashing;
 use plain_values::Memory;
 use std::alloc::Global;
@@ -14,28 +14,39 @@ use std::marker::Model;
 /// States under numbers, as a list: the state at place n has the number n.
 #[derive(Drop)]
 pub struct Table<T: Eq + Hash> {
-    states: IndexSet<T, NumberHashing>,
+    // beside each state a mark, which means nothing outside a sweep
+    pub(crate) states: IndexMap<T, usize, NumberHashing>,
 }
 
 impl<T: Eq + Hash> Model for Table<T> {
     ghost use Rattle.std.specs.Prelude.{List};
+    ghost use Rattle.state_table.specs.Marks.{states_in};
 
     ghost Value = { List T };
 
-    ghost view = { λ t. t.states.keys };
+    ghost view = { λ t. states_in t.states.entries };
 }
 
 impl<T: Eq + Hash + Drop> Table<T> {
     /// A table with no states. It takes no memory yet.
+    #[inline]
     pub fn new(alloc: Global) -> Table<T>
         ensures empty { result ≡ [] }
     {
         Table {
-            states: IndexSet::with_hasher(alloc, NumberHashing::new()),
+            states: IndexMap::with_hasher(alloc, NumberHashing::new()),
         }
     }
 
+    /// Drops all states, and keeps the memory for as many.
+    pub fn clear(&mut self)
+        ensures empty { self.new ≡ [] }
+    {
+        self.states.clear();
+    }
+
     /// How many states there are.
+    #[inline]
     pub fn len(&self) -> usize
         ensures len { result ≡ length self.now }
         ensures once { AreOnce T.eq self.now }
@@ -44,6 +55,7 @@ impl<T: Eq + Hash + Drop> Table<T> {
     }
 
     /// Whether there are none.
+    #[inline]
     pub fn is_empty(&self) -> bool
         ensures empty { IsTrue result ↔ (length self.now ≡ 0) }
     {
@@ -51,6 +63,7 @@ impl<T: Eq + Hash + Drop> Table<T> {
     }
 
     /// The number of a state: that of the equal state, or a new one where there is none.
+    #[inline]
     pub fn intern(&mut self, state: T) -> Result<usize, Memory>
         ensures table { OnOk result (self.new ≡ with_state T.eq self.old state) }
         ensures number { IfOk result (λ n. n ≡ position_or_len (T.eq state) self.old) }
@@ -58,16 +71,18 @@ impl<T: Eq + Hash + Drop> Table<T> {
         ensures same { TellsApart T.eq → IfOk result (λ n. slice_get self.new n ≡ Some state) }
         ensures adds { TellsApart T.eq → IfOk result (Adds self.old self.new state) }
         ensures small { IfOk result (λ n. n < 2 ^ 63) }
+        ensures few { length self.new ≤ length self.old + 1 }
         ensures once { AreOnce T.eq self.new }
         ensures kept { KeepsNumbers self.old self.new }
         ensures err { OnErr result (self.new ≡ self.old) }
     {
-        let (number, _new) = self.states.insert_full(state)?;
+        let (number, _old) = self.states.insert_full(state, 0)?;
         let _count = self.states.len();
         Ok(number)
     }
 
     /// The number of a state, or `None` where no equal one is there. It takes no memory.
+    #[inline]
     pub fn find(&self, state: &T) -> Option<usize>
         ensures number { result ≡ position (T.eq state.now) self.now }
         ensures same { TellsApart T.eq → IfSome result (λ n. slice_get self.now n ≡ Some state.now) }
@@ -79,12 +94,13 @@ impl<T: Eq + Hash + Drop> Table<T> {
     }
 
     /// The state under a number.
+    #[inline]
     pub fn get(&self, number: usize) -> &T
         requires { number < length self.now }
         ensures state { slice_get self.now number ≡ Some result.now }
     {
         match self.states.get_index(number) {
-            Some(state) => state,
+            Some((state, _)) => state,
             None => unreachable!(),
         }
     }
