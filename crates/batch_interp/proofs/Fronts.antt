@@ -1,11 +1,11 @@
 -- What is known in front of the statements of a procedure that have a check.
-use Rattle.std.proofs.Common.{ℕ, zero, suc, ◌≡◌, ◌+◌, ◌<◌, ◌≤◌, true, false, List, [], ◌∷◌, ◌++◌, length, drop, map, reverse, get_or, slice_get, option_map, Option, Some, None, MatchOption, Result, Ok, Err, IfOk, refl, sym, ap, subst, ◌∙◌, arith, append_assoc, add-one}
+use Rattle.std.proofs.Common.{ℕ, zero, suc, ◌≡◌, ◌+◌, ◌<◌, ◌≤◌, true, false, List, [], ◌∷◌, ◌++◌, length, drop, map, reverse, get_or, slice_get, option_map, Option, Some, None, Result, Ok, Err, IfOk, refl, sym, ap, subst, ◌∙◌, arith, append_assoc, add-one}
 use Rattle.std.specs.Prelude.{Contains}
-use Rattle.std.proofs.lemmas.List.{reverse-append, reverse-reverse}
+use Rattle.std.proofs.lemmas.List.{map-append, reverse-reverse, drop_all}
 use Rattle.imp_syntax.specs.declared.edit.Location.TheVariants.{Before}
 use Rattle.imp_slots.specs.Plain.{Guard, Effect, Does, DoBreak, Invoke, Code, Stop, Simple, If, While, Call, Break, Routine, code_numbers}
 use Rattle.imp_slots.specs.Fits.{Distinct, IsChecked}
-use Rattle.program_chains.specs.Chains.{chains, selected, holder}
+use Rattle.program_chains.specs.Chains.{chains, holder}
 use Rattle.program_chains.specs.Claims.{PlacesAreFound}
 use Rattle.domain_laws.specs.Operations.{Operations}
 use Rattle.domain_laws.specs.Checks.{Check, check_of, kind_of}
@@ -15,24 +15,29 @@ use Rattle.batch_meaning.specs.Values.{Value, lift, lift2}
 use Rattle.batch_meaning.specs.Batch.{Engine, head_of, behind}
 use Rattle.batch_meaning.specs.Places.{Spot, spot, if_some, entry, value_in, value_at}
 use Rattle.batch_meaning.specs.Answers.{found_or, all_values, sum_of, answer_in, answer}
-use Rattle.batch_meaning.specs.Report.{Checked, checked_one, checked_in, verdict_on, finding}
+use Rattle.batch_meaning.specs.Report.{Checked, checked_one, checked_in, checked_statements, verdict_on, finding}
 use Rattle.batch_interp.specs.Answered.{value_of}
-use Rattle.batch_interp.specs.Frames.{Plan, earlier, marks_at, calls_in, passed}
+use Rattle.batch_interp.specs.Frames.{Plan, earlier, marks_at, calls_in, passed, body_of, body_at}
 use Rattle.batch_interp.specs.Seeking.{places}
+use Rattle.batch_interp.specs.Handing.{in_one, IsEnteredBy}
+use Rattle.batch_interp.specs.Pairs.{All2}
 use Rattle.batch_interp.specs.Summing.{added}
 use Rattle.batch_interp.specs.Reporting.{claim_of, claims, before_one, befores}
-use Rattle.batch_interp.specs.Totalling.{first_of, behind_first, all_added, answered, EachWith, AreTotals, kind_for, found_from, all_found, LeadsTo, AllLead, HasBody}
+use Rattle.batch_interp.specs.Totalling.{first_of, behind_first, all_added, answered, EachWith, AreTotals, kind_for, found_from, all_found}
 use Rattle.batch_interp.specs.declared.claim.Claim.{Claim}
 use Rattle.batch_interp.specs.declared.value.Answer.{Answer}
+use Rattle.batch_interp.specs.declared.frames.Frame.{Frame}
 use Rattle.batch_interp.specs.declared.walks.Entered.{Entered}
-use Rattle.plain_values.proofs.Lists.{drop_item, all_back}
+use Rattle.plain_values.proofs.Lists.{drop_item, drop_next}
 use Rattle.plain_values.proofs.Members.{Member, here, there, in_left, in_right}
 use Rattle.batch_meaning.proofs.Places.{found}
 use Rattle.batch_sound.proofs.Chains.{has_member, once_in, every_ends}
-use Rattle.batch_interp.proofs.Members.{All2, all2_both, all2_as, AllOf, all_both, all_as}
+use Rattle.batch_interp.proofs.Members.{all2_both, all2_as, all2_length, AllOf, all_both, all_as, At}
+use Rattle.batch_interp.proofs.Procedures.{there_at}
+use Rattle.batch_interp.proofs.Turned.{IsPopped, reversed}
 use Rattle.batch_interp.proofs.Seekings.{numbers_of_places}
 use Rattle.batch_interp.proofs.Walkings.{before_there}
-use Rattle.batch_interp.proofs.Gathering.{gathered, gathered_none, sum_step, sum_end}
+use Rattle.batch_interp.proofs.Gathering.{gathered, gathered_none, one_added_chain}
 
 claims_both : (xs ys : List Checked) → claims (xs ++ ys) ≡ claims xs ++ claims ys
 claims_both [] ys = refl
@@ -124,30 +129,26 @@ module _ {S : Type 0} (dom : Operations S) (plan : Plan) where
   at_claim c = value_at dom plan.engine plan.program (Before c.0)
 
   -- the totals so far, with the chains to come, give what all chains give
-  abbrev pub SoFar : List (List ℕ) → ℕ → List (ℕ × Effect) → List (Value S) → Type 0
-  SoFar zs i cs vs = EachWith (λ (c : ℕ × Effect) o. gathered dom plan.engine o (all_values dom plan.engine (value_at dom plan.engine plan.program (Before c.0)) (map reverse (drop i zs))) ≡ sum_of dom plan.engine (all_values dom plan.engine (value_at dom plan.engine plan.program (Before c.0)) (map reverse zs))) cs vs
+  abbrev pub SoFar : (all rest : List (List ℕ)) → List (ℕ × Effect) → List (Value S) → Type 0
+  SoFar all rest cs vs = EachWith (λ (c : ℕ × Effect) o. gathered dom plan.engine o (all_values dom plan.engine (value_at dom plan.engine plan.program (Before c.0)) rest) ≡ sum_of dom plan.engine (all_values dom plan.engine (value_at dom plan.engine plan.program (Before c.0)) all)) cs vs
 
-  pub none_so_far : (zs : List (List ℕ)) (cs : List (ℕ × Effect)) → SoFar zs 0 cs []
+  pub none_so_far : (zs : List (List ℕ)) (cs : List (ℕ × Effect)) → SoFar zs zs cs []
   none_so_far zs [] = tt
-  none_so_far zs (c ∷ cs) = (gathered_none dom plan.engine (all_values dom plan.engine (at_claim c) (map reverse zs)), none_so_far zs cs)
+  none_so_far zs (c ∷ cs) = (gathered_none dom plan.engine (all_values dom plan.engine (at_claim c) zs), none_so_far zs cs)
 
-  pub one_more_chain : (zs : List (List ℕ)) (i : ℕ) (z y : List ℕ) → i < length zs → z ≡ get_or zs i z → y ≡ z → (cs : List (ℕ × Effect)) (vs bs : List (Value S)) → All2 (λ (c : ℕ × Effect) b. Some b ≡ value_at dom plan.engine plan.program (Before c.0) (reverse y)) cs bs → SoFar zs i cs vs → SoFar zs (i + 1) cs (all_added dom vs bs)
-  one_more_chain zs i z y h e s [] vs [] f g = tt
-  one_more_chain zs i z y h e s [] vs (b ∷ bs) f g = absurd f
-  one_more_chain zs i z y h e s (c ∷ cs) vs [] f g = absurd f
-  one_more_chain zs i z y h e s (c ∷ cs) vs (b ∷ bs) f g = (
-    sum_step dom plan.engine (at_claim c) zs i z y (first_of vs) b (added dom (first_of vs) b) h e s f.0 refl ∙ g.0,
-    one_more_chain zs i z y h e s cs (behind_first vs) bs f.1 g.1,
-  )
+  one_more_chain : (all rest : List (List ℕ)) (z : List ℕ) (cs : List (ℕ × Effect)) (vs bs : List (Value S)) → All2 (λ (c : ℕ × Effect) b. Some b ≡ value_at dom plan.engine plan.program (Before c.0) z) cs bs → SoFar all (z ∷ rest) cs vs → SoFar all rest cs (all_added dom vs bs)
+  one_more_chain all rest z [] vs [] f g = tt
+  one_more_chain all rest z [] vs (b ∷ bs) f g = absurd f
+  one_more_chain all rest z (c ∷ cs) vs [] f g = absurd f
+  one_more_chain all rest z (c ∷ cs) vs (b ∷ bs) f g = (one_added_chain dom plan.engine (at_claim c) rest z (first_of vs) b f.0 ∙ g.0, one_more_chain all rest z cs (behind_first vs) bs f.1 g.1)
 
   gathered_end : (o : Option (Value S)) → gathered dom plan.engine o (Some []) ≡ answered o
   gathered_end None = refl
   gathered_end (Some v) = refl
 
-  pub all_chains : (zs : List (List ℕ)) (i : ℕ) (cs : List (ℕ × Effect)) (vs : List (Value S)) → length zs ≤ i → SoFar zs i cs vs → AreTotals dom plan (map reverse zs) cs vs
-  all_chains zs i [] vs h g = tt
-  all_chains zs i (c ∷ cs) vs h g =
-      (sym g.0 ∙ sum_end dom plan.engine (at_claim c) zs i (first_of vs) h ∙ gathered_end (first_of vs), all_chains zs i cs (behind_first vs) h g.1)
+  pub all_chains : (zs : List (List ℕ)) (cs : List (ℕ × Effect)) (vs : List (Value S)) → SoFar zs [] cs vs → AreTotals dom plan zs cs vs
+  all_chains zs [] vs g = tt
+  all_chains zs (c ∷ cs) vs g = (sym g.0 ∙ gathered_end (first_of vs), all_chains zs cs (behind_first vs) g.1)
 
   -- A checked statement of a block is one of its statements, and has that check.
   record Right (code : Code) (c : Checked) : Type 0 where
@@ -195,17 +196,7 @@ module _ {S : Type 0} (dom : Operations S) (plan : Plan) where
     pub procedure_findings : (vs : List (Value S)) → AreTotals dom plan (chains plan.program place) (claims (checked_in r.code)) vs → all_found dom plan.engine (claims (checked_in r.code)) vs ≡ map (finding dom plan.engine plan.program) (checked_in r.code)
     procedure_findings vs t = each_finding (checked_in r.code) vs (all_right r.code) t
 
-  pub chains_back : (place : ℕ) (zs : List (List ℕ)) → zs ≡ map reverse (selected plan.program place []) → map reverse zs ≡ chains plan.program place
-  chains_back place zs e = ap (map reverse) e ∙ all_back (selected plan.program place []) ∙ every_ends (chains plan.program place)
-
--- One more value at the end of the reversed lists.
-reversed : {A : Type 0} (xs ys : List A) (x : A) → xs ≡ ys ++ x ∷ [] → reverse xs ≡ x ∷ reverse ys
-reversed xs ys x e = ap reverse e ∙ reverse-append ys (x ∷ [])
-
--- what is popped of a list, and what is left
-abbrev pub IsPopped : {A : Type 0} → Option A → List A → List A → Type 0
-IsPopped o xs ys = MatchOption o ((xs ≡ []) × (ys ≡ [])) (λ x. xs ≡ ys ++ x ∷ [])
-
+-- Values that are popped.
 pub first_popped : {S : Type 0} (o : Option (Answer S)) (xs ys : List (Answer S)) → IsPopped o xs ys → option_map value_of o ≡ first_of (map value_of (reverse xs))
 first_popped None xs ys h = sym (ap (λ zs. first_of (map value_of (reverse zs))) h.0)
 first_popped (Some x) xs ys h = sym (ap (λ zs. first_of (map value_of zs)) (reversed xs ys x h))
@@ -250,31 +241,53 @@ finding_step dom engine found found' cs ts i c o f h e g k a =
     ap (λ xs. xs ++ rest) a ∙ append_assoc found (f ∷ []) rest ∙ ap (λ xs. found ++ xs) (sym here)
 
 module _ {S : Type 0} (dom : Operations S) (plan : Plan) where
-  pub lead_at : (place : ℕ) (zs : List (List ℕ)) (i : ℕ) (z y : List ℕ) → i < length zs → z ≡ get_or zs i z → y ≡ z → AllLead dom plan place (map reverse zs) → LeadsTo dom plan place (reverse y)
-  lead_at place [] i z y h e s l = absurd (omega arith)
-  lead_at place (x ∷ zs) zero z y h e s l = subst (λ w. LeadsTo dom plan place (reverse w)) (sym (s ∙ e)) l.0
-  lead_at place (x ∷ zs) (suc i) z y h e s l = lead_at place zs i z y (omega arith) e s l.1
-
-  pub totals_step : (place : ℕ) (body : Code) (t : HasBody plan.program place body) (zs : List (List ℕ)) (i : ℕ) (z y : List ℕ) (e : Entered S) (all more before left all' : List (Answer S)) → IsChecked plan.program → i < length zs → z ≡ get_or zs i z → y ≡ z → entry dom plan.engine (reverse plan.program) (reverse y) ≡ Some (earlier plan.program (suc place), value_of e.before) → e.frame.place ≡ place → e.frame.sites ≡ reverse y → map value_of more ≡ befores dom plan e.frame.place e.frame.sites body (value_of e.before) → before ≡ reverse all → left ≡ reverse more → map value_of all' ≡ all_added dom (map value_of (reverse before)) (map value_of (reverse left)) → SoFar dom plan zs i (claims (checked_in body)) (map value_of all) → SoFar dom plan zs (i + 1) (claims (checked_in body)) (map value_of all')
-  totals_step place body t zs i z y e all more before left all' checked h k s en p q m b l a g =
+  -- the totals under one more chain
+  pub totals_next : (place i : ℕ) (body : Code) (e : Entered S) (at : At (IsEnteredBy dom plan place) (chains plan.program place) i e) (all more before left all' : List (Answer S)) → IsChecked plan.program → place < length plan.program → body ≡ body_at plan.program place → map value_of more ≡ befores dom plan e.frame.place e.frame.sites body (value_of e.before) → before ≡ reverse all → left ≡ reverse more → map value_of all' ≡ all_added dom (map value_of (reverse before)) (map value_of (reverse left)) → SoFar dom plan (chains plan.program place) (drop i (chains plan.program place)) (claims (checked_in (body_at plan.program place))) (map value_of all) → SoFar dom plan (chains plan.program place) (drop (i + 1) (chains plan.program place)) (claims (checked_in (body_at plan.program place))) (map value_of all')
+  totals_next place i body e at all more before left all' checked h b m k l a g =
+      let zs = chains plan.program place in
+      let code = body_at plan.program place in
+      let r = there_at plan.program place h in
+      let here : code ≡ r.0.code = ap body_of r.1 in
       let v = value_of e.before in
-      let front = subst (λ c. All2 (λ (c : ℕ × Effect) b. Some b ≡ value_at dom plan.engine plan.program (Before c.0) (reverse y)) (claims (checked_in c)) (befores dom plan place (reverse y) c v)) t.is (fronts dom plan place (reverse y) t.routine v checked t.there en) in
-      let same : befores dom plan place (reverse y) body v ≡ map value_of more = (let p' : place ≡ e.frame.place = sym p in let q' : reverse y ≡ e.frame.sites = sym q in λ j. befores dom plan (p' j) (q' j) body v) ∙ sym m in
-      let front' = subst (λ bs. All2 (λ (c : ℕ × Effect) b. Some b ≡ value_at dom plan.engine plan.program (Before c.0) (reverse y)) (claims (checked_in body)) bs) same front in
+      let z = at.item in
+      let p : e.frame.place ≡ place = ap (λ (f : Frame). f.place) at.holds.frame in
+      let q : e.frame.sites ≡ z = ap (λ (f : Frame). f.sites) at.holds.frame in
+      let same : befores dom plan place z r.0.code v ≡ map value_of more = sym (m ∙ (λ j. befores dom plan (p j) (q j) ((b ∙ here) j) v)) in
+      let front = subst (λ bs. All2 (λ (c : ℕ × Effect) x. Some x ≡ value_at dom plan.engine plan.program (Before c.0) z) (claims (checked_in r.0.code)) bs) same (fronts dom plan place z r.0 v checked r.1 at.holds.value) in
+      let front' = subst (λ c. All2 (λ (c : ℕ × Effect) x. Some x ≡ value_at dom plan.engine plan.program (Before c.0) z) (claims (checked_in c)) (map value_of more)) (sym here) front in
       let turned : map value_of all' ≡ all_added dom (map value_of all) (map value_of more) =
-      a ∙ ap (λ xs. all_added dom (map value_of (reverse xs)) (map value_of (reverse left))) b ∙ ap (λ xs. all_added dom (map value_of xs) (map value_of (reverse left))) (reverse-reverse all)
+      a ∙ ap (λ xs. all_added dom (map value_of (reverse xs)) (map value_of (reverse left))) k ∙ ap (λ xs. all_added dom (map value_of xs) (map value_of (reverse left))) (reverse-reverse all)
       ∙ ap (λ xs. all_added dom (map value_of all) (map value_of (reverse xs))) l ∙ ap (λ xs. all_added dom (map value_of all) (map value_of xs)) (reverse-reverse more) in
-      subst (SoFar dom plan zs (i + 1) (claims (checked_in body))) (sym turned)
-      (one_more_chain dom plan zs i z y h k s (claims (checked_in body)) (map value_of all) (map value_of more) front' g)
+      subst (SoFar dom plan zs (drop (i + 1) zs) (claims (checked_in code))) (sym turned)
+      (one_more_chain dom plan zs (drop (i + 1) zs) z (claims (checked_in code)) (map value_of all) (map value_of more) front' (subst (λ ys. SoFar dom plan zs ys (claims (checked_in code)) (map value_of all)) at.rest g))
+
+  pub totals_end : (place i : ℕ) (es : List (Entered S)) (cs : List (ℕ × Effect)) (vs : List (Value S)) → All2 (IsEnteredBy dom plan place) (chains plan.program place) es → length es ≤ i → SoFar dom plan (chains plan.program place) (drop i (chains plan.program place)) cs vs → AreTotals dom plan (chains plan.program place) cs vs
+  totals_end place i es cs vs a h g =
+      let zs = chains plan.program place in
+      all_chains dom plan zs cs vs (subst (λ ys. SoFar dom plan zs ys cs vs) (drop_all i zs (omega (arith, h, all2_length (IsEnteredBy dom plan place) zs es a))) g)
 
   -- the findings of a procedure are those of the report
-  pub part : (place : ℕ) (body : Code) (t : HasBody plan.program place body) (zs : List (List ℕ)) (cs : List Claim) (vs : List (Answer S)) (old new : List Finding) → IsChecked plan.program → PlacesAreFound → zs ≡ map reverse (selected plan.program place []) → map claim_of cs ≡ claims (checked_in body) → AreTotals dom plan (map reverse zs) (claims (checked_in body)) (map value_of vs) → new ≡ old ++ all_found dom plan.engine (map claim_of cs) (map value_of vs) → new ≡ old ++ map (finding dom plan.engine plan.program) (checked_in body)
-  part place body t zs cs vs old new checked law z c a n =
-      let totals = subst (λ ys. AreTotals dom plan ys (claims (checked_in body)) (map value_of vs)) (chains_back dom plan place zs z) a in
-      let totals' = subst (λ b. AreTotals dom plan (chains plan.program place) (claims (checked_in b)) (map value_of vs)) (sym t.is) totals in
-      let all : all_found dom plan.engine (claims (checked_in body)) (map value_of vs) ≡ map (finding dom plan.engine plan.program) (checked_in body) =
-      subst (λ b. all_found dom plan.engine (claims (checked_in b)) (map value_of vs) ≡ map (finding dom plan.engine plan.program) (checked_in b)) t.is (procedure_findings dom plan place t.routine checked law t.there (map value_of vs) totals') in
-      n ∙ ap (λ ks. old ++ all_found dom plan.engine ks (map value_of vs)) c ∙ ap (λ fs. old ++ fs) all
+  pub findings_come : (place : ℕ) (body : Code) (vs : List (Value S)) (fs : List Finding) → IsChecked plan.program → PlacesAreFound → place < length plan.program → body ≡ body_at plan.program place → AreTotals dom plan (chains plan.program place) (claims (checked_in (body_at plan.program place))) vs → fs ≡ all_found dom plan.engine (claims (checked_in body)) vs → fs ≡ map (finding dom plan.engine plan.program) (checked_in (body_at plan.program place))
+  findings_come place body vs fs checked law h b t e =
+      let r = there_at plan.program place h in
+      let here : body_at plan.program place ≡ r.0.code = ap body_of r.1 in
+      e ∙ ap (λ c. all_found dom plan.engine (claims (checked_in c)) vs) (b ∙ here)
+      ∙ procedure_findings dom plan place r.0 checked law r.1 vs (subst (λ c. AreTotals dom plan (chains plan.program place) (claims (checked_in c)) vs) here t)
+      ∙ sym (ap (λ c. map (finding dom plan.engine plan.program) (checked_in c)) here)
+
+  -- the findings of one more procedure come in front
+  pub report_next : (k : ℕ) (parts parts' : List (List Finding)) (part : List Finding) → k < length plan.program → part ≡ map (finding dom plan.engine plan.program) (checked_in (body_at plan.program k)) → parts' ≡ parts ++ part ∷ [] → in_one (reverse parts) ≡ map (finding dom plan.engine plan.program) (checked_statements (drop (suc k) plan.program)) → in_one (reverse parts') ≡ map (finding dom plan.engine plan.program) (checked_statements (drop k plan.program))
+  report_next k parts parts' part h e a g =
+      let r = there_at plan.program k h in
+      let f = finding dom plan.engine plan.program in
+      ap in_one (reversed parts' parts part a)
+      ∙ (λ i. e i ++ g i)
+      ∙ ap (λ o. map f (checked_in (body_of o)) ++ map f (checked_statements (drop (suc k) plan.program))) r.1
+      ∙ sym (map-append f (checked_in r.0.code) (checked_statements (drop (suc k) plan.program)))
+      ∙ sym (ap (λ rs. map f (checked_statements rs)) (drop_next plan.program k r.0 r.1))
+
+  pub report_none : (n : ℕ) (parts : List (List Finding)) → n ≡ length plan.program → parts ≡ [] → in_one (reverse parts) ≡ map (finding dom plan.engine plan.program) (checked_statements (drop n plan.program))
+  report_none n parts e a = ap (λ xs. in_one (reverse xs)) a ∙ sym (ap (λ rs. map (finding dom plan.engine plan.program) (checked_statements rs)) (drop_all n plan.program (omega (arith, e))))
 
 -- each finding of a report that is sound
 pub each_sound : {E : Type 0} (r : Result (List Finding) E) (all : List Finding) (P : Finding → Type 0) → ((f : Finding) → Contains all f → P f) → IfOk r (λ fs. fs ≡ all) → IfOk r (λ fs. (f : Finding) → Contains fs f → P f)

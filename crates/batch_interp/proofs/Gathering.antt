@@ -30,6 +30,10 @@ module _ {S : Type 0} (dom : Operations S) (engine : Engine) where
   one_more (Some w) v (Some vs) = refl
 
   module _ (f : List ℕ → Option (Value S)) where
+    -- what one more chain gives, added to what is known so far
+    pub one_added_chain : (zs : List (List ℕ)) (z : List ℕ) (u : Option (Value S)) (v : Value S) → Some v ≡ f z → gathered (Some (added dom u v)) (all_values dom engine f zs) ≡ gathered u (all_values dom engine f (z ∷ zs))
+    one_added_chain zs z u v e = sym (ap (λ o. gathered u (if_some o (λ v. if_some (all_values dom engine f zs) (λ vs. Some (v ∷ vs))))) (sym e) ∙ one_more u v (all_values dom engine f zs))
+
     abbrev rest : List (List ℕ) → ℕ → Option (List (Value S))
     rest zs i = all_values dom engine f (map reverse (drop i zs))
 

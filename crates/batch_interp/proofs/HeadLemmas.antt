@@ -1,8 +1,6 @@
 -- What is known at the heads of loops, one at a time, and that it is the value at that location.
-use Rattle.std.proofs.Common.{ℕ, suc, ◌≡◌, ◌+◌, ◌<◌, ◌≤◌, List, [], ◌∷◌, ◌++◌, length, map, drop, reverse, get_or, slice_get, Option, Some, None, Result, Ok, Err, IfOk, true, false, refl, sym, ap, subst, ◌∙◌, append_assoc}
-use Rattle.std.specs.Prelude.{Contains}
-use Rattle.std.proofs.lemmas.List.{map-append, drop_all}
-use Rattle.std.proofs.lemmas.Option.{slice_get_within}
+use Rattle.std.proofs.Common.{ℕ, suc, ◌≡◌, ◌+◌, ◌<◌, ◌≤◌, List, [], ◌∷◌, ◌++◌, length, map, drop, take, reverse, get_or, slice_get, Option, Some, true, false, refl, sym, ap, subst, ◌∙◌, arith, append_assoc}
+use Rattle.std.proofs.lemmas.List.{map-append, drop_all, take_all}
 use Rattle.imp_syntax.specs.declared.edit.Location.TheVariants.{Head as AtHead}
 use Rattle.imp_slots.specs.Plain.{Guard, Does, DoBreak, Code, Stop, Simple, If, While, Call, Break, Routine}
 use Rattle.imp_slots.specs.Fits.{Distinct, IsChecked}
@@ -10,26 +8,29 @@ use Rattle.imp_slots.specs.BlockViews.{before_code, code_of}
 use Rattle.imp_slots.specs.declared.blocks.SlotNode.{SlotNode}
 use Rattle.imp_slots.specs.declared.blocks.SlotNode.TheVariants as node
 use Rattle.program_chains.specs.Chains.{chains}
-use Rattle.program_chains.specs.Claims.{ChainsAreThroughCallers}
 use Rattle.domain_laws.specs.Operations.{Operations}
 use Rattle.batch_meaning.specs.Values.{Value, lift, lift2}
-use Rattle.batch_meaning.specs.Batch.{Engine, behind}
+use Rattle.batch_meaning.specs.Batch.{behind}
 use Rattle.batch_meaning.specs.Places.{Spot, if_some, head_value, entry, value_in, value_at}
 use Rattle.cert_meaning.specs.Written.{loops}
-use Rattle.plain_values.proofs.Lists.{drop_item}
-use Rattle.plain_values.proofs.Members.{Member, here, there, in_left, in_right, keys, keys_both, member_of}
+use Rattle.plain_values.proofs.Lists.{drop_item, drop_next}
+use Rattle.plain_values.proofs.Members.{Member, here, there, in_left, in_right, keys, keys_both}
 use Rattle.batch_meaning.proofs.Places.{found}
 use Rattle.batch_interp.specs.Answered.{value_of}
-use Rattle.batch_interp.specs.Frames.{Plan, earlier, passed, calls_in}
+use Rattle.batch_interp.specs.Frames.{Plan, earlier, passed, calls_in, body_of, body_at}
 use Rattle.batch_interp.specs.Seeking.{places}
-use Rattle.batch_interp.specs.Totalling.{LeadsTo}
-use Rattle.batch_interp.specs.Heads.{loop_value, head_told, loops_in, heads_under, value_at_head, loop_values, values_inside}
+use Rattle.batch_interp.specs.Handing.{in_one, IsEnteredBy}
+use Rattle.batch_interp.specs.Pairs.{All2}
+use Rattle.batch_interp.specs.Heads.{loop_value, head_told, heads_under, under_told, told_under, all_loops_told, value_at_head, loop_values, values_inside}
 use Rattle.batch_interp.specs.declared.heads.Head.{Head}
+use Rattle.batch_interp.specs.declared.heads.LoopsUnder.{LoopsUnder}
+use Rattle.batch_interp.specs.declared.frames.Frame.{Frame}
 use Rattle.batch_interp.specs.declared.walks.Entered.{Entered}
-use Rattle.batch_interp.proofs.Members.{AllOf, all_both, all_as}
+use Rattle.batch_interp.proofs.Members.{AllOf, all_both, all_as, all2_length, At}
+use Rattle.batch_interp.proofs.Procedures.{there_at}
+use Rattle.batch_interp.proofs.Turned.{reversed}
 use Rattle.batch_interp.proofs.Seekings.{numbers_of_places}
 use Rattle.batch_interp.proofs.Walkings.{head_there}
-use Rattle.batch_interp.proofs.Leading.{leads}
 use Rattle.batch_sound.proofs.Chains.{once_in}
 
 pub heads_one : {S : Type 0} (xs : List (Head S)) (x : Head S) → map loop_value (xs ++ x ∷ []) ≡ map loop_value xs ++ loop_value x ∷ []
@@ -128,7 +129,7 @@ module _ {S : Type 0} (f : ℕ → Option (Value S)) where
 
 module _ {S : Type 0} (dom : Operations S) (plan : Plan) where
   -- what is known at the heads of a procedure's loops are the values at those locations
-  are_heads : (place : ℕ) (z : List ℕ) (r : Routine) (v : Value S) → IsChecked plan.program → slice_get plan.program place ≡ Some r → entry dom plan.engine (reverse plan.program) z ≡ Some (earlier plan.program (suc place), v) → map found_at (loop_values dom plan place z r.code v) ≡ heads_under dom plan.engine plan.program place z
+  are_heads : (place : ℕ) (z : List ℕ) (r : Routine) (v : Value S) → IsChecked plan.program → slice_get plan.program place ≡ Some r → entry dom plan.engine (reverse plan.program) z ≡ Some (earlier plan.program (suc place), v) → map found_at (loop_values dom plan place z r.code v) ≡ heads_under dom plan.engine plan.program (loops r.code) z
   are_heads place z r v checked g e =
       let once = subst Distinct (sym (numbers_of_places dom plan place z r.code v)) (once_in plan.program place r checked.numbers_once g) in
       let f : ℕ → Option (Value S) = λ n. value_at dom plan.engine plan.program (AtHead n) z in
@@ -141,29 +142,45 @@ module _ {S : Type 0} (dom : Operations S) (plan : Plan) where
       ∙ s.is)
       (all_stand dom plan place z r.code v))
       ∙ (λ i. map (told_by f) (loops_told dom plan place z r.code v i))
-      ∙ sym (ap (λ o. map (told_by f) (loops_in o)) g)
 
   told_twice : (hs : List (Head S)) → map head_told hs ≡ map found_at (map loop_value hs)
   told_twice [] = refl
   told_twice (h ∷ hs) = ap (λ xs. head_told h ∷ xs) (told_twice hs)
 
-  pub heads_there : (place : ℕ) (z : List ℕ) (r : Routine) (body : Code) (e : Entered S) (hs : List (Head S)) → IsChecked plan.program → slice_get plan.program place ≡ Some r → body ≡ r.code → entry dom plan.engine (reverse plan.program) z ≡ Some (earlier plan.program (suc place), value_of e.before) → e.frame.place ≡ place → e.frame.sites ≡ z → map loop_value hs ≡ loop_values dom plan e.frame.place e.frame.sites body (value_of e.before) → map head_told hs ≡ heads_under dom plan.engine plan.program place z
-  heads_there place z r body e hs checked g b en p q m =
-      told_twice hs
-      ∙ ap (map found_at) (m ∙ (λ i. loop_values dom plan (p i) (q i) (b i) (value_of e.before)))
-      ∙ are_heads place z r (value_of e.before) checked g en
+  -- the loops of a procedure under one more chain to it
+  pub loops_next : (place i : ℕ) (body : Code) (e : Entered S) (at : At (IsEnteredBy dom plan place) (chains plan.program place) i e) (old new : List (LoopsUnder S)) (u : LoopsUnder S) → IsChecked plan.program → place < length plan.program → body ≡ body_at plan.program place → reverse u.chain ≡ e.frame.sites → map loop_value u.heads ≡ loop_values dom plan e.frame.place e.frame.sites body (value_of e.before) → new ≡ old ++ u ∷ [] → map under_told old ≡ told_under dom plan.engine plan.program (loops (body_at plan.program place)) (take i (chains plan.program place)) → map under_told new ≡ told_under dom plan.engine plan.program (loops (body_at plan.program place)) (take (i + 1) (chains plan.program place))
+  loops_next place i body e at old new u checked h b c m a g =
+      let zs = chains plan.program place in
+      let ns = loops (body_at plan.program place) in
+      let r = there_at plan.program place h in
+      let here : body_at plan.program place ≡ r.0.code = ap body_of r.1 in
+      let p : e.frame.place ≡ place = ap (λ (f : Frame). f.place) at.holds.frame in
+      let q : e.frame.sites ≡ at.item = ap (λ (f : Frame). f.sites) at.holds.frame in
+      let heads : map head_told u.heads ≡ heads_under dom plan.engine plan.program ns at.item =
+      told_twice u.heads
+      ∙ ap (map found_at) (m ∙ (λ j. loop_values dom plan (p j) (q j) ((b ∙ here) j) (value_of e.before)))
+      ∙ are_heads place at.item r.0 (value_of e.before) checked r.1 at.holds.value
+      ∙ sym (ap (λ c. heads_under dom plan.engine plan.program (loops c) at.item) here) in
+      let told : under_told u ≡ (at.item, heads_under dom plan.engine plan.program ns at.item) = λ j. ((c ∙ q) j, heads j) in
+      ap (map under_told) a ∙ map-append under_told old (u ∷ [])
+      ∙ (λ j. g j ++ told j ∷ [])
+      ∙ sym (map-append (λ z. (z, heads_under dom plan.engine plan.program ns z)) (take i zs) (at.item ∷ []))
+      ∙ ap (told_under dom plan.engine plan.program ns) (sym at.front)
 
-  -- the heads that are found of a procedure that is entered
-  pub heads_come : {E : Type 0} (x : Result (List (Head S)) E) (engine : Engine) (program : List Routine) (proc place : ℕ) (z : List ℕ) (r : Routine) (body : Code) (e : Entered S) → IsChecked program → plan ≡ record { program = program; engine = engine } → place ≡ proc → Some r ≡ slice_get plan.program place → body ≡ r.code → entry dom plan.engine (reverse plan.program) z ≡ Some (earlier plan.program (suc place), value_of e.before) → e.frame.place ≡ place → e.frame.sites ≡ z → IfOk x (λ hs. map loop_value hs ≡ loop_values dom plan e.frame.place e.frame.sites body (value_of e.before)) → IfOk x (λ hs. map head_told hs ≡ heads_under dom engine program proc z)
-  heads_come (Err error) engine program proc place z r body e checked same at g b en p q m = m
-  heads_come (Ok hs) engine program proc place z r body e checked same at g b en p q m =
-      heads_there place z r body e hs (subst (λ (p : Plan). IsChecked p.program) (sym same) checked) (sym g) b en p q m ∙ (λ i. heads_under dom (same i).engine (same i).program (at i) z)
+  pub loops_end : (place i : ℕ) (es : List (Entered S)) (us : List (LoopsUnder S)) → All2 (IsEnteredBy dom plan place) (chains plan.program place) es → length es ≤ i → map under_told us ≡ told_under dom plan.engine plan.program (loops (body_at plan.program place)) (take i (chains plan.program place)) → map under_told us ≡ told_under dom plan.engine plan.program (loops (body_at plan.program place)) (chains plan.program place)
+  loops_end place i es us a h g =
+      let zs = chains plan.program place in
+      g ∙ ap (told_under dom plan.engine plan.program (loops (body_at plan.program place))) (take_all i zs (omega (arith, h, all2_length (IsEnteredBy dom plan place) zs es a)))
 
-  pub no_heads : (engine : Engine) (program : List Routine) (proc place : ℕ) (z : List ℕ) → plan ≡ record { program = program; engine = engine } → place ≡ proc → None ≡ slice_get plan.program place → [] ≡ heads_under dom engine program proc z
-  no_heads engine program proc place z same at g = ap (λ o. map (told_by (λ n. value_at dom plan.engine plan.program (AtHead n) z)) (loops_in o)) g ∙ (λ i. heads_under dom (same i).engine (same i).program (at i) z)
+  -- the loops of one more procedure come in front
+  pub all_loops_next : (k : ℕ) (parts parts' : List (List (LoopsUnder S))) (part : List (LoopsUnder S)) → k < length plan.program → map under_told part ≡ told_under dom plan.engine plan.program (loops (body_at plan.program k)) (chains plan.program k) → parts' ≡ parts ++ part ∷ [] → map under_told (in_one (reverse parts)) ≡ all_loops_told dom plan.engine plan.program (suc k) (drop (suc k) plan.program) → map under_told (in_one (reverse parts')) ≡ all_loops_told dom plan.engine plan.program k (drop k plan.program)
+  all_loops_next k parts parts' part h e a g =
+      let r = there_at plan.program k h in
+      ap (λ xs. map under_told (in_one xs)) (reversed parts' parts part a)
+      ∙ map-append under_told part (in_one (reverse parts))
+      ∙ (λ i. e i ++ g i)
+      ∙ ap (λ o. told_under dom plan.engine plan.program (loops (body_of o)) (chains plan.program k) ++ all_loops_told dom plan.engine plan.program (suc k) (drop (suc k) plan.program)) r.1
+      ∙ sym (ap (all_loops_told dom plan.engine plan.program k) (drop_next plan.program k r.0 r.1))
 
-  -- a chain to a procedure leads to it
-  pub chain_leads : (engine : Engine) (program : List Routine) (proc place : ℕ) (z : List ℕ) (r : Routine) → IsChecked program → ChainsAreThroughCallers → plan ≡ record { program = program; engine = engine } → place ≡ proc → Some r ≡ slice_get plan.program place → Contains (chains program proc) z → LeadsTo dom plan place z
-  chain_leads engine program proc place z r checked law same at g c =
-      let m : Member z (chains plan.program place) = subst (λ (p : Plan). Member z (chains p.program place)) (sym same) (subst (λ k. Member z (chains program k)) (sym at) (member_of z (chains program proc) c)) in
-      leads dom plan (subst (λ (p : Plan). IsChecked p.program) (sym same) checked) law z place (slice_get_within plan.program place r (sym g)) m
+  pub all_loops_none : (n : ℕ) (parts : List (List (LoopsUnder S))) → n ≡ length plan.program → parts ≡ [] → map under_told (in_one (reverse parts)) ≡ all_loops_told dom plan.engine plan.program n (drop n plan.program)
+  all_loops_none n parts e a = ap (λ xs. map under_told (in_one (reverse xs))) a ∙ sym (ap (all_loops_told dom plan.engine plan.program n) (drop_all n plan.program (omega (arith, e))))

@@ -8,7 +8,9 @@ pub mod Gathering
 pub mod Claimed
 pub mod Members
 pub mod Once
-pub mod Leading
+pub mod CallLemmas
+pub mod Turned
+pub mod Handings
 pub mod Fronts
 pub mod Marking
 pub mod HeadLemmas

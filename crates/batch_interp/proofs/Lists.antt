@@ -1,11 +1,15 @@
 -- Results, and lists in them, along equations.
-use Rattle.std.proofs.Common.{◌≡◌, ◌++◌, Bool, true, false, List, [], Result, Ok, Err, IfOk, OnOk, sym, ap, ◌∙◌, append_assoc}
+use Rattle.std.proofs.Common.{◌≡◌, ◌++◌, Bool, true, false, List, [], map, Result, Ok, Err, IfOk, OnOk, sym, ap, ◌∙◌, append_assoc}
 use Rattle.std.specs.Prelude.{if◌then◌else◌}
 use Rattle.std.proofs.lemmas.List.{append-nil}
 
 pub if_ok_along : {A B E : Type 0} (r : Result A E) (f : A → B) (a b : B) → IfOk r (λ x. f x ≡ a) → a ≡ b → IfOk r (λ x. f x ≡ b)
 if_ok_along (Err e) f a b h k = h
 if_ok_along (Ok x) f a b h k = h ∙ k
+
+pub if_ok_map : {A B E : Type 0} (r : Result (List A) E) (f : A → B) (xs : List A) → IfOk r (λ ys. ys ≡ xs) → IfOk r (λ ys. map f ys ≡ map f xs)
+if_ok_map (Err e) f xs h = h
+if_ok_map (Ok ys) f xs h = ap (map f) h
 
 pub if_true : {A : Type 0} (c : Bool) (x y z : A) → c ≡ true → x ≡ y → x ≡ (if c then y else z)
 if_true true x y z e h = h

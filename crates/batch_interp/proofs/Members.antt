@@ -1,17 +1,7 @@
 -- Members of lists, and two lists item by item.
-use Rattle.std.proofs.Common.{◌≡◌, List, [], ◌∷◌, ◌++◌, refl}
-use Rattle.plain_values.proofs.Members.{Member, here, there}
-
-pub only : {A : Type 0} (x y : A) → Member x (y ∷ []) → x ≡ y
-only x y here = refl
-only x y (there m) = elim m [ ]
-
--- two lists, item by item
-abbrev pub All2 : {A B : Type 0} → (A → B → Type 0) → List A → List B → Type 0
-All2 P [] [] = Unit {0}
-All2 P [] (b ∷ bs) = ⊥
-All2 P (a ∷ xs) [] = ⊥
-All2 P (a ∷ xs) (b ∷ bs) = P a b × All2 P xs bs
+use Rattle.std.proofs.Common.{ℕ, zero, suc, ◌≡◌, ◌+◌, ◌<◌, List, [], ◌∷◌, ◌++◌, length, map, drop, take, get_or, slice_get, Some, refl, sym, ap, subst, arith, add-one}
+use Rattle.plain_values.proofs.Lists.{drop_from, take_next}
+use Rattle.batch_interp.specs.Pairs.{All2}
 
 pub all2_both : {A B : Type 0} (P : A → B → Type 0) (xs xs' : List A) (ys ys' : List B) → All2 P xs ys → All2 P xs' ys' → All2 P (xs ++ xs') (ys ++ ys')
 all2_both P [] xs' [] ys' f g = g
@@ -24,6 +14,37 @@ all2_as P Q [] [] h f = tt
 all2_as P Q [] (y ∷ ys) h f = f
 all2_as P Q (x ∷ xs) [] h f = f
 all2_as P Q (x ∷ xs) (y ∷ ys) h f = (h x y f.0, all2_as P Q xs ys h f.1)
+
+pub all2_map : {A B C : Type 0} (P : A → B → Type 0) (f : C → B) (xs : List A) (cs : List C) → All2 P xs (map f cs) → All2 (λ a c. P a (f c)) xs cs
+all2_map P f [] [] h = tt
+all2_map P f [] (c ∷ cs) h = absurd h
+all2_map P f (x ∷ xs) [] h = absurd h
+all2_map P f (x ∷ xs) (c ∷ cs) h = (h.0, all2_map P f xs cs h.1)
+
+-- the pair at a place, and those behind it
+pub record At {A B : Type 0} (P : A → B → Type 0) (xs : List A) (i : ℕ) (b : B) : Type 0 where
+  pub item : A
+  pub rest : drop i xs ≡ item ∷ drop (i + 1) xs
+  pub front : take (i + 1) xs ≡ take i xs ++ item ∷ []
+  pub holds : P item b
+
+paired : {A B : Type 0} (P : A → B → Type 0) (xs : List A) (ys : List B) (i : ℕ) (y : B) → All2 P xs ys → i < length ys → y ≡ get_or ys i y → (x : A) × (slice_get xs i ≡ Some x) × P x y
+paired P [] [] i y h l e = absurd (omega arith)
+paired P [] (b ∷ bs) i y h l e = absurd h
+paired P (a ∷ xs) [] i y h l e = absurd h
+paired P (a ∷ xs) (b ∷ bs) zero y h l e = (a, refl, subst (P a) (sym e) h.0)
+paired P (a ∷ xs) (b ∷ bs) (suc i) y h l e = paired P xs bs i y h.1 (omega arith) e
+
+pub all2_at : {A B : Type 0} (P : A → B → Type 0) (xs : List A) (ys : List B) (i : ℕ) (y : B) → All2 P xs ys → i < length ys → y ≡ get_or ys i y → At P xs i y
+all2_at P xs ys i y h l e =
+    let t = paired P xs ys i y h l e in
+    record { item = t.0; rest = drop_from xs i t.0 t.1; front = rw add-one (take_next xs i t.0 t.1); holds = t.2 }
+
+pub all2_length : {A B : Type 0} (P : A → B → Type 0) (xs : List A) (ys : List B) → All2 P xs ys → length xs ≡ length ys
+all2_length P [] [] h = refl
+all2_length P [] (b ∷ bs) h = absurd h
+all2_length P (a ∷ xs) [] h = absurd h
+all2_length P (a ∷ xs) (b ∷ bs) h = ap suc (all2_length P xs bs h.1)
 
 -- each of a list
 abbrev pub AllOf : {A : Type 0} → (A → Type 0) → List A → Type 0

@@ -8,7 +8,8 @@ use Rattle.plain_values.proofs.Members.{Member}
 use Rattle.program_chains.proofs.Found.{called_earlier}
 use Rattle.plain_values.proofs.Lists.{none_past}
 
-fit_at : (before rs : List Routine) (k : ℕ) (r : Routine) → FitInTurn before rs → slice_get rs k ≡ Some r → FitsCode (before ++ take k rs) r.layout r.code
+-- each procedure fits those in front of it
+pub fit_at : (before rs : List Routine) (k : ℕ) (r : Routine) → FitInTurn before rs → slice_get rs k ≡ Some r → FitsCode (before ++ take k rs) r.layout r.code
 fit_at before [] k r f e = absurd cc
 fit_at before (x ∷ rs) zero r f e =
     let s : x ≡ r = cc in

@@ -1,5 +1,5 @@
 -- Procedures by their places.
-use Rattle.std.specs.Prelude.{◌≡◌, ◌≢◌, ℕ, ◌≤◌, List, [], ◌∷◌, ◌++◌, length, reverse, take, slice_get, Some, None, if◌then◌else◌}
+use Rattle.std.specs.Prelude.{◌≡◌, ◌≢◌, ℕ, zero, suc, ◌<◌, ◌≤◌, List, [], ◌∷◌, ◌++◌, length, reverse, take, slice_get, Some, None, if◌then◌else◌}
 use Rattle.std.proofs.Common.{refl, sym, ap, ◌∙◌, arith}
 use Rattle.std.proofs.lemmas.List.{reverse-append, reverse-reverse, length-reverse, take-append-le}
 use Rattle.imp_slots.specs.Plain.{Routine}
@@ -13,6 +13,12 @@ use Rattle.plain_values.proofs.Cases.{by_test}
 use Rattle.plain_values.proofs.Lists.{get_last, get_other, get_take, take_take}
 use Rattle.std.proofs.lemmas.Option.{slice_get_within, same_Some}
 use Rattle.std.proofs.Math.Seq.{take-length}
+
+-- what stands at a place that is there
+pub there_at : (program : List Routine) (k : ℕ) → k < length program → (r : Routine) × (slice_get program k ≡ Some r)
+there_at [] k h = absurd (omega arith)
+there_at (r ∷ rs) zero h = (r, refl)
+there_at (r ∷ rs) (suc k) h = there_at rs k (omega arith)
 
 last_turned : (b : Routine) (ps : List Routine) → reverse (b ∷ ps) ≡ reverse ps ++ (b ∷ [])
 last_turned b ps = reverse-append (b ∷ []) ps

@@ -12,7 +12,8 @@ use Rattle.batch_meaning.specs.Values.{Value, State, lift}
 use Rattle.batch_meaning.specs.Batch.{calls_of, batch}
 use Rattle.batch_meaning.specs.Places.{Spot, spots, find, if_some, head_value, from, earlier_of, main_layout, spots_in, end_of, value_in, entered, entry}
 use Rattle.batch_interp.specs.Answered.{value_of}
-use Rattle.batch_interp.specs.Frames.{Plan, earlier, marks_at, marks_of, passed}
+use Rattle.batch_interp.specs.Frames.{Plan, earlier, marks_at, marks_of, passed, body_of, body_at}
+use Rattle.batch_interp.specs.Handing.{told_of}
 use Rattle.batch_interp.specs.Seeking.{places, call_at, spot_of}
 use Rattle.batch_interp.specs.Walking.{entered_of, IsGone, IsEntered, called_from}
 use Rattle.batch_interp.specs.declared.frames.Frame.{Frame}
@@ -67,14 +68,14 @@ module _ {S : Type 0} (dom : Operations S) (plan : Plan) where
   seen_there k n z r v s (Ok o) g f h = subst (IsEntered plan.program (n ∷ z) o) (sym (entered_there k n z r v (Some (spot_of dom plan k z s)) g f)) h
 
   -- the callee of a call
-  pub callee_there : (k q : ℕ) (z : List ℕ) (i : Invoke) (v : Value S) (r : Routine) (e : Entered S) → Some r ≡ slice_get (take k plan.program) q → value_of e.before ≡ lift (dom.enter i.entering) v → e.frame ≡ record { place = q; sites = z } → IsEntered plan.program z (Some e) (called_from dom plan.program k v (Some (i, q)))
-  callee_there k q z i v r e g b f =
+  pub callee_there : (k q : ℕ) (z : List ℕ) (i : Invoke) (v : Value S) (r : Routine) (e : Entered S) → Some r ≡ slice_get (take k plan.program) q → told_of e ≡ (record { place = q; sites = z }, lift (dom.enter i.entering) v) → IsEntered plan.program z (Some e) (called_from dom plan.program k v (Some (i, q)))
+  callee_there k q z i v r e g t =
       let here : slice_get plan.program q ≡ Some r = get_take plan.program k q r (sym g) in
-      let p : e.frame.place ≡ q = ap (λ (f : Frame). f.place) f in
+      let p : e.frame.place ≡ q = ap (λ (x : Frame × Value S). x.0.place) t in
       let list : from (earlier plan.program k) q ≡ earlier plan.program (suc e.frame.place) =
       from_earlier plan.program k q r (sym g) ∙ sym (standing plan.program q r here) ∙ ap (λ n. earlier plan.program (suc n)) (sym p) in
-      let w : lift (dom.enter i.entering) v ≡ value_of e.before = sym b in
-      ((λ j. Some (list j, w j)), omega (arith, slice_get_within plan.program q r here, p), ap (λ (f : Frame). f.sites) f)
+      let w : lift (dom.enter i.entering) v ≡ value_of e.before = sym (ap (λ (x : Frame × Value S). x.1) t) in
+      ((λ j. Some (list j, w j)), omega (arith, slice_get_within plan.program q r here, p), ap (λ (x : Frame × Value S). x.0.sites) t)
 
   pub callee_gone : (k q : ℕ) (i : Invoke) (v : Value S) → None ≡ slice_get (take k plan.program) q → IsGone (called_from dom plan.program k v (Some (i, q)))
   callee_gone k q i v g = from_gone plan.program k q (sym g)
@@ -135,3 +136,6 @@ module _ {S : Type 0} (dom : Operations S) (plan : Plan) where
 
 pub get_same : (xs ys : List Routine) (k : ℕ) (r : Routine) → xs ≡ ys → k < length ys → r ≡ get_or xs k r → slice_get ys k ≡ Some r
 get_same xs ys k r e h g = get_there ys k r h (g ∙ ap (λ zs. get_or zs k r) e)
+
+pub body_there : (xs ys : List Routine) (k : ℕ) (r : Routine) (b : Code) → xs ≡ ys → k < length ys → r ≡ get_or xs k r → b ≡ r.code → b ≡ body_at ys k
+body_there xs ys k r b e h g c = c ∙ sym (ap body_of (get_same xs ys k r e h g))

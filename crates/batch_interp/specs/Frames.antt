@@ -1,6 +1,6 @@
 -- The program that is interpreted, and where a block of it stands.
 use Rattle.std.specs.Prelude.{ℕ, ℤ, List, [], reverse, take, slice_get, Option, Some, None}
-use Rattle.imp_slots.specs.Plain.{Code, Routine}
+use Rattle.imp_slots.specs.Plain.{Code, Stop, Routine}
 use Rattle.program_chains.specs.declared.widening.Widening.{Widening}
 use Rattle.program_chains.specs.Marks.{marks}
 use Rattle.domain_laws.specs.Operations.{Operations}
@@ -23,6 +23,14 @@ marks_of w (Some r) = marks w r
 -- the marks of the procedure at a place
 abbrev pub marks_at : Plan → (place : ℕ) → List ℤ
 marks_at plan place = marks_of plan.engine.widening (slice_get plan.program place)
+
+-- the body of the procedure at a place
+abbrev pub body_of : Option Routine → Code
+body_of None = Stop
+body_of (Some r) = r.code
+
+abbrev pub body_at : List Routine → (place : ℕ) → Code
+body_at program place = body_of (slice_get program place)
 
 module _ {S : Type 0} (dom : Operations S) (plan : Plan) (place : ℕ) (z : List ℕ) where
   -- what calls give in the procedure at a place, under the call sites z

@@ -1,9 +1,10 @@
 -- What is known at the heads of loops.
-use Rattle.std.specs.Prelude.{ℕ, List, [], ◌∷◌, ◌++◌, map, slice_get, Option, Some, None, true, false}
+use Rattle.std.specs.Prelude.{ℕ, suc, List, [], ◌∷◌, ◌++◌, map, reverse, Option, Some, true, false}
 use Rattle.imp_syntax.specs.declared.edit.Location.TheVariants.{Head as AtHead}
 use Rattle.imp_slots.specs.Plain.{Guard, Code, Stop, Simple, If, While, Call, Break, Routine}
 use Rattle.imp_slots.specs.declared.blocks.SlotNode.{SlotNode}
 use Rattle.imp_slots.specs.declared.blocks.SlotNode.TheVariants as node
+use Rattle.program_chains.specs.Chains.{chains}
 use Rattle.domain_laws.specs.Operations.{Operations}
 use Rattle.batch_meaning.specs.Values.{Value, lift}
 use Rattle.batch_meaning.specs.Batch.{Engine, head_of}
@@ -12,6 +13,7 @@ use Rattle.cert_meaning.specs.Written.{loops}
 use Rattle.batch_interp.specs.Answered.{value_of}
 use Rattle.batch_interp.specs.Frames.{Plan, marks_at, passed}
 use Rattle.batch_interp.specs.declared.heads.Head.{Head}
+use Rattle.batch_interp.specs.declared.heads.LoopsUnder.{LoopsUnder}
 
 -- a loop, and the value at its head
 abbrev pub loop_value : {S : Type 0} → Head S → ℕ × Value S
@@ -21,13 +23,22 @@ loop_value h = (h.stmt, value_of h.value)
 abbrev pub head_told : {S : Type 0} → Head S → ℕ × Option (Value S)
 head_told h = (h.stmt, Some (value_of h.value))
 
-abbrev pub loops_in : Option Routine → List ℕ
-loops_in None = []
-loops_in (Some r) = loops r.code
+-- these loops, each with the value at its head under the call sites z
+abbrev pub heads_under : {S : Type 0} → Operations S → Engine → List Routine → (loops : List ℕ) → (z : List ℕ) → List (ℕ × Option (Value S))
+heads_under dom engine program ns z = map (λ n. (n, value_at dom engine program (AtHead n) z)) ns
 
--- the loops of the procedure at a place, in preorder, each with the value at its head under the call sites z
-abbrev pub heads_under : {S : Type 0} → Operations S → Engine → List Routine → (place : ℕ) → (z : List ℕ) → List (ℕ × Option (Value S))
-heads_under dom engine program place z = map (λ n. (n, value_at dom engine program (AtHead n) z)) (loops_in (slice_get program place))
+-- the loops of a procedure under one chain to it, which has the last call first
+abbrev pub under_told : {S : Type 0} → LoopsUnder S → List ℕ × List (ℕ × Option (Value S))
+under_told u = (reverse u.chain, map head_told u.heads)
+
+-- these loops under these chains
+abbrev pub told_under : {S : Type 0} → Operations S → Engine → List Routine → (loops : List ℕ) → List (List ℕ) → List (List ℕ × List (ℕ × Option (Value S)))
+told_under dom engine program ns zs = map (λ z. (z, heads_under dom engine program ns z)) zs
+
+-- the loops of procedures, the first of which is the k-th, under all chains to them
+abbrev pub all_loops_told : {S : Type 0} → Operations S → Engine → List Routine → (k : ℕ) → List Routine → List (List ℕ × List (ℕ × Option (Value S)))
+all_loops_told dom engine program k [] = []
+all_loops_told dom engine program k (r ∷ rs) = told_under dom engine program (loops r.code) (chains program k) ++ all_loops_told dom engine program (suc k) rs
 
 module _ {S : Type 0} (dom : Operations S) (plan : Plan) (place : ℕ) (z : List ℕ) where
   -- at the head of a loop, from the value in front of it

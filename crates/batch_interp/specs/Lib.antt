@@ -9,3 +9,5 @@ pub mod Reporting
 pub mod Checking
 pub mod Totalling
 pub mod Heads
+pub mod Pairs
+pub mod Handing

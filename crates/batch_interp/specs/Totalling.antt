@@ -1,7 +1,7 @@
 -- The verdicts on the statements of a procedure, from what is known in front of each under all chains.
-use Rattle.std.specs.Prelude.{◌≡◌, ℕ, suc, List, [], ◌∷◌, reverse, slice_get, Option, Some, None}
+use Rattle.std.specs.Prelude.{◌≡◌, ℕ, List, [], ◌∷◌, Option, Some, None}
 use Rattle.imp_syntax.specs.declared.edit.Location.TheVariants.{Before}
-use Rattle.imp_slots.specs.Plain.{Effect, Code, Routine}
+use Rattle.imp_slots.specs.Plain.{Effect}
 use Rattle.domain_laws.specs.Operations.{Operations}
 use Rattle.domain_laws.specs.Checks.{Check, check_of, kind_of}
 use Rattle.analysis_words.specs.declared.findings.Check.{Check as Kind}
@@ -12,10 +12,10 @@ use Rattle.alarm_report.specs.declared.Found.{Found}
 use Rattle.alarm_report.specs.declared.Found.TheVariants.{Absent, Over as OverBudget, State as At}
 use Rattle.batch_meaning.specs.Values.{Value, State, Over}
 use Rattle.batch_meaning.specs.Batch.{Engine}
-use Rattle.batch_meaning.specs.Places.{entry, value_at}
+use Rattle.batch_meaning.specs.Places.{value_at}
 use Rattle.batch_meaning.specs.Answers.{Answer, Refuses, Answers, all_values, sum_of}
 use Rattle.batch_meaning.specs.Report.{verdict_on}
-use Rattle.batch_interp.specs.Frames.{Plan, earlier}
+use Rattle.batch_interp.specs.Frames.{Plan}
 use Rattle.batch_interp.specs.Summing.{added}
 
 -- the first of these, if there is one, and those behind it
@@ -63,19 +63,3 @@ abbrev pub IsFoundOf : {S : Type 0} → Found S → Option (Value S) → Type 0
 IsFoundOf Absent v = v ≡ None
 IsFoundOf OverBudget v = (n : ℕ) × (z : List ℕ) × (v ≡ Some (Over n z))
 IsFoundOf (At s) v = v ≡ Some (State s.now)
-
--- a chain leads to the procedure at a place
-pub record LeadsTo {S : Type 0} (dom : Operations S) (plan : Plan) (place : ℕ) (z : List ℕ) : Type 0 where
-  pub value : Value S
-  pub is : entry dom plan.engine (reverse plan.program) z ≡ Some (earlier plan.program (suc place), value)
-
--- each of these chains does
-abbrev pub AllLead : {S : Type 0} → Operations S → Plan → (place : ℕ) → List (List ℕ) → Type 0
-AllLead dom plan place [] = Unit {0}
-AllLead dom plan place (z ∷ zs) = LeadsTo dom plan place z × AllLead dom plan place zs
-
--- the procedure at a place has this body
-pub record HasBody (program : List Routine) (place : ℕ) (body : Code) : Type 0 where
-  pub routine : Routine
-  pub there : slice_get program place ≡ Some routine
-  pub is : routine.code ≡ body

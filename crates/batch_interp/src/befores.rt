@@ -8,12 +8,14 @@ ghost use Rattle.domain_laws.specs.Checks.{check_of};
 ghost use Rattle.batch_meaning.specs.Report.{checked_in, checked_one};
 ghost use Rattle.batch_interp.specs.Answered.{value_of};
 ghost use Rattle.batch_interp.specs.Checking.{is_checked};
+ghost use Rattle.batch_interp.specs.Handing.{told_of, calls_from, calls_inside};
 ghost use Rattle.batch_interp.specs.Reporting.{befores, before_one, in_front, claims, claim_of};
 
 use crate::Answer;
 use crate::claim::Claim;
 use crate::frames::Interpreter;
 use crate::spots::{assumed, behind_node, copy_of, head_from};
+use crate::walks::{Entered, enter};
 use domain_laws::{Domain, Steps, check_of_action};
 use imp_slots::{SlotAction, SlotBlock, SlotCond, SlotNode};
 use plain_values::{Items, Memory};
@@ -73,7 +75,8 @@ fn add_claims_in(node: &SlotNode, found: &mut Items<Claim>) -> Result<(), Memory
     }
 }
 
-/// Adds what is known in front of each statement of a block that has a check.
+/// Adds what is known in front of each statement of a block that has a check, and the procedures that
+/// its calls enter.
 #[cycle(befores)]
 #[tactic(auto, using(imp_slots::specs::BlockFalls::node_falls))]
 pub(crate) fn add_befores<D: Domain, L: Ledger>(
@@ -81,28 +84,33 @@ pub(crate) fn add_befores<D: Domain, L: Ledger>(
     block: &SlotBlock,
     before: Answer<D::State>,
     found: &mut Items<Answer<D::State>>,
+    calls: &mut Items<Entered<D::State>>,
     steps: &mut Steps<L>,
 ) -> Result<(), Memory>
     ensures added { OnOk result (map value_of found.new ≡ map value_of found.old ++ befores (D.operations interpreter.now.dom.now) interpreter.now.plan.now interpreter.now.frame.now.place interpreter.now.frame.now.sites block.now (value_of before)) }
+    ensures calls { OnOk result (map told_of calls.new ≡ map told_of calls.old ++ calls_from (D.operations interpreter.now.dom.now) interpreter.now.plan.now interpreter.now.frame.now.place interpreter.now.frame.now.sites block.now (value_of before)) }
 {
     let mut now = before;
     for node in block.statements() {
-        add_in_front(interpreter, node, &now, found, steps)?;
+        add_in_front(interpreter, node, &now, found, calls, steps)?;
         now = behind_node(interpreter, node, now, steps)?;
     }
     Ok(())
 }
 
-/// Adds what is known in front of a statement, if it has a check, or of those inside it that have one.
+/// Adds what is known in front of a statement, if it has a check, or of those inside it that have one,
+/// and the procedures that calls there enter.
 #[cycle(befores)]
 fn add_in_front<D: Domain, L: Ledger>(
     interpreter: &Interpreter<D>,
     node: &SlotNode,
     before: &Answer<D::State>,
     found: &mut Items<Answer<D::State>>,
+    calls: &mut Items<Entered<D::State>>,
     steps: &mut Steps<L>,
 ) -> Result<(), Memory>
     ensures added { OnOk result (map value_of found.new ≡ map value_of found.old ++ in_front (D.operations interpreter.now.dom.now) interpreter.now.plan.now interpreter.now.frame.now.place interpreter.now.frame.now.sites node.now (value_of before.now)) }
+    ensures calls { OnOk result (map told_of calls.new ≡ map told_of calls.old ++ calls_inside (D.operations interpreter.now.dom.now) interpreter.now.plan.now interpreter.now.frame.now.place interpreter.now.frame.now.sites node.now (value_of before.now)) }
 {
     match node {
         SlotNode::Simple(_, action) => add_one(
@@ -114,9 +122,9 @@ fn add_in_front<D: Domain, L: Ledger>(
         ),
         SlotNode::If(_, cond, then, els) => {
             let holds = assumed(interpreter, cond, true, before, steps)?;
-            add_befores(interpreter, then, holds, found, steps)?;
+            add_befores(interpreter, then, holds, found, calls, steps)?;
             let fails = assumed(interpreter, cond, false, before, steps)?;
-            add_befores(interpreter, els, fails, found, steps)
+            add_befores(interpreter, els, fails, found, calls, steps)
         }
         SlotNode::While(n, cond, body) => add_inside(
             interpreter,
@@ -125,14 +133,18 @@ fn add_in_front<D: Domain, L: Ledger>(
             body,
             before,
             found,
+            calls,
             steps,
         ),
-        SlotNode::Call(_, _, _) => Ok(()),
+        SlotNode::Call(n, call, callee) => {
+            calls.push(enter(interpreter, *n, call, *callee as usize, before, steps)?)
+        }
         SlotNode::Break(_) => Ok(()),
     }
 }
 
-/// Adds what is known in front of each statement inside a loop that has a check.
+/// Adds what is known in front of each statement inside a loop that has a check, and the procedures that
+/// calls there enter.
 #[cycle(befores)]
 fn add_inside<D: Domain, L: Ledger>(
     interpreter: &Interpreter<D>,
@@ -141,13 +153,15 @@ fn add_inside<D: Domain, L: Ledger>(
     body: &SlotBlock,
     before: &Answer<D::State>,
     found: &mut Items<Answer<D::State>>,
+    calls: &mut Items<Entered<D::State>>,
     steps: &mut Steps<L>,
 ) -> Result<(), Memory>
     ensures added { OnOk result (map value_of found.new ≡ map value_of found.old ++ in_front (D.operations interpreter.now.dom.now) interpreter.now.plan.now interpreter.now.frame.now.place interpreter.now.frame.now.sites (node.While n cond.now body.now) (value_of before.now)) }
+    ensures calls { OnOk result (map told_of calls.new ≡ map told_of calls.old ++ calls_inside (D.operations interpreter.now.dom.now) interpreter.now.plan.now interpreter.now.frame.now.place interpreter.now.frame.now.sites (node.While n cond.now body.now) (value_of before.now)) }
 {
     let head = head_from(interpreter, n, cond, body, before, steps)?;
     let inside = assumed(interpreter, cond, true, &head, steps)?;
-    add_befores(interpreter, body, inside, found, steps)
+    add_befores(interpreter, body, inside, found, calls, steps)
 }
 
 /// Adds what is known in front of a simple statement, if it has a check.

@@ -2,15 +2,17 @@
 ghost use Rattle.std.specs.Prelude.{◌≡◌, ◌++◌, map, Some, option_map, OnOk, IfOk};
 ghost use Rattle.std.specs.Option.{option_copied};
 ghost use Rattle.batch_meaning.specs.Batch.{Engine};
+ghost use Rattle.batch_meaning.specs.Report.{checked_in};
 ghost use Rattle.batch_interp.specs.Answered.{value_of};
-ghost use Rattle.batch_interp.specs.Reporting.{claim_of};
+ghost use Rattle.batch_interp.specs.Reporting.{claim_of, claims};
 ghost use Rattle.batch_interp.specs.Totalling.{IsFoundOf, found_from, all_found};
 
 use crate::Answer;
+use crate::befores::add_claims;
 use crate::claim::Claim;
 use alarm_report::{Found, report};
 use domain_laws::{Domain, Finding};
-use imp_slots::SlotStmt;
+use imp_slots::{SlotBlock, SlotStmt};
 use imp_syntax::StmtId;
 use plain_values::{Items, Memory};
 use std::alloc::Global;
@@ -50,7 +52,7 @@ fn finding<D: Domain>(
 }
 
 /// Adds what is found of each statement, from what is known in front of it, if something is.
-pub(crate) fn add_findings<D: Domain>(
+fn add_findings<D: Domain>(
     alloc: Global,
     dom: &D,
     claims: &[Claim],
@@ -63,4 +65,21 @@ pub(crate) fn add_findings<D: Domain>(
         found.push(finding(alloc, dom, claim, totals.get(i))?)?;
     }
     Ok(())
+}
+
+/// What is found of the statements of a block that have a check, from what is known in front of each, if
+/// something is.
+pub(crate) fn findings_of<D: Domain>(
+    alloc: Global,
+    dom: &D,
+    body: &SlotBlock,
+    known: &Items<Answer<D::State>>,
+) -> Result<Items<Finding>, Memory>
+    ensures are { IfOk result (λ fs. (e : Engine) → fs ≡ all_found (D.operations dom.now) e (claims (checked_in body.now)) (map value_of known.now)) }
+{
+    let mut claims = Items::new(alloc);
+    add_claims(body, &mut claims)?;
+    let mut found = Items::new(alloc);
+    add_findings(alloc, dom, claims.as_slice(), known, &mut found)?;
+    Ok(found)
 }

@@ -3,10 +3,10 @@ ghost use Rattle.std.specs.Prelude.{◌≡◌, ◌-◌, ◌∷◌, [], ◌<◌, 
 ghost use Rattle.std.specs.Option.{option_copied};
 ghost use Rattle.imp_check.specs.Slots.{routines_of};
 ghost use Rattle.call_contexts.specs.Settings.{setting_of};
-ghost use Rattle.batch_interp.specs.Frames.{marks_at};
+ghost use Rattle.batch_interp.specs.Frames.{body_at, marks_at};
 
 use call_contexts::Setting;
-use imp_slots::Routine;
+use imp_slots::{Routine, SlotBlock};
 use imp_syntax::{Chain, StmtId};
 use plain_values::{Items, Memory};
 use program_table::{Checked, View};
@@ -92,11 +92,13 @@ impl<'a> Plan<'a> {
         self.prog.routines()
     }
 
-    /// The procedure at a place.
-    pub(crate) fn routine(&self, place: usize) -> Option<&'a Routine>
-        ensures is { option_copied result ≡ slice_get self.now.program place }
+    /// The body of the procedure at a place.
+    #[tactic(auto, using(crate::proofs::Walkings::body_there))]
+    pub(crate) fn body(&self, place: usize) -> &'a SlotBlock
+        requires within { place < length self.now.program }
+        ensures is { result.now ≡ body_at self.now.program place }
     {
-        self.routines().get(place)
+        self.routines()[place].body()
     }
 
     /// The marks of a procedure.

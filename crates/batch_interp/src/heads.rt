@@ -1,21 +1,26 @@
 //! What is known at the heads of loops.
-ghost use Rattle.std.specs.Prelude.{◌≡◌, ◌++◌, Contains, map, reverse, IfOk, OnOk};
+ghost use Rattle.std.specs.Prelude.{◌≡◌, ◌<◌, ◌++◌, suc, length, map, reverse, IfOk, OnOk};
 ghost use Rattle.imp_slots.specs.declared.blocks.SlotNode.TheVariants as node;
 ghost use Rattle.imp_check.specs.Slots.{routines_of};
+ghost use Rattle.imp_slots.specs.Fits.{IsChecked};
 ghost use Rattle.program_chains.specs.Chains.{chains};
 ghost use Rattle.call_contexts.specs.Settings.{setting_of};
 ghost use Rattle.batch_interp.specs.Answered.{value_of};
-ghost use Rattle.batch_interp.specs.Heads.{head_told, heads_under, loop_value, loop_values, values_inside};
+ghost use Rattle.cert_meaning.specs.Written.{loops};
+ghost use Rattle.batch_interp.specs.Frames.{body_at};
+ghost use Rattle.batch_interp.specs.Handing.{told_of, calls_from, calls_inside, AreEntered, AreHanded, AreHandedBy};
+ghost use Rattle.batch_interp.specs.Heads.{loop_value, loop_values, values_inside, under_told, told_under, all_loops_told};
 
 use crate::Answer;
+use crate::calls::{Handed, Handover, all_handed, main_handed, taken};
 use crate::frames::{Interpreter, Plan};
-use crate::spots::{assumed, behind_node, head_from};
-use crate::totals::enter_procedure;
-use crate::walks::Entered;
+use crate::pieces::{append, in_one};
+use crate::spots::{assumed, behind_node, copy_of, head_from};
+use crate::walks::{Entered, enter};
 use call_contexts::{Setting, few_routines};
 use domain_laws::{Domain, Steps};
 use imp_slots::{SlotBlock, SlotCond, SlotNode};
-use imp_syntax::{ProcId, StmtId};
+use imp_syntax::{Chain, StmtId};
 use plain_values::{Items, Memory};
 use program_chains::chains_go_through_callers;
 use program_table::Checked;
@@ -31,7 +36,17 @@ pub struct Head<S> {
     pub value: Answer<S>,
 }
 
-/// Adds the loops of a block, in preorder, with what is known at their heads.
+/// The loops of a procedure under one chain to it.
+#[derive(Debug, Drop)]
+pub struct LoopsUnder<S> {
+    /// The calls from main to the procedure, outermost first.
+    pub chain: Chain,
+    /// Its loops, in preorder.
+    pub heads: Items<Head<S>>,
+}
+
+/// Adds the loops of a block, in preorder, with what is known at their heads, and the procedures that its
+/// calls enter.
 #[cycle(heads)]
 #[tactic(auto, using(imp_slots::specs::BlockFalls::node_falls))]
 fn add_heads<D: Domain, L: Ledger>(
@@ -39,46 +54,52 @@ fn add_heads<D: Domain, L: Ledger>(
     block: &SlotBlock,
     before: Answer<D::State>,
     found: &mut Items<Head<D::State>>,
+    calls: &mut Items<Entered<D::State>>,
     steps: &mut Steps<L>,
 ) -> Result<(), Memory>
     ensures added { OnOk result (map loop_value found.new ≡ map loop_value found.old ++ loop_values (D.operations interpreter.now.dom.now) interpreter.now.plan.now interpreter.now.frame.now.place interpreter.now.frame.now.sites block.now (value_of before)) }
+    ensures calls { OnOk result (map told_of calls.new ≡ map told_of calls.old ++ calls_from (D.operations interpreter.now.dom.now) interpreter.now.plan.now interpreter.now.frame.now.place interpreter.now.frame.now.sites block.now (value_of before)) }
 {
     let mut now = before;
     for node in block.statements() {
-        add_heads_in(interpreter, node, &now, found, steps)?;
+        add_heads_in(interpreter, node, &now, found, calls, steps)?;
         now = behind_node(interpreter, node, now, steps)?;
     }
     Ok(())
 }
 
-/// Adds a statement, if it is a loop, and the loops inside it.
+/// Adds a statement, if it is a loop, and the loops inside it, and the procedures that calls there enter.
 #[cycle(heads)]
 fn add_heads_in<D: Domain, L: Ledger>(
     interpreter: &Interpreter<D>,
     node: &SlotNode,
     before: &Answer<D::State>,
     found: &mut Items<Head<D::State>>,
+    calls: &mut Items<Entered<D::State>>,
     steps: &mut Steps<L>,
 ) -> Result<(), Memory>
     ensures added { OnOk result (map loop_value found.new ≡ map loop_value found.old ++ values_inside (D.operations interpreter.now.dom.now) interpreter.now.plan.now interpreter.now.frame.now.place interpreter.now.frame.now.sites node.now (value_of before.now)) }
+    ensures calls { OnOk result (map told_of calls.new ≡ map told_of calls.old ++ calls_inside (D.operations interpreter.now.dom.now) interpreter.now.plan.now interpreter.now.frame.now.place interpreter.now.frame.now.sites node.now (value_of before.now)) }
 {
     match node {
         SlotNode::If(_, cond, then, els) => {
             let holds = assumed(interpreter, cond, true, before, steps)?;
-            add_heads(interpreter, then, holds, found, steps)?;
+            add_heads(interpreter, then, holds, found, calls, steps)?;
             let fails = assumed(interpreter, cond, false, before, steps)?;
-            add_heads(interpreter, els, fails, found, steps)
+            add_heads(interpreter, els, fails, found, calls, steps)
         }
         SlotNode::While(n, cond, body) => {
-            add_loop(interpreter, *n, cond, body, before, found, steps)
+            add_loop(interpreter, *n, cond, body, before, found, calls, steps)
         }
         SlotNode::Simple(_, _) => Ok(()),
-        SlotNode::Call(_, _, _) => Ok(()),
+        SlotNode::Call(n, call, callee) => {
+            calls.push(enter(interpreter, *n, call, *callee as usize, before, steps)?)
+        }
         SlotNode::Break(_) => Ok(()),
     }
 }
 
-/// Adds a loop, and those inside it.
+/// Adds a loop, and those inside it, and the procedures that calls there enter.
 #[cycle(heads)]
 fn add_loop<D: Domain, L: Ledger>(
     interpreter: &Interpreter<D>,
@@ -87,68 +108,137 @@ fn add_loop<D: Domain, L: Ledger>(
     body: &SlotBlock,
     before: &Answer<D::State>,
     found: &mut Items<Head<D::State>>,
+    calls: &mut Items<Entered<D::State>>,
     steps: &mut Steps<L>,
 ) -> Result<(), Memory>
     ensures added { OnOk result (map loop_value found.new ≡ map loop_value found.old ++ values_inside (D.operations interpreter.now.dom.now) interpreter.now.plan.now interpreter.now.frame.now.place interpreter.now.frame.now.sites (node.While n cond.now body.now) (value_of before.now)) }
+    ensures calls { OnOk result (map told_of calls.new ≡ map told_of calls.old ++ calls_inside (D.operations interpreter.now.dom.now) interpreter.now.plan.now interpreter.now.frame.now.place interpreter.now.frame.now.sites (node.While n cond.now body.now) (value_of before.now)) }
 {
     let value = head_from(interpreter, n, cond, body, before, steps)?;
     let inside = assumed(interpreter, cond, true, &value, steps)?;
     let stmt = StmtId::new(n);
     found.push(Head { stmt, value })?;
-    add_heads(interpreter, body, inside, found, steps)
+    add_heads(interpreter, body, inside, found, calls, steps)
 }
 
-/// The loops of a procedure that is entered.
+/// The loops of a procedure that is entered. The procedures that its calls enter are added.
 fn heads_of<D: Domain, L: Ledger>(
     alloc: Global,
     dom: &D,
     plan: &Plan,
     body: &SlotBlock,
-    entered: Entered<D::State>,
+    entered: &Entered<D::State>,
+    calls: &mut Items<Entered<D::State>>,
     steps: &mut Steps<L>,
-) -> Result<Items<Head<D::State>>, Memory>
-    ensures is { IfOk result (λ hs. map loop_value hs ≡ loop_values (D.operations dom.now) plan.now entered.frame.place entered.frame.sites body.now (value_of entered.before)) }
+) -> Result<LoopsUnder<D::State>, Memory>
+    ensures chain { IfOk result (λ u. reverse u.chain ≡ entered.now.frame.sites) }
+    ensures is { IfOk result (λ u. map loop_value u.heads ≡ loop_values (D.operations dom.now) plan.now entered.now.frame.place entered.now.frame.sites body.now (value_of entered.now.before)) }
+    ensures calls { OnOk result (map told_of calls.new ≡ map told_of calls.old ++ calls_from (D.operations dom.now) plan.now entered.now.frame.place entered.now.frame.sites body.now (value_of entered.now.before)) }
 {
-    let Entered { frame, before } = entered;
-    let mut found = Items::new(alloc);
+    let before = copy_of(alloc, dom, &entered.before)?;
+    let chain = entered.frame.chain(alloc)?;
+    let mut heads = Items::new(alloc);
     let interpreter = Interpreter {
         alloc,
         dom,
         plan,
-        frame: &frame,
+        frame: &entered.frame,
     };
-    add_heads(&interpreter, body, before, &mut found, steps)?;
-    Ok(found)
+    add_heads(&interpreter, body, before, &mut heads, calls, steps)?;
+    Ok(LoopsUnder { chain, heads })
 }
 
-/// The loops of a procedure in preorder, each with what is known at its head under one chain to the procedure,
-/// which has the outermost call first. The states have the frames of all calls. There is nothing of a
-/// procedure that is not there.
+/// The loops of a procedure under its chains, and what calls hand down.
+#[derive(Drop)]
+struct Walked<S> {
+    loops: Items<LoopsUnder<S>>,
+    calls: Items<Handed<S>>,
+}
+
+/// The loops of the procedure at a place under all chains to it, and what its calls hand down, from the
+/// procedure entered under those chains.
+fn loops_under<D: Domain, L: Ledger>(
+    alloc: Global,
+    dom: &D,
+    plan: &Plan,
+    place: usize,
+    entered: &[Entered<D::State>],
+    steps: &mut Steps<L>,
+) -> Result<Walked<D::State>, Memory>
+    requires checked { IsChecked plan.now.program }
+    requires within { place < length plan.now.program }
+    requires entered { AreEntered (D.operations dom.now) plan.now place (chains plan.now.program place) entered.now }
+    ensures loops { IfOk result (λ w. map under_told w.loops ≡ told_under (D.operations dom.now) plan.now.engine plan.now.program (loops (body_at plan.now.program place)) (chains plan.now.program place)) }
+    ensures calls { IfOk result (λ w. AreHandedBy (D.operations dom.now) plan.now place w.calls) }
+{
+    let body = plan.body(place);
+    let mut loops = Items::new(alloc);
+    let mut handed = Items::new(alloc);
+    for next in entered {
+        let mut calls = Items::new(alloc);
+        let under = heads_of(alloc, dom, plan, body, next, &mut calls, steps)?;
+        loops.push(under)?;
+        handed = all_handed(alloc, handed, calls)?;
+    }
+    Ok(Walked {
+        loops,
+        calls: handed,
+    })
+}
+
+/// The loops of the procedure at a place, and what is handed down to those in front of it.
+fn loops_at<D: Domain, L: Ledger>(
+    alloc: Global,
+    dom: &D,
+    plan: &Plan,
+    place: usize,
+    calls: Items<Handed<D::State>>,
+    steps: &mut Steps<L>,
+) -> Result<Walked<D::State>, Memory>
+    requires checked { IsChecked plan.now.program }
+    requires within { place < length plan.now.program }
+    requires handed { AreHanded (D.operations dom.now) plan.now (suc place) calls }
+    ensures loops { IfOk result (λ w. map under_told w.loops ≡ told_under (D.operations dom.now) plan.now.engine plan.now.program (loops (body_at plan.now.program place)) (chains plan.now.program place)) }
+    ensures calls { IfOk result (λ w. AreHanded (D.operations dom.now) plan.now place w.calls) }
+{
+    chains_go_through_callers();
+    let Handover { entered, others } = taken(alloc, calls, place)?;
+    let Walked { loops, mut calls } = loops_under(
+        alloc,
+        dom,
+        plan,
+        place,
+        entered.as_slice(),
+        steps,
+    )?;
+    append(&mut calls, others)?;
+    Ok(Walked { loops, calls })
+}
+
+/// The loops of a program under the chains of their procedures, each with what is known at its head: the
+/// procedures in the order of the text, the chains to a procedure in their order, its loops in preorder.
+/// The states have the frames of all calls.
 ///
-/// The chain is followed once from main, and the heads come from one walk through the body. Its only error
-/// is want of memory.
+/// The procedures are walked from main down, each once under each chain to it, from what the calls in
+/// the later ones hand down. Its only error is want of memory.
 pub fn loop_heads<D: Domain, L: Ledger>(
     alloc: Global,
     dom: &D,
     prog: &Checked,
     setting: &Setting,
-    proc: ProcId,
-    chain: &[StmtId],
     steps: &mut Steps<L>,
-) -> Result<Items<Head<D::State>>, Memory>
+) -> Result<Items<LoopsUnder<D::State>>, Memory>
     requires setting { setting.now ≡ setting_of setting.now.engine (routines_of prog.now) }
-    requires chain { Contains (chains (routines_of prog.now) proc) (reverse chain.now) }
-    ensures exact { IfOk result (λ hs. map head_told hs ≡ heads_under (D.operations dom.now) setting.now.engine (routines_of prog.now) proc (reverse chain.now)) }
+    ensures exact { IfOk result (λ us. map under_told us ≡ all_loops_told (D.operations dom.now) setting.now.engine (routines_of prog.now) 0 (routines_of prog.now)) }
 {
-    chains_go_through_callers();
-    few_routines(prog);
+    let count = few_routines(prog).len();
     let plan = Plan::new(prog, setting);
-    let place = proc.place() as usize;
-    match plan.routine(place) {
-        None => Ok(Items::new(alloc)),
-        Some(routine) => {
-            let entered = enter_procedure(alloc, dom, &plan, place, chain, steps)?;
-            heads_of(alloc, dom, &plan, routine.body(), entered, steps)
-        }
+    let mut calls = main_handed(alloc, dom, &plan, steps)?;
+    let mut parts = Items::new(alloc);
+    for place in (0..count).rev() {
+        let walked = loops_at(alloc, dom, &plan, place, calls, steps)?;
+        calls = walked.calls;
+        parts.push(walked.loops)?;
     }
+    in_one(alloc, parts)
 }

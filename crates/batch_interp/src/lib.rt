@@ -3,23 +3,32 @@
 //! [`answer`] gives what a domain knows at a location under a call string, [`batch_report`] a verdict
 //! on each statement that has a check. Both are exactly the definitions of `batch_meaning`, and both
 //! describe every run: a state that is answered covers each configuration that stands there, and a
-//! finding of safe or dead holds of all runs. [`loop_heads`] gives what is known at the heads of loops
-//! under one chain, with all frames. A [`Frame`] and the steps of simple statements, of breaks and of joins serve
+//! finding of safe or dead holds of all runs. [`loop_heads`] gives what is known at the heads of all loops
+//! under all chains, with all frames. A [`Frame`] and the steps of simple statements, of breaks and of joins serve
 //! whatever else goes through blocks as batch interpretation does.
 //!
 //! An answer follows each selected chain from `main`: the statements in front of a call are
 //! interpreted, the callee is entered, and so on to the statement that is asked for. Nothing is kept
 //! from one call to the next.
+//!
+//! Reports and heads come from one walk over the calls. The procedures are taken from main down, and each
+//! body is walked once under each chain to it, in the order of the chains. A walk hands down what is known
+//! in front of the bodies that its calls enter; that is held until their procedures have been walked, so at
+//! most one state for each chain of the program is held at a time. On the way through a body the procedures
+//! that it calls are interpreted too: a body is interpreted once for each procedure on its chain, which has
+//! at most eight calls.
 #![tactic(auto)]
 
 mod answering;
 mod befores;
 mod blocks;
+mod calls;
 mod claim;
 mod error;
 mod findings;
 mod frames;
 mod heads;
+mod pieces;
 mod reporting;
 mod spots;
 mod sums;
@@ -32,6 +41,6 @@ pub use answering::answer;
 pub use blocks::{behind_action, behind_break, joined_states};
 pub use error::QueryError;
 pub use frames::Frame;
-pub use heads::{Head, loop_heads};
+pub use heads::{Head, LoopsUnder, loop_heads};
 pub use reporting::batch_report;
 pub use value::Answer;

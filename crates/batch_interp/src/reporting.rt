@@ -1,51 +1,57 @@
 //! Reports of a whole program, for `exact` and `sound` of `batch_report`.
-ghost use Rattle.std.specs.Prelude.{◌≡◌, ◌++◌, ◌<◌, ◌^◌, map, Contains, OnOk, IfOk};
+ghost use Rattle.std.specs.Prelude.{◌≡◌, ◌<◌, suc, length, map, Contains, IfOk};
 ghost use Rattle.imp_slots.specs.Fits.{IsChecked};
 ghost use Rattle.imp_check.specs.Slots.{routines_of};
 ghost use Rattle.analysis_words.specs.declared.findings.Finding.{Finding};
 ghost use Rattle.batch_meaning.specs.Report.{report, finding, checked_in};
 ghost use Rattle.batch_sound.specs.Theorem.{IsFindingSound};
 ghost use Rattle.call_contexts.specs.Settings.{setting_of};
-ghost use Rattle.batch_interp.specs.Totalling.{HasBody};
+ghost use Rattle.batch_interp.specs.Frames.{body_at};
+ghost use Rattle.batch_interp.specs.Handing.{AreHanded};
 
-use crate::befores::add_claims;
-use crate::findings::add_findings;
+use crate::calls::{Handed, Handover, main_handed, taken};
+use crate::findings::findings_of;
 use crate::frames::Plan;
-use crate::totals::totals;
+use crate::pieces::{append, in_one};
+use crate::totals::{Summed, totals};
 use batch_sound::reports_are_sound;
 use call_contexts::{Setting, few_routines};
 use domain_laws::{Domain, Finding, Findings, Steps};
-use imp_slots::SlotBlock;
-use imp_syntax::ProcId;
 use plain_values::{Items, Memory};
 use program_chains::{chains_go_through_callers, places_are_found};
 use program_table::Checked;
-use selected_chains::chains;
 use std::alloc::Global;
 use std::sync::ledger::Ledger;
 
-/// Adds the findings of the procedure at a place.
-fn add_report<D: Domain, L: Ledger>(
+/// The findings of a procedure, and what calls hand down.
+#[derive(Drop)]
+struct Walked<S> {
+    findings: Findings,
+    calls: Items<Handed<S>>,
+}
+
+/// The findings of the procedure at a place, and what is handed down to those in front of it.
+fn findings_at<D: Domain, L: Ledger>(
     alloc: Global,
     dom: &D,
     plan: &Plan,
     place: usize,
-    body: &SlotBlock,
-    found: &mut Items<Finding>,
+    calls: Items<Handed<D::State>>,
     steps: &mut Steps<L>,
-) -> Result<(), Memory>
+) -> Result<Walked<D::State>, Memory>
     requires checked { IsChecked plan.now.program }
-    requires few { place < 2 ^ 32 }
-    requires there { HasBody plan.now.program place body.now }
-    ensures added { OnOk result (found.new ≡ found.old ++ map (finding (D.operations dom.now) plan.now.engine plan.now.program) (checked_in body.now)) }
+    requires within { place < length plan.now.program }
+    requires handed { AreHanded (D.operations dom.now) plan.now (suc place) calls }
+    ensures findings { IfOk result (λ w. w.findings ≡ map (finding (D.operations dom.now) plan.now.engine plan.now.program) (checked_in (body_at plan.now.program place))) }
+    ensures calls { IfOk result (λ w. AreHanded (D.operations dom.now) plan.now place w.calls) }
 {
     chains_go_through_callers();
     places_are_found();
-    let mut claims = Items::new(alloc);
-    add_claims(body, &mut claims)?;
-    let chains = chains(alloc, &plan.view(), ProcId::new(place as u32), &[])?;
-    let known = totals(alloc, dom, plan, place, body, chains.as_slice(), steps)?;
-    add_findings(alloc, dom, claims.as_slice(), &known, found)
+    let Handover { entered, others } = taken(alloc, calls, place)?;
+    let Summed { known, mut calls } = totals(alloc, dom, plan, place, entered.as_slice(), steps)?;
+    append(&mut calls, others)?;
+    let findings = findings_of(alloc, dom, plan.body(place), &known)?;
+    Ok(Walked { findings, calls })
 }
 
 /// The findings of a program, one for each statement that has a check, in the order of the text: dead
@@ -55,8 +61,8 @@ fn add_report<D: Domain, L: Ledger>(
 /// Where a finding is safe, no run under any inputs fails the check; where it is dead, no run comes to
 /// the statement.
 ///
-/// Each chain of each procedure is followed once, and what is known in front of all its statements
-/// comes from one walk through its body. Its only error is want of memory.
+/// The procedures are walked from main down, each once under each chain to it, from what the calls in
+/// the later ones hand down. Its only error is want of memory.
 pub fn batch_report<D: Domain, L: Ledger>(
     alloc: Global,
     dom: &D,
@@ -85,11 +91,14 @@ fn all_findings<D: Domain, L: Ledger>(
     requires setting { setting.now ≡ setting_of setting.now.engine (routines_of prog.now) }
     ensures is { IfOk result (λ all. all ≡ report (D.operations dom.now) setting.now.engine (routines_of prog.now)) }
 {
-    let routines = few_routines(prog);
+    let count = few_routines(prog).len();
     let plan = Plan::new(prog, setting);
-    let mut found = Items::new(alloc);
-    for (place, routine) in routines.iter().enumerate() {
-        add_report(alloc, dom, &plan, place, routine.body(), &mut found, steps)?;
+    let mut calls = main_handed(alloc, dom, &plan, steps)?;
+    let mut parts = Items::new(alloc);
+    for place in (0..count).rev() {
+        let walked = findings_at(alloc, dom, &plan, place, calls, steps)?;
+        calls = walked.calls;
+        parts.push(walked.findings)?;
     }
-    Ok(found)
+    in_one(alloc, parts)
 }

@@ -28,7 +28,7 @@ pub(crate) struct Seen<'a, S> {
 }
 
 /// The same chain once more.
-fn copy_of_chain(alloc: Global, chain: &Chain) -> Result<Chain, Memory>
+pub(crate) fn copy_of_chain(alloc: Global, chain: &Chain) -> Result<Chain, Memory>
     ensures same { IfOk result (λ copy. copy ≡ chain.now) }
 {
     let sites: Vec<StmtId> = chain.sites().iter().copied().collect(alloc)?;

@@ -1,77 +1,61 @@
 //! What is known in front of each statement of a procedure that has a check, under all its chains.
-ghost use Rattle.std.specs.Prelude.{◌≡◌, ◌<◌, ◌++◌, ◌∷◌, [], length, map, reverse, suc, Some, IfOk, OnOk};
+ghost use Rattle.std.specs.Prelude.{◌≡◌, ◌<◌, ◌++◌, ◌∷◌, [], length, map, reverse, IfOk, OnOk};
 ghost use Rattle.imp_slots.specs.Fits.{IsChecked};
-ghost use Rattle.batch_meaning.specs.Places.{entry};
+ghost use Rattle.program_chains.specs.Chains.{chains};
 ghost use Rattle.batch_meaning.specs.Report.{checked_in};
 ghost use Rattle.batch_interp.specs.Answered.{value_of};
-ghost use Rattle.batch_interp.specs.Frames.{earlier};
+ghost use Rattle.batch_interp.specs.Frames.{body_at};
+ghost use Rattle.batch_interp.specs.Handing.{told_of, calls_from, AreEntered, AreHandedBy};
 ghost use Rattle.batch_interp.specs.Reporting.{befores, claims};
 ghost use Rattle.batch_interp.specs.Summing.{added};
-ghost use Rattle.batch_interp.specs.Totalling.{first_of, behind_first, all_added, AreTotals, LeadsTo, AllLead, HasBody};
+ghost use Rattle.batch_interp.specs.Totalling.{first_of, behind_first, all_added, AreTotals};
 
 use crate::Answer;
 use crate::befores::add_befores;
+use crate::calls::{Handed, all_handed};
 use crate::frames::{Interpreter, Plan};
+use crate::pieces::last_first;
+use crate::spots::copy_of;
 use crate::sums::added;
-use crate::walks::{Entered, enter_chain};
+use crate::walks::Entered;
 use domain_laws::{Domain, Steps};
 use imp_slots::SlotBlock;
-use imp_syntax::{Chain, StmtId};
 use plain_values::{Items, Memory};
 use std::alloc::Global;
 use std::sync::ledger::Ledger;
 
-/// The procedure at a place, entered along a chain that leads to it.
-pub(crate) fn enter_procedure<D: Domain, L: Ledger>(
-    alloc: Global,
-    dom: &D,
-    plan: &Plan,
-    place: usize,
-    chain: &[StmtId],
-    steps: &mut Steps<L>,
-) -> Result<Entered<D::State>, Memory>
-    requires within { place < length plan.now.program }
-    requires leads { LeadsTo (D.operations dom.now) plan.now place (reverse chain.now) }
-    ensures is { IfOk result (λ e. entry (D.operations dom.now) plan.now.engine (reverse plan.now.program) (reverse chain.now) ≡ Some (earlier plan.now.program (suc place), value_of e.before)) }
-    ensures place { IfOk result (λ e. e.frame.place ≡ place) }
-    ensures sites { IfOk result (λ e. e.frame.sites ≡ reverse chain.now) }
-{
-    match enter_chain(alloc, dom, plan, chain, steps)? {
-        Some(entered) => Ok(entered),
-        None => unreachable!(),
-    }
+/// What is known in front of each statement of a procedure that has a check, under all its chains, and
+/// what calls hand down.
+#[derive(Drop)]
+pub(crate) struct Summed<S> {
+    pub(crate) known: Items<Answer<S>>,
+    pub(crate) calls: Items<Handed<S>>,
 }
 
-/// What is known in front of each statement with a check of a procedure that is entered.
+/// What is known in front of each statement with a check of a procedure that is entered. The procedures
+/// that its calls enter are added.
 fn befores_of<D: Domain, L: Ledger>(
     alloc: Global,
     dom: &D,
     plan: &Plan,
     body: &SlotBlock,
-    entered: Entered<D::State>,
+    entered: &Entered<D::State>,
+    calls: &mut Items<Entered<D::State>>,
     steps: &mut Steps<L>,
 ) -> Result<Items<Answer<D::State>>, Memory>
-    ensures is { IfOk result (λ vs. map value_of vs ≡ befores (D.operations dom.now) plan.now entered.frame.place entered.frame.sites body.now (value_of entered.before)) }
+    ensures is { IfOk result (λ vs. map value_of vs ≡ befores (D.operations dom.now) plan.now entered.now.frame.place entered.now.frame.sites body.now (value_of entered.now.before)) }
+    ensures calls { OnOk result (map told_of calls.new ≡ map told_of calls.old ++ calls_from (D.operations dom.now) plan.now entered.now.frame.place entered.now.frame.sites body.now (value_of entered.now.before)) }
 {
-    let Entered { frame, before } = entered;
+    let before = copy_of(alloc, dom, &entered.before)?;
     let mut found = Items::new(alloc);
     let interpreter = Interpreter {
         alloc,
         dom,
         plan,
-        frame: &frame,
+        frame: &entered.frame,
     };
-    add_befores(&interpreter, body, before, &mut found, steps)?;
+    add_befores(&interpreter, body, before, &mut found, calls, steps)?;
     Ok(found)
-}
-
-/// The same list with its last item first.
-fn last_first<T>(items: Items<T>) -> Items<T>
-    ensures is { result ≡ reverse items }
-{
-    let mut all = items.into_vec();
-    all.reverse();
-    Items::from_vec(all)
 }
 
 /// Adds one more, joined to the last one so far, which goes, where there is one.
@@ -112,27 +96,33 @@ fn all_added<D: Domain, L: Ledger>(
     Ok(all)
 }
 
-/// What is known in front of each statement of a procedure that has a check, under these chains. There
-/// is nothing where there is no chain.
+/// What is known in front of each statement of the procedure at a place that has a check, and what its calls
+/// hand down, from the procedure entered under all chains to it. Nothing is known where there is no chain.
 pub(crate) fn totals<D: Domain, L: Ledger>(
     alloc: Global,
     dom: &D,
     plan: &Plan,
     place: usize,
-    body: &SlotBlock,
-    chains: &[Chain],
+    entered: &[Entered<D::State>],
     steps: &mut Steps<L>,
-) -> Result<Items<Answer<D::State>>, Memory>
+) -> Result<Summed<D::State>, Memory>
     requires checked { IsChecked plan.now.program }
-    requires there { HasBody plan.now.program place body.now }
-    requires lead { AllLead (D.operations dom.now) plan.now place (map reverse chains.now) }
-    ensures is { IfOk result (λ vs. AreTotals (D.operations dom.now) plan.now (map reverse chains.now) (claims (checked_in body.now)) (map value_of vs)) }
+    requires within { place < length plan.now.program }
+    requires entered { AreEntered (D.operations dom.now) plan.now place (chains plan.now.program place) entered.now }
+    ensures known { IfOk result (λ t. AreTotals (D.operations dom.now) plan.now (chains plan.now.program place) (claims (checked_in (body_at plan.now.program place))) (map value_of t.known)) }
+    ensures calls { IfOk result (λ t. AreHandedBy (D.operations dom.now) plan.now place t.calls) }
 {
-    let mut all = Items::new(alloc);
-    for chain in chains {
-        let entered = enter_procedure(alloc, dom, plan, place, chain.sites(), steps)?;
-        let more = befores_of(alloc, dom, plan, body, entered, steps)?;
-        all = all_added(alloc, dom, last_first(all), last_first(more), steps)?;
+    let body = plan.body(place);
+    let mut known = Items::new(alloc);
+    let mut handed = Items::new(alloc);
+    for next in entered {
+        let mut calls = Items::new(alloc);
+        let more = befores_of(alloc, dom, plan, body, next, &mut calls, steps)?;
+        known = all_added(alloc, dom, last_first(known), last_first(more), steps)?;
+        handed = all_handed(alloc, handed, calls)?;
     }
-    Ok(all)
+    Ok(Summed {
+        known,
+        calls: handed,
+    })
 }

@@ -4,11 +4,12 @@ ghost use Rattle.batch_meaning.specs.Values.{lift};
 ghost use Rattle.batch_meaning.specs.Places.{entered, entry};
 ghost use Rattle.batch_interp.specs.Answered.{value_of};
 ghost use Rattle.batch_interp.specs.Seeking.{call_at};
+ghost use Rattle.batch_interp.specs.Handing.{told_of};
 ghost use Rattle.batch_interp.specs.Walking.{entered_of, IsEntered, called_from};
 
 use crate::Answer;
 use crate::frames::{Frame, Interpreter, Plan};
-use crate::spots::{Seen, seek};
+use crate::spots::{Seen, copy_of_chain, seek};
 use domain_laws::{Domain, Steps};
 use imp_slots::{SlotCall, SlotNode};
 use imp_syntax::StmtId;
@@ -25,7 +26,7 @@ pub(crate) struct Entered<S> {
 
 /// Main, entered.
 #[tactic(auto, using(crate::proofs::Walkings::main_entry))]
-fn enter_main<D: Domain, L: Ledger>(
+pub(crate) fn enter_main<D: Domain, L: Ledger>(
     alloc: Global,
     dom: &D,
     plan: &Plan,
@@ -49,15 +50,34 @@ fn entered_value<D: Domain, L: Ledger>(
     alloc: Global,
     dom: &D,
     call: &SlotCall,
-    before: Answer<D::State>,
+    before: &Answer<D::State>,
     steps: &mut Steps<L>,
 ) -> Result<Answer<D::State>, Memory>
-    ensures is { IfOk result (λ a. value_of a ≡ lift ((D.operations dom.now).enter call.now.entering) (value_of before)) }
+    ensures is { IfOk result (λ a. value_of a ≡ lift ((D.operations dom.now).enter call.now.entering) (value_of before.now)) }
 {
     match before {
-        Answer::State(state) => Ok(Answer::State(dom.enter(alloc, call, &state, steps)?)),
-        Answer::Over { head, chain } => Ok(Answer::Over { head, chain }),
+        Answer::State(state) => Ok(Answer::State(dom.enter(alloc, call, state, steps)?)),
+        Answer::Over { head, chain } => Ok(Answer::Over {
+            head: *head,
+            chain: copy_of_chain(alloc, chain)?,
+        }),
     }
+}
+
+/// The procedure of a call, entered.
+pub(crate) fn enter<D: Domain, L: Ledger>(
+    interpreter: &Interpreter<D>,
+    site: u32,
+    call: &SlotCall,
+    callee: usize,
+    before: &Answer<D::State>,
+    steps: &mut Steps<L>,
+) -> Result<Entered<D::State>, Memory>
+    ensures is { IfOk result (λ e. told_of e ≡ (record { place = callee; sites = site ∷ interpreter.now.frame.now.sites }, lift ((D.operations interpreter.now.dom.now).enter call.now.entering) (value_of before.now))) }
+{
+    let before = entered_value(interpreter.alloc, interpreter.dom, call, before, steps)?;
+    let frame = interpreter.frame.callee(interpreter.alloc, site, callee)?;
+    Ok(Entered { frame, before })
 }
 
 /// The procedure of a call, entered, where it stands in front of its caller.
@@ -74,9 +94,8 @@ fn enter_callee<D: Domain, L: Ledger>(
     match interpreter.plan.callee(interpreter.frame.place, callee) {
         None => Ok(None),
         Some(_) => {
-            let before = entered_value(interpreter.alloc, interpreter.dom, call, before, steps)?;
-            let frame = interpreter.frame.callee(interpreter.alloc, site, callee)?;
-            Ok(Some(Entered { frame, before }))
+            let entered = enter(interpreter, site, call, callee, &before, steps)?;
+            Ok(Some(entered))
         }
     }
 }

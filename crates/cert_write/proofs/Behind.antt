@@ -1,23 +1,25 @@
 -- What is written, one line after another.
-use Rattle.std.proofs.Common.{ℕ, zero, suc, ◌≡◌, ◌+◌, ◌<◌, ◌≤◌, List, [], ◌∷◌, ◌++◌, length, map, drop, reverse, get_or, slice_get, Option, Some, Result, Ok, Err, IfOk, refl, sym, ap, subst, ◌∙◌, arith, append_assoc, add-one, append-nil}
-use Rattle.std.specs.Prelude.{Contains, Vec}
+use Rattle.std.proofs.Common.{ℕ, suc, ◌≡◌, ◌+◌, ◌<◌, ◌≤◌, List, [], ◌∷◌, ◌++◌, length, map, drop, reverse, get_or, Option, Some, Result, Ok, Err, IfOk, refl, sym, ap, ◌∙◌, append_assoc}
+use Rattle.std.specs.Prelude.{Vec}
 use Rattle.std.proofs.lemmas.List.{drop_all, reverse-reverse}
 use Rattle.serde_json.specs.Written.{compact_text}
 use Rattle.imp_syntax.specs.declared.edit.Location.TheVariants.{Head as AtHead}
 use Rattle.imp_slots.specs.Plain.{Routine}
 use Rattle.program_chains.specs.Chains.{chains}
 use Rattle.domain_laws.specs.Operations.{Operations}
-use Rattle.batch_meaning.specs.Values.{State}
+use Rattle.batch_meaning.specs.Values.{Value, State}
 use Rattle.batch_meaning.specs.Batch.{Engine}
 use Rattle.batch_meaning.specs.Places.{value_at}
 use Rattle.plain_values.proofs.Lists.{drop_item}
 use Rattle.cert_meaning.specs.Portable.{Portable}
+use Rattle.cert_meaning.specs.Written.{loops}
 use Rattle.batch_interp.specs.Answered.{value_of}
-use Rattle.batch_interp.specs.Heads.{head_told, loops_in, heads_under}
+use Rattle.batch_interp.specs.Heads.{head_told, heads_under, under_told, told_under, all_loops_told}
 use Rattle.batch_interp.specs.declared.heads.Head.{Head}
+use Rattle.batch_interp.specs.declared.heads.LoopsUnder.{LoopsUnder}
 use Rattle.batch_interp.specs.declared.value.Answer.TheVariants as known
 use Rattle.cert_lines.specs.Certificate.{Certificate, Lines, Gives, under, loops_from, all_loops, with_line, certificate_of, lines_text, certificate_text}
-use Rattle.cert_write.specs.Writing.{line_data, behind, or_over, bytes_in, lines_under, lines_before}
+use Rattle.cert_write.specs.Writing.{line_data, behind, lines_under, all_lines}
 
 module _ {S : Type 0} (dom : Operations S) (port : Portable S) (engine : Engine) (program : List Routine) where
   -- a line goes in front of more
@@ -37,73 +39,42 @@ module _ {S : Type 0} (dom : Operations S) (port : Portable S) (engine : Engine)
   pub lines_end : (z : List ℕ) (hs : List (Head S)) (i : ℕ) (more : Certificate) → length hs ≤ i → lines_under dom port engine program z (map head_told (drop i hs)) more ≡ more
   lines_end z hs i more l = ap (λ xs. lines_under dom port engine program z (map head_told xs) more) (drop_all i hs l)
 
-  abbrev L : List (List ℕ × ℕ) → Certificate → Certificate
-  L = lines_before dom port engine program
-
-  told : (z ns : List ℕ) (more : Certificate) → lines_under dom port engine program z (map (λ n. (n, value_at dom engine program (AtHead n) z)) ns) more ≡ L (map (λ n. (z, n)) ns) more
-  told z [] more = refl
-  told z (n ∷ ns) more = ap (with_line dom port engine program z n (value_at dom engine program (AtHead n) z)) (told z ns more)
-
-  -- the heads that are found are the loops of the procedure
-  heads_lines : (p : ℕ) (z : List ℕ) (hs : List (Head S)) (more : Certificate) → map head_told hs ≡ heads_under dom engine program p z → lines_under dom port engine program z (map head_told hs) more ≡ L (map (λ n. (z, n)) (loops_in (slice_get program p))) more
-  heads_lines p z hs more e = ap (λ xs. lines_under dom port engine program z xs more) e ∙ told z (loops_in (slice_get program p)) more
-
-  pub chain_lines : {E Z : Type 0} (r : Result (Option (Vec ℕ Z)) E) (p : ℕ) (chain : List ℕ) (hs : List (Head S)) (old new : List ℕ) → map head_told hs ≡ heads_under dom engine program p (reverse chain) → IfOk r (λ o. (engine : Engine) (program : List Routine) (more : Certificate) → behind old (lines_under dom port engine program (reverse chain) (map head_told hs) more) ≡ or_over (bytes_in o) (behind new more)) → IfOk r (λ o. (more : Certificate) → behind old (lines_before dom port engine program (map (λ n. (reverse chain, n)) (loops_in (slice_get program p))) more) ≡ or_over (bytes_in o) (behind new more))
-  chain_lines (Err e) p chain hs old new t h = h
-  chain_lines (Ok o) p chain hs old new t h = λ more. sym (ap (behind old) (heads_lines p (reverse chain) hs more t)) ∙ h engine program more
-
-  before_both : (xs ys : List (List ℕ × ℕ)) (more : Certificate) → L (xs ++ ys) more ≡ L xs (L ys more)
-  before_both [] ys more = refl
-  before_both (x ∷ xs) ys more = ap (with_line dom port engine program x.0 x.1 (value_at dom engine program (AtHead x.1) x.0)) (before_both xs ys more)
-
-  before_whole : (xs : List (List ℕ × ℕ)) → L xs (Lines []) ≡ certificate_of dom port engine program xs
-  before_whole [] = refl
-  before_whole (x ∷ xs) = ap (with_line dom port engine program x.0 x.1 (value_at dom engine program (AtHead x.1) x.0)) (before_whole xs)
+  abbrev L : List (List ℕ × List (ℕ × Option (Value S))) → Certificate → Certificate
+  L = all_lines dom port engine program
 
   -- one more chain
-  pub chain_step : (ns : List ℕ) (zs : List (List ℕ)) (i : ℕ) (z : List ℕ) (more : Certificate) → i < length zs → z ≡ get_or zs i z → lines_before dom port engine program (under ns (map reverse (drop i zs))) more ≡ lines_before dom port engine program (map (λ n. (reverse z, n)) ns) (lines_before dom port engine program (under ns (map reverse (drop (i + 1) zs))) more)
-  chain_step ns zs i z more h e =
-      ap (λ ys. L (under ns (map reverse ys)) more) (drop_item zs i z h e)
-      ∙ before_both (map (λ n. (reverse z, n)) ns) (under ns (map reverse (drop (i + 1) zs))) more
+  pub chain_step : (us : List (LoopsUnder S)) (i : ℕ) (u : LoopsUnder S) (more : Certificate) → i < length us → u ≡ get_or us i u → all_lines dom port engine program (map under_told (drop i us)) more ≡ lines_under dom port engine program (reverse u.chain) (map head_told u.heads) (all_lines dom port engine program (map under_told (drop (i + 1) us)) more)
+  chain_step us i u more h e = ap (λ xs. L (map under_told xs) more) (drop_item us i u h e)
 
-  pub chain_end : (ns : List ℕ) (zs : List (List ℕ)) (i : ℕ) (more : Certificate) → length zs ≤ i → lines_before dom port engine program (under ns (map reverse (drop i zs))) more ≡ more
-  chain_end ns zs i more h = ap (λ ys. L (under ns (map reverse ys)) more) (drop_all i zs h)
+  pub chain_end : (us : List (LoopsUnder S)) (i : ℕ) (more : Certificate) → length us ≤ i → all_lines dom port engine program (map under_told (drop i us)) more ≡ more
+  chain_end us i more h = ap (λ xs. L (map under_told xs) more) (drop_all i us h)
 
-  abbrev from : ℕ → List (List ℕ × ℕ)
-  from k = loops_from program k (drop k program)
+  abbrev C : List (List ℕ × ℕ) → Certificate
+  C = certificate_of dom port engine program
 
-  at : (rs : List Routine) (k : ℕ) → k < length rs → (r : Routine) × (slice_get rs k ≡ Some r) × (drop k rs ≡ r ∷ drop (suc k) rs)
-  at [] k h = absurd (omega arith)
-  at (r ∷ rs) zero h = (r, refl, refl)
-  at (r ∷ rs) (suc k) h = at rs k (omega arith)
+  one_chain : (ns z : List ℕ) (more : List (List ℕ × ℕ)) → lines_under dom port engine program z (heads_under dom engine program ns z) (C more) ≡ C (map (λ n. (z, n)) ns ++ more)
+  one_chain [] z more = refl
+  one_chain (n ∷ ns) z more = ap (with_line dom port engine program z n (value_at dom engine program (AtHead n) z)) (one_chain ns z more)
 
-  -- one more procedure
-  pub procedure_step : (k : ℕ) (more : Certificate) → k < length program → lines_before dom port engine program (loops_from program k (drop k program)) more ≡ lines_before dom port engine program (under (loops_in (slice_get program k)) (chains program k)) (lines_before dom port engine program (loops_from program (k + 1) (drop (k + 1) program)) more)
-  procedure_step k more h =
-      let x = at program k h in
-      ap (λ rs. L (loops_from program k rs) more) x.2
-      ∙ ap (λ o. L (under (loops_in o) (chains program k) ++ loops_from program (suc k) (drop (suc k) program)) more) (sym x.1)
-      ∙ before_both (under (loops_in (slice_get program k)) (chains program k)) (loops_from program (suc k) (drop (suc k) program)) more
-      ∙ next
-    where
-      next : L (under (loops_in (slice_get program k)) (chains program k)) (L (from (suc k)) more) ≡ L (under (loops_in (slice_get program k)) (chains program k)) (L (from (k + 1)) more)
-      next = rw add-one refl
+  procedure : (ns : List ℕ) (zs : List (List ℕ)) (us : List (List ℕ × List (ℕ × Option (Value S)))) (more : List (List ℕ × ℕ)) → L us (Lines []) ≡ C more → L (told_under dom engine program ns zs ++ us) (Lines []) ≡ C (under ns zs ++ more)
+  procedure ns [] us more h = h
+  procedure ns (z ∷ zs) us more h =
+      ap (lines_under dom port engine program z (heads_under dom engine program ns z)) (procedure ns zs us more h)
+      ∙ one_chain ns z (under ns zs ++ more)
+      ∙ ap C (sym (append_assoc (map (λ n. (z, n)) ns) (under ns zs) more))
 
-  pub procedures_end : (k : ℕ) (text : List ℕ) → length program ≤ k → behind text (lines_before dom port engine program (loops_from program k (drop k program)) (Lines [])) ≡ text
-  procedures_end k text h = ap (λ rs. behind text (L (loops_from program k rs) (Lines []))) (drop_all k program h) ∙ append-nil text
+  procedures : (k : ℕ) (rs : List Routine) → L (all_loops_told dom engine program k rs) (Lines []) ≡ C (loops_from program k rs)
+  procedures k [] = refl
+  procedures k (r ∷ rs) = procedure (loops r.code) (chains program k) (all_loops_told dom engine program (suc k) rs) (loops_from program (suc k) rs) (procedures (suc k) rs)
 
-  pub all_written : behind [] (lines_before dom port engine program (all_loops program) (Lines [])) ≡ certificate_text (certificate_of dom port engine program (all_loops program))
-  all_written = ap (behind []) (before_whole (all_loops program)) ∙ whole (certificate_of dom port engine program (all_loops program))
-    where
-      whole : (c : Certificate) → behind [] c ≡ certificate_text c
-      whole (Lines ds) = refl
-      whole (Gives n z) = refl
+  whole : (c : Certificate) → behind [] c ≡ certificate_text c
+  whole (Lines ds) = refl
+  whole (Gives n z) = refl
 
--- a chain that is found is one of the program
-pub chain_among : (program : List Routine) (p : ℕ) (zs : List (List ℕ)) (i : ℕ) (z : List ℕ) → map reverse zs ≡ chains program p → i < length zs → z ≡ get_or zs i z → Contains (chains program p) (reverse z)
-chain_among program p zs i z e h k = subst (λ ys. Contains ys (reverse z)) e (go zs i h k)
-  where
-    go : (zs : List (List ℕ)) (i : ℕ) → i < length zs → z ≡ get_or zs i z → Contains (map reverse zs) (reverse z)
-    go [] i h k = absurd (omega arith)
-    go (y ∷ ys) zero h k = (0, omega arith, ap reverse (sym k))
-    go (y ∷ ys) (suc i) h k = let c = go ys i (omega arith) k in (suc c.0, omega (arith, c.1), c.2)
+  -- the loops of the program under all chains are written
+  pub all_written : (us : List (LoopsUnder S)) → map under_told us ≡ all_loops_told dom engine program 0 program → behind [] (all_lines dom port engine program (map under_told us) (Lines [])) ≡ certificate_text (certificate_of dom port engine program (all_loops program))
+  all_written us e = ap (λ xs. behind [] (L xs (Lines []))) e ∙ ap (behind []) (procedures 0 program) ∙ whole (C (all_loops program))
+
+  pub all_text : {E Z : Type 0} (r : Result (Vec ℕ Z) E) (us : List (LoopsUnder S)) → map under_told us ≡ all_loops_told dom engine program 0 program → IfOk r (λ v. (engine : Engine) (program : List Routine) → v.items ≡ behind [] (all_lines dom port engine program (map under_told us) (Lines []))) → IfOk r (λ v. v.items ≡ certificate_text (certificate_of dom port engine program (all_loops program)))
+  all_text (Err e) us h k = k
+  all_text (Ok v) us h k = k engine program ∙ all_written us h

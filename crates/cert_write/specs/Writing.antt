@@ -1,13 +1,11 @@
 -- Certificates as they are written, a line at a time.
 use Rattle.std.specs.Prelude.{ℕ, List, [], ◌∷◌, ◌++◌, Option, Some, None, Vec, option_map, codes}
-use Rattle.imp_syntax.specs.declared.edit.Location.TheVariants.{Head}
 use Rattle.serde_json.specs.Data.{Data, string}
 use Rattle.request_json.specs.Replies.{object_of, count, list_of}
 use Rattle.imp_slots.specs.Plain.{Routine}
 use Rattle.domain_laws.specs.Operations.{Operations}
 use Rattle.batch_meaning.specs.Values.{Value}
 use Rattle.batch_meaning.specs.Batch.{Engine}
-use Rattle.batch_meaning.specs.Places.{value_at}
 use Rattle.cert_meaning.specs.Portable.{Portable}
 use Rattle.cert_lines.specs.Certificate.{Certificate, Lines, Gives, with_line, lines_text, certificate_text}
 
@@ -34,7 +32,7 @@ module _ {S : Type 0} (dom : Operations S) (port : Portable S) (engine : Engine)
   lines_under z [] more = more
   lines_under z (h ∷ hs) more = with_line dom port engine program z h.0 h.1 (lines_under z hs more)
 
-  -- loops under chains, in front of more
-  abbrev pub lines_before : List (List ℕ × ℕ) → Certificate → Certificate
-  lines_before [] more = more
-  lines_before (x ∷ xs) more = with_line dom port engine program x.0 x.1 (value_at dom engine program (Head x.1) x.0) (lines_before xs more)
+  -- the loops of procedures under chains to them, in front of more
+  abbrev pub all_lines : List (List ℕ × List (ℕ × Option (Value S))) → Certificate → Certificate
+  all_lines [] more = more
+  all_lines (u ∷ us) more = lines_under u.0 u.1 (all_lines us more)

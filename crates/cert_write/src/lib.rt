@@ -5,8 +5,8 @@
 //! interpretation has at its head; or, where a loop used up its budget, the first such line alone. What it writes holds
 //! where joins and widenings are above both sides by the domain's order (`cert_complete`).
 //!
-//! Each chain to each procedure is followed once from main, and the heads of its loops come from one walk through the
-//! procedure's body.
+//! The heads of all loops come from one walk over the calls (`loop_heads` of `batch_interp`). Their states are held until
+//! their lines are written: as many as the certificate has lines.
 #![tactic(auto)]
 
 mod lines;

@@ -1,65 +1,40 @@
 //! The lines of a certificate, for `text` of `certificate`.
-ghost use Rattle.std.specs.Prelude.{◌≡◌, Contains, IfOk, map, reverse, slice_get};
+ghost use Rattle.std.specs.Prelude.{◌≡◌, List, [], map, IfOk};
+ghost use Rattle.imp_slots.specs.Plain.{Routine};
 ghost use Rattle.imp_check.specs.Slots.{routines_of};
-ghost use Rattle.program_chains.specs.Chains.{chains};
-ghost use Rattle.call_contexts.specs.Settings.{engine_of, setting_of};
-ghost use Rattle.batch_interp.specs.Heads.{loops_in};
-ghost use Rattle.cert_lines.specs.Certificate.{Certificate, under, certificate, certificate_text};
-ghost use Rattle.cert_write.specs.Writing.{behind, bytes_in, lines_before, or_over};
+ghost use Rattle.batch_meaning.specs.Batch.{Engine};
+ghost use Rattle.call_contexts.specs.Settings.{engine_of};
+ghost use Rattle.batch_interp.specs.Heads.{under_told};
+ghost use Rattle.cert_lines.specs.Certificate.{Lines, certificate, certificate_text};
+ghost use Rattle.cert_write.specs.Writing.{behind, all_lines};
 
 use crate::lines::add_lines;
-use batch_interp::loop_heads;
-use call_contexts::{Setting, few_routines};
-use imp_syntax::{Chain, ProcId};
+use batch_interp::{LoopsUnder, loop_heads};
+use call_contexts::Setting;
 use plain_values::Memory;
 use portable_states::Portable;
 use program_chains::Widening;
 use program_table::Checked;
-use selected_chains::chains;
 use std::alloc::Global;
 use std::sync::ledger::Ledger;
 use step_counter::Steps;
 
-/// Adds the lines of the loops of a procedure under a chain; or gives the line of the first Over.
-fn add_chain<D: Portable, L: Ledger>(
+/// The lines of these loops, or the line of the first Over alone.
+fn all_lines<D: Portable>(
     alloc: Global,
     dom: &D,
-    prog: &Checked,
-    setting: &Setting,
-    proc: ProcId,
-    chain: &Chain,
-    text: &mut Vec<u8>,
-    steps: &mut Steps<L>,
-) -> Result<Option<Vec<u8>>, Memory>
-    requires setting { setting.now ≡ setting_of setting.now.engine (routines_of prog.now) }
-    requires chain { Contains (chains (routines_of prog.now) proc) (reverse chain.now) }
-    ensures added { IfOk result (λ o. (more : Certificate) → behind text.old.items (lines_before (D.operations dom.now) (D.port dom.now) setting.now.engine (routines_of prog.now) (map (λ n. (reverse chain.now, n)) (loops_in (slice_get (routines_of prog.now) proc))) more) ≡ or_over (bytes_in o) (behind text.new.items more)) }
+    loops: &[LoopsUnder<D::State>],
+) -> Result<Vec<u8>, Memory>
+    ensures text { IfOk result (λ v. (engine : Engine) (program : List Routine) → v.items ≡ behind [] (all_lines (D.operations dom.now) (D.port dom.now) engine program (map under_told loops.now) (Lines []))) }
 {
-    let heads = loop_heads(alloc, dom, prog, setting, proc, chain.sites(), steps)?;
-    add_lines(alloc, dom, chain, heads.as_slice(), text)
-}
-
-/// Adds the lines of the loops of a procedure; or gives the line of the first Over.
-fn add_procedure<D: Portable, L: Ledger>(
-    alloc: Global,
-    dom: &D,
-    prog: &Checked,
-    setting: &Setting,
-    proc: ProcId,
-    text: &mut Vec<u8>,
-    steps: &mut Steps<L>,
-) -> Result<Option<Vec<u8>>, Memory>
-    requires setting { setting.now ≡ setting_of setting.now.engine (routines_of prog.now) }
-    ensures added { IfOk result (λ o. (more : Certificate) → behind text.old.items (lines_before (D.operations dom.now) (D.port dom.now) setting.now.engine (routines_of prog.now) (under (loops_in (slice_get (routines_of prog.now) proc)) (chains (routines_of prog.now) proc)) more) ≡ or_over (bytes_in o) (behind text.new.items more)) }
-{
-    let chains = chains(alloc, &prog.view(), proc, &[])?;
-    for chain in chains.as_slice() {
-        match add_chain(alloc, dom, prog, setting, proc, chain, text, steps)? {
-            Some(line) => return Ok(Some(line)),
+    let mut text = Vec::new(alloc);
+    for under in loops {
+        match add_lines(alloc, dom, &under.chain, under.heads.as_slice(), &mut text)? {
+            Some(line) => return Ok(line),
             None => {}
         }
     }
-    Ok(None)
+    Ok(text)
 }
 
 /// The certificate of a program, as the bytes of its lines: `{"at":n,"chain":[..],"state":S}` for each loop n under
@@ -81,14 +56,6 @@ pub fn certificate<D: Portable, L: Ledger>(
     ensures text { IfOk result (λ v. v.items ≡ certificate_text (certificate (D.operations dom.now) (D.port dom.now) (engine_of budget widening) (routines_of prog.now))) }
 {
     let setting = Setting::new(alloc, &prog.view(), budget, widening)?;
-    let mut text = Vec::new(alloc);
-    let count = few_routines(prog).len() as u32;
-    for place in 0..count {
-        let proc = ProcId::new(place);
-        match add_procedure(alloc, dom, prog, &setting, proc, &mut text, steps)? {
-            Some(line) => return Ok(line),
-            None => {}
-        }
-    }
-    Ok(text)
+    let loops = loop_heads(alloc, dom, prog, &setting, steps)?;
+    all_lines(alloc, dom, loops.as_slice())
 }

@@ -1,26 +1,62 @@
-use Rattle.std.proofs.Common.{ap, ◌∙◌, subst, reverse, map}
+use Rattle.std.proofs.Common.{suc, ◌≡◌, ◌-◌, ◌<◌, length, map, drop, sym, ap, subst, ◌∙◌, arith}
 use Rattle.imp_slots.specs.Fits.{IsChecked}
-use Rattle.imp_check.specs.Slots.{routines_of}
-use Rattle.batch_interp.specs.Heads.{head_told}
-use Rattle.batch_interp.proofs.HeadLemmas.{chain_leads, heads_come, no_heads}
+use Rattle.batch_interp.specs.Heads.{under_told, all_loops_told}
+use Rattle.batch_interp.specs.Frames.{Plan}
+use Rattle.batch_interp.specs.Handing.{AreHanded}
+use Rattle.batch_interp.proofs.HeadLemmas.{all_loops_next, all_loops_none}
+use Rattle.batch_interp.proofs.Lists.{if_ok_along, if_ok_map}
 use Rattle.batch_interp.proofs.heads.loop_heads.Goals as goal
 
-pub enter_procedure-requires-clause-leads : goal.enter_procedure-requires-clause-leads
-enter_procedure-requires-clause-leads g c =
-    let program = routines_of c.args.prog.now in
-    let few = c.few_routines.ensures in
-    chain_leads (g.D.Domain.operations c.args.dom.now) c.new-plan.result c.args.setting.now.engine program c.args.proc c.place-place.result (reverse c.args.chain.now) c.in-Some.routine.now (subst IsChecked few.is few.checked) c.chains_go_through_callers.ensures.through c.new-plan.ensures.is c.place-place.ensures.is c.in-Some.ensures.is c.requires.chain
+pub main_handed-requires : goal.main_handed-requires
+main_handed-requires g c =
+    let few = c.few_routines-count.ensures in
+    let checked = subst (λ (p : Plan). IsChecked p.program) (sym c.new-plan.ensures.is) (subst IsChecked few.is few.checked) in
+    record { some = checked.some }
 
-pub returns-in-None : goal.returns-in-None
-returns-in-None g c =
-    let program = routines_of c.args.prog.now in
-    record { exact = ap (map head_told) c.new.ensures.empty ∙ no_heads (g.D.Domain.operations c.args.dom.now) c.new-plan.result c.args.setting.now.engine program c.args.proc c.place-place.result (reverse c.args.chain.now) c.new-plan.ensures.is c.place-place.ensures.is c.in-None.ensures.is }
-
-pub returns-in_ok-entered-in-Some : goal.returns-in_ok-entered-in-Some
-returns-in_ok-entered-in-Some g c =
-    let program = routines_of c.args.prog.now in
-    let few = c.few_routines.ensures in
-    let entered = c.in_ok-entered-in-Some.ensures in
+pub loop-place-init : goal.loop-place-init
+loop-place-init g c =
+    let dom = g.D.Domain.operations c.args.dom.now in
+    let plan = c.new-plan.result in
+    let e : length c.few_routines-count.result.now ≡ length plan.program = ap length (c.few_routines-count.ensures.is ∙ sym (ap (λ (p : Plan). p.program) c.new-plan.ensures.is)) in
     record {
-      exact = heads_come (g.D.Domain.operations c.args.dom.now) c.new-plan.result c.heads_of.result c.args.setting.now.engine program c.args.proc c.place-place.result (reverse c.args.chain.now) c.in-Some.routine.now c.body.result.now c.in_ok-entered-in-Some.entered (subst IsChecked few.is few.checked) c.new-plan.ensures.is c.place-place.ensures.is c.in-Some.ensures.is c.body.ensures.same entered.is entered.place entered.sites c.heads_of.ensures.is;
+      within = omega (arith, e);
+      told = all_loops_none dom plan (length c.few_routines-count.result.now) c.new-parts.result e c.new-parts.ensures.empty;
+      calls = subst (λ n. AreHanded dom plan n c.in_ok-calls.calls) (sym e) c.in_ok-calls.ensures.handed;
+    }
+
+pub loops_at-requires-clause-checked : goal.loops_at-requires-clause-checked
+loops_at-requires-clause-checked g c =
+    let few = c.few_routines-count.ensures in
+    subst (λ (p : Plan). IsChecked p.program) (sym c.new-plan.ensures.is) (subst IsChecked few.is few.checked)
+
+pub loops_at-requires-clause-within : goal.loops_at-requires-clause-within
+loops_at-requires-clause-within g c = omega (arith, c.loop-place-test.true, c.loop-place.invariant.within)
+
+pub loops_at-requires-clause-handed : goal.loops_at-requires-clause-handed
+loops_at-requires-clause-handed g c =
+    let next : c.loop-place.place ≡ suc (c.loop-place.place - 1) = omega (arith, c.loop-place-test.true) in
+    subst (λ n. AreHanded (g.D.Domain.operations c.args.dom.now) c.new-plan.result n c.loop-place.calls) next c.loop-place.invariant.calls
+
+pub loop-place-preserved : goal.loop-place-preserved
+loop-place-preserved g c =
+    let dom = g.D.Domain.operations c.args.dom.now in
+    let plan = c.new-plan.result in
+    let k = c.loop-place.place - 1 in
+    let next : c.loop-place.place ≡ suc k = omega (arith, c.loop-place-test.true) in
+    let there : k < length plan.program = omega (arith, c.loop-place-test.true, c.loop-place.invariant.within) in
+    record {
+      within = omega (arith, there);
+      told = all_loops_next dom plan k c.loop-place.parts c.push.new.self c.in_ok-walked.walked.loops there c.in_ok-walked.ensures.loops c.in_ok-push.ensures.added (c.loop-place.invariant.told ∙ ap (λ n. all_loops_told dom plan.engine plan.program n (drop n plan.program)) next);
+      calls = c.in_ok-walked.ensures.calls;
+    }
+
+pub returns : goal.returns
+returns g c =
+    let dom = g.D.Domain.operations c.args.dom.now in
+    let plan = c.new-plan.result in
+    let first : c.loop-place.place ≡ 0 = omega (arith, c.loop-place-test.false) in
+    let same = c.new-plan.ensures.is in
+    record {
+      exact = if_ok_along c.in_one.result (map under_told) _ _ (if_ok_map c.in_one.result under_told _ c.in_one.ensures.is)
+          (c.loop-place.invariant.told ∙ ap (λ n. all_loops_told dom plan.engine plan.program n (drop n plan.program)) first ∙ (λ i. all_loops_told dom (same i).engine (same i).program 0 (same i).program));
     }

@@ -1,9 +1,14 @@
-use Rattle.std.proofs.Common.{◌≡◌, ◌++◌, drop, map}
-use Rattle.batch_meaning.specs.Report.{finding, checked_statements, report}
+use Rattle.std.proofs.Common.{◌≡◌, ◌≤◌, drop, length, map, reverse}
+use Rattle.batch_meaning.specs.Report.{finding, checked_statements}
+use Rattle.batch_interp.specs.Handing.{in_one, AreHanded}
 use Rattle.batch_interp.proofs.reporting.all_findings.Given as goal
 
+-- the findings of the procedures so far, and what they hand down to those in front
 abbrev pub invariant-loop-place : goal.invariant-loop-place
 invariant-loop-place g l =
     let dom = g.D.Domain.operations l.dom in
-    let engine = l.setting.engine in
-    l.found ++ map (finding dom engine l.routines) (checked_statements (drop l.place l.routines)) ≡ report dom engine l.routines
+    record {
+      within : l.place ≤ length l.plan.program;
+      told : in_one (reverse l.parts) ≡ map (finding dom l.plan.engine l.plan.program) (checked_statements (drop l.place l.plan.program));
+      calls : AreHanded dom l.plan l.place l.calls;
+    }

@@ -1,28 +1,47 @@
 use Rattle.std.proofs.Common.{sym, subst, map}
+use Rattle.program_chains.specs.Chains.{chains}
 use Rattle.batch_meaning.specs.Report.{checked_in}
 use Rattle.batch_interp.specs.Answered.{value_of}
+use Rattle.batch_interp.specs.Frames.{body_at}
+use Rattle.batch_interp.specs.Handing.{IsEnteredBy}
 use Rattle.batch_interp.specs.Reporting.{claims}
-use Rattle.std.proofs.lemmas.Option.{slice_get_within}
-use Rattle.batch_interp.proofs.Fronts.{SoFar, none_so_far, lead_at, totals_step, all_chains}
+use Rattle.batch_interp.proofs.Fronts.{SoFar, none_so_far, totals_next, totals_end}
+use Rattle.batch_interp.proofs.Handings.{columns_next, columns_end}
+use Rattle.batch_interp.proofs.Members.{all2_at}
 use Rattle.batch_interp.proofs.totals.totals.Goals as goal
 
-pub loop-chain-init : goal.loop-chain-init
-loop-chain-init g c =
+pub loop-next-init : goal.loop-next-init
+loop-next-init g c =
     let dom = g.D.Domain.operations c.args.dom.now in
-    let cs = claims (checked_in c.args.body.now) in
-    subst (λ vs. SoFar dom c.args.plan.now c.args.chains.now 0 cs (map value_of vs)) (sym c.new-all.ensures.empty) (none_so_far dom c.args.plan.now c.args.chains.now cs)
+    let plan = c.args.plan.now in
+    let zs = chains plan.program c.args.place in
+    let cs = claims (checked_in (body_at plan.program c.args.place)) in
+    record {
+      known = subst (λ vs. SoFar dom plan zs zs cs (map value_of vs)) (sym c.new-known.ensures.empty) (none_so_far dom plan zs cs);
+      handed = c.new-handed.ensures.empty;
+    }
 
-pub enter_procedure-requires-clause-within : goal.enter_procedure-requires-clause-within
-enter_procedure-requires-clause-within g c = slice_get_within c.args.plan.now.program c.args.place c.requires.there.routine c.requires.there.there
-
-pub enter_procedure-requires-clause-leads : goal.enter_procedure-requires-clause-leads
-enter_procedure-requires-clause-leads g c =
-    lead_at (g.D.Domain.operations c.args.dom.now) c.args.plan.now c.args.place c.args.chains.now c.loop-chain.chain-index c.chain-item.result c.sites.result.now c.loop-chain-test.true c.chain-item.is c.sites.ensures.is c.requires.lead
-
-pub loop-chain-preserved : goal.loop-chain-preserved
-loop-chain-preserved g c =
-    totals_step (g.D.Domain.operations c.args.dom.now) c.args.plan.now c.args.place c.args.body.now c.requires.there c.args.chains.now c.loop-chain.chain-index c.chain-item.result c.sites.result.now c.in_ok-entered.entered c.loop-chain.all c.in_ok-more.more c.last_first.result c.last_first-in-loop-chain.result c.in_ok-all.all c.requires.checked c.loop-chain-test.true c.chain-item.is c.sites.ensures.is c.in_ok-entered.ensures.is c.in_ok-entered.ensures.place c.in_ok-entered.ensures.sites c.in_ok-more.ensures.is c.last_first.ensures.is c.last_first-in-loop-chain.ensures.is c.in_ok-all.ensures.is c.loop-chain.invariant
+pub loop-next-preserved : goal.loop-next-preserved
+loop-next-preserved g c =
+    let dom = g.D.Domain.operations c.args.dom.now in
+    let plan = c.args.plan.now in
+    let place = c.args.place in
+    let i = c.loop-next.next-index in
+    let e = c.next-item.result in
+    let body = c.body-body.result.now in
+    let at = all2_at (IsEnteredBy dom plan place) (chains plan.program place) c.args.entered.now i e c.requires.entered c.loop-next-test.true c.next-item.is in
+    record {
+      known = totals_next dom plan place i body e at c.loop-next.known c.in_ok-more.more c.last_first.result c.last_first-in-loop-next.result c.in_ok-known.known c.requires.checked c.requires.within c.body-body.ensures.is c.in_ok-more.ensures.is c.last_first.ensures.is c.last_first-in-loop-next.ensures.is c.in_ok-known.ensures.is c.loop-next.invariant.known;
+      handed = columns_next dom plan place i body e at c.new-calls.result c.befores_of.new.calls c.loop-next.handed c.in_ok-handed.handed c.requires.checked c.requires.within c.body-body.ensures.is c.new-calls.ensures.empty c.in_ok-more.ensures.calls c.in_ok-handed.ensures.is c.loop-next.invariant.handed;
+    }
 
 pub returns : goal.returns
 returns g c =
-    record { is = all_chains (g.D.Domain.operations c.args.dom.now) c.args.plan.now c.args.chains.now c.loop-chain.chain-index (claims (checked_in c.args.body.now)) (map value_of c.loop-chain.all) c.loop-chain-test.false c.loop-chain.invariant }
+    let dom = g.D.Domain.operations c.args.dom.now in
+    let plan = c.args.plan.now in
+    let place = c.args.place in
+    let es = c.args.entered.now in
+    record {
+      known = totals_end dom plan place c.loop-next.next-index es (claims (checked_in (body_at plan.program place))) (map value_of c.loop-next.known) c.requires.entered c.loop-next-test.false c.loop-next.invariant.known;
+      calls = columns_end dom plan place c.loop-next.next-index es c.loop-next.handed c.requires.entered c.loop-next-test.false c.loop-next.invariant.handed;
+    }

@@ -7,6 +7,6 @@ pub returns-in-None : goal.returns-in-None
 returns-in-None g c =
     record { is = callee_gone (g.D.Domain.operations c.args.interpreter.now.dom.now) c.args.interpreter.now.plan.now c.args.interpreter.now.frame.now.place c.args.callee c.args.call.now (value_of c.args.before) c.in-None.ensures.is }
 
-pub returns-in_ok-frame-in-Some : goal.returns-in_ok-frame-in-Some
-returns-in_ok-frame-in-Some g c =
-    record { is = callee_there (g.D.Domain.operations c.args.interpreter.now.dom.now) c.args.interpreter.now.plan.now c.args.interpreter.now.frame.now.place c.args.callee (c.args.site ∷ c.args.interpreter.now.frame.now.sites) c.args.call.now (value_of c.args.before) c.in-Some.field-0.now (record { frame = c.in_ok-frame-in-Some.frame; before = c.in_ok-before-in-Some.before }) c.in-Some.ensures.is c.in_ok-before-in-Some.ensures.is c.in_ok-frame-in-Some.ensures.is }
+pub returns : goal.returns
+returns g c =
+    record { is = callee_there (g.D.Domain.operations c.args.interpreter.now.dom.now) c.args.interpreter.now.plan.now c.args.interpreter.now.frame.now.place c.args.callee (c.args.site ∷ c.args.interpreter.now.frame.now.sites) c.args.call.now (value_of c.args.before) c.in-Some.field-0.now c.in_ok-entered-in-Some.entered c.in-Some.ensures.is c.in_ok-entered-in-Some.ensures.is }
