@@ -1,0 +1,11 @@
+pub mod ConvertLemmas
+pub mod EntryLemmas
+pub mod ForgetLemmas
+pub mod JoinLemmas
+pub mod LowerLemmas
+pub mod MiddleLemmas
+pub mod PartLemmas
+pub mod RoundLemmas
+pub mod RowLemmas
+pub mod StandingLemmas
+pub mod StepLemmas

@@ -1,0 +1,107 @@
+-- The bounds to and from a slot's nodes, from two whole rows; and what becomes of an entry by them.
+use Rattle.std.specs.Prelude.{◌≡◌, ℕ, ◌<◌, ◌≤◌, ◌+◌, ◌*◌, ◌^◌, ℤ, ◌+ℤ◌, None, Bool, List, length, map}
+use Rattle.std.specs.Int.{int_min}
+use Rattle.std.proofs.Common.{arith, ap, sym, subst, ◌∙◌, get_or}
+use Rattle.dbm_close.proofs.MiddleLemmas.{via_both-rounded}
+use Rattle.dbm_close.specs.Rounds.{HasMiddle, rounded, via_both}
+use Rattle.dbm_core.proofs.HalfLemmas.{entry-coherent}
+use Rattle.dbm_core.proofs.NodeLemmas.{flip-even, flip-odd}
+use Rattle.dbm_core.proofs.WeightLemmas.{add_weight-comm}
+use Rattle.dbm_core.specs.Half.{IsMatrix, entry, row_start, row_width}
+use Rattle.dbm_core.specs.Nodes.{flip}
+use Rattle.dbm_core.specs.Weights.{add_weight, least}
+use Rattle.dbm_narrow.proofs.EntryLemmas.{entries-from, held-entry, held-kept, pair-is_entry, wide-at, wide-min, wide-settle, wide-sum, wide-through_both}
+use Rattle.dbm_narrow.specs.declared.middle.Middle.{Middle}
+use Rattle.dbm_narrow.specs.Entries.{AreEntries, IsEntry, at, held, none, pair_at, settle, wide}
+use Rattle.dbm_narrow.specs.Middles.{IsNarrowMiddle, through_middle, wide_middle}
+use Rattle.dbm_narrow.specs.Rounds.{IsNarrow}
+
+pub flip-first : (q : ℕ) → flip (2 * q) ≡ 2 * q + 1
+flip-first q = flip-even (2 * q) (omega arith)
+
+pub flip-second : (q : ℕ) → flip (2 * q + 1) ≡ 2 * q
+flip-second q = flip-odd (2 * q + 1) (omega arith) ∙ omega arith
+
+-- the column of a node is the row of the node of the other sign, turned
+module _ (kinds : List Bool) (xs : List ℤ) (t : IsMatrix (held kinds xs)) where
+  pub to_node : (i k : ℕ) → i < 2 * length kinds → k < 2 * length kinds → wide (pair_at xs (flip k) (flip i)) ≡ entry (held kinds xs) i k
+  to_node i k hi hk = sym (held-entry kinds xs (flip k) (flip i)) ∙ sym (entry-coherent (held kinds xs) t i k hi hk)
+
+-- what the arrays hold, of the rows f and s of a slot's two nodes
+pub record AreWays (n : ℕ) (xs : List ℤ) (q : ℕ) (m : Middle) (ds : List ℤ) : Type 0 where
+  pub first : (j : ℕ) → j < n → at m.from_first j ≡ pair_at xs (2 * q) j
+  pub to_first : (i : ℕ) → i < n → at m.to_first i ≡ pair_at xs (2 * q + 1) (flip i)
+  pub direct : (i : ℕ) → i < n → at ds i ≡ pair_at xs (2 * q) (flip i)
+  pub to_second : (i : ℕ) → i < n → at m.to_second i ≡ int_min (at ds i) (settle (at m.from_first (2 * q + 1) +ℤ at m.to_first i))
+  pub from_second : (j : ℕ) → j < n → at m.from_second j ≡ int_min (pair_at xs (2 * q + 1) j) (settle (pair_at xs (2 * q + 1) (2 * q) +ℤ at m.from_first j))
+
+pub ways-middle : (kinds : List Bool) (xs : List ℤ) (q : ℕ) (m : Middle) (direct : List ℤ) → IsNarrow kinds xs → q < length kinds → AreWays (2 * length kinds) xs q m direct → HasMiddle (2 * length kinds) (entry (held kinds xs)) q (wide_middle m)
+ways-middle kinds xs q m direct t l p = record {
+  to_first = λ i hi. wide-at m.to_first i ∙ to_first i hi;
+  from_first = λ j hj. wide-at m.from_first j ∙ from_first j hj;
+  to_second = λ i hi. wide-at m.to_second i ∙ ap wide (p.to_second i hi) ∙ wide-min (at direct i) (settle (at m.from_first (2 * q + 1) +ℤ at m.to_first i))
+      ∙ ap (λ a. least a (wide (settle (at m.from_first (2 * q + 1) +ℤ at m.to_first i)))) (to_direct i hi)
+      ∙ ap (least (entry (held kinds xs) i (2 * q + 1))) (step_to i hi);
+  from_second = λ j hj. wide-at m.from_second j ∙ ap wide (p.from_second j hj) ∙ wide-min (pair_at xs (2 * q + 1) j) (settle (pair_at xs (2 * q + 1) (2 * q) +ℤ at m.from_first j))
+      ∙ ap (λ a. least a (wide (settle (pair_at xs (2 * q + 1) (2 * q) +ℤ at m.from_first j)))) (sym (held-entry kinds xs (2 * q + 1) j))
+      ∙ ap (least (entry (held kinds xs) (2 * q + 1) j)) (step_from j hj);
+}
+  where
+    small : (i j : ℕ) → IsEntry (2 ^ 25) (pair_at xs i j)
+    small i j = pair-is_entry (2 ^ 25) xs i j t.entries
+
+    of_entry : (x : ℤ) (i j : ℕ) → x ≡ pair_at xs i j → IsEntry (2 ^ 25) x
+    of_entry x i j e = subst (IsEntry (2 ^ 25)) (sym e) (small i j)
+
+    to_first : (i : ℕ) → i < 2 * length kinds → wide (at m.to_first i) ≡ entry (held kinds xs) i (2 * q)
+    to_first i hi = ap wide (p.to_first i hi) ∙ ap (λ k. wide (pair_at xs k (flip i))) (sym (flip-first q)) ∙ to_node kinds xs t.matrix i (2 * q) hi (omega arith)
+
+    from_first : (j : ℕ) → j < 2 * length kinds → wide (at m.from_first j) ≡ entry (held kinds xs) (2 * q) j
+    from_first j hj = ap wide (p.first j hj) ∙ sym (held-entry kinds xs (2 * q) j)
+
+    to_direct : (i : ℕ) → i < 2 * length kinds → wide (at direct i) ≡ entry (held kinds xs) i (2 * q + 1)
+    to_direct i hi = ap wide (p.direct i hi) ∙ ap (λ k. wide (pair_at xs k (flip i))) (sym (flip-second q)) ∙ to_node kinds xs t.matrix i (2 * q + 1) hi (omega arith)
+
+    step_to : (i : ℕ) → i < 2 * length kinds → wide (settle (at m.from_first (2 * q + 1) +ℤ at m.to_first i)) ≡ add_weight (entry (held kinds xs) i (2 * q)) (entry (held kinds xs) (2 * q) (2 * q + 1))
+    step_to i hi =
+        let k : 2 * q + 1 < 2 * length kinds = omega arith in
+        wide-settle (at m.from_first (2 * q + 1) +ℤ at m.to_first i)
+        ∙ wide-sum (2 ^ 25) (2 ^ 25) (at m.from_first (2 * q + 1)) (at m.to_first i) (omega arith) (of_entry (at m.from_first (2 * q + 1)) (2 * q) (2 * q + 1) (p.first (2 * q + 1) k)) (of_entry (at m.to_first i) (2 * q + 1) (flip i) (p.to_first i hi))
+        ∙ ap (λ a. add_weight a (wide (at m.to_first i))) (from_first (2 * q + 1) k)
+        ∙ ap (add_weight (entry (held kinds xs) (2 * q) (2 * q + 1))) (to_first i hi)
+        ∙ add_weight-comm (entry (held kinds xs) (2 * q) (2 * q + 1)) (entry (held kinds xs) i (2 * q))
+
+    step_from : (j : ℕ) → j < 2 * length kinds → wide (settle (pair_at xs (2 * q + 1) (2 * q) +ℤ at m.from_first j)) ≡ add_weight (entry (held kinds xs) (2 * q + 1) (2 * q)) (entry (held kinds xs) (2 * q) j)
+    step_from j hj =
+        wide-settle (pair_at xs (2 * q + 1) (2 * q) +ℤ at m.from_first j)
+        ∙ wide-sum (2 ^ 25) (2 ^ 25) (pair_at xs (2 * q + 1) (2 * q)) (at m.from_first j) (omega arith) (small (2 * q + 1) (2 * q)) (of_entry (at m.from_first j) (2 * q) j (p.first j hj))
+        ∙ ap (λ a. add_weight a (wide (at m.from_first j))) (sym (held-entry kinds xs (2 * q + 1) (2 * q)))
+        ∙ ap (add_weight (entry (held kinds xs) (2 * q + 1) (2 * q))) (from_first j hj)
+
+-- an entry that goes through the middle stands for the bound when walks do
+pub middle-via : (kinds : List Bool) (xs ys : List ℤ) (m : Middle) → IsNarrowMiddle m → (i j : ℕ) → j < row_width i → at ys (row_start i + j) ≡ through_middle m i j (at xs (row_start i + j)) →
+    entry (held kinds ys) i j ≡ via_both (wide_middle m) i j (entry (held kinds xs) i j)
+middle-via kinds xs ys m s i j w e =
+    held-kept kinds ys i j w
+    ∙ ap wide e
+    ∙ wide-through_both (at m.to_first i) (at m.to_second i) (at m.from_first j) (at m.from_second j) (at xs (row_start i + j)) (s.to_first i) (s.to_second i) (s.from_first j) (s.from_second j)
+    ∙ ap (λ a. least (least a (add_weight (wide (at m.to_first i)) (wide (at m.from_first j)))) (add_weight (wide (at m.to_second i)) (wide (at m.from_second j)))) (sym (held-kept kinds xs i j w))
+    ∙ ap (λ a. least (least (entry (held kinds xs) i j) (add_weight a (wide (at m.from_first j)))) (add_weight (wide (at m.to_second i)) (wide (at m.from_second j)))) (sym (wide-at m.to_first i))
+    ∙ ap (λ a. least (least (entry (held kinds xs) i j) (add_weight (get_or (map wide m.to_first) i None) a)) (add_weight (wide (at m.to_second i)) (wide (at m.from_second j)))) (sym (wide-at m.from_first j))
+    ∙ ap (λ a. least (least (entry (held kinds xs) i j) (add_weight (get_or (map wide m.to_first) i None) (get_or (map wide m.from_first) j None))) (add_weight a (wide (at m.from_second j)))) (sym (wide-at m.to_second i))
+    ∙ ap (λ a. least (least (entry (held kinds xs) i j) (add_weight (get_or (map wide m.to_first) i None) (get_or (map wide m.from_first) j None))) (add_weight (get_or (map wide m.to_second) i None) a)) (sym (wide-at m.from_second j))
+
+pub middle-rounded : (kinds : List Bool) (xs ys : List ℤ) (q : ℕ) (m : Middle) → HasMiddle (2 * length kinds) (entry (held kinds xs)) q (wide_middle m) → IsNarrowMiddle m →
+    (i j : ℕ) → i < 2 * length kinds → j < row_width i → at ys (row_start i + j) ≡ through_middle m i j (at xs (row_start i + j)) →
+    entry (held kinds ys) i j ≡ rounded (entry (held kinds xs)) q i j
+middle-rounded kinds xs ys q m h s i j hi w e =
+    let hj : j < 2 * length kinds = omega arith in
+    middle-via kinds xs ys m s i j w e ∙ via_both-rounded (2 * length kinds) (entry (held kinds xs)) q (wide_middle m) h i j hi hj
+
+-- ---- the arrays hold entries
+
+pub row-is_entry : (b n : ℕ) (xs row : List ℤ) (i : ℕ) → AreEntries b xs → ((j : ℕ) → j < n → at row j ≡ pair_at xs i j) → ((j : ℕ) → n ≤ j → at row j ≡ none) → AreEntries b row
+row-is_entry b n xs row i h p q = entries-from b n row (pair_at xs i) p q (λ j. pair-is_entry b xs i j h)
+
+pub flipped-is_entry : (b n : ℕ) (row turned : List ℤ) → AreEntries b row → ((i : ℕ) → i < n → at turned i ≡ at row (flip i)) → ((i : ℕ) → n ≤ i → at turned i ≡ none) → AreEntries b turned
+flipped-is_entry b n row turned h p q = entries-from b n turned (λ i. at row (flip i)) p q (λ i. h (flip i))

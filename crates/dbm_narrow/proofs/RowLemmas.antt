@@ -1,0 +1,96 @@
+-- Rows that are gone over one entry after another.
+use Rattle.std.specs.Prelude.{◌≡◌, ℕ, ◌<◌, ◌≤◌, ◌+◌, ◌*◌, ◌^◌, ℤ, pos, neg_ℤ, ◌≤ℤ◌, ◌+ℤ◌, List, length, slice_set, refl}
+use Rattle.std.specs.Int.{int_min, int_max}
+use Rattle.std.proofs.Common.{arith, sym, subst, ◌∙◌, inl, inr, length-set, get_or, get_or-set_other, get_or-set_same}
+use Rattle.std.proofs.lemmas.Int.{ints}
+use Rattle.std.proofs.lemmas.Bool.{cases_lt}
+use Rattle.std.proofs.lemmas.List.{get_or_default}
+use mir.Syntax.{w32}
+use mir.Val.{of_z, to_z}
+use Rattle.dbm_narrow.proofs.EntryLemmas.{entry-fits, same, settled-entry, strengthened-entry}
+use Rattle.dbm_narrow.specs.Entries.{AreEntries, IsEntry, at, none, or_zero, strengthened_by, through_both}
+
+-- what is set at a place leaves what is before it, and what is after
+pub done-set : (P : ℕ → ℤ → Type 0) (xs : List ℤ) (i : ℕ) (x : ℤ) → i < length xs → ((k : ℕ) → k < i → P k (at xs k)) → P i x → (k : ℕ) → k < i + 1 → P k (at (slice_set xs i x) k)
+done-set P xs i x l h p = λ k m. elim (cases_lt k i) [
+  | inl q ↦ let n : k ≡ i → ⊥ = λ e. absurd (omega arith) in rw get_or-set_other (h k q)
+  | inr q ↦ let e : k ≡ i = omega arith in rw e (rw get_or-set_same p)
+]
+
+pub rest-set : (P : ℕ → ℤ → Type 0) (xs : List ℤ) (i : ℕ) (x : ℤ) → ((k : ℕ) → i ≤ k → P k (at xs k)) → (k : ℕ) → i + 1 ≤ k → P k (at (slice_set xs i x) k)
+rest-set P xs i x h = λ k m. let n : k ≡ i → ⊥ = λ e. absurd (omega arith) in rw get_or-set_other (h k (omega arith))
+
+-- two set at once
+pub two-set : (P : ℕ → ℤ → Type 0) (xs : List ℤ) (s : ℕ) (x y : ℤ) → 2 * s + 1 < length xs → ((k : ℕ) → k < 2 * s → P k (at xs k)) → P (2 * s) x → P (2 * s + 1) y →
+    (k : ℕ) → k < 2 * (s + 1) → P k (at (slice_set (slice_set xs (2 * s) x) (2 * s + 1) y) k)
+two-set P xs s x y l h p q k m = done-set P (slice_set xs (2 * s) x) (2 * s + 1) y (omega (arith, length-set xs (2 * s) x)) (done-set P xs (2 * s) x (omega arith) h p) q k (omega arith)
+
+pub two-rest : (P : ℕ → ℤ → Type 0) (xs : List ℤ) (s : ℕ) (x y : ℤ) → ((k : ℕ) → 2 * s ≤ k → P k (at xs k)) → (k : ℕ) → 2 * (s + 1) ≤ k → P k (at (slice_set (slice_set xs (2 * s) x) (2 * s + 1) y) k)
+two-rest P xs s x y h k m = rest-set P (slice_set xs (2 * s) x) (2 * s + 1) y (rest-set P xs (2 * s) x h) k (omega arith)
+
+pub two-size : (n : ℕ) (xs : List ℤ) (s : ℕ) (x y : ℤ) → length xs ≡ n → length (slice_set (slice_set xs (2 * s) x) (2 * s + 1) y) ≡ n
+two-size n xs s x y e = length-set (slice_set xs (2 * s) x) (2 * s + 1) y ∙ length-set xs (2 * s) x ∙ e
+
+-- the first j entries of a row are gone through, and low and high are their extremes
+pub record IsThrough (u v : ℤ) (f g o xs : List ℤ) (j : ℕ) (low high : ℤ) : Type 0 where
+  pub done : (k : ℕ) → k < j → at xs k ≡ through_both u v (at f k) (at g k) (at o k)
+  pub rest : (k : ℕ) → j ≤ k → at xs k ≡ at o k
+  pub span : (k : ℕ) → k < j → (low ≤ℤ at xs k) × (or_zero (at xs k) ≤ℤ high)
+
+pub IsThrough-first : (u v : ℤ) (f g o : List ℤ) → IsThrough u v f g o o 0 (pos 0) (pos 0)
+IsThrough-first u v f g o = record {
+  done = λ k l. absurd (omega arith);
+  rest = λ k l. refl;
+  span = λ k l. absurd (omega arith);
+}
+
+wider : (low high x l h : ℤ) → l ≤ℤ low → high ≤ℤ h → (low ≤ℤ x) × (or_zero x ≤ℤ high) → (l ≤ℤ x) × (or_zero x ≤ℤ h)
+wider low high x l h p q r = let a : low ≤ℤ x = r.0 in let b : or_zero x ≤ℤ high = r.1 in (omega (arith, ints), omega (arith, ints))
+
+min-below_left : (a b : ℤ) → int_min a b ≤ℤ a
+min-below_left a b = grind (arith, ints)
+
+min-below_right : (a b : ℤ) → int_min a b ≤ℤ b
+min-below_right a b = grind (arith, ints)
+
+max-above_left : (a b : ℤ) → a ≤ℤ int_max a b
+max-above_left a b = grind (arith, ints)
+
+max-above_right : (a b : ℤ) → b ≤ℤ int_max a b
+max-above_right a b = grind (arith, ints)
+
+pub IsThrough-next : (u v : ℤ) (f g o xs : List ℤ) (j : ℕ) (low high b l h : ℤ) → j < length xs → IsThrough u v f g o xs j low high →
+    b ≡ through_both u v (at f j) (at g j) (at o j) → l ≡ int_min low b → h ≡ int_max high (or_zero b) → IsThrough u v f g o (slice_set xs j b) (j + 1) l h
+IsThrough-next u v f g o xs j low high b l h m p e s t =
+    let ll : l ≤ℤ low = subst (λ z. z ≤ℤ low) (sym s) (min-below_left low b) in
+    let lb : l ≤ℤ b = subst (λ z. z ≤ℤ b) (sym s) (min-below_right low b) in
+    let hh : high ≤ℤ h = subst (λ z. high ≤ℤ z) (sym t) (max-above_left high (or_zero b)) in
+    let hb : or_zero b ≤ℤ h = subst (λ z. or_zero b ≤ℤ z) (sym t) (max-above_right high (or_zero b)) in
+    record {
+      done = done-set (λ k x. x ≡ through_both u v (at f k) (at g k) (at o k)) xs j b m p.done e;
+      rest = rest-set (λ k x. x ≡ at o k) xs j b p.rest;
+      span = done-set (λ k x. (l ≤ℤ x) × (or_zero x ≤ℤ h)) xs j b m (λ k q. wider low high (at xs k) l h ll hh (p.span k q)) (lb, hb);
+    }
+
+pub IsThrough-within : (u v : ℤ) (f g o xs : List ℤ) (j : ℕ) (low high : ℤ) → length o ≤ j → AreEntries (2 ^ 25) o → IsThrough u v f g o xs j low high →
+    neg_ℤ (pos (2 ^ 25)) ≤ℤ low → high ≤ℤ pos (2 ^ 25) → AreEntries (2 ^ 25) xs
+IsThrough-within u v f g o xs j low high m all p l h k = elim (cases_lt k j) [
+  | inl q ↦ let r : (neg_ℤ (pos (2 ^ 25)) ≤ℤ at xs k) × (or_zero (at xs k) ≤ℤ pos (2 ^ 25)) = wider low high (at xs k) (neg_ℤ (pos (2 ^ 25))) (pos (2 ^ 25)) l h (p.span k q) in
+      subst (IsEntry (2 ^ 25)) (sym (p.done k q))
+      (settled-entry (2 ^ 25) (int_min (int_min (at o k) (u +ℤ at f k)) (v +ℤ at g k))
+      (subst (λ x. neg_ℤ (pos (2 ^ 25)) ≤ℤ x) (p.done k q) r.0) (subst (λ x. or_zero x ≤ℤ pos (2 ^ 25)) (p.done k q) r.1))
+  | inr q ↦ subst (IsEntry (2 ^ 25)) (sym (p.rest k q)) (all k)
+]
+
+-- what code reads of a row, of which only the entries before j are changed
+pub row-read : (xs os : List ℤ) (j : ℕ) → j < length xs → AreEntries (2 ^ 25) os → ((k : ℕ) → j ≤ k → at xs k ≡ at os k) → to_z w32 (of_z w32 (get_or xs j (pos 0))) ≡ at os j
+row-read xs os j l h rest =
+    let e : get_or xs j (pos 0) ≡ at os j = get_or_default xs j (pos 0) none l ∙ rest j (omega arith) in
+    same (get_or xs j (pos 0)) (entry-fits (2 ^ 25) (get_or xs j (pos 0)) (omega arith) (subst (IsEntry (2 ^ 25)) (sym e) (h j))) ∙ e
+
+pub strengthened-row : (u : ℤ) (f o xs : List ℤ) (j : ℕ) → length o ≤ j → IsEntry (2 ^ 24) u → AreEntries (2 ^ 24) f → AreEntries (2 ^ 25) o →
+    ((k : ℕ) → k < j → at xs k ≡ strengthened_by u (at f k) (at o k)) → ((k : ℕ) → j ≤ k → at xs k ≡ at o k) → AreEntries (2 ^ 25) xs
+strengthened-row u f o xs j l p q h done rest k = elim (cases_lt k j) [
+  | inl m ↦ subst (IsEntry (2 ^ 25)) (sym (done k m)) (strengthened-entry u (at f k) (at o k) p (q k) (h k))
+  | inr m ↦ subst (IsEntry (2 ^ 25)) (sym (rest k m)) (h k)
+]

@@ -1,0 +1,9 @@
+use Rattle.std.proofs.Common.{◌≡◌, ◌<◌, ◌≤◌, ℕ}
+use Rattle.dbm_narrow.specs.Entries.{at, dropped}
+use Rattle.dbm_narrow.proofs.dropping.drop_each.Given as goal
+
+abbrev pub invariant-loop-j : goal.invariant-loop-j
+invariant-loop-j l = record {
+  done : (a : ℕ) → a < l.j → at l.row a ≡ dropped l.slot l.i a (at l.fn.row a);
+  rest : (a : ℕ) → l.j ≤ a → at l.row a ≡ at l.fn.row a;
+}

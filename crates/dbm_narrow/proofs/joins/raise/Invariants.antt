@@ -1,0 +1,10 @@
+use Rattle.std.proofs.Common.{◌≡◌, ◌<◌, ◌≤◌, ℕ}
+use Rattle.std.specs.Int.{int_max}
+use Rattle.dbm_narrow.specs.Entries.{at}
+use Rattle.dbm_narrow.proofs.joins.raise.Given as goal
+
+abbrev pub invariant-loop-k : goal.invariant-loop-k
+invariant-loop-k l = record {
+  done : (p : ℕ) → p < l.k → at l.entries p ≡ int_max (at l.fn.entries p) (at l.others p);
+  rest : (p : ℕ) → l.k ≤ p → at l.entries p ≡ at l.fn.entries p;
+}

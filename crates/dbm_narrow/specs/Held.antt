@@ -1,0 +1,63 @@
+-- What the matrix of narrow entries is known to be.
+use Rattle.std.specs.Prelude.{◌≡◌, ℕ, ◌*◌, ◌^◌, ℤ, ◌≤ℤ◌, Option, Some, Bool, MatchOption, List, length, map}
+use Rattle.std.specs.Bool.{MatchBool}
+use Rattle.dbm_close.specs.Close.{HasEmptyRange, HasNoEmptyRange}
+use Rattle.dbm_close.specs.Halves.{HasHalves, HasNegativeHalves, HasNoNegativeHalves}
+use Rattle.dbm_close.specs.Laws.{AreInSlots}
+use Rattle.dbm_close.specs.Rounds.{HasMiddle, IsDiagonalNegative, IsDiagonalSound}
+use Rattle.dbm_core.specs.Half.{HalfMatrix, HasEntries, entry, nodes}
+use Rattle.dbm_core.specs.Limits.{AreWithin, IsWithin, IsZeroAtMost}
+use Rattle.dbm_core.specs.Operations.{forgotten}
+use Rattle.dbm_core.specs.Valuations.{IsSatisfiedBy}
+use Rattle.dbm_narrow.specs.Closings.{FinishesEmpty, FinishesTo}
+use Rattle.dbm_narrow.specs.declared.middle.Middle.{Middle}
+use Rattle.dbm_narrow.specs.Entries.{IsEntry, held, wide}
+use Rattle.dbm_narrow.specs.Middles.{wide_middle}
+
+-- its diagonal is 0 or less
+abbrev pub HasLowDiagonal : List Bool → List ℤ → Type 0
+HasLowDiagonal kinds xs = IsZeroAtMost (nodes (held kinds xs)) (entry (held kinds xs))
+
+-- whether an entry of the diagonal is below 0
+abbrev pub TellsDiagonal : List Bool → List ℤ → Bool → Type 0
+TellsDiagonal kinds xs b = MatchBool b (IsDiagonalNegative (nodes (held kinds xs)) (entry (held kinds xs))) (IsDiagonalSound (nodes (held kinds xs)) (entry (held kinds xs)))
+
+-- whether a slot's range is empty
+abbrev pub TellsRanges : List Bool → List ℤ → Bool → Type 0
+TellsRanges kinds xs b = MatchBool b (HasEmptyRange kinds (entry (held kinds xs))) (HasNoEmptyRange kinds (entry (held kinds xs)))
+
+-- whether two halves of a slot are below 0 together
+abbrev pub TellsHalves : ℕ → List ℤ → Bool → Type 0
+TellsHalves n hs b = MatchBool b (HasNegativeHalves n (map wide hs)) (HasNoNegativeHalves n (map wide hs))
+
+-- what steps 2 to 6 answer
+abbrev pub TellsFinish : List Bool → List ℤ → List ℤ → Bool → Type 0
+TellsFinish kinds xs ys b = MatchBool b (FinishesTo kinds xs ys) (FinishesEmpty kinds xs)
+
+-- hs has half of each node's own bound
+abbrev pub HoldsHalves : List Bool → List ℤ → List ℤ → Type 0
+HoldsHalves kinds xs hs = HasHalves (2 * length kinds) (entry (held kinds xs)) (map wide hs)
+
+-- m has the bounds to and from both nodes of slot q
+abbrev pub HoldsMiddle : List Bool → List ℤ → ℕ → Middle → Type 0
+HoldsMiddle kinds xs q m = HasMiddle (2 * length kinds) (entry (held kinds xs)) q (wide_middle m)
+
+-- the bound in 32 bits, none where it lies outside the limits
+abbrev pub IsSmallOf : ℤ → Option ℤ → Type 0
+IsSmallOf bound o = MatchOption o (IsWithin (2 ^ 25) (Some bound) → ⊥) (λ x. (x ≡ bound) × IsWithin (2 ^ 25) (Some x))
+
+-- the entry of a bound, none where it lies outside the limits
+abbrev pub IsEntryOf : Option ℤ → Option ℤ → Type 0
+IsEntryOf bound o = MatchOption o (IsWithin (2 ^ 25) bound → ⊥) (λ x. (wide x ≡ bound) × IsEntry (2 ^ 25) x)
+
+-- the same matrix, none where a bound lies outside the limits
+abbrev pub IsNarrowOf : HalfMatrix → Option HalfMatrix → Type 0
+IsNarrowOf m o = MatchOption o (AreWithin (nodes m) (2 ^ 25) (entry m) → ⊥) (λ n. n ≡ m)
+
+-- the values of slot k, of whatever satisfies m, lie from low to high
+abbrev pub HoldsValues : HalfMatrix → ℕ → ℤ → ℤ → Type 0
+HoldsValues m k low high = (x : ℕ → ℤ) → AreInSlots m.kinds x → IsSatisfiedBy m x → (low ≤ℤ x k) × (x k ≤ℤ high)
+
+-- n has the bounds of m without those on slot k
+abbrev pub Forgets : HalfMatrix → ℕ → HalfMatrix → Type 0
+Forgets m k n = HasEntries m.kinds (forgotten (entry m) k) n

@@ -1,0 +1,66 @@
+//! Bounds added to closed entries, which are then closed once more.
+ghost use Rattle.std.specs.Prelude.{◌*◌, length};
+ghost use Rattle.dbm_incremental.specs.Steps.{AreBounds};
+ghost use Rattle.dbm_narrow.specs.Addings.{AreLowered, IsLoweredOutcome};
+ghost use Rattle.dbm_narrow.specs.Held.{IsSmallOf};
+ghost use Rattle.dbm_narrow.specs.Lowerings.{HasOwnWeights};
+ghost use Rattle.dbm_narrow.specs.Rounds.{IsNarrow};
+
+use crate::closing::Outcome;
+use crate::lower::lower;
+use crate::steps::finish;
+use crate::walks::Walks;
+use dbm_incremental::Bound;
+
+/// The bound in 32 bits, if it lies within the limits.
+#[inline]
+pub fn small_bound(bound: i128) -> Option<i32>
+    ensures small { IsSmallOf bound result }
+{
+    if bound < -33554432 {
+        return None;
+    }
+    if bound > 33554432 {
+        return None;
+    }
+    Some(bound as i32)
+}
+
+/// Lowers the bounds, in place. After an answer other than `Done` the entries are of no use.
+pub fn lower_all(kinds: &[bool], entries: &mut [i32], bounds: &[Bound]) -> Walks
+    requires narrow { IsNarrow kinds.now entries.old }
+    requires weights { HasOwnWeights kinds.now entries.old }
+    requires bounds { AreBounds (2 * length kinds.now) bounds.now }
+    ensures lowered { AreLowered kinds.now entries.old entries.new bounds.now result }
+{
+    for bound in bounds {
+        match small_bound(bound.bound) {
+            None => return Walks::TooWide,
+            Some(small) => match lower(kinds, entries, bound.row, bound.column, small) {
+                Walks::Done => {}
+                Walks::Negative => return Walks::Negative,
+                Walks::TooWide => return Walks::TooWide,
+            },
+        }
+    }
+    Walks::Done
+}
+
+/// Closes the entries with the bounds lowered, in place. After an answer other than `Closed` they are
+/// of no use.
+pub fn close_lowered(kinds: &[bool], entries: &mut [i32], bounds: &[Bound]) -> Outcome
+    requires narrow { IsNarrow kinds.now entries.old }
+    requires weights { HasOwnWeights kinds.now entries.old }
+    requires bounds { AreBounds (2 * length kinds.now) bounds.now }
+    ensures outcome { IsLoweredOutcome kinds.now entries.old entries.new bounds.now result }
+{
+    match lower_all(kinds, entries, bounds) {
+        Walks::Done => if finish(kinds, entries) {
+            Outcome::Closed
+        } else {
+            Outcome::Empty
+        },
+        Walks::Negative => Outcome::Empty,
+        Walks::TooWide => Outcome::TooWide,
+    }
+}

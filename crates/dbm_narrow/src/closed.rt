@@ -1,0 +1,84 @@
+//! Closing a narrow matrix.
+ghost use Rattle.std.specs.Prelude.{◌≢◌, ◌<◌, ◌/◌, IfOk, length};
+ghost use Rattle.dbm_core.specs.Half.{entry, nodes};
+ghost use Rattle.dbm_core.specs.Limits.{IsZeroAtMost};
+ghost use Rattle.dbm_incremental.specs.ClosedMatrices.{IsClosed};
+ghost use Rattle.dbm_incremental.specs.Steps.{AreBounds};
+ghost use Rattle.dbm_narrow.specs.Closed.{IsClosing, IsClosingEquated, IsClosingLowered};
+
+use crate::Narrow;
+use crate::adding::close_lowered;
+use crate::closing::{Outcome, close_entries};
+use crate::standing::close_stood;
+use dbm_incremental::Bound;
+use plain_values::Memory;
+use std::alloc::Global;
+
+/// What closing answers.
+#[derive(Drop)]
+pub enum Closing {
+    /// No values satisfy the matrix.
+    Empty,
+    /// The closed matrix.
+    Matrix(Narrow),
+    /// A bound has left the limits: nothing is said.
+    TooWide,
+}
+
+/// Closes a matrix whose diagonal is 0 or less, as the definition of closing says, unless a bound
+/// leaves the limits on the way.
+pub fn close(alloc: Global, m: &Narrow) -> Result<Closing, Memory>
+    requires diagonal { IsZeroAtMost (nodes m.now) (entry m.now) }
+    ensures closing { IfOk result (IsClosing m.now) }
+{
+    let kinds = Vec::from_slice(alloc, m.kinds.as_slice())?;
+    let mut entries = Vec::from_slice(alloc, m.entries.as_slice())?;
+    match close_entries(kinds.as_slice(), entries.as_mut_slice()) {
+        Outcome::Closed => Ok(Closing::Matrix(Narrow { kinds, entries })),
+        Outcome::Empty => Ok(Closing::Empty),
+        Outcome::TooWide => Ok(Closing::TooWide),
+    }
+}
+
+/// Closes a closed matrix with bounds lowered, once, unless a bound leaves the limits on the way.
+pub fn close_after_bounds(
+    alloc: Global,
+    closed: &Narrow,
+    bounds: &[Bound],
+) -> Result<Closing, Memory>
+    requires bounds { AreBounds (nodes closed.now) bounds.now }
+    requires closed { IsClosed closed.now }
+    ensures closing { IfOk result (IsClosingLowered closed.now bounds.now) }
+{
+    let kinds = Vec::from_slice(alloc, closed.kinds.as_slice())?;
+    let mut entries = Vec::from_slice(alloc, closed.entries.as_slice())?;
+    match close_lowered(kinds.as_slice(), entries.as_mut_slice(), bounds) {
+        Outcome::Closed => Ok(Closing::Matrix(Narrow { kinds, entries })),
+        Outcome::Empty => Ok(Closing::Empty),
+        Outcome::TooWide => Ok(Closing::TooWide),
+    }
+}
+
+/// Closes a closed matrix in which slot q's bounds are dropped and q is made node y, of another slot,
+/// plus c, unless a bound leaves the limits on the way.
+pub fn close_equation(
+    alloc: Global,
+    closed: &Narrow,
+    q: usize,
+    y: usize,
+    c: i128,
+) -> Result<Closing, Memory>
+    requires slot { q < length closed.now.kinds }
+    requires node { y < nodes closed.now }
+    requires apart { y / 2 ≢ q }
+    requires closed { IsClosed closed.now }
+    ensures closing { IfOk result (IsClosingEquated closed.now q y c) }
+{
+    let kinds = Vec::from_slice(alloc, closed.kinds.as_slice())?;
+    let mut entries = Vec::from_slice(alloc, closed.entries.as_slice())?;
+    match close_stood(kinds.as_slice(), entries.as_mut_slice(), q, y, c) {
+        Outcome::Closed => Ok(Closing::Matrix(Narrow { kinds, entries })),
+        Outcome::Empty => Ok(Closing::Empty),
+        Outcome::TooWide => Ok(Closing::TooWide),
+    }
+}

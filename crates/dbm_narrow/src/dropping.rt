@@ -1,0 +1,82 @@
+//! A slot forgotten.
+ghost use Rattle.std.specs.Prelude.{◌≡◌, ◌<◌, ◌≤◌, ◌^◌, ◌*◌, ◌+◌, IfOk, length};
+ghost use Rattle.dbm_core.specs.Half.{entry, row_start, row_width};
+ghost use Rattle.dbm_narrow.specs.Entries.{AreEntries, dropped};
+ghost use Rattle.dbm_narrow.specs.Held.{Forgets};
+ghost use Rattle.dbm_narrow.specs.Rows.{EachIs, RestStays, RowIs, RowsAre};
+
+use crate::Narrow;
+use crate::entries::NONE;
+use crate::rows::{row_at, row_len};
+use plain_values::Memory;
+use std::alloc::Global;
+
+/// The bounds on a slot dropped: the slot may then have any value. The diagonal stays.
+pub fn forget(alloc: Global, narrow: &Narrow, slot: usize) -> Result<Narrow, Memory>
+    ensures entries { IfOk result (Forgets narrow.now slot) }
+{
+    let kinds = Vec::from_slice(alloc, narrow.kinds.as_slice())?;
+    let mut entries = Vec::from_slice(alloc, narrow.entries.as_slice())?;
+    drop_rows(entries.as_mut_slice(), narrow.kinds.len(), slot);
+    Ok(Narrow { kinds, entries })
+}
+
+// Drops the bounds on the slot, in place.
+#[inline]
+fn drop_rows(entries: &mut [i32], slots: usize, slot: usize)
+    requires few { slots ≤ 16 }
+    requires size { length entries.old ≡ row_start (2 * slots) }
+    requires entries { AreEntries (2 ^ 25) entries.old }
+    ensures kept { RowsAre (dropped slot) (2 * slots) entries.old entries.new }
+    ensures entries { AreEntries (2 ^ 25) entries.new }
+{
+    for i in 0..2 * slots {
+        drop_row(entries, i, slot);
+    }
+}
+
+// The same in row i.
+#[inline]
+fn drop_row(entries: &mut [i32], i: usize, slot: usize)
+    requires row { i < 32 }
+    requires size { row_start i + row_width i ≤ length entries.old }
+    requires entries { AreEntries (2 ^ 25) entries.old }
+    ensures kept { RowIs (dropped slot i) i entries.old entries.new }
+    ensures rest { RestStays i entries.old entries.new }
+    ensures entries { AreEntries (2 ^ 25) entries.new }
+{
+    let start = row_at(i);
+    let end = start + row_len(i);
+    let row = &mut entries[start..end];
+    drop_each(row, i, slot);
+}
+
+// The same of the row itself.
+#[inline]
+fn drop_each(row: &mut [i32], i: usize, slot: usize)
+    requires size { length row.old ≤ 32 }
+    requires row { AreEntries (2 ^ 25) row.old }
+    ensures kept { EachIs (dropped slot i) row.old row.new }
+    ensures within { AreEntries (2 ^ 25) row.new }
+{
+    for j in 0..row.len() {
+        row[j] = dropped_entry(slot, i, j, row[j]);
+    }
+}
+
+// An entry without the bounds on the slot.
+#[inline]
+fn dropped_entry(slot: usize, i: usize, j: usize, entry: i32) -> i32
+    ensures value { result ≡ dropped slot i j entry }
+{
+    if i == j {
+        return entry;
+    }
+    if i / 2 == slot {
+        return NONE;
+    }
+    if j / 2 == slot {
+        return NONE;
+    }
+    entry
+}

@@ -1,0 +1,36 @@
+//! Joins of narrow matrices.
+ghost use Rattle.std.specs.Prelude.{◌≡◌, ◌^◌, IfOk, length};
+ghost use Rattle.dbm_core.specs.Half.{HasEntries};
+ghost use Rattle.dbm_core.specs.Operations.{joined};
+ghost use Rattle.dbm_narrow.specs.Entries.{AreEntries};
+ghost use Rattle.dbm_narrow.specs.Rows.{AreGreater};
+
+use crate::Narrow;
+use crate::entries::greater;
+use plain_values::Memory;
+use std::alloc::Global;
+
+/// The greater of the two bounds at each pair: the result fits, as both do.
+pub fn join(alloc: Global, left: &Narrow, right: &Narrow) -> Result<Narrow, Memory>
+    requires same_kinds { right.now.kinds ≡ left.now.kinds }
+    ensures entries { IfOk result (HasEntries left.now.kinds (joined left.now right.now)) }
+{
+    let kinds = Vec::from_slice(alloc, left.kinds.as_slice())?;
+    let mut entries = Vec::from_slice(alloc, left.entries.as_slice())?;
+    raise(entries.as_mut_slice(), right.entries.as_slice());
+    Ok(Narrow { kinds, entries })
+}
+
+// Makes each entry at least the other's.
+#[inline]
+fn raise(entries: &mut [i32], others: &[i32])
+    requires size { length others.now ≡ length entries.old }
+    requires entries { AreEntries (2 ^ 25) entries.old }
+    requires others { AreEntries (2 ^ 25) others.now }
+    ensures greater { AreGreater entries.old others.now entries.new }
+    ensures entries { AreEntries (2 ^ 25) entries.new }
+{
+    for k in 0..entries.len() {
+        entries[k] = greater(entries[k], others[k]);
+    }
+}

@@ -1,0 +1,60 @@
+//! Matrices of narrow entries.
+ghost use Rattle.std.specs.Prelude.{◌≡◌, ◌<◌, ◌^◌, IfOk};
+ghost use Rattle.dbm_core.specs.Half.{IsMatrix, entry, nodes};
+ghost use Rattle.dbm_core.specs.Limits.{AreWithin};
+
+use crate::entries::wide_bound;
+use crate::rows::entry_at;
+use plain_values::Memory;
+use std::alloc::Global;
+use std::marker::Model;
+
+/// Bounds on the values of at most 16 slots, each an int or an array's length, from -2^25 to 2^25.
+///
+/// Its value is that of the matrix of `dbm_core` with the same bounds.
+#[derive(Drop)]
+pub struct Narrow {
+    pub(crate) kinds: Vec<bool>,
+    pub(crate) entries: Vec<i32>,
+}
+
+impl Model for Narrow {
+    ghost use Rattle.dbm_core.specs.Half.{HalfMatrix};
+    ghost use Rattle.dbm_narrow.specs.Entries.{held};
+    ghost use Rattle.dbm_narrow.specs.Rounds.{IsNarrow};
+
+    ghost Value = { HalfMatrix };
+
+    ghost view = { λ a. held a.kinds.items a.entries.items };
+
+    ghost invariant = { λ a. IsNarrow a.kinds.items a.entries.items };
+}
+
+impl Narrow {
+    /// The kinds of the slots: true for an array's length.
+    pub fn kinds(&self) -> &[bool]
+        ensures value { result.now ≡ self.now.kinds }
+        ensures matrix { IsMatrix self.now }
+        ensures within { AreWithin (nodes self.now) (2 ^ 25) (entry self.now) }
+    {
+        self.kinds.as_slice()
+    }
+
+    /// The bound on `v_j - v_i`, `None` where there is none. It takes no memory.
+    pub fn get(&self, i: usize, j: usize) -> Option<i128>
+        requires row { i < nodes self.now }
+        requires column { j < nodes self.now }
+        ensures bound { result ≡ entry self.now i j }
+    {
+        wide_bound(entry_at(self.entries.as_slice(), self.kinds.len(), i, j))
+    }
+
+    /// The same matrix.
+    pub fn copy(&self, alloc: Global) -> Result<Narrow, Memory>
+        ensures same { IfOk result (λ m. m ≡ self.now) }
+    {
+        let kinds = Vec::from_slice(alloc, self.kinds.as_slice())?;
+        let entries = Vec::from_slice(alloc, self.entries.as_slice())?;
+        Ok(Narrow { kinds, entries })
+    }
+}

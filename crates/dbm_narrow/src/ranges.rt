@@ -1,0 +1,44 @@
+//! The range of a slot.
+ghost use Rattle.std.specs.Prelude.{◌≡◌, ◌<◌, length};
+ghost use Rattle.dbm_close.specs.Close.{slot_high, slot_low};
+ghost use Rattle.dbm_core.specs.Half.{entry};
+ghost use Rattle.dbm_narrow.specs.Entries.{held};
+ghost use Rattle.dbm_narrow.specs.Held.{HoldsValues};
+ghost use Rattle.dbm_narrow.specs.Rounds.{IsNarrow};
+
+use crate::Narrow;
+use crate::rows::place;
+use crate::steps::{high_end, low_end};
+
+/// The ends of a slot's range: the least and the greatest value that its own two bounds leave
+/// within the extremes of its kind. Whatever satisfies the matrix lies there.
+pub fn slot_range(narrow: &Narrow, slot: usize) -> (i64, i64)
+    requires slot { slot < length narrow.now.kinds }
+    ensures low { result.0 ≡ slot_low narrow.now.kinds (entry narrow.now) slot }
+    ensures high { result.1 ≡ slot_high narrow.now.kinds (entry narrow.now) slot }
+    ensures covers { HoldsValues narrow.now slot result.0 result.1 }
+{
+    let kinds = narrow.kinds.as_slice();
+    let entries = narrow.entries.as_slice();
+    (low_of(kinds, entries, slot), high_of(kinds, entries, slot))
+}
+
+// The low end, over entries.
+fn low_of(kinds: &[bool], entries: &[i32], slot: usize) -> i64
+    requires narrow { IsNarrow kinds.now entries.now }
+    requires slot { slot < length kinds.now }
+    ensures low { result ≡ slot_low kinds.now (entry (held kinds.now entries.now)) slot }
+{
+    let down = place(2 * slot, 2 * slot + 1);
+    low_end(kinds[slot], entries[down])
+}
+
+// The high end, over entries.
+fn high_of(kinds: &[bool], entries: &[i32], slot: usize) -> i64
+    requires narrow { IsNarrow kinds.now entries.now }
+    requires slot { slot < length kinds.now }
+    ensures high { result ≡ slot_high kinds.now (entry (held kinds.now entries.now)) slot }
+{
+    let up = place(2 * slot + 1, 2 * slot);
+    high_end(kinds[slot], entries[up])
+}

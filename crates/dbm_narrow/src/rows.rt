@@ -1,0 +1,134 @@
+//! Rows: where they start, whole ones, and what becomes of a kept one.
+ghost use Rattle.std.specs.Prelude.{◌≡◌, ◌<◌, ◌≤◌, ◌^◌, ◌*◌, ◌+◌, ℕ, true, length};
+ghost use Rattle.dbm_core.specs.Half.{row_start, row_width};
+ghost use Rattle.dbm_core.specs.Nodes.{flip};
+ghost use Rattle.dbm_narrow.specs.Entries.{AreEntries, IsEntry, at, none, pair_at};
+ghost use Rattle.dbm_narrow.specs.Rows.{EachIs, GoneThrough, strengthened_at};
+
+use crate::entries::{GREATEST, LEAST, NONE, bound_or_zero, greater, lesser, over_both, settled};
+use dbm_core::other_sign;
+
+/// Where row i starts.
+#[inline]
+pub fn row_at(i: usize) -> usize
+    requires row { i < 32 }
+    ensures start { result ≡ row_start i }
+{
+    let half = i / 2;
+    let before = 2 * (half * (half + 1));
+    if i % 2 == 0 {
+        before
+    } else {
+        before + 2 * half + 2
+    }
+}
+
+/// Where the entry of a kept pair stands.
+#[inline]
+pub fn place(i: usize, j: usize) -> usize
+    requires row { i < 32 }
+    requires column { j < row_width i }
+    ensures place { result ≡ row_start i + j }
+    ensures small { result < 544 }
+{
+    row_at(i) + j
+}
+
+/// How many columns row i keeps.
+#[inline]
+pub fn row_len(i: usize) -> usize
+    requires row { i < 32 }
+    ensures width { result ≡ row_width i }
+{
+    2 * (i / 2) + 2
+}
+
+/// The entry of a pair.
+#[inline]
+pub fn entry_at(entries: &[i32], slots: usize, i: usize, j: usize) -> i32
+    requires few { slots ≤ 16 }
+    requires row { i < 2 * slots }
+    requires column { j < 2 * slots }
+    requires size { length entries.now ≡ row_start (2 * slots) }
+    requires entries { AreEntries (2 ^ 25) entries.now }
+    ensures entry { result ≡ pair_at entries.now i j }
+{
+    if j < row_len(i) {
+        let kept = place(i, j);
+        return entries[kept];
+    }
+    let mirrored = place(other_sign(j), other_sign(i));
+    entries[mirrored]
+}
+
+/// The entries of row i, whose node of the other sign is `other`; none beyond the nodes.
+#[inline]
+pub fn whole_row(entries: &[i32], slots: usize, i: usize, other: usize) -> [i32; 32]
+    requires few { slots ≤ 16 }
+    requires row { i < 2 * slots }
+    requires other { other ≡ flip i }
+    requires size { length entries.now ≡ row_start (2 * slots) }
+    requires entries { AreEntries (2 ^ 25) entries.now }
+    ensures entries { (j : ℕ) → j < 2 * slots → at result j ≡ pair_at entries.now i j }
+    ensures beyond { (j : ℕ) → 2 * slots ≤ j → at result j ≡ none }
+{
+    let mut row = [NONE; 32];
+    let start = row_at(i);
+    let kept = row_len(i);
+    for j in 0..kept {
+        let at = start + j;
+        row[j] = entries[at];
+    }
+    for slot in i / 2 + 1..slots {
+        let even = row_at(2 * slot) + other;
+        let odd = row_at(2 * slot + 1) + other;
+        row[2 * slot] = entries[odd];
+        row[2 * slot + 1] = entries[even];
+    }
+    row
+}
+
+/// Walks from a node may go over both nodes of a slot, in place: whether each bound stays within
+/// the limits.
+#[inline]
+pub fn go_through(
+    row: &mut [i32],
+    to_first: i32,
+    to_second: i32,
+    from_first: &[i32; 32],
+    from_second: &[i32; 32],
+) -> bool
+    requires size { length row.old ≤ 32 }
+    requires row { AreEntries (2 ^ 25) row.old }
+    requires to_first { IsEntry (3 * 2 ^ 25) to_first }
+    requires to_second { IsEntry (3 * 2 ^ 25) to_second }
+    requires from_first { AreEntries (2 ^ 27) from_first.now }
+    requires from_second { AreEntries (2 ^ 27) from_second.now }
+    ensures kept { GoneThrough to_first to_second from_first.now from_second.now row.old row.new }
+    ensures within { result ≡ true → AreEntries (2 ^ 25) row.new }
+{
+    let mut low = 0;
+    let mut high = 0;
+    for j in 0..row.len() {
+        let bound = over_both(row[j], to_first, from_first[j], to_second, from_second[j]);
+        row[j] = bound;
+        low = lesser(low, bound);
+        high = greater(high, bound_or_zero(bound));
+    }
+    LEAST <= low && high <= GREATEST
+}
+
+/// A row in which each bound is at most the sum of halves.
+#[inline]
+pub fn strengthen(row: &mut [i32], to: i32, from: &[i32; 32])
+    requires size { length row.old ≤ 32 }
+    requires row { AreEntries (2 ^ 25) row.old }
+    requires to { IsEntry (2 ^ 24) to }
+    requires from { AreEntries (2 ^ 24) from.now }
+    ensures kept { EachIs (strengthened_at to from.now) row.old row.new }
+    ensures within { AreEntries (2 ^ 25) row.new }
+{
+    for j in 0..row.len() {
+        row[j] = settled(lesser(row[j], to + from[j]));
+    }
+}

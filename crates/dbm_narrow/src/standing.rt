@@ -1,0 +1,249 @@
+//! A slot that stands for a node of another slot plus a number.
+ghost use Rattle.std.specs.Prelude.{◌≡◌, ◌≢◌, ◌<◌, ◌≤◌, ◌^◌, ◌*◌, ◌+◌, ◌/◌, ◌+ℤ◌, ◌≤ℤ◌, neg_ℤ, pos, true, length};
+ghost use Rattle.dbm_core.specs.Half.{row_start, row_width};
+ghost use Rattle.dbm_incremental.specs.ClosedMatrices.{IsClosed};
+ghost use Rattle.dbm_narrow.specs.Entries.{AreEntries, IsEntry, at, held};
+ghost use Rattle.dbm_narrow.specs.Rounds.{IsNarrow};
+ghost use Rattle.dbm_narrow.specs.Rows.{ColumnsAre, EachIs, RestStays, RowIs, RowsAre};
+ghost use Rattle.dbm_narrow.specs.Standing.{IsEquatedOutcome, StandsTo, replaced, stood_at};
+
+use crate::adding::small_bound;
+use crate::closing::Outcome;
+use crate::entries::{FREE, GREATEST, LEAST, plus};
+use crate::middle::stepped;
+use crate::rows::{row_at, row_len, whole_row};
+use crate::steps::finish;
+use dbm_core::other_sign;
+
+/// Closes the entries with slot q made node y plus c, in place. After an answer other than `Closed`
+/// they are of no use.
+pub fn close_stood(kinds: &[bool], entries: &mut [i32], q: usize, y: usize, c: i128) -> Outcome
+    requires narrow { IsNarrow kinds.now entries.old }
+    requires closed { IsClosed (held kinds.now entries.old) }
+    requires slot { q < length kinds.now }
+    requires node { y < 2 * length kinds.now }
+    requires apart { y / 2 ≢ q }
+    ensures outcome { IsEquatedOutcome kinds.now entries.old entries.new q y c result }
+{
+    match small_bound(c) {
+        None => Outcome::TooWide,
+        Some(small) => close_small(kinds, entries, q, y, small),
+    }
+}
+
+// The same of a number within the limits.
+fn close_small(kinds: &[bool], entries: &mut [i32], q: usize, y: usize, c: i32) -> Outcome
+    requires narrow { IsNarrow kinds.now entries.old }
+    requires closed { IsClosed (held kinds.now entries.old) }
+    requires slot { q < length kinds.now }
+    requires node { y < 2 * length kinds.now }
+    requires apart { y / 2 ≢ q }
+    requires low { neg_ℤ (pos (2 ^ 25)) ≤ℤ c }
+    requires high { c ≤ℤ pos (2 ^ 25) }
+    ensures outcome { IsEquatedOutcome kinds.now entries.old entries.new q y c result }
+{
+    if !stand(kinds, entries, q, y, c) {
+        return Outcome::TooWide;
+    }
+    if finish(kinds, entries) {
+        Outcome::Closed
+    } else {
+        Outcome::Empty
+    }
+}
+
+// Makes slot q stand for node y plus c, in place: whether each bound stays within the limits.
+#[inline]
+fn stand(kinds: &[bool], entries: &mut [i32], q: usize, y: usize, c: i32) -> bool
+    requires narrow { IsNarrow kinds.now entries.old }
+    requires closed { IsClosed (held kinds.now entries.old) }
+    requires slot { q < length kinds.now }
+    requires node { y < 2 * length kinds.now }
+    requires low { neg_ℤ (pos (2 ^ 25)) ≤ℤ c }
+    requires high { c ≤ℤ pos (2 ^ 25) }
+    ensures stands { result ≡ true → StandsTo kinds.now entries.old entries.new q y c }
+{
+    let slots = kinds.len();
+    let other = other_sign(y);
+    let node = whole_row(entries, slots, y, other);
+    let behind = whole_row(entries, slots, other, y);
+    let less = negative(c);
+    let twice_less = twice_of(less);
+    let twice = twice_of(c);
+    let first = stood_row(&node, q, y, 0, twice_less, less);
+    let second = stood_row(&behind, q, y, twice, 0, c);
+    if !are_within(&first) {
+        return false;
+    }
+    if !are_within(&second) {
+        return false;
+    }
+    replace_rows(entries, slots, q, &first, &second);
+    true
+}
+
+// The number's negative.
+#[inline]
+fn negative(c: i32) -> i32
+    requires low { neg_ℤ (pos (2 ^ 25)) ≤ℤ c }
+    requires high { c ≤ℤ pos (2 ^ 25) }
+    ensures value { result ≡ neg_ℤ c }
+{
+    -c
+}
+
+// Twice the number.
+#[inline]
+fn twice_of(c: i32) -> i32
+    requires low { neg_ℤ (pos (2 ^ 25)) ≤ℤ c }
+    requires high { c ≤ℤ pos (2 ^ 25) }
+    ensures value { result ≡ c +ℤ c }
+{
+    c + c
+}
+
+// The entry at a column.
+#[inline]
+fn column_at(row: &[i32; 32], j: usize) -> i32
+    requires column { j < 32 }
+    requires row { AreEntries (2 ^ 25) row.now }
+    ensures value { result ≡ at row.now j }
+{
+    row[j]
+}
+
+// The row of one of slot q's nodes, from the row of the node that it stands for.
+#[inline]
+fn stood_row(row: &[i32; 32], q: usize, y: usize, first: i32, second: i32, others: i32) -> [i32; 32]
+    requires slot { q < 16 }
+    requires node { y < 32 }
+    requires row { AreEntries (2 ^ 25) row.now }
+    requires first { IsEntry (2 ^ 26) first }
+    requires second { IsEntry (2 ^ 26) second }
+    requires others { IsEntry (2 ^ 26) others }
+    ensures stood { ColumnsAre 32 (stood_at row.now q y first second others) result }
+    ensures entries { AreEntries (3 * 2 ^ 25) result }
+{
+    let mut stood = stepped(others, row);
+    let here = plus(first, row[y]);
+    let other = other_sign(y);
+    let there = plus(second, row[other]);
+    stood[2 * q] = here;
+    stood[2 * q + 1] = there;
+    stood
+}
+
+// Whether each bound lies within the limits.
+#[inline]
+fn are_within(row: &[i32; 32]) -> bool
+    requires row { AreEntries (3 * 2 ^ 25) row.now }
+    ensures within { result ≡ true → AreEntries (2 ^ 25) row.now }
+{
+    for j in 0..32 {
+        if !is_within(row[j]) {
+            return false;
+        }
+    }
+    true
+}
+
+// Whether the entry is none, or a bound within the limits.
+#[inline]
+fn is_within(entry: i32) -> bool
+    requires entry { IsEntry (3 * 2 ^ 25) entry }
+    ensures within { result ≡ true → IsEntry (2 ^ 25) entry }
+{
+    if entry >= FREE {
+        return true;
+    }
+    if entry < LEAST {
+        return false;
+    }
+    entry <= GREATEST
+}
+
+// Puts the rows of slot q's nodes, in place.
+#[inline]
+fn replace_rows(entries: &mut [i32], slots: usize, q: usize, first: &[i32; 32], second: &[i32; 32])
+    requires few { slots ≤ 16 }
+    requires size { length entries.old ≡ row_start (2 * slots) }
+    requires entries { AreEntries (2 ^ 25) entries.old }
+    requires first { AreEntries (2 ^ 25) first.now }
+    requires second { AreEntries (2 ^ 25) second.now }
+    requires slot { q < 16 }
+    ensures kept { RowsAre (replaced q first.now second.now) (2 * slots) entries.old entries.new }
+    ensures entries { AreEntries (2 ^ 25) entries.new }
+{
+    for i in 0..2 * slots {
+        replace_row(entries, i, q, first, second);
+    }
+}
+
+// The same in row i.
+#[inline]
+fn replace_row(entries: &mut [i32], i: usize, q: usize, first: &[i32; 32], second: &[i32; 32])
+    requires row { i < 32 }
+    requires slot { q < 16 }
+    requires size { row_start i + row_width i ≤ length entries.old }
+    requires entries { AreEntries (2 ^ 25) entries.old }
+    requires first { AreEntries (2 ^ 25) first.now }
+    requires second { AreEntries (2 ^ 25) second.now }
+    ensures kept { RowIs (replaced q first.now second.now i) i entries.old entries.new }
+    ensures rest { RestStays i entries.old entries.new }
+    ensures entries { AreEntries (2 ^ 25) entries.new }
+{
+    let start = row_at(i);
+    let end = start + row_len(i);
+    let row = &mut entries[start..end];
+    replace_each(row, i, q, first, second);
+}
+
+// The same of the row itself.
+#[inline]
+fn replace_each(row: &mut [i32], i: usize, q: usize, first: &[i32; 32], second: &[i32; 32])
+    requires size { length row.old ≤ 32 }
+    requires row { AreEntries (2 ^ 25) row.old }
+    requires node { i < 32 }
+    requires slot { q < 16 }
+    requires first { AreEntries (2 ^ 25) first.now }
+    requires second { AreEntries (2 ^ 25) second.now }
+    ensures kept { EachIs (replaced q first.now second.now i) row.old row.new }
+    ensures within { AreEntries (2 ^ 25) row.new }
+{
+    for j in 0..row.len() {
+        row[j] = replaced_entry(i, j, q, first, second, row[j]);
+    }
+}
+
+// An entry, or that of the slot's rows.
+#[inline]
+fn replaced_entry(
+    i: usize,
+    j: usize,
+    q: usize,
+    first: &[i32; 32],
+    second: &[i32; 32],
+    entry: i32,
+) -> i32
+    requires row { i < 32 }
+    requires column { j < 32 }
+    requires slot { q < 16 }
+    requires first { AreEntries (2 ^ 25) first.now }
+    requires second { AreEntries (2 ^ 25) second.now }
+    ensures value { result ≡ replaced q first.now second.now i j entry }
+{
+    if i == 2 * q {
+        return column_at(first, j);
+    }
+    if i == 2 * q + 1 {
+        return column_at(second, j);
+    }
+    let other = other_sign(i);
+    if j == 2 * q {
+        return column_at(second, other);
+    }
+    if j == 2 * q + 1 {
+        return column_at(first, other);
+    }
+    entry
+}

@@ -1,0 +1,153 @@
+//! Steps 2 to 6, over the least weights. No entry is cut, and none is too low: the limits are narrower.
+ghost use Rattle.std.specs.Prelude.{◌≡◌, ◌<◌, ◌≤◌, ◌^◌, ◌*◌, ◌+◌, ℕ, length};
+ghost use Rattle.dbm_close.specs.Steps.{range_high, range_low};
+ghost use Rattle.dbm_core.specs.Half.{row_start, row_width};
+ghost use Rattle.dbm_core.specs.Nodes.{flip};
+ghost use Rattle.dbm_narrow.specs.Entries.{AreEntries, IsEntry, at, wide};
+ghost use Rattle.dbm_narrow.specs.Held.{HoldsHalves, TellsFinish, TellsHalves, TellsRanges};
+ghost use Rattle.dbm_narrow.specs.Rounds.{IsNarrow};
+ghost use Rattle.dbm_narrow.specs.Rows.{RestStays, RowIs, Strengthened, strengthened_at};
+
+use crate::entries::{FREE, NONE, half, plus};
+use crate::middle::flipped;
+use crate::rows::{place, row_at, row_len, strengthen};
+
+/// Steps 2 to 6, in place: false where no values are left.
+#[inline]
+pub fn finish(kinds: &[bool], entries: &mut [i32]) -> bool
+    requires narrow { IsNarrow kinds.now entries.old }
+    ensures finish { TellsFinish kinds.now entries.old entries.new result }
+{
+    let slots = kinds.len();
+    let halves = halves_of(kinds, entries);
+    let behind = flipped(&halves, slots);
+    if has_negative_halves(&halves, &behind, slots) {
+        return false;
+    }
+    strengthen_rows(entries, slots, &halves, &behind);
+    if has_empty_range(kinds, entries) {
+        return false;
+    }
+    true
+}
+
+// Half of the bound from each node to that of the other sign, rounded down.
+#[inline]
+fn halves_of(kinds: &[bool], entries: &[i32]) -> [i32; 32]
+    requires narrow { IsNarrow kinds.now entries.now }
+    ensures halves { HoldsHalves kinds.now entries.now result }
+    ensures entries { AreEntries (2 ^ 24) result }
+{
+    let mut halves = [NONE; 32];
+    for slot in 0..kinds.len() {
+        let even = place(2 * slot, 2 * slot + 1);
+        let odd = place(2 * slot + 1, 2 * slot);
+        let down = half(entries[even]);
+        let up = half(entries[odd]);
+        halves[2 * slot] = down;
+        halves[2 * slot + 1] = up;
+    }
+    halves
+}
+
+// Step 3: whether both halves of a slot leave no number.
+#[inline]
+fn has_negative_halves(halves: &[i32; 32], behind: &[i32; 32], slots: usize) -> bool
+    requires few { slots ≤ 16 }
+    requires halves { AreEntries (2 ^ 24) halves.now }
+    requires behind { AreEntries (2 ^ 24) behind.now }
+    requires flipped { (i : ℕ) → i < 2 * slots → at behind.now i ≡ at halves.now (flip i) }
+    ensures negative { TellsHalves (2 * slots) halves.now result }
+{
+    for i in 0..2 * slots {
+        let sum = plus(halves[i], behind[i]);
+        if sum < 0 {
+            return true;
+        }
+    }
+    false
+}
+
+// Steps 2 and 4, in place.
+#[inline]
+fn strengthen_rows(entries: &mut [i32], slots: usize, halves: &[i32; 32], behind: &[i32; 32])
+    requires few { slots ≤ 16 }
+    requires size { length entries.old ≡ row_start (2 * slots) }
+    requires entries { AreEntries (2 ^ 25) entries.old }
+    requires halves { AreEntries (2 ^ 24) halves.now }
+    requires behind { AreEntries (2 ^ 24) behind.now }
+    ensures kept { Strengthened halves.now behind.now (2 * slots) entries.old entries.new }
+    ensures entries { AreEntries (2 ^ 25) entries.new }
+{
+    for i in 0..2 * slots {
+        strengthen_row(entries, i, halves[i], behind);
+    }
+}
+
+// The same in row i.
+#[inline]
+fn strengthen_row(entries: &mut [i32], i: usize, to: i32, behind: &[i32; 32])
+    requires row { i < 32 }
+    requires size { row_start i + row_width i ≤ length entries.old }
+    requires entries { AreEntries (2 ^ 25) entries.old }
+    requires to { IsEntry (2 ^ 24) to }
+    requires behind { AreEntries (2 ^ 24) behind.now }
+    ensures kept { RowIs (strengthened_at to behind.now) i entries.old entries.new }
+    ensures rest { RestStays i entries.old entries.new }
+    ensures entries { AreEntries (2 ^ 25) entries.new }
+{
+    if to >= FREE {
+        return;
+    }
+    let start = row_at(i);
+    let end = start + row_len(i);
+    let row = &mut entries[start..end];
+    strengthen(row, to, behind);
+}
+
+/// The least value of a slot, by the bound on twice its negative.
+#[inline]
+#[tactic(auto, unfolding(crate::specs::Entries::wide))]
+pub fn low_end(array: bool, bound: i32) -> i64
+    requires bound { IsEntry (2 ^ 25) bound }
+    ensures low { result ≡ range_low array (wide bound) }
+{
+    let extreme = if array { 0 } else { -9223372036854775808 };
+    if bound >= FREE {
+        return extreme;
+    }
+    let end = -i64::from(bound).div_euclid(2);
+    if end < extreme { extreme } else { end }
+}
+
+/// The greatest value of a slot, by the bound on twice it.
+#[inline]
+#[tactic(auto, unfolding(crate::specs::Entries::wide))]
+pub fn high_end(array: bool, bound: i32) -> i64
+    ensures high { result ≡ range_high array (wide bound) }
+{
+    let extreme = if array { 1000000 } else { 9223372036854775807 };
+    if bound >= FREE {
+        return extreme;
+    }
+    let end = i64::from(bound).div_euclid(2);
+    if end < extreme { end } else { extreme }
+}
+
+// Step 6: whether a slot's range is empty.
+#[inline]
+fn has_empty_range(kinds: &[bool], entries: &[i32]) -> bool
+    requires narrow { IsNarrow kinds.now entries.now }
+    ensures empty { TellsRanges kinds.now entries.now result }
+{
+    for (slot, array) in kinds.iter().enumerate() {
+        let even = place(2 * slot, 2 * slot + 1);
+        let odd = place(2 * slot + 1, 2 * slot);
+        let low = low_end(*array, entries[even]);
+        let high = high_end(*array, entries[odd]);
+        if high < low {
+            return true;
+        }
+    }
+    false
+}

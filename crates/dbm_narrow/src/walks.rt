@@ -1,0 +1,126 @@
+//! Step 1: the least weights of walks.
+ghost use Rattle.std.specs.Prelude.{◌≡◌, ◌<◌, ◌≤◌, ◌^◌, ◌*◌, ◌+◌, true, length};
+ghost use Rattle.dbm_core.specs.Half.{row_start, row_width};
+ghost use Rattle.dbm_narrow.specs.Entries.{AreEntries};
+ghost use Rattle.dbm_narrow.specs.Held.{HasLowDiagonal, TellsDiagonal};
+ghost use Rattle.dbm_narrow.specs.Middles.{AllThrough, IsNarrowMiddle, through_middle};
+ghost use Rattle.dbm_narrow.specs.Rounds.{AreRounds, IsNarrow, IsRound};
+ghost use Rattle.dbm_narrow.specs.Rows.{RestStays, RowIs};
+
+use crate::entries::FREE;
+use crate::middle::{Middle, middle_of};
+use crate::rows::{go_through, row_at, row_len};
+
+/// How rounds end.
+#[derive(Clone, Copy, Debug, PartialEq, Eq)]
+pub enum Walks {
+    /// Walks may go through the nodes.
+    Done,
+    /// A closed walk is below 0.
+    Negative,
+    /// A bound has left the limits.
+    TooWide,
+}
+
+/// Step 1: the least weights of all walks, in place. After an answer other than `Done` the entries
+/// are of no use.
+#[inline]
+pub fn least_weights(kinds: &[bool], entries: &mut [i32]) -> Walks
+    requires narrow { IsNarrow kinds.now entries.old }
+    requires diagonal { HasLowDiagonal kinds.now entries.old }
+    ensures weights { AreRounds kinds.now entries.old entries.new result }
+{
+    for q in 0..kinds.len() {
+        match make_round(kinds, entries, q) {
+            Walks::Done => {}
+            Walks::Negative => return Walks::Negative,
+            Walks::TooWide => return Walks::TooWide,
+        }
+    }
+    if is_diagonal_negative(kinds, entries) {
+        return Walks::Negative;
+    }
+    Walks::Done
+}
+
+// One round: walks may go through both nodes of slot q.
+#[inline]
+fn make_round(kinds: &[bool], entries: &mut [i32], q: usize) -> Walks
+    requires narrow { IsNarrow kinds.now entries.old }
+    requires middle { q < length kinds.now }
+    ensures round { IsRound kinds.now q entries.old entries.new result }
+{
+    let middle = middle_of(kinds, entries, q);
+    if middle.from_first[2 * q] < 0 {
+        return Walks::Negative;
+    }
+    if middle.from_second[2 * q + 1] < 0 {
+        return Walks::Negative;
+    }
+    if go_through_rows(entries, kinds.len(), &middle) {
+        Walks::Done
+    } else {
+        Walks::TooWide
+    }
+}
+
+/// Walks may go through both nodes of the slot, in place: whether each bound stays within the limits.
+#[inline]
+pub fn go_through_rows(entries: &mut [i32], slots: usize, middle: &Middle) -> bool
+    requires few { slots ≤ 16 }
+    requires size { length entries.old ≡ row_start (2 * slots) }
+    requires entries { AreEntries (2 ^ 25) entries.old }
+    requires middle { IsNarrowMiddle middle.now }
+    ensures kept { result ≡ true → AllThrough middle.now (2 * slots) entries.old entries.new }
+    ensures entries { result ≡ true → AreEntries (2 ^ 25) entries.new }
+{
+    for i in 0..2 * slots {
+        if !go_through_row(entries, i, middle) {
+            return false;
+        }
+    }
+    true
+}
+
+// The same in row i.
+#[inline]
+fn go_through_row(entries: &mut [i32], i: usize, middle: &Middle) -> bool
+    requires row { i < 32 }
+    requires size { row_start i + row_width i ≤ length entries.old }
+    requires entries { AreEntries (2 ^ 25) entries.old }
+    requires middle { IsNarrowMiddle middle.now }
+    ensures kept { RowIs (through_middle middle.now i) i entries.old entries.new }
+    ensures rest { RestStays i entries.old entries.new }
+    ensures entries { result ≡ true → AreEntries (2 ^ 25) entries.new }
+{
+    let to_first = middle.to_first[i];
+    let to_second = middle.to_second[i];
+    if to_first >= FREE && to_second >= FREE {
+        return true;
+    }
+    let start = row_at(i);
+    let end = start + row_len(i);
+    let row = &mut entries[start..end];
+    go_through(
+        row,
+        to_first,
+        to_second,
+        &middle.from_first,
+        &middle.from_second,
+    )
+}
+
+// Whether an entry of the diagonal is below 0.
+#[inline]
+fn is_diagonal_negative(kinds: &[bool], entries: &[i32]) -> bool
+    requires narrow { IsNarrow kinds.now entries.now }
+    ensures negative { TellsDiagonal kinds.now entries.now result }
+{
+    for slot in 0..kinds.len() {
+        let at = row_at(2 * slot) + 2 * slot;
+        if entries[at] < 0 {
+            return true;
+        }
+    }
+    false
+}
