@@ -6,6 +6,9 @@ mod SmallTexts
 mod SmallEdits
 mod Carried
 mod FineLemmas
-mod FineTurns
+pub mod FineTurns
 pub mod Sources
 mod SoundTurns
+mod Quiet
+pub mod Histories
+pub mod Overs

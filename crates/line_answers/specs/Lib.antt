@@ -6,3 +6,5 @@ pub mod Lines
 pub mod Claims
 pub mod Fine
 pub mod Sound
+pub mod Histories
+pub mod Overs

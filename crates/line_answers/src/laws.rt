@@ -1,6 +1,8 @@
 //! What holds of the turns of lines.
 ghost use Rattle.line_answers.specs.Claims.{RefusalsAreSafe};
 ghost use Rattle.line_answers.specs.Fine.{LinesKeepFine, SourcesAreFine};
+ghost use Rattle.line_answers.specs.Histories.{HistoriesDoNotMatter, RedoRestores, UndoRestores};
+ghost use Rattle.line_answers.specs.Overs.{OversAreAnswers};
 ghost use Rattle.line_answers.specs.Sound.{MomentsAreSound, TurnsAreSound};
 
 use batch_sound::{answers_are_sound, reports_are_sound};
@@ -33,3 +35,17 @@ pub fn replies_are_sound<D: Domain>()
     reports_are_sound::<D>();
     answers_stay::<D>();
 }
+
+/// Machines that hold the same program, with the same numbers, give the same answers and write the same replies to what
+/// asks for the program alone, whatever was asked and edited before. An undo restores all of these as they were before the
+/// last accepted edit, whatever questions, reports, runs and steps stand in between; a redo likewise as after it.
+pub fn histories_do_not_matter<D: Domain>()
+    ensures alike { (d : D) → HistoriesDoNotMatter (D.operations d) }
+    ensures undo { (d : D) → UndoRestores (D.operations d) }
+    ensures redo { (d : D) → RedoRestores (D.operations d) }
+{}
+
+/// A reply is an over only where the answer of the present program, interpreted from scratch, is one.
+pub fn overs_are_answers<D: Domain>()
+    ensures over { (d : D) → OversAreAnswers (D.operations d) }
+{}

@@ -9,6 +9,8 @@
 //! [`guard_of`] and [`add_of`]. Statements are numbered from the next number on, so the edit is one that a session
 //! takes. `specs/Refusals.antt` says what an edit that is refused is replied: [`refusal_of`]. Texts are read in one way,
 //! and no other ([`texts_are_read`]).
+//!
+//! What was asked and edited before does not matter to an answer, and undo restores it ([`histories_do_not_matter`]).
 #![tactic(auto)]
 
 mod edits;
@@ -17,6 +19,9 @@ mod readings;
 mod refusals;
 
 pub use edits::{TextError, add_of, guard_of, insert_of, replace_of};
-pub use laws::{machines_stay_fine, refusals_change_nothing, replies_are_sound};
+pub use laws::{
+    histories_do_not_matter, machines_stay_fine, overs_are_answers, refusals_change_nothing,
+    replies_are_sound,
+};
 pub use readings::texts_are_read;
 pub use refusals::refusal_of;

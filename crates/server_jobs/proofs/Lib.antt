@@ -1,3 +1,5 @@
 pub mod OutputLemmas
 pub mod CertificateLemmas
 pub mod SourceLemmas
+pub mod SettlesLemmas
+pub mod KeptLemmas

@@ -6,3 +6,5 @@ pub mod Works
 pub mod Told
 pub mod Sound
 pub mod Ends
+pub mod Settles
+pub mod Kept

@@ -7,6 +7,7 @@ ghost use Rattle.cert_lines.specs.Theorem.{IsYesSound};
 ghost use Rattle.line_answers.specs.Readings.{Readings};
 ghost use Rattle.server_jobs.specs.Domains.{carried_of};
 ghost use Rattle.server_jobs.specs.Ends.{Fits, Wrote};
+ghost use Rattle.server_jobs.specs.Kept.{WrittenAreAccepted};
 ghost use Rattle.server_jobs.specs.Sources.{source_of};
 ghost use Rattle.server_jobs.specs.Output.{cert_bytes, certified, done, most_certificate, of_file, of_source, program_output, verify_bytes, LacksCertificate, LacksEither};
 
@@ -14,6 +15,10 @@ use crate::refusing::refuse_source;
 use crate::source::{MOST_SOURCE, SourceError, read_checked};
 use crate::status::Status;
 use crate::task::CertTask;
+use cert_accepted::{
+    checked_programs_have_lines, interval_certificates_are_accepted,
+    segment_certificates_are_accepted,
+};
 use cert_check::verify;
 use cert_lines::a_yes_is_sound;
 use cert_write::certificate;
@@ -48,6 +53,16 @@ pub fn each_yes_is_sound()
     yes_is_sound_by::<Interval>();
     yes_is_sound_by::<Octagon>();
     yes_is_sound_by::<ListSeg>();
+}
+
+/// What `cert` wrote of a program, without an over and within the limit of `verify`, `verify` finds to hold by the same domain:
+/// by intervals and by list segments.
+pub fn written_certificates_are_accepted()
+    ensures accepted { WrittenAreAccepted }
+{
+    checked_programs_have_lines();
+    interval_certificates_are_accepted();
+    segment_certificates_are_accepted();
 }
 
 /// The lines of the certificate of a program, by the domain of this name. It fails for want of memory alone.

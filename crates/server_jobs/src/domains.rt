@@ -5,7 +5,9 @@ ghost use Rattle.listseg_meaning.specs.Domain.{segments};
 ghost use Rattle.product_meaning.specs.Product.{product};
 ghost use Rattle.line_answers.specs.Sound.{MomentsAreSound};
 ghost use Rattle.server_jobs.specs.Domains.{AnswersAs, meaning_of};
+ghost use Rattle.server_jobs.specs.Settles.{NamedDomainsConverge};
 
+use batch_converges::{intervals_converge, octagons_converge, segments_converge};
 use batch_sound::reports_are_sound;
 use dom_interval::Interval;
 use dom_listseg::ListSeg;
@@ -13,6 +15,7 @@ use dom_octagon::Octagon;
 use dom_product::Pair;
 use domain_laws::Domain;
 use line_answers::replies_are_sound;
+use product_answers::products_converge;
 
 /// A domain that the words name: lines and reports are answered by it as by what the name means.
 pub trait Named: Domain + Drop {
@@ -101,4 +104,17 @@ pub fn named_domains_are_sound()
     domain_is_sound::<ListSeg>();
     domain_is_sound::<Pair<Interval, ListSeg>>();
     domain_is_sound::<Pair<Octagon, ListSeg>>();
+}
+
+/// By each domain that the words name no answer of a checked program is an Over, from a budget on that is stated for it: the
+/// changes of a state by the greatest numbers of slots and of thresholds of a procedure, the rounds before they are counted,
+/// and two more. Of a product it is the sum of both parts' changes, one more, and the later of their rounds.
+pub fn named_domains_converge()
+    ensures end { NamedDomainsConverge }
+{
+    intervals_converge();
+    octagons_converge();
+    segments_converge();
+    products_converge::<Interval, ListSeg>();
+    products_converge::<Octagon, ListSeg>();
 }

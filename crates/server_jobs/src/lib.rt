@@ -8,7 +8,9 @@
 //! [`read_source`] reads a source for a task, [`refuse_source`] writes why it is refused. [`listed`] gives the listing and
 //! the report of `batch`, by batch interpretation alone; [`run_certificate`] does the jobs `cert` and `verify`, by
 //! `cert_write` and `cert_check`. [`Named`] is a domain that the words name, and all of these are sound
-//! ([`named_domains_are_sound`], [`each_yes_is_sound`]).
+//! ([`named_domains_are_sound`], [`each_yes_is_sound`]). From a stated budget on none answers an over
+//! ([`named_domains_converge`], `specs/Settles.antt`), and what `cert` wrote `verify` accepts
+//! ([`written_certificates_are_accepted`], `specs/Kept.antt`).
 #![tactic(auto)]
 
 mod batch;
@@ -20,8 +22,8 @@ mod status;
 mod task;
 
 pub use batch::listed;
-pub use certificates::{each_yes_is_sound, run_certificate};
-pub use domains::{Named, NamedWithLists, named_domains_are_sound};
+pub use certificates::{each_yes_is_sound, run_certificate, written_certificates_are_accepted};
+pub use domains::{Named, NamedWithLists, named_domains_are_sound, named_domains_converge};
 pub use refusing::refuse_source;
 pub use source::{MOST_SOURCE, SourceError, read_source};
 pub use status::Status;
