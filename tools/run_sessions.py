@@ -1,0 +1,106 @@
+#!/usr/bin/env python3
+"""Runs the sessions that the documents show, and compares: run_sessions.py PROGRAM [DOCUMENT ..].
+
+A block that is indented by four spaces and has lines that begin with `$ ` is a session. Each such line is a command of
+the shell; below it stands what it writes, or, where a line has two JSON objects with two spaces or more between them,
+requests on the left and replies on the right. A block behind a paragraph that names a file in backticks and ends in a
+colon is that file where no line of it begins with `$ `.
+
+All sessions of a document run in one folder, where the document's files are, where `daig` is the program, and where
+`./daig` and `crates` are those of this repository.
+"""
+import os
+import re
+import subprocess
+import sys
+import tempfile
+
+sys.dont_write_bytecode = True
+
+from kit import ROOT
+from tally import Tally, shown
+
+INDENT = "    "
+FILE = re.compile(r"`([\w.-]+)`[^`]*:$")
+EXCHANGE = re.compile(r"(\{.*\}) {2,}(\{.*\})")
+LIMIT = 120
+
+
+class Command:
+    """A command of a session, with what it reads and what it is to write."""
+
+    def __init__(self, words, number):
+        self.words, self.number, self.lines = words, number, []
+
+    def fault(self, folder, path):
+        exchanges = [EXCHANGE.fullmatch(it) for it in self.lines]
+        is_exchange = bool(exchanges) and all(exchanges)
+        script = "".join(f"{it[1]}\n" for it in exchanges) if is_exchange else ""
+        wanted = "".join(f"{it[2] if is_exchange else line}\n" for it, line in zip(exchanges, self.lines))
+        how = {"cwd": folder, "input": script, "stdout": subprocess.PIPE, "text": True, "timeout": LIMIT}
+        try:
+            ran = subprocess.run(["sh", "-c", self.words], env={**os.environ, "PATH": path}, **how)
+        except subprocess.TimeoutExpired:
+            return f"did not end within {LIMIT} seconds"
+        if ran.returncode:
+            return f"ended with {ran.returncode}"
+        return "" if ran.stdout == wanted else f"wrote {shown(ran.stdout)} in place of {shown(wanted)}"
+
+
+def blocks(text):
+    """The indented blocks of a document: the number of the first line, the last line above, and the lines."""
+    above, block, begun = "", [], 0
+    for number, line in enumerate([*text.split("\n"), "end"], 1):
+        if line.startswith(INDENT):
+            begun = begun if block else number
+            block.append(line[len(INDENT) :])
+        elif line.strip():
+            if block:
+                yield begun, above, block
+                block = []
+            above = line.strip()
+        elif block:
+            block.append("")
+
+
+def commands(begun, block):
+    """The commands of a session."""
+    found = []
+    for number, line in enumerate(block, begun):
+        if line.startswith("$ "):
+            found.append(Command(line[2:], number))
+        elif found and line:
+            found[-1].lines.append(line)
+    return found
+
+
+def run(document, program, tally):
+    with open(f"{ROOT}/{document}") as text, tempfile.TemporaryDirectory(prefix="session-") as folder:
+        os.mkdir(f"{folder}/bin")
+        os.symlink(program, f"{folder}/bin/daig")
+        os.symlink(program, f"{folder}/daig")
+        os.symlink(f"{ROOT}/crates", f"{folder}/crates")
+        path = f"{folder}/bin{os.pathsep}{os.environ['PATH']}"
+        for begun, above, block in blocks(text.read()):
+            found, named = commands(begun, block), FILE.search(above)
+            if not found and named:
+                with open(f"{folder}/{named[1]}", "w") as out:
+                    out.write("\n".join(block).rstrip("\n") + "\n")
+            for it in found:
+                tally.note(f"{document}:{it.number}: {it.words}", it.fault(folder, path))
+
+
+def all_documents():
+    """README, and what stands in docs/."""
+    return ["README.md", *sorted(f"docs/{it}" for it in os.listdir(f"{ROOT}/docs") if it.endswith(".md"))]
+
+
+def main(program, *documents):
+    tally, program = Tally(), os.path.abspath(program)
+    for document in documents or all_documents():
+        run(document, program, tally)
+    return tally.end()
+
+
+if __name__ == "__main__":
+    sys.exit(main(*sys.argv[1:]))
