@@ -1,0 +1,1 @@
+"""What daig-check asks: files, servers, certificates, comparisons."""

@@ -1,0 +1,221 @@
+"""Checks a file: a server is started on it and asked for what may fail, what is known there, and what it hangs on."""
+from __future__ import annotations
+
+from contextlib import asynccontextmanager, contextmanager
+from dataclasses import dataclass
+from typing import AsyncIterator, Iterator, Mapping
+
+from daig_editor.checking.asking import NEVER_REACHED, BadReply, Over, Served, Verdict, ordinals
+from daig_editor.checking.refused import read_program, refused, too_long
+from daig_editor.checking.words import (
+    DEAD,
+    FAILS_ALWAYS,
+    check_words,
+    over_notes,
+    over_words,
+    state_words,
+    told_states,
+    verdict_words,
+)
+from daig_editor.language.places import SourceText
+from daig_editor.language.refusals import GREATEST_SOURCE
+from daig_editor.language.tree import StmtKind, number_from_one
+from daig_editor.reports.finding import CheckedFile, Finding, Key, Level, StateLine, Tally, trouble
+from daig_editor.server.process import DaigProcess, Gone, NotStarted, Refused, Settings
+from daig_editor.server.trying import failing_checks
+
+# What a finding hangs on is asked for so many findings of a file: each may hang on all before it.
+MOST_WHY = 200
+# The check and the verdict that each statement had, by its number now.
+OldVerdicts = Mapping[int, tuple[str, str]]
+
+
+@dataclass(frozen=True)
+class Wanted:
+    """What is asked of each file. `dead`: checks that are never reached count too; `states`: all states are asked."""
+
+    settings: Settings
+    dead: bool = False
+    tries: int = 0
+    states: bool = False
+
+
+async def analyse(name: str, data: bytes, wanted: Wanted) -> CheckedFile:
+    """Checks a file of these bytes."""
+    checked = CheckedFile(name, SourceText.of(data, True))
+    with told_in(checked):
+        async with served(data, wanted.settings) as server:
+            await add_findings(checked, server, wanted)
+    return checked
+
+
+@contextmanager
+def told_in(checked: CheckedFile) -> Iterator[None]:
+    """Why a file could not be checked becomes a finding of it."""
+    try:
+        yield
+    except NoProgram as why:
+        checked.findings.append(why.finding)
+    except (Gone, BadReply) as why:
+        more = "; --memory gives it more" if isinstance(why, Gone) and why.of_memory else ""
+        checked.findings.append(trouble(f"daig serve cannot be asked: {why}{more}"))
+
+
+async def add_findings(checked: CheckedFile, server: Served, wanted: Wanted, old: OldVerdicts | None = None) -> None:
+    """Asks a server for all that is told of a file; `old` are the verdicts of its statements before a change."""
+    await _Analysis(checked, server, wanted, old).run()
+
+
+# ---------------------------------------------------------------------------------------------------------------------
+# Starting
+
+
+class NoProgram(Exception):
+    """A text of which no server runs; the finding says why."""
+
+    def __init__(self, finding: Finding) -> None:
+        super().__init__(finding.message)
+        self.finding = finding
+
+
+@asynccontextmanager
+async def served(data: bytes, settings: Settings) -> AsyncIterator[Served]:
+    """A server on a text, which is stopped at the end; raises `NoProgram`."""
+    server = await _serve(data, settings)
+    try:
+        yield server
+    finally:
+        await server.server.stop()
+
+
+async def _serve(data: bytes, settings: Settings) -> Served:
+    """Starts a server on a text; raises `NoProgram`."""
+    if len(data) > GREATEST_SOURCE:
+        raise NoProgram(too_long())
+    program, fault = read_program(data)
+    try:
+        server = await DaigProcess.start(settings, data)
+    except Refused as why:
+        raise NoProgram(refused(data, program, fault, why.reply)) from None
+    except NotStarted as why:
+        raise NoProgram(trouble(f"daig serve cannot be asked: {why}")) from None
+    if program is None:
+        await server.stop()
+        raise NoProgram(trouble("daig serve takes a text that is not read here: another version of it answers"))
+    number_from_one(program)
+    return Served(server, program)
+
+
+# ---------------------------------------------------------------------------------------------------------------------
+# Asking
+
+
+class _Analysis:
+    """The questions on one file, and the findings that come of them."""
+
+    def __init__(self, checked: CheckedFile, served: Served, wanted: Wanted, old: OldVerdicts | None) -> None:
+        self._checked = checked
+        self._old = old
+        self._served = served
+        self._wanted = wanted
+        self._unknown: dict[Over, int] = {}
+        self._fails: dict[int, tuple[int, ...]] = {}
+        self._asked_why = 0
+
+    async def run(self) -> None:
+        """Asks for all."""
+        end = await self._served.state("end main")
+        if isinstance(end, Over):
+            self._unknown[end] = 0
+        report = await self._served.report()
+        which = ordinals(self._served.program, ((it.number, it.check) for it in report))
+        self._checked.tally = _tally(report)
+        may = {it.number: it.check for it in report if it.verdict == "may"}
+        text, tries = self._checked.source.data, self._wanted.tries
+        self._fails = await failing_checks(self._served.server.ask, text, may, tries)
+        for it in report:
+            if it.verdict != "safe":
+                await self._add(it, which[it.number])
+        self._add_overs()
+        self._checked.findings.sort(key=lambda it: it.span)
+        if self._wanted.states:
+            await self._add_states()
+
+    async def _add(self, verdict: Verdict, ordinal: int) -> None:
+        """Adds the finding of a check that is not safe."""
+        place = self._served.places[verdict.number]
+        key = Key(place.proc.name, place.stmt.text, verdict.check, ordinal)
+        if verdict.verdict == "dead":
+            level = Level.WARNING if self._wanted.dead else Level.NOTE
+            notes = self._old_notes(verdict)
+            self._checked.findings.append(Finding(verdict.check, level, place.placed.head, DEAD, key, notes=notes))
+            return
+        known = await self._served.state(f"before {verdict.number}")
+        if isinstance(known, Over) and verdict.number not in self._fails:
+            self._unknown[known] = self._unknown.get(known, 0) + 1
+            self._checked.tally.may -= 1
+            self._checked.tally.unknown += 1
+            return
+        self._checked.findings.append(await self._may(verdict, key, told_states(known)))
+
+    async def _may(self, verdict: Verdict, key: Key, known: tuple[str, ...]) -> Finding:
+        """The finding of a check that may fail, or that fails in a run."""
+        number, places = verdict.number, self._served.places
+        self._asked_why += 1
+        why = await self._served.why(f"before {number}") if self._asked_why <= MOST_WHY else []
+        after = await self._served.state(f"after {number}")
+        inputs = self._fails.get(number)
+        return Finding(
+            verdict.check,
+            Level.WARNING if inputs is None else Level.ERROR,
+            places[number].placed.head,
+            check_words(verdict.check, inputs),
+            key,
+            known,
+            causes=tuple(sorted(places[it].placed.head for it in why if it != number)),
+            notes=((FAILS_ALWAYS,) if after == NEVER_REACHED else ()) + self._old_notes(verdict),
+            inputs=inputs,
+        )
+
+    def _old_notes(self, verdict: Verdict) -> tuple[str, ...]:
+        """What the check was before a change, where it was something else."""
+        if self._old is None:
+            return ()
+        old = self._old.get(verdict.number)
+        if old is None:
+            return ("new with the change",)
+        return () if old == (verdict.check, verdict.verdict) else (f"before the change: {verdict_words(*old)}",)
+
+    def _add_overs(self) -> None:
+        """Adds a finding for each loop that used up its budget, with how many checks are not known for it."""
+        loops = sorted({it.loop for it in self._unknown})
+        which = ordinals(self._served.program, ((it, "budget") for it in self._loops()))
+        for loop in loops:
+            place = self._served.places[loop]
+            unknown = {it: many for it, many in self._unknown.items() if it.loop == loop}
+            key = Key(place.proc.name, place.stmt.text, "budget", which[loop])
+            words, notes = over_words(self._wanted.settings.budget), over_notes(unknown, self._line)
+            finding = Finding("budget", Level.WARNING, place.placed.head, words, key, notes=notes)
+            self._checked.findings.append(finding)
+
+    def _loops(self) -> list[int]:
+        """The loops, in the order of the text."""
+        return [it.number for it in self._served.program.statements() if it.kind is StmtKind.WHILE]
+
+    def _line(self, number: int) -> int:
+        """The line of a statement."""
+        return self._checked.source.line_of(self._served.places[number].placed.span.start) + 1
+
+    async def _add_states(self) -> None:
+        """Adds what is known before each statement, and at the head of each loop."""
+        for number, place in self._served.places.items():
+            at = "head" if place.stmt.kind is StmtKind.WHILE else "before"
+            state = await self._served.state(f"{at} {number}")
+            lines = (state_words(state),) if isinstance(state, Over) else state
+            self._checked.states.append(StateLine(place.placed.head, lines))
+
+
+def _tally(report: list[Verdict]) -> Tally:
+    """How many checks have each verdict."""
+    verdicts = [it.verdict for it in report]
+    return Tally(len(verdicts), verdicts.count("safe"), verdicts.count("may"), verdicts.count("dead"))

@@ -1,0 +1,32 @@
+"""Why a file is no program, as a finding."""
+from __future__ import annotations
+
+from daig_editor.language.refusals import Refusal, refusal_of_reply, refusal_of_size
+from daig_editor.language.text import TextReader
+from daig_editor.language.tokens import Fault
+from daig_editor.language.tree import Program
+from daig_editor.reports.finding import Finding, Key, Level
+from daig_editor.server.process import Reply
+
+
+def read_program(data: bytes) -> tuple[Program | None, Fault | None]:
+    """The program of a text, or its fault."""
+    try:
+        return TextReader().read(data), None
+    except Fault as fault:
+        return None, fault
+
+
+def refused(data: bytes, program: Program | None, fault: Fault | None, reply: Reply) -> Finding:
+    """The finding of a server's refusal of a text."""
+    return _finding(refusal_of_reply(data, program, fault, reply), str(reply.get("name")))
+
+
+def too_long() -> Finding:
+    """The finding of a text that is too long."""
+    return _finding(refusal_of_size(), "Size")
+
+
+def _finding(refusal: Refusal, name: str) -> Finding:
+    """The finding of a refusal."""
+    return Finding("source", Level.ERROR, refusal.span, refusal.words, Key("", "", name), related=refusal.related)

@@ -1,0 +1,44 @@
+"""Checks files side by side, and hands them over in their order."""
+from __future__ import annotations
+
+import asyncio
+from typing import AsyncGenerator, Awaitable, Callable
+
+from daig_editor.checking.sources import Source
+from daig_editor.reports.finding import CheckedFile, troubled
+
+Check = Callable[[Source], Awaitable[CheckedFile]]
+
+
+async def in_order(
+    sources: list[Source], jobs: int, check: Check, done: Callable[[str], None]
+) -> AsyncGenerator[CheckedFile, None]:
+    """Each file as soon as it and those before it are checked; `done` is told of each as it is checked."""
+    turn = asyncio.Semaphore(jobs)
+
+    async def one(source: Source) -> CheckedFile:
+        async with turn:
+            checked = await _checked(source, check)
+        done(source.name)
+        return checked
+
+    tasks = [asyncio.create_task(one(it)) for it in sources]
+    try:
+        for task in tasks:
+            yield await task
+    finally:
+        for task in tasks:
+            task.cancel()
+        await asyncio.gather(*tasks, return_exceptions=True)
+
+
+async def _checked(source: Source, check: Check) -> CheckedFile:
+    """A file with what is told of it. Whatever happens, a file that could not be checked says so."""
+    if source.trouble:
+        return troubled(source.name, source.trouble)
+    try:
+        return await check(source)
+    except OSError as error:
+        return troubled(source.name, error.strerror or str(error))
+    except Exception as error:  # a fault of this program must not end the others' checks, nor look like a clean file
+        return troubled(source.name, f"a fault of daig-check itself: {type(error).__name__}: {error}")

@@ -1,0 +1,1 @@
+"""The language of `.imp` programs: read, compared, printed, and said in words."""

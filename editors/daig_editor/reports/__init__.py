@@ -1,0 +1,1 @@
+"""What daig-check says, in each of its formats."""

@@ -1,0 +1,131 @@
+"""What is told of a file: findings, counts and states; and the fingerprint by which a finding is known again."""
+from __future__ import annotations
+
+import hashlib
+import json
+import os
+from dataclasses import dataclass, field, fields
+from enum import Enum
+from typing import NamedTuple
+
+from daig_editor.language.places import SourceText
+from daig_editor.language.tree import Span
+
+CLEAN, FINDINGS, TROUBLE = 0, 1, 2
+# Where a finding stands that is of no place of the text.
+WHOLE_FILE = Span(0, 0)
+TROUBLE_RULES = ("source", "run")
+
+
+class Level(Enum):
+    """How bad a finding is, in the words of compilers and of SARIF."""
+
+    ERROR = "error"
+    WARNING = "warning"
+    NOTE = "note"
+
+
+class Key(NamedTuple):
+    """By what a finding is known again, with its file: moved lines, layout and comments are no part of it."""
+
+    procedure: str
+    statement: str
+    check: str
+    ordinal: int = 0
+
+
+@dataclass(frozen=True)
+class Finding:
+    """One finding. `known` are the states before it, `causes` what they hang on, `inputs` those of a run that fails.
+
+    `related` are other places, each with what it is.
+    """
+
+    rule: str
+    level: Level
+    span: Span
+    message: str
+    key: Key
+    known: tuple[str, ...] = ()
+    causes: tuple[Span, ...] = ()
+    notes: tuple[str, ...] = ()
+    related: tuple[tuple[Span, str], ...] = ()
+    inputs: tuple[int, ...] | None = None
+
+    @property
+    def status(self) -> int:
+        """The status that it asks for."""
+        if self.rule in TROUBLE_RULES:
+            return TROUBLE
+        return CLEAN if self.level is Level.NOTE else FINDINGS
+
+
+@dataclass
+class Tally:
+    """How many checks there are of each verdict; one that is not known stands after a loop that used up its budget.
+
+    `certified` certificates held, `rewritten` ones were written.
+    """
+
+    checks: int = 0
+    safe: int = 0
+    may: int = 0
+    dead: int = 0
+    unknown: int = 0
+    certified: int = 0
+    rewritten: int = 0
+
+    def add(self, other: Tally) -> None:
+        """Adds the counts of another file."""
+        for it in fields(Tally):
+            setattr(self, it.name, getattr(self, it.name) + getattr(other, it.name))
+
+
+class StateLine(NamedTuple):
+    """What is known at a place of the text, in a line for each part of the domain."""
+
+    span: Span
+    lines: tuple[str, ...]
+
+
+@dataclass
+class CheckedFile:
+    """A file and what is told of it. `known_before` counts the findings that a baseline has."""
+
+    name: str
+    source: SourceText
+    findings: list[Finding] = field(default_factory=list)
+    tally: Tally = field(default_factory=Tally)
+    states: list[StateLine] = field(default_factory=list)
+    known_before: int = 0
+
+    @property
+    def status(self) -> int:
+        """The status of this file alone."""
+        return max((it.status for it in self.findings), default=CLEAN)
+
+    @property
+    def prints(self) -> list[str]:
+        """The fingerprints of the findings, in their order."""
+        return [fingerprint(self.name, it.key) for it in self.findings]
+
+
+def troubled(name: str, words: str) -> CheckedFile:
+    """A file that could not be checked."""
+    return CheckedFile(name, SourceText.of(b"", True), [trouble(words)])
+
+
+def trouble(words: str, part: str = "") -> Finding:
+    """Why a file, or a part of what is asked of it, could not be checked."""
+    return Finding("run", Level.ERROR, WHOLE_FILE, words, Key("", part, "run"))
+
+
+def file_key(name: str) -> str:
+    """A file's name as a fingerprint has it: the same from wherever within its folder it is named."""
+    return os.path.relpath(name) if os.path.isabs(name) else os.path.normpath(name)
+
+
+def fingerprint(name: str, key: Key) -> str:
+    """By what a finding of a file is known again: of file, procedure, printed statement, check and ordinal."""
+    words = json.dumps([file_key(name), *key])
+    return hashlib.sha256(words.encode()).hexdigest()[:32]

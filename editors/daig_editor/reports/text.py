@@ -1,0 +1,95 @@
+"""The report as compilers write it, for people; and in a line each, for an editor's list of errors."""
+from __future__ import annotations
+
+from typing import Iterator
+
+from daig_editor.language.places import SourceText
+from daig_editor.reports.finding import WHOLE_FILE, CheckedFile, Finding, Level
+from daig_editor.reports.regions import byte_region, lines_of
+from daig_editor.reports.shown import shown, width
+
+COLOURS = {Level.ERROR: "1;31", Level.WARNING: "1;35", Level.NOTE: "1;36"}
+# So many lines that a finding hangs on are told; JSON has all.
+MOST_LINES = 40
+BOLD, GREEN = "1", "1;32"
+
+
+class BriefReport:
+    """A line for each finding: file, line, column, level, words, rule."""
+
+    def file(self, checked: CheckedFile) -> str:
+        """The lines of a file."""
+        return "".join(f"{heading(checked, it)}\n" for it in checked.findings)
+
+    def end(self) -> str:
+        """Nothing."""
+        return ""
+
+
+class TextReport:
+    """Each finding with the line where it stands, a mark below it, and what is known."""
+
+    def __init__(self, colour: bool) -> None:
+        self._colour = colour
+
+    def file(self, checked: CheckedFile) -> str:
+        """The blocks of a file."""
+        lines = [line for it in checked.findings for line in self._block(checked, it)]
+        return "".join(f"{it}\n" for it in lines)
+
+    def end(self) -> str:
+        """Nothing."""
+        return ""
+
+    def _block(self, checked: CheckedFile, finding: Finding) -> Iterator[str]:
+        """The lines of a finding."""
+        yield heading(checked, finding, self._colour)
+        if finding.span != WHOLE_FILE:
+            line, marks = _marked(checked.source, finding)
+            yield f"{checked.source.line_of(finding.span.start) + 1:5} | {line}".rstrip()
+            yield f"      | {self._painted(marks, GREEN)}"
+        yield from (f"      = {shown(it)}" for it in details(checked.source, finding))
+
+    def _painted(self, marks: str, colour: str) -> str:
+        """Marks in a colour, where there is colour."""
+        return painted(marks, colour) if self._colour else marks
+
+
+def heading(checked: CheckedFile, finding: Finding, colour: bool = False) -> str:
+    """The first line of a finding."""
+    region = byte_region(checked.source, finding.span)
+    where, level = f"{shown(checked.name)}:{region.line}:{region.column}:", f"{finding.level.value}:"
+    if colour:
+        where, level = painted(where, BOLD), painted(level, COLOURS[finding.level])
+    return f"{where} {level} {shown(finding.message)} [{finding.rule}]"
+
+
+def details(source: SourceText, finding: Finding) -> Iterator[str]:
+    """What is said below a finding."""
+    yield from (f"known here: {it}" for it in finding.known)
+    lines = lines_of(source, finding.causes)
+    if lines:
+        more = f" and {len(lines) - MOST_LINES} more" if len(lines) > MOST_LINES else ""
+        yield f"hangs on line{'s' if len(lines) > 1 else ''} {', '.join(map(str, lines[:MOST_LINES]))}{more}"
+    yield from (f"{words}: line {source.line_of(span.start) + 1}" for span, words in finding.related)
+    yield from finding.notes
+
+
+def _marked(source: SourceText, finding: Finding) -> tuple[str, str]:
+    """The line where a finding begins, and the marks below it."""
+    number = source.line_of(finding.span.start)
+    line, start = source.line(number), source.starts[number]
+    front = _decoded(line[: finding.span.start - start])
+    inside = _decoded(line[: finding.span.end - start].rstrip())
+    first, last = width(shown(front)), width(shown(inside))
+    return shown(_decoded(line)), " " * first + "^" + "~" * (last - first - 1)
+
+
+def _decoded(line: bytes) -> str:
+    """Bytes as text."""
+    return line.decode("utf-8", "replace")
+
+
+def painted(text: str, colour: str) -> str:
+    """Text in a colour of the terminal."""
+    return f"\x1b[{colour}m{text}\x1b[0m"

@@ -1,0 +1,81 @@
+"""What the tool says of itself: its name, its version, and the rules that its findings have."""
+from __future__ import annotations
+
+from dataclasses import dataclass
+
+NAME = "daig-check"
+VERSION = "1.0"
+
+
+@dataclass(frozen=True)
+class Rule:
+    """A rule: its name, what a finding of it says in a sentence, and what to know of it."""
+
+    name: str
+    short: str
+    text: str
+
+
+_RULES = (
+    Rule(
+        "bounds",
+        "The index of an array may be outside of it.",
+        "An element of an array is read or written, `x = a[e];` or `a[e] = f;`, and nothing shows that\n"
+        "0 <= e && e < len a holds in every run. A run where it does not hold ends there with the fault `index`.\n"
+        "What is known there stands in the finding. Often a relation between the index and the length is lost:\n"
+        "octagons keep those of the form x - y <= c and x + y <= c. A test before the access,\n"
+        "`if (0 <= e && e < len a) {`, always helps.",
+    ),
+    Rule(
+        "null",
+        "A list that is followed may be null.",
+        "A cell of a list is read or written, `q.next` or `p.item`, and nothing shows that the variable is not null\n"
+        "in every run. A run where it is null ends there with the fault `null`. List segments know the shape of\n"
+        "lists; the other domains know nothing of them. A test before it, `if (p != null) {`, always helps.",
+    ),
+    Rule(
+        "assert",
+        "An assertion may fail.",
+        "Nothing shows that the condition of an `assert` holds in every run. A run where it does not hold ends there\n"
+        "with the fault `assert`. What is known there stands in the finding, and the lines that this hangs on.",
+    ),
+    Rule(
+        "budget",
+        "A loop used up its budget of rounds, so nothing is known after it.",
+        "The states at the head of a loop still changed after as many rounds as `--budget` allows. Nothing is known\n"
+        "after the loop, so the checks there are counted as not known and told with the loop alone. A larger\n"
+        "`--budget`, up to 10,000, settles it; with `--widening thresholds` a loop may need about two rounds for each\n"
+        "different number of its procedure and each variable.",
+    ),
+    Rule(
+        "source",
+        "The file is no program.",
+        "The text has a fault, which the finding names, so nothing is known of the program. The language is told in\n"
+        "docs/LANGUAGE.md. The status is 2.",
+    ),
+    Rule(
+        "run",
+        "The file could not be checked.",
+        "The file could not be read, or the program `daig` is not there, ended, or answered what is no reply.\n"
+        "Nothing is known of the file, so it counts as one that may fail everywhere. The status is 2.",
+    ),
+    Rule(
+        "certificate",
+        "No certificate holds of the file.",
+        "With `--cert FOLDER` a certificate of each file is checked by `daig verify`, and written anew where it does\n"
+        "not hold. The finding says why none holds.",
+    ),
+    Rule(
+        "change",
+        "A change makes this different.",
+        "With `--against OLD` a note stands where a verdict, or the state at a loop or after a changed statement, is\n"
+        "another than before the change. It does not count for the status.",
+    ),
+)
+RULES = {it.name: it for it in _RULES}
+
+
+def explained(name: str) -> str:
+    """What to know of a rule, as lines."""
+    rule = RULES[name]
+    return f"{rule.name}: {rule.short}\n\n{rule.text}\n"

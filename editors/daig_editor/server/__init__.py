@@ -1,0 +1,1 @@
+"""The running `daig serve`, and what it is asked."""

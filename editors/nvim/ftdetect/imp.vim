@@ -1,0 +1,1 @@
+autocmd BufRead,BufNewFile *.imp set filetype=imp

@@ -1,0 +1,32 @@
+"""How long daig-check takes: processor time, which other work on the machine changes little."""
+from __future__ import annotations
+
+import os
+import resource
+import shutil
+import subprocess
+import sys
+import time
+
+from tests.check_tool import EXAMPLES, TOOL, folder
+from tests.program import program
+
+FILES, SECONDS = 200, 3.0
+
+
+def test_two_hundred_files() -> None:
+    """200 files take at most 3 s of processor time, that of their servers included."""
+    examples = sorted(EXAMPLES.glob("*.imp"))
+    with folder() as here:
+        for number in range(FILES):
+            shutil.copy(examples[number % len(examples)], here / f"f{number}.imp")
+        before, began = resource.getrusage(resource.RUSAGE_CHILDREN), time.monotonic()
+        environment = {**os.environ, "DAIG_PROGRAM": program()}
+        done = subprocess.run(
+            [sys.executable, str(TOOL), "."], cwd=here, env=environment, capture_output=True, text=True
+        )
+        took, after = time.monotonic() - began, resource.getrusage(resource.RUSAGE_CHILDREN)
+    used = after.ru_utime + after.ru_stime - before.ru_utime - before.ru_stime
+    print(f"{FILES} files: {used:.2f} s of processors, {took:.2f} s, load {os.getloadavg()[0]:.1f}")
+    assert done.returncode == 1 and done.stderr.startswith(f"{FILES} files, "), done
+    assert used <= SECONDS, used
