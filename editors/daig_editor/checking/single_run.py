@@ -3,10 +3,9 @@ from __future__ import annotations
 
 import asyncio
 import contextlib
-import os
 import resource
-import signal
 
+from daig_editor.server.child import Child, started
 from daig_editor.server.process import NotStarted, Settings
 
 LONGEST_ANSWER = 65_536
@@ -21,9 +20,7 @@ async def run_once(settings: Settings, words: list[str], output: int | None = No
         return await process.wait(), answer
     finally:
         if process.returncode is None:
-            with contextlib.suppress(ProcessLookupError, PermissionError):
-                os.killpg(process.pid, signal.SIGKILL)
-            await process.wait()
+            await process.stop()
 
 
 async def _answer(stream: asyncio.StreamReader) -> bytes:
@@ -35,13 +32,10 @@ async def _answer(stream: asyncio.StreamReader) -> bytes:
     raise NotStarted("what it answers is too long")
 
 
-async def _started(settings: Settings, words: list[str], output: int) -> asyncio.subprocess.Process:
+async def _started(settings: Settings, words: list[str], output: int) -> Child:
     """Starts the program, with a limit of its memory; raises `NotStarted`."""
-    silent = asyncio.subprocess.DEVNULL
     try:
-        process = await asyncio.create_subprocess_exec(
-            settings.daig, *words, stdin=silent, stdout=output, stderr=silent, start_new_session=True
-        )
+        process = await started([settings.daig, *words], asyncio.subprocess.DEVNULL, output)
     except (OSError, ValueError) as error:
         raise NotStarted(f"{settings.daig}: {error}") from None
     limit = settings.memory * MEBIBYTE

@@ -6,7 +6,10 @@ from typing import AsyncGenerator, Awaitable, Callable
 
 from daig_editor.checking.sources import Source
 from daig_editor.reports.finding import CheckedFile, troubled
+from daig_editor.server.ending import cancelled, undisturbed
 
+# Checks that are not wanted any longer are waited for at most so many seconds.
+LONGEST_END = 5.0
 Check = Callable[[Source], Awaitable[CheckedFile]]
 
 
@@ -27,9 +30,7 @@ async def in_order(
         for task in tasks:
             yield await task
     finally:
-        for task in tasks:
-            task.cancel()
-        await asyncio.gather(*tasks, return_exceptions=True)
+        await undisturbed(cancelled(tasks, LONGEST_END))
 
 
 async def _checked(source: Source, check: Check) -> CheckedFile:

@@ -3,12 +3,16 @@ from __future__ import annotations
 
 import asyncio
 import gc
+import os
 import sys
 
 from daig_editor.protocol.client import Client
 from daig_editor.protocol.server import LanguageServer
 from daig_editor.protocol.wire import standard_input
+from daig_editor.server.ending import cancelled
 
+# What still runs at the end is waited for at most so many seconds.
+LONGEST_END = 5.0
 # Trees of programs live long and hold no rings: looking for rings after each few objects costs more than it frees.
 COLLECT_AFTER = (100_000, 20, 50)
 HELP = """usage: daig-lsp [--stdio]
@@ -19,8 +23,15 @@ started by an editor. editors/README.md of the repository says how, and what its
 
 
 async def _serve() -> int:
-    """Serves the client at standard input and output."""
-    return await LanguageServer(Client(sys.stdout.buffer)).run(await standard_input())
+    """Serves the client at standard input and output. Whatever does not end then is left behind."""
+    status = 1
+    try:
+        status = await LanguageServer(Client(sys.stdout.buffer)).run(await standard_input())
+        return status
+    finally:
+        others = asyncio.all_tasks() - {asyncio.current_task()}
+        if await cancelled(others, LONGEST_END):
+            os._exit(status)
 
 
 def main(words: list[str] | None = None) -> int:

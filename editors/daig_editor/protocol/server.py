@@ -69,17 +69,19 @@ class LanguageServer:
     # Messages
 
     async def run(self, reader: asyncio.StreamReader) -> int:
-        """Serves the client until it says exit; answers the exit status."""
-        while True:
-            try:
-                message = await read_message(reader)
-            except Unread as unread:
-                self._client.fail(None, RpcError(PARSE_ERROR, str(unread)))
-                continue
-            if message is None or message.get("method") == "exit":
-                await self._close_all()
-                return 0 if self._stopped else 1
-            await self._take(message)
+        """Serves the client until it says exit; answers the exit status. No file's work goes on after it."""
+        try:
+            while True:
+                try:
+                    message = await read_message(reader)
+                except Unread as unread:
+                    self._client.fail(None, RpcError(PARSE_ERROR, str(unread)))
+                    continue
+                if message is None or message.get("method") == "exit":
+                    return 0 if self._stopped else 1
+                await self._take(message)
+        finally:
+            await self._close_all()
 
     async def _take(self, message: Json) -> None:
         """Takes one message. Requests are answered beside each other; what the client tells goes in its order."""
@@ -117,7 +119,7 @@ class LanguageServer:
             self._client.log(f"{method} is not read: {error!r}")
             document = self._documents.get(str(member(params, "textDocument", "uri")))
             if document and method == "textDocument/didChange":
-                await document.drift(Trouble(DRIFTED))
+                document.drift(Trouble(DRIFTED))
 
     async def _answer(self, number: object, method: str, params: Json) -> None:
         """Answers one request."""
@@ -220,7 +222,7 @@ class LanguageServer:
         before = self._settings.options
         self._read_settings({name: value for name, value in given.items() if value is not None})
         if self._settings.options != before:
-            for document in self._documents.values():
+            for document in list(self._documents.values()):
                 await document.reload(self._settings.options)
 
     async def shutdown(self, _params: Json) -> None:
@@ -231,8 +233,7 @@ class LanguageServer:
     async def _close_all(self) -> None:
         """Closes all files."""
         documents, self._documents = self._documents, {}
-        for document in documents.values():
-            await document.close()
+        await asyncio.gather(*(it.close() for it in documents.values()))
 
     # ------------------------------------------------------------------------------------------------------------------
     # Documents
@@ -258,7 +259,7 @@ class LanguageServer:
             raise ValueError("no changes")
         if document.drifted and not any("range" not in it for it in changes):
             raise ValueError("changes of a text that is not known")
-        await self._set_text(document, document.text.changed(changes), version)
+        self._set_text(document, document.text.changed(changes), version)
 
     async def did_save(self, params: Json) -> None:
         """A file is saved: its text is known again."""
@@ -267,12 +268,11 @@ class LanguageServer:
             data = words.encode("utf-8", "replace")
             if data != document.text.data or document.drifted:
                 text = SourceText.of(data, self._client.abilities.utf8)
-                await self._set_text(document, text, document.version)
+                self._set_text(document, text, document.version)
 
-    async def _set_text(self, document: Document, text: SourceText, version: object) -> None:
+    def _set_text(self, document: Document, text: SourceText, version: object) -> None:
         """The text of a document is another one."""
         document.change(text, version if type(version) is int else document.version)
-        await document.wake()
 
     async def did_close(self, params: Json) -> None:
         """A file is closed."""
@@ -293,7 +293,7 @@ class LanguageServer:
         """The user wants long work to end."""
         document = self._documents.get(self._client.worked_on(params.get("token")) or "")
         if document:
-            await document.give_up()
+            document.give_up()
 
     # ------------------------------------------------------------------------------------------------------------------
     # Requests that are about no one place

@@ -58,9 +58,8 @@ class Asker:
                 return await self._steps(asked["ticket"], test, stepped, until)
             except Gone:
                 raise
-            except BaseException:
-                if process.runs:
-                    await process.ask(do="cancel", ticket=asked["ticket"])
+            except BaseException:  # a cancellation too, which must not wait for a reply
+                process.begin(do="cancel", ticket=asked["ticket"])
                 raise
 
     async def _steps(

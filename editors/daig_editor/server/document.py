@@ -24,6 +24,7 @@ from daig_editor.language.tokens import Fault
 from daig_editor.language.tree import Placed, Program, Span
 from daig_editor.server.asking import Asker, GivenUp, Outdated
 from daig_editor.server.calls import CallChoice
+from daig_editor.server.ending import cancelled
 from daig_editor.server.findings import Report
 from daig_editor.server.judging import Judge, causes_of, heaviest
 from daig_editor.server.process import DaigProcess, Gone, NotStarted, Refused, Reply
@@ -36,6 +37,8 @@ REST = 0.25
 # Work is told of when it takes longer than so many seconds.
 TELL_AFTER = 1.0
 MOST_LOSSES = 2
+# The work on a closed file is waited for at most so many seconds.
+LONGEST_END = 5.0
 
 
 class Document:
@@ -76,24 +79,24 @@ class Document:
         """The text is another now."""
         self.text, self.version = text, version
         self.shown = self._drifted = self.trouble = None
-        self._stages.changes += 1
         self._losses = 0
+        self._begin_anew()
 
-    async def wake(self) -> None:
-        """Lets the worker see a change."""
-        await self._stages.wake()
+    def _begin_anew(self) -> None:
+        """Lets the worker see that there is something else to work on."""
+        self._stages.changes += 1
+        self._stages.wake()
 
     @property
     def drifted(self) -> bool:
         """Whether the client has another text, which is not known."""
         return self._drifted is not None
 
-    async def drift(self, trouble: Trouble) -> None:
+    def drift(self, trouble: Trouble) -> None:
         """A change could not be read: the text is not known until it comes whole."""
         self._drifted = trouble
-        self._stages.changes += 1
         self.refusal = self.report = None
-        await self.wake()
+        self._begin_anew()
 
     async def reload(self, options: Options) -> None:
         """Serves the present text anew by other options."""
@@ -101,15 +104,14 @@ class Document:
         self.session.settings, self.session.compare_every = options.settings, options.compare_every
         await self.session.drop()
         self.report = None
-        self._stages.changes += 1
         self._losses = 0
-        await self.wake()
+        self._begin_anew()
 
-    async def give_up(self) -> None:
+    def give_up(self) -> None:
         """Ends the work on the present text, as the user wants."""
         if self._stages.judged != self._stages.changes:
             self._given_up = self._stages.changes
-            await self.wake()
+            self._stages.wake()
 
     async def followed(self) -> None:
         """Waits until the present text is followed; raises `Outdated` where a newer one comes first."""
@@ -120,25 +122,28 @@ class Document:
         await self._stages.until("judged")
 
     async def close(self) -> None:
-        """Ends the work and the server."""
+        """Ends the work and the server, whatever is being done."""
+        self._stages.close()
         self._worker.cancel()
         if self._watch:
             self._watch.cancel()
-        await self._stages.close()
         await self.session.drop()
+        if await cancelled([self._worker], LONGEST_END):
+            self.watcher.log(f"the work on {self.uri} does not end")
+        await self.session.drop()  # one that was being started
 
     # ------------------------------------------------------------------------------------------------------------------
     # The work
 
     async def _work(self) -> None:
         """Follows change after change, judges between them, and explains when the text rests."""
-        while True:
+        while not self._stages.closed:
             try:
                 await self._turn()
             except Outdated:
                 pass
             except GivenUp:
-                await self._fail(Trouble("the analysis was given up as you wished: nothing is known", by_wish=True))
+                self._fail(Trouble("the analysis was given up as you wished: nothing is known", by_wish=True))
             except Gone as gone:
                 await self._lose(str(gone), f"daig serve ended: {gone}", gone.of_memory)
             except Exception as error:  # a mistake of this program must not end the work on the file
@@ -154,19 +159,19 @@ class Document:
             raise Gone("it ended while nothing was asked")
         if self._stages.followed != changes:
             await self._follow(self.text)
-            await self._stages.reach("followed", changes)
+            self._stages.reach("followed", changes)
         elif self._stages.judged != changes:
             await self._judge_text(changes)
         elif self._stages.explained != changes:
             if await self._stages.rests(changes, REST):
                 await self._explain()
-                await self._stages.reach("explained", changes)
+                self._stages.reach("explained", changes)
         else:
             await self._stages.work()
 
     def _test_worker(self) -> None:
         """Raises where the text that is worked on is no longer wanted."""
-        if self._working != self._stages.changes:
+        if self._stages.closed or self._working != self._stages.changes:
             raise Outdated
         if self._given_up == self._stages.changes:
             raise GivenUp
@@ -240,7 +245,7 @@ class Document:
         """Sees the end of a server that nobody asks."""
         await process.wait()
         if self.session.process is process:
-            await self.wake()
+            self._stages.wake()
 
     # ------------------------------------------------------------------------------------------------------------------
     # What goes wrong
@@ -265,15 +270,15 @@ class Document:
         if of_memory:
             limit = f"{self.options.settings.memory} MiB (the setting `memory`)"
             words = f"the analysis needs more memory than its {limit}: nothing is known"
-        await self._fail(Trouble(words, place.head if place and of_memory else Span(0, 0)))
+        self._fail(Trouble(words, place.head if place and of_memory else Span(0, 0)))
 
-    async def _fail(self, trouble: Trouble) -> None:
+    def _fail(self, trouble: Trouble) -> None:
         """The work on the present text ends with trouble."""
         self._complain(trouble)
         self._stages.followed = self._stages.explained = self._stages.changes
         self.running = False
         self.watcher.publish(self)
-        await self._stages.reach("judged", self._stages.changes)
+        self._stages.reach("judged", self._stages.changes)
 
     # ------------------------------------------------------------------------------------------------------------------
     # Asking the server
@@ -293,7 +298,7 @@ class Document:
                 self.trouble = Trouble("this editor cannot read the text, which the server takes: nothing is shown")
         self.running = False
         self.watcher.publish(self)
-        await self._stages.reach("judged", changes)
+        self._stages.reach("judged", changes)
 
     async def _tell_running(self) -> None:
         """Publishes that the work runs, where it takes long: what is shown until then is of an older text."""
@@ -339,7 +344,7 @@ class Document:
 
         def test() -> None:
             """Raises where the text has changed."""
-            if self._stages.changes != changes:
+            if self._stages.closed or self._stages.changes != changes:
                 raise Outdated
 
         return await self._asker.state(at, string or [], test)

@@ -10,9 +10,13 @@ import tempfile
 from dataclasses import dataclass
 
 from daig_editor.language.refusals import GREATEST_SOURCE
+from daig_editor.server.child import Child, started
+from daig_editor.server.ending import within
 
 Reply = dict[str, object]
 LONGEST_REPLY = 64 * 2**20
+# A server that closed its output ends within so many seconds, or is ended.
+LONGEST_SILENCE = 5.0
 MEBIBYTE = 2**20
 MEMORY_STATUS = 6
 STATUS_WORDS = {
@@ -66,7 +70,7 @@ class Gone(Exception):
 class DaigProcess:
     """A server that runs. Requests are answered in the order in which they are asked."""
 
-    def __init__(self, process: asyncio.subprocess.Process, settings: Settings) -> None:
+    def __init__(self, process: Child, settings: Settings) -> None:
         self._process = process
         self._settings = settings
         self._turn = asyncio.Lock()
@@ -113,11 +117,15 @@ class DaigProcess:
             except (OSError, ValueError):
                 pass  # it ended, or has a lower limit
 
-    async def ask(self, **request: object) -> Reply:
-        """The reply to a request; raises `Gone`. Once begun, an exchange is ended even where its asker has gone."""
+    def begin(self, **request: object) -> asyncio.Future[Reply]:
+        """Sends a request as soon as those before it are answered; its reply, or `Gone`, comes later."""
         exchange = asyncio.ensure_future(self._exchange(request))
         exchange.add_done_callback(lambda it: it.cancelled() or it.exception())
-        return await asyncio.shield(exchange)
+        return exchange
+
+    async def ask(self, **request: object) -> Reply:
+        """The reply to a request; raises `Gone`. Once begun, an exchange is ended even where its asker has gone."""
+        return await asyncio.shield(self.begin(**request))
 
     async def _exchange(self, request: dict[str, object]) -> Reply:
         """One line there, one line back."""
@@ -165,11 +173,9 @@ class DaigProcess:
 
     async def ended(self) -> int:
         """Waits for its end; answers its status."""
-        try:
-            return await asyncio.wait_for(self._process.wait(), 5)
-        except asyncio.TimeoutError:  # it closed its output and runs on
+        if not await within(LONGEST_SILENCE, self._process.wait()):  # it closed its output and runs on
             await self.stop()
-            return await self._process.wait()
+        return await self._process.wait()
 
     async def wait(self) -> None:
         """Waits for its end, however long."""
@@ -177,12 +183,7 @@ class DaigProcess:
 
     async def stop(self) -> None:
         """Ends the server, in the middle of a request too."""
-        if self._process.returncode is None:
-            try:
-                os.killpg(self._process.pid, signal.SIGKILL)
-            except (ProcessLookupError, PermissionError):
-                pass
-        await self._process.wait()
+        await self._process.stop()
 
 
 def _signal_name(number: int) -> str:
@@ -204,18 +205,11 @@ async def _greeted(settings: Settings, path: str) -> DaigProcess:
     return server
 
 
-async def _spawned(settings: Settings, path: str) -> asyncio.subprocess.Process:
+async def _spawned(settings: Settings, path: str) -> Child:
     """Starts the program; raises `NotStarted`."""
     pipe = asyncio.subprocess.PIPE
     try:
-        return await asyncio.create_subprocess_exec(
-            *settings.words(path),
-            stdin=pipe,
-            stdout=pipe,
-            stderr=asyncio.subprocess.DEVNULL,
-            limit=LONGEST_REPLY,
-            start_new_session=True,  # a script that starts the server ends with all that it started
-        )
+        return await started(settings.words(path), pipe, pipe, LONGEST_REPLY)
     except OSError as error:
         raise NotStarted(f"{settings.daig}: {error.strerror}") from None
     except ValueError as error:  # a NUL

@@ -86,13 +86,22 @@ class Session:
 
         Raises `Refused` or `NotStarted`. Without a program the server takes a text that the reader does not.
         """
-        process = await DaigProcess.start(self.settings, text.data)
-        if self.process:
-            self._log("the server is started anew on the present text")
-            await self.process.stop()
-        self.process = process
+        started = await self._started(text.data)
+        old, self.process = self.process, started
         self.counts.starts += 1
         self.good = Good(text, program, number_from_one(program)) if program else None
+        if old:
+            self._log("the server is started anew on the present text")
+            await old.stop()
+
+    async def _started(self, data: bytes) -> DaigProcess:
+        """A server that is started by the settings, which may become others while one starts."""
+        while True:
+            settings = self.settings
+            process = await DaigProcess.start(settings, data)
+            if settings == self.settings:
+                return process
+            await process.stop()
 
     async def drop(self) -> None:
         """Lets go of the server, which ended, or has another program, or shall have other settings."""
