@@ -1,0 +1,115 @@
+#!/usr/bin/env python3
+"""Makes the list of crates, docs/CRATES.md, from the first sentence of each crate: crate_list.py [--check].
+
+The layers stand below. Each crate of crates.txt is in one of them, and stands on crates of its own layer or of those
+before it. `--check` compares the list with what stands in the document, and writes nothing.
+"""
+import os
+import re
+import sys
+
+sys.dont_write_bytecode = True
+
+from kit import ROOT
+from tally import Tally
+
+DOCUMENT = "docs/CRATES.md"
+HEAD = """# The crates
+
+Each layer stands only on itself and on those above it in this list. The sentences are the first of each crate's own page,
+which says what the crate promises. This file is made by `tools/crate_list.py`.
+"""
+LAYERS = {
+    "Base": "plain_values step_counter io_edge number_hash state_table demand_order",
+    "Language": "imp_lex imp_syntax imp_parse imp_print print_round_trip imp_slots imp_check program_table program_chains"
+    " analysis_words edit_entries loop_breaks imp_edit edit_history",
+    "Input and output": "command_words request_json script_loop gen_summary",
+    "Meaning": "concrete_sem imp_run domain_laws batch_meaning batch_sound cert_meaning",
+    "Domains": "num_bounds numeric_slots cert_words portable_states interval_meaning interval_words dom_interval dbm_core"
+    " dbm_close dbm_incremental dbm_narrow octagon_meaning octagon_states octagon_words dom_octagon shape_graph"
+    " shape_steps listseg_meaning graph_sets listseg_words dom_listseg product_meaning dom_product batch_converges"
+    " product_answers",
+    "Batch interpretation and certificates": "call_contexts selected_chains alarm_report batch_interp cert_sound"
+    " cert_complete cert_lines cert_write cert_reading cert_accepted cert_check",
+    "Cells": "cell_names cell_rows cells_sound demand_laws why_slice flow_rows imp_flow daig_graph named_cells loop_unroll"
+    " memo_table daig_query why_cells kept_set kept_after cell_removal edit_invalidate edit_places_stay edits_keep_cells",
+    "Sessions": "session_machine open_tickets daig_session line_replies line_answers session_lines",
+    "Program": "daig_gen generated_sources server_jobs daig_server daig",
+    "Tests": "domain_tests session_tests server_tests examples",
+}
+SENTENCE = re.compile(r"(.+?[.])(?= [A-Z\[`(]|$)")
+
+
+def root_file(crate):
+    """The crate's root, from the top of the repository."""
+    library = f"crates/{crate}/src/lib.rt"
+    return library if os.path.exists(f"{ROOT}/{library}") else f"crates/{crate}/src/main.rt"
+
+
+def first_sentence(crate):
+    """The first sentence of the crate's page."""
+    paragraph = []
+    with open(f"{ROOT}/{root_file(crate)}") as lines:
+        for line in lines:
+            if not line.startswith("//!") or not line[3:].strip():
+                break
+            paragraph.append(line[3:].strip())
+    text = " ".join(paragraph)
+    found = SENTENCE.match(text)
+    return found[1] if found else text
+
+
+def crates():
+    """Each crate of crates.txt, with what it stands on."""
+    found = {}
+    with open(f"{ROOT}/crates.txt") as lines:
+        for line in lines:
+            name, colon, on = line.partition(":")
+            if colon and not line.startswith("#"):
+                found[name.split()[0]] = on.split()
+    return found
+
+
+def placed():
+    """The place of each crate's layer."""
+    return {crate: place for place, names in enumerate(LAYERS.values()) for crate in names.split()}
+
+
+def document():
+    """The text of the list."""
+    parts = [HEAD]
+    for layer, names in LAYERS.items():
+        parts += [f"\n## {layer}\n\n| Crate | What it is |\n|---|---|\n"]
+        parts += [f"| [{it}](../{root_file(it)}) | {first_sentence(it)} |\n" for it in names.split()]
+    return "".join(parts)
+
+
+def faults():
+    """What is wrong with the layers, by the name of what was checked."""
+    places, known = placed(), crates()
+    odd = sorted(places.keys() ^ known.keys())
+    yield "each crate is in one layer", f"these are not, or are no crates: {' '.join(odd)}" if odd else ""
+    upward = [f"{it} on {on}" for it in known for on in known[it] if on in places and places[on] > places.get(it, 0)]
+    yield "no crate stands on a later layer", ", ".join(upward)
+
+
+def main(words):
+    if words not in ([], ["--check"]):
+        print("usage: crate_list.py [--check]", file=sys.stderr)
+        return 2
+    tally = Tally()
+    for name, fault in faults():
+        tally.note(name, fault)
+    if tally.failed:
+        return tally.end()
+    if not words:
+        with open(f"{ROOT}/{DOCUMENT}", "w") as out:
+            out.write(document())
+    with open(f"{ROOT}/{DOCUMENT}") as text:
+        is_made = text.read() == document()
+    tally.note(f"{DOCUMENT} is made from the crates", "" if is_made else "run tools/crate_list.py")
+    return tally.end()
+
+
+if __name__ == "__main__":
+    sys.exit(main(sys.argv[1:]))
