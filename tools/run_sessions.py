@@ -3,8 +3,9 @@
 
 A block that is indented by four spaces and has lines that begin with `$ ` is a session. Each such line is a command of
 the shell; below it stands what it writes, or, where a line has two JSON objects with two spaces or more between them,
-requests on the left and replies on the right. A block behind a paragraph that names a file in backticks and ends in a
-colon is that file where no line of it begins with `$ `.
+requests on the left and replies on the right. A command ends with status 0, but where `$ echo $?` comes next, which tells
+its status. A block after a paragraph that names a file in backticks and ends in a colon is that file where no line of it
+begins with `$ `. Blocks between lines of three backticks are not run here.
 
 All sessions of a document run in one folder, where the document's files are, where `daig` is the program, and where
 `./daig` and `crates` are those of this repository.
@@ -23,6 +24,7 @@ from tally import Tally, shown
 INDENT = "    "
 FILE = re.compile(r"`([\w.-]+)`[^`]*:$")
 EXCHANGE = re.compile(r"(\{.*\}) {2,}(\{.*\})")
+ASKS_STATUS = "echo $?"
 LIMIT = 120
 
 
@@ -30,28 +32,31 @@ class Command:
     """A command of a session, with what it reads and what it is to write."""
 
     def __init__(self, words, number):
-        self.words, self.number, self.lines = words, number, []
+        self.words, self.number, self.lines, self.status = words, number, [], 0
 
     def fault(self, folder, path):
         exchanges = [EXCHANGE.fullmatch(it) for it in self.lines]
         is_exchange = bool(exchanges) and all(exchanges)
         script = "".join(f"{it[1]}\n" for it in exchanges) if is_exchange else ""
         wanted = "".join(f"{it[2] if is_exchange else line}\n" for it, line in zip(exchanges, self.lines))
+        if self.words == ASKS_STATUS:
+            return ""
         how = {"cwd": folder, "input": script, "stdout": subprocess.PIPE, "text": True, "timeout": LIMIT}
         try:
             ran = subprocess.run(["sh", "-c", self.words], env={**os.environ, "PATH": path}, **how)
         except subprocess.TimeoutExpired:
             return f"did not end within {LIMIT} seconds"
-        if ran.returncode:
-            return f"ended with {ran.returncode}"
+        if ran.returncode != self.status:
+            return f"ended with {ran.returncode} in place of {self.status}"
         return "" if ran.stdout == wanted else f"wrote {shown(ran.stdout)} in place of {shown(wanted)}"
 
 
 def blocks(text):
     """The indented blocks of a document: the number of the first line, the last line above, and the lines."""
-    above, block, begun = "", [], 0
+    above, block, begun, is_fenced = "", [], 0, False
     for number, line in enumerate([*text.split("\n"), "end"], 1):
-        if line.startswith(INDENT):
+        is_fenced ^= line.startswith("```")
+        if line.startswith(INDENT) and not is_fenced:
             begun = begun if block else number
             block.append(line[len(INDENT) :])
         elif line.strip():
@@ -71,6 +76,9 @@ def commands(begun, block):
             found.append(Command(line[2:], number))
         elif found and line:
             found[-1].lines.append(line)
+    for it, after in zip(found, found[1:]):
+        if after.words == ASKS_STATUS:
+            it.status = int(after.lines[0])
     return found
 
 
@@ -91,8 +99,8 @@ def run(document, program, tally):
 
 
 def all_documents():
-    """README, and what stands in docs/."""
-    return ["README.md", *sorted(f"docs/{it}" for it in os.listdir(f"{ROOT}/docs") if it.endswith(".md"))]
+    """README, CONTRIBUTING, and what stands in docs/."""
+    return ["README.md", "CONTRIBUTING.md", *sorted(f"docs/{it}" for it in os.listdir(f"{ROOT}/docs") if it.endswith(".md"))]
 
 
 def main(program, *documents):

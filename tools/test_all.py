@@ -1,9 +1,9 @@
 #!/usr/bin/env python3
 """Tests everything: test_all.py [--quick].
 
-First the gate (`rt ci`: every proof, must-fail edit, test, and program), whose output passes through; then, by the
-program compiled without proofs, the examples and rows, the sessions that the documents show, and the editor's tests;
-and the launcher's own tests. `--quick` leaves the gate out. The last line is `N passed, M failed` over all, and the
+First the gate (`rt ci`: every proof, must-fail edit, test, and program), whose output passes through; then what the
+documents say of the repository; by the program compiled without proofs the examples and rows, the sessions that the
+documents show, and the editor's tests; and the launcher's own tests. `--quick` leaves the gate out. The last line is `N passed, M failed` over all, and the
 status is 0 where nothing failed.
 """
 import os
@@ -67,6 +67,7 @@ def main(words):
         print("== the gate (rt ci) is left out", flush=True)
     else:
         run("the gate", ["rt", "ci"], tally)
+    run("what the documents say", [python, f"{places.TOOLS}/check_documents.py"], tally)
     program = quick_program(tally)
     if program:
         run("examples and rows", [python, f"{places.TOOLS}/run_examples.py", program], tally)

@@ -1,0 +1,339 @@
+#!/usr/bin/env python3
+"""Checks what the documents say of the repository: check_documents.py [--words].
+
+Each link leads to a file, and to a heading of it. Each name in backticks is declared somewhere: in a crate, a script, the
+protocol or the language; where a document says "`name` of `crate`", in that crate. Each row of docs/THEOREM.md, and each
+link of a document that names clauses, names a function of that file with these clauses. Each block of code is run, or is
+marked as one that is not. All documents together stay below a number of words; `--words` prints how many each has.
+"""
+import fnmatch
+import json
+import os
+import re
+import sys
+from functools import cache
+from glob import glob
+
+sys.dont_write_bytecode = True
+
+import crate_list
+import draw_graph
+import run_sessions
+from kit import ROOT
+from tally import Tally
+
+MOST_WORDS = 13_000
+EDITOR = "editors/README.md"
+RUN_BY_THE_EDITOR = {"README.md": "$ ./daig-check", "docs/CHECK.md": "./daig-check"}
+LINK = re.compile(r"!?\[((?:[^\[\]]|\[[^\]]*\])*)\]\(([^()\s]+)\)")
+SPAN = re.compile(r"`([^`\n]+)`")
+WORD = re.compile(r"[A-Za-z_][\w-]*")
+OF_CRATE = re.compile(r"`([\w-]+)` of(?: crate)? `(\w+)`")
+CLAUSES = re.compile(r"^`(\w+)`: (`\w+`(?:, `\w+`)*)$")
+FENCE = re.compile(r"^```(.*)$")
+CODE_ENDINGS = (".rt", ".antt", ".py", ".sh", ".js", ".lua", ".mk", ".edit", ".md", ".imp", ".txt", ".json")
+# Words of other programs, and of the toolchain, of which the documents speak.
+OUTSIDE = """
+ rt check lib ci test lemma must-fail plant fmt tidy doc expand start FN allow-holes only module function rust text
+ requires ensures returns search omega record rules std using tactic auto unfolding NAME WORD goal ulimit find make clang
+ git python3 serde_json json clap thiserror itoa indexmap slab smallvec lru llvm path cache local daig DAIG_PROGRAM PATH
+ vim opt runtimepath prepend require setup true src wildcard patsubst make_mut Type impl
+ daig_no_server eglot-server-programs init.lua toml tests measure_typing x.imp mypy nvim
+""".split()
+
+
+def read(path):
+    with open(f"{ROOT}/{path}", encoding="utf-8") as text:
+        return text.read()
+
+
+@cache
+def documents():
+    """README, CONTRIBUTING, and what stands in docs/."""
+    return ("README.md", "CONTRIBUTING.md", *sorted(f"docs/{it}" for it in os.listdir(f"{ROOT}/docs") if it.endswith(".md")))
+
+
+@cache
+def prose(document):
+    """The lines of a document without its blocks of code, by their numbers."""
+    found, is_inside = [], False
+    for number, line in enumerate(read(document).split("\n"), 1):
+        if FENCE.match(line):
+            is_inside = not is_inside
+        elif not is_inside and not line.startswith(run_sessions.INDENT):
+            found.append((number, line))
+    return found
+
+
+def whole_prose(document):
+    """The same as one text, with each line's end as a space, so that what a line break parts is found."""
+    return " ".join(line for _, line in prose(document))
+
+
+# ---- what the repository declares
+
+DECLARED_IN_RT = re.compile(
+    r"\b(?:fn|struct|enum|trait|mod|const|type|ghost|ensures\*?|requires)\s+([A-Za-z_]\w*)|^\s+(?:pub(?:\(\w+\))? )?(\w+)(?=[:({,]| \{)", re.M
+)
+DECLARED_IN_ANTT = re.compile(
+    r"^\s*(?:(?:unfoldable|abbrev|pub|data|record|module|instance)\s+)*([A-Za-z_][\w-]*)\s+(?:\(|\{|:)|^\s*(?:pub )?(?:data|record|mod) (\w+)", re.M
+)
+DECLARED_IN_SCRIPTS = re.compile(r"\b(?:def|class|function|local)\s+(\w+)|^\s*(\w+)\s*(?:=|:)", re.M)
+TEXT = re.compile(r'"((?:[^"\\\n]|\\.)*)"')
+COMMENT = re.compile(r"(?m)//.*$|^\s*--.*$")
+
+
+def words_of(texts):
+    """All words of some texts."""
+    return {word for text in texts for word in WORD.findall(text)} | {text.strip("- ") for text in texts}
+
+
+def declared(path):
+    """The names that a file declares, and the words of its texts."""
+    text, names = read(path), set()
+    if path.endswith((".rt", ".antt")):
+        text = COMMENT.sub("", text)
+        form = DECLARED_IN_RT if path.endswith(".rt") else DECLARED_IN_ANTT
+    else:
+        form = DECLARED_IN_SCRIPTS
+    for found in form.findall(text):
+        names.update(it for it in found if it)
+    return names | words_of(TEXT.findall(text))
+
+
+@cache
+def files():
+    """The files of the repository, without what is built."""
+    found = []
+    for folder, folders, names in os.walk(ROOT):
+        folders[:] = [it for it in folders if it not in ("out", ".git", "__pycache__")]
+        found += [os.path.relpath(f"{folder}/{it}", ROOT) for it in names]
+    return found
+
+
+@cache
+def names_of(crate):
+    """The names that a crate declares."""
+    ours = [it for it in files() if it.startswith((f"crates/{crate}/src/", f"crates/{crate}/specs/", f"crates/{crate}/proofs/"))]
+    return set().union(*(declared(it) for it in ours if it.endswith((".rt", ".antt"))))
+
+
+@cache
+def known():
+    """The names that are declared anywhere, with those of other programs."""
+    names = set(OUTSIDE)
+    for crate in crate_list.crates():
+        names |= names_of(crate) | {crate}
+    for path in files():
+        is_ours = path.startswith(("tools/", "editors/", "bench/")) and "/tests/" not in path
+        if is_ours and path.endswith((".py", ".sh", ".js", ".json", ".lua", ".mk")):
+            names |= declared(path)
+        names.update(path.split("/"))
+    return names
+
+
+# ---- links
+
+def slug(heading):
+    """The anchor of a heading."""
+    return re.sub(r"[^\w\- ]", "", heading.strip().lower()).replace(" ", "-")
+
+
+def anchors(document):
+    return {slug(line.lstrip("#")) for _, line in prose(document) if line.startswith("#")}
+
+
+def link_faults(document):
+    """The links that lead nowhere."""
+    for _, target in LINK.findall(whole_prose(document)):
+        if re.match(r"\w+://", target):
+            continue
+        path, _, anchor = target.partition("#")
+        there = os.path.normpath(os.path.join(os.path.dirname(document), path)) if path else document
+        if not os.path.exists(f"{ROOT}/{there}"):
+            yield f"{target} is no file"
+        elif anchor and (not there.endswith(".md") or anchor not in anchors(there)):
+            yield f"{target} is no heading"
+
+
+# ---- names
+
+def is_path(document, word):
+    """Whether a word is a file or folder: of the repository, beside the document, of a crate, or one that a document makes."""
+    rest = word.rstrip("/")
+    beside = os.path.dirname(document)
+    places = (rest, f"{beside}/{rest}", f"{beside}/*/{rest}", f"crates/{rest}", f"crates/*/{rest}")
+    is_there = any(glob(f"{ROOT}/{it}") for it in places) or bool(fnmatch.filter(files(), rest))
+    return is_there or rest in made_files() | known() or rest.startswith("PATH/")
+
+
+@cache
+def made_files():
+    """The files that the documents' sessions make."""
+    made = set()
+    for document in documents():
+        for begun, above, block in run_sessions.blocks(read(document)):
+            told = run_sessions.commands(begun, block)
+            named = run_sessions.FILE.search(above)
+            made |= {it[1] for command in told for it in re.finditer(r"> (\S+)$", command.words)}
+            made |= {named[1]} if named and not told else set()
+    return made
+
+
+def is_known(word):
+    """Whether a word is declared. Short ones stand for values, as `n` or `at`, and so do those in capitals."""
+    if len(word) < 3 or word.isupper() or "NAME" in word or word in known() or word.strip("-_") in known():
+        return True
+    return "-" in word and all(is_known(it) for it in word.split("-"))
+
+
+def unknown_in(document, span):
+    """What a span of code names that is not declared."""
+    if span.startswith("{") and span.endswith("}"):
+        span = re.sub(r'[^"\w]+', " ", span)
+    for word in span.split():
+        word = word.strip("[](){},;")
+        looks_like_path = "/" in word and re.fullmatch(r"[.~]?[\w./*-]+", word) or word.endswith(CODE_ENDINGS)
+        if looks_like_path and not word.startswith("//"):
+            if not is_path(document, word.removeprefix("./")) and not word.startswith("~"):
+                yield word
+            continue
+        yield from (it for it in WORD.findall(word) if not is_known(it))
+
+
+def name_faults(document):
+    """The names in backticks that are declared nowhere."""
+    for number, line in prose(document):
+        for span in SPAN.findall(LINK.sub(lambda it: it[1], line)):
+            unknown = list(unknown_in(document, span))
+            if unknown:
+                yield f"{number}: `{span}`: {', '.join(unknown)}"
+    for name, crate in OF_CRATE.findall(whole_prose(document)):
+        if crate in crate_list.crates() and name not in names_of(crate) | set(crate_list.crates()):
+            yield f"`{name}` is not declared in `{crate}`"
+
+
+# ---- clauses
+
+def contract(path, function):
+    """The contracts of the functions of a name in a file: what stands between the name and the body."""
+    text = read(path)
+    for found in re.finditer(rf"\bfn {function}\b", text):
+        rest = text[found.end() :]
+        body = re.search(r"\n\s*\{(\}|\n)|^    [^\n]*;$", rest, re.M)
+        yield rest[: body.start()] if body else rest
+
+
+def clause_fault(path, function, clauses):
+    """What a file lacks of a function with clauses."""
+    if not os.path.exists(f"{ROOT}/{path}"):
+        return f"{path} is no file"
+    contracts = list(contract(path, function))
+    if not contracts:
+        return f"{path} has no function {function}"
+    for clause in clauses:
+        form = re.compile(rf"\b(?:ensures\*?|requires)\s+{clause}\b|\b{clause}\s*[=:]")
+        if not any(form.search(it) for it in contracts):
+            return f"{function} in {path} has no clause {clause}"
+    return ""
+
+
+def clause_links(document):
+    """The links of a document that name a function and its clauses."""
+    for words, target in LINK.findall(whole_prose(document)):
+        found = CLAUSES.match(words)
+        if found:
+            yield os.path.normpath(os.path.join(os.path.dirname(document), target)), found[1], re.findall(r"\w+", found[2])
+
+
+def theorem_rows():
+    """The rows of the claims: file, function, clauses."""
+    for _, line in prose("docs/THEOREM.md"):
+        parts = [it.strip() for it in line.strip("|").split(" | ")]
+        links = LINK.findall(parts[-1].rstrip("| ")) if len(parts) == 4 else []
+        functions = SPAN.findall(parts[1]) if links else []
+        if len(functions) == 1:
+            yield os.path.normpath(f"docs/{links[0][1]}"), functions[0], SPAN.findall(parts[2])
+
+
+# ---- blocks, requests, words
+
+def block_faults(document):
+    """The blocks of code that nothing runs and that are not marked so."""
+    opened, first = "", None
+    for number, line in enumerate(read(document).split("\n"), 1):
+        fence = FENCE.match(line)
+        if fence and not opened:
+            opened, first = fence[1] or "run", None
+        elif fence:
+            opened = ""
+        elif opened == "run" and first is None:
+            first = line
+            if RUN_BY_THE_EDITOR.get(document, "?") not in line or not line.startswith("$ "):
+                yield f"{number}: this block is run by nothing, and is not marked as text"
+    for begun, above, block in run_sessions.blocks(read(document)):
+        if not run_sessions.commands(begun, block) and not run_sessions.FILE.search(above):
+            yield f"{begun}: this block is no session and no file"
+
+
+def requests_shown():
+    """The requests that the protocol's sessions ask."""
+    for begun, _, block in run_sessions.blocks(read("docs/PROTOCOL.md")):
+        for command in run_sessions.commands(begun, block):
+            for line in command.lines:
+                found = run_sessions.EXCHANGE.fullmatch(line)
+                if found:
+                    yield json.loads(found[1])["do"]
+
+
+def requests_told():
+    """The requests of the protocol's table."""
+    begin = next(i for i, (_, line) in enumerate(prose("docs/PROTOCOL.md")) if line.startswith("| `do` |"))
+    for _, line in prose("docs/PROTOCOL.md")[begin + 2 :]:
+        if not line.startswith("|"):
+            break
+        yield from SPAN.findall(line.split("|")[1])
+
+
+def word_count(text):
+    """The words of a text: what has a letter or a digit, without the targets of links."""
+    return sum(bool(re.search(r"\w", it)) for it in re.sub(r"\]\([^)]*\)", "]", text).split())
+
+
+def note_all(tally, name, faults):
+    faults = list(faults)
+    tally.note(name, "\n    ".join(["", *faults]) if faults else "")
+
+
+def main(words):
+    if words not in ([], ["--words"]):
+        print("usage: check_documents.py [--words]", file=sys.stderr)
+        return 2
+    counts = {it: word_count(read(it)) for it in documents()}
+    if words:
+        print("\n".join(f"{count:>6} {it}" for it, count in counts.items()))
+    tally = Tally()
+    for document in (*documents(), EDITOR):
+        note_all(tally, f"links of {document}", link_faults(document))
+        note_all(tally, f"names of {document}", name_faults(document))
+        for path, function, clauses in clause_links(document):
+            tally.note(f"{document}: {function}", clause_fault(path, function, clauses))
+    for document in documents():
+        note_all(tally, f"blocks of {document}", block_faults(document))
+    for path, function, clauses in theorem_rows():
+        tally.note(f"docs/THEOREM.md: {function}", clause_fault(path, function, clauses))
+    odd = set(requests_told()) ^ set(requests_shown())
+    tally.note("each request has an example", " ".join(sorted(odd)))
+    for name, fault in crate_list.faults():
+        tally.note(name, fault)
+    made = ((crate_list.DOCUMENT, crate_list.document), (draw_graph.DOCUMENT, draw_graph.drawing))
+    for document, make in made:
+        tally.note(f"{document} is made by its script", "" if read(document) == make() else "run the script")
+    total = sum(counts.values())
+    print(f"{total:,} words, at most {MOST_WORDS:,}")
+    tally.note("the number of words", "" if total <= MOST_WORDS else f"{total:,} are more than {MOST_WORDS:,}")
+    return tally.end()
+
+
+if __name__ == "__main__":
+    sys.exit(main(sys.argv[1:]))

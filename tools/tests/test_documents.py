@@ -1,0 +1,80 @@
+"""The checks of the documents: what is wrong in a document is found, and each kind of it."""
+import os
+import tempfile
+
+import check_documents
+import crate_list
+import draw_graph
+import run_sessions
+
+SERVING = "crates/daig_server/src/serving.rt"
+
+
+def test_a_clause_that_is_gone_is_found():
+    assert check_documents.clause_fault(SERVING, "serve", ["complete", "sound"]) == ""
+    assert "no clause finished" in check_documents.clause_fault(SERVING, "serve", ["complete", "finished"])
+    assert "no function served" in check_documents.clause_fault(SERVING, "served", [])
+    assert "is no file" in check_documents.clause_fault("crates/daig_server/src/gone.rt", "serve", [])
+
+
+def test_a_clause_of_a_record_is_found():
+    text = "pub fn f(x: u8) -> u8\n    returns c = record { least = A; most = B } where x\n{\n    x\n}\n"
+    kept = check_documents.read
+    check_documents.read = lambda path: text
+    try:
+        clauses = {it: check_documents.clause_fault(SERVING, "f", [it]) for it in ("least", "most", "other")}
+    finally:
+        check_documents.read = kept
+    assert [bool(it) for it in clauses.values()] == [False, False, True], clauses
+
+
+def test_the_rows_of_claims_are_read():
+    rows = list(check_documents.theorem_rows())
+    assert (SERVING, "serve", ["complete"]) in rows and len(rows) > 20, rows
+    assert (SERVING, "serve", ["verified"]) in check_documents.clause_links("README.md")
+
+
+def test_a_name_that_is_declared_nowhere_is_found():
+    for span in ("serve", "batch_meaning", "--budget", "{\"do\":\"state\"}", "crates/examples/data", "specs/Turns.antt"):
+        assert list(check_documents.unknown_in("README.md", span)) == [], span
+    for span in ("serve_all_of_it", "--budgets", "{\"do\":\"states_of\"}", "crates/examples/date", "specs/Turned_off.antt"):
+        assert list(check_documents.unknown_in("README.md", span)), span
+
+
+def test_headings_have_anchors():
+    assert check_documents.slug("Tested, not proved, trusted") == "tested-not-proved-trusted"
+    assert "how-to-prove" in check_documents.anchors("docs/ARCHITECTURE.md")
+
+
+def test_words_are_counted():
+    assert check_documents.word_count("| a b | [c d](../e/f.md) |\n|---|---|\n") == 4
+
+
+def test_each_crate_has_a_layer():
+    assert [fault for _, fault in crate_list.faults()] == ["", ""]
+    kept = dict(crate_list.LAYERS)
+    try:
+        crate_list.LAYERS["Base"] = kept["Base"].replace("plain_values", "imp_edit")
+        crate_list.LAYERS["Language"] = kept["Language"].replace(" imp_edit", "")
+        faults = [fault for _, fault in crate_list.faults()]
+    finally:
+        crate_list.LAYERS.update(kept)
+    assert "plain_values" in faults[0] and "imp_edit on" in faults[1], faults
+
+
+def test_the_picture_empties_what_the_session_says():
+    cells = draw_graph.cells()
+    gone = draw_graph.emptied(cells)
+    assert (len(cells), len(gone)) == (14, 12)
+    for line in ('{"cost":14,"kept":14}', '{"cost":14,"kept":2}', '{"cost":12,"kept":14}'):
+        assert line in check_documents.read("README.md"), line
+
+
+def test_a_status_is_compared_and_fenced_blocks_are_not_run():
+    text = "```\n    $ exit 1\n```\n\nAsk:\n\n    $ exit 3\n    $ echo $?\n    3\n    $ exit 3\n"
+    (begun, _, block), *others = run_sessions.blocks(text)
+    assert not others
+    found = run_sessions.commands(begun, block)
+    with tempfile.TemporaryDirectory(prefix="session-") as folder:
+        faults = [it.fault(folder, os.environ["PATH"]) for it in found]
+    assert faults == ["", "", "ended with 3 in place of 0"], faults
