@@ -1,10 +1,11 @@
 #!/usr/bin/env python3
 """Checks what the documents say of the repository: check_documents.py [--words].
 
-Each link leads to a file, and to a heading of it. Each name in backticks is declared somewhere: in a crate, a script, the
-protocol or the language; where a document says "`name` of `crate`", in that crate. Each row of docs/THEOREM.md, and each
-link of a document that names clauses, names a function of that file with these clauses. Each block of code is run, or is
-marked as one that is not. All documents together stay below a number of words; `--words` prints how many each has.
+Each link leads to a file, and to a heading of it. Each name in backticks is declared somewhere: in a crate, a script,
+the protocol or the language; where a document says "`name` of `crate`", in that crate. Each row of docs/THEOREM.md, and
+each link that names clauses, names a function of that file with these clauses; a row is marked as a law exactly where
+its function takes no arguments. Each request of the protocol has an example. Each block of code is run, or is marked as
+one that is not. All documents together stay below a number of words; `--words` prints how many each has.
 """
 import fnmatch
 import json
@@ -50,7 +51,7 @@ def read(path):
 @cache
 def documents():
     """README, CONTRIBUTING, and what stands in docs/."""
-    return ("README.md", "CONTRIBUTING.md", *sorted(f"docs/{it}" for it in os.listdir(f"{ROOT}/docs") if it.endswith(".md")))
+    return tuple(run_sessions.all_documents())
 
 
 @cache
@@ -73,10 +74,14 @@ def whole_prose(document):
 # ---- what the repository declares
 
 DECLARED_IN_RT = re.compile(
-    r"\b(?:fn|struct|enum|trait|mod|const|type|ghost|ensures\*?|requires)\s+([A-Za-z_]\w*)|^\s+(?:pub(?:\(\w+\))? )?(\w+)(?=[:({,]| \{)", re.M
+    r"\b(?:fn|struct|enum|trait|mod|const|type|ghost|ensures\*?|requires)\s+([A-Za-z_]\w*)"
+    r"|^\s+(?:pub(?:\(\w+\))? )?(\w+)(?=[:({,]| \{)",
+    re.M,
 )
 DECLARED_IN_ANTT = re.compile(
-    r"^\s*(?:(?:unfoldable|abbrev|pub|data|record|module|instance)\s+)*([A-Za-z_][\w-]*)\s+(?:\(|\{|:)|^\s*(?:pub )?(?:data|record|mod) (\w+)", re.M
+    r"^\s*(?:(?:unfoldable|abbrev|pub|data|record|module|instance)\s+)*([A-Za-z_][\w-]*)\s+(?:\(|\{|:)"
+    r"|^\s*(?:pub )?(?:data|record|mod) (\w+)",
+    re.M,
 )
 DECLARED_IN_SCRIPTS = re.compile(r"\b(?:def|class|function|local)\s+(\w+)|^\s*(\w+)\s*(?:=|:)", re.M)
 TEXT = re.compile(r'"((?:[^"\\\n]|\\.)*)"')
@@ -114,8 +119,9 @@ def files():
 @cache
 def names_of(crate):
     """The names that a crate declares."""
-    ours = [it for it in files() if it.startswith((f"crates/{crate}/src/", f"crates/{crate}/specs/", f"crates/{crate}/proofs/"))]
-    return set().union(*(declared(it) for it in ours if it.endswith((".rt", ".antt"))))
+    folders = tuple(f"crates/{crate}/{it}/" for it in ("src", "specs", "proofs"))
+    ours = [it for it in files() if it.startswith(folders) and it.endswith((".rt", ".antt"))]
+    return set().union(*map(declared, ours))
 
 
 @cache
@@ -159,7 +165,7 @@ def link_faults(document):
 # ---- names
 
 def is_path(document, word):
-    """Whether a word is a file or folder: of the repository, beside the document, of a crate, or one that a document makes."""
+    """Whether a word is a file or folder: of the repository, beside the document, of a crate, or one that is made."""
     rest = word.rstrip("/")
     beside = os.path.dirname(document)
     places = (rest, f"{beside}/{rest}", f"{beside}/*/{rest}", f"crates/{rest}", f"crates/*/{rest}")
@@ -208,6 +214,8 @@ def name_faults(document):
             unknown = list(unknown_in(document, span))
             if unknown:
                 yield f"{number}: `{span}`: {', '.join(unknown)}"
+    for block in re.findall(r"^```text\n(.*?)^```", read(document), re.M | re.S):
+        yield from (f"{it} in a block" for it in re.findall(r"\b[a-z]+(?:_[a-z]+)+\b", block) if not is_known(it))
     for name, crate in OF_CRATE.findall(whole_prose(document)):
         if crate in crate_list.crates() and name not in names_of(crate) | set(crate_list.crates()):
             yield f"`{name}` is not declared in `{crate}`"
@@ -243,17 +251,27 @@ def clause_links(document):
     for words, target in LINK.findall(whole_prose(document)):
         found = CLAUSES.match(words)
         if found:
-            yield os.path.normpath(os.path.join(os.path.dirname(document), target)), found[1], re.findall(r"\w+", found[2])
+            path = os.path.normpath(os.path.join(os.path.dirname(document), target))
+            yield path, found[1], re.findall(r"\w+", found[2])
 
 
 def theorem_rows():
-    """The rows of the claims: file, function, clauses."""
+    """The rows of the claims: file, function, clauses, and whether it is marked as a law, as the row above where it
+    goes on."""
+    is_law = False
     for _, line in prose("docs/THEOREM.md"):
-        parts = [it.strip() for it in line.strip("|").split(" | ")]
-        links = LINK.findall(parts[-1].rstrip("| ")) if len(parts) == 4 else []
+        parts = [it.strip() for it in line.strip().removeprefix("|").removesuffix("|").split("|")]
+        links = LINK.findall(parts[-1]) if len(parts) == 4 else []
         functions = SPAN.findall(parts[1]) if links else []
         if len(functions) == 1:
-            yield os.path.normpath(f"docs/{links[0][1]}"), functions[0], SPAN.findall(parts[2])
+            is_law = bool(re.search(r"\(laws?\)$", parts[0])) if parts[0] else is_law
+            yield os.path.normpath(f"docs/{links[0][1]}"), functions[0], SPAN.findall(parts[2]), is_law
+
+
+def law_fault(path, function, is_law):
+    """What is wrong with how a function is marked: a law takes no arguments, and nothing else takes none."""
+    takes_none = any(re.match(r"(?:<[^(]*>)?\(\)", it) for it in contract(path, function))
+    return "" if takes_none == is_law else f"{function} is {'no' if is_law else 'a'} law"
 
 
 # ---- blocks, requests, words
@@ -295,6 +313,11 @@ def requests_told():
         yield from SPAN.findall(line.split("|")[1])
 
 
+def requests_read():
+    """The requests that are read."""
+    return re.findall(r'^ +"(\w+)" => Some\(Verb::', read("crates/request_json/src/names.rt"), re.M)
+
+
 def word_count(text):
     """The words of a text: what has a letter or a digit, without the targets of links."""
     return sum(bool(re.search(r"\w", it)) for it in re.sub(r"\]\([^)]*\)", "]", text).split())
@@ -320,10 +343,12 @@ def main(words):
             tally.note(f"{document}: {function}", clause_fault(path, function, clauses))
     for document in documents():
         note_all(tally, f"blocks of {document}", block_faults(document))
-    for path, function, clauses in theorem_rows():
-        tally.note(f"docs/THEOREM.md: {function}", clause_fault(path, function, clauses))
-    odd = set(requests_told()) ^ set(requests_shown())
-    tally.note("each request has an example", " ".join(sorted(odd)))
+    for path, function, clauses, is_law in theorem_rows():
+        fault = clause_fault(path, function, clauses) or law_fault(path, function, is_law)
+        tally.note(f"docs/THEOREM.md: {function}", fault)
+    told = set(requests_told())
+    tally.note("the requests are those that are read", " ".join(sorted(told ^ set(requests_read()))))
+    tally.note("each request has an example", " ".join(sorted(told ^ set(requests_shown()))))
     for name, fault in crate_list.faults():
         tally.note(name, fault)
     made = ((crate_list.DOCUMENT, crate_list.document), (draw_graph.DOCUMENT, draw_graph.drawing))

@@ -65,21 +65,29 @@ def emptied(all_cells):
     return found
 
 
+def way(*points):
+    """A line between two points, or a bow by way of a third one."""
+    first, *others = (f"{x:.0f},{y:.0f}" for x, y in points)
+    return f"M{first} {'L' if len(others) == 1 else 'Q'}{' '.join(others)}"
+
+
 def path_between(start, end):
     """The way of an arrow: straight to a neighbour, and in a bow below the spine to one further on."""
-    if start.y == end.y == SPINE and end.x - start.x > STEP:
-        depth = SPINE + HEIGHT / 2 + 18 + (end.x - start.x) / 12
-        return f"M{start.x:.0f},{start.y + HEIGHT / 2:.0f} Q{(start.x + end.x) / 2:.0f},{depth * 2 - SPINE - HEIGHT / 2:.0f} {end.x:.0f},{end.y + HEIGHT / 2 + 3:.0f}"
+    half, right = HEIGHT / 2, start.x + WIDTH / 2
+    if start.y == end.y and end.x - start.x > STEP:
+        depth = start.y + half + 36 + (end.x - start.x) / 6
+        return way((start.x, start.y + half), ((start.x + end.x) / 2, depth), (end.x, end.y + half + 3))
     if start.y == end.y:
-        return f"M{start.x + WIDTH / 2:.0f},{start.y:.0f} L{end.x - WIDTH / 2 - 3:.0f},{end.y:.0f}"
-    if start.y > end.y:
-        from_x = start.x + 30 if start.y == SPINE else start.x
-        return f"M{from_x:.0f},{start.y - HEIGHT / 2:.0f} L{end.x if start.y != SPINE else end.x - 20:.0f},{end.y + HEIGHT / 2 + 3:.0f}"
-    return f"M{start.x + WIDTH / 2:.0f},{start.y:.0f} Q{end.x:.0f},{start.y:.0f} {end.x:.0f},{end.y - HEIGHT / 2 - 3:.0f}"
+        return way((right, start.y), (end.x - WIDTH / 2 - 3, end.y))
+    if start.y < end.y:
+        return way((right, start.y), (end.x, start.y), (end.x, end.y - half - 3))
+    aside = (30, -20) if start.y == SPINE else (0, 0)
+    return way((start.x + aside[0], start.y - half), (end.x + aside[1], end.y + half + 3))
 
 
 def text(x, y, words, kind, anchor="middle"):
-    return f'<text x="{x:.0f}" y="{y:.0f}" class="{kind}" text-anchor="{anchor}" xml:space="preserve">{escape(words)}</text>'
+    place = f'x="{x:.0f}" y="{y:.0f}" class="{kind}" text-anchor="{anchor}" xml:space="preserve"'
+    return f"<text {place}>{escape(words)}</text>"
 
 
 def drawing():
@@ -91,7 +99,8 @@ def drawing():
         f'<svg xmlns="http://www.w3.org/2000/svg" viewBox="0 0 {width} {height}" role="img">',
         f"<title>The {len(all_cells)} cells of count.imp; replacing statement 2 empties {len(gone)}</title>",
         "<style>text{font-family:sans-serif;font-size:13px;fill:#1f2328}.known{fill:#57606a;font-size:12px}"
-        ".code{font-family:monospace;font-size:13px}.arrow{fill:none;stroke:#57606a;stroke-width:1.2;marker-end:url(#tip)}"
+        ".code{font-family:monospace;font-size:13px}"
+        ".arrow{fill:none;stroke:#57606a;stroke-width:1.2;marker-end:url(#tip)}"
         ".kept{fill:#dafbe1;stroke:#1a7f37}.gone{fill:#ffebe9;stroke:#cf222e;stroke-dasharray:5 3}</style>",
         '<defs><marker id="tip" viewBox="0 0 8 8" refX="7" refY="4" markerWidth="7" markerHeight="7" orient="auto">'
         '<path d="M0,0 L8,4 L0,8 z" fill="#57606a"/></marker></defs>',
@@ -114,9 +123,12 @@ def drawing():
             text(cell.x, cell.y + 14, cell.known, "known"),
         ]
     kept = len(all_cells) - len(gone)
-    legend = ((16, "kept", f"{kept} cells stay"), (180, "gone", f"{len(gone)} cells are emptied, and filled when they are asked for"))
-    for x, kind, words in legend:
-        parts += [f'<rect x="{x}" y="{height - 26}" width="26" height="16" rx="3" class="{kind}"/>', text(x + 34, height - 13, words, "name", "start")]
+    emptying = f"{len(gone)} cells are emptied, and filled when they are asked for"
+    for x, kind, words in ((16, "kept", f"{kept} cells stay"), (180, "gone", emptying)):
+        parts += [
+            f'<rect x="{x}" y="{height - 26}" width="26" height="16" rx="3" class="{kind}"/>',
+            text(x + 34, height - 13, words, "name", "start"),
+        ]
     return "\n".join([*parts, "</svg>", ""])
 
 

@@ -30,7 +30,8 @@ def test_a_clause_of_a_record_is_found():
 
 def test_the_rows_of_claims_are_read():
     rows = list(check_documents.theorem_rows())
-    assert (SERVING, "serve", ["complete"]) in rows and len(rows) > 20, rows
+    assert (SERVING, "serve", ["complete"], False) in rows and len(rows) > 20, rows
+    assert sum(is_law for *_, is_law in rows) > 10 and check_documents.law_fault(SERVING, "serve", True)
     assert (SERVING, "serve", ["verified"]) in check_documents.clause_links("README.md")
 
 
