@@ -25,6 +25,7 @@ from tally import Tally
 
 MOST_WORDS = 13_000
 EDITOR = "editors/README.md"
+SERVING = "crates/daig_server/src/serving.rt"
 RUN_BY_THE_EDITOR = {"README.md": "$ ./daig-check", "docs/CHECK.md": "./daig-check"}
 LINK = re.compile(r"!?\[((?:[^\[\]]|\[[^\]]*\])*)\]\(([^()\s]+)\)")
 SPAN = re.compile(r"`([^`\n]+)`")
@@ -201,7 +202,8 @@ def unknown_in(document, span):
         word = word.strip("[](){},;")
         looks_like_path = "/" in word and re.fullmatch(r"[.~]?[\w./*-]+", word) or word.endswith(CODE_ENDINGS)
         if looks_like_path and not word.startswith("//"):
-            if not is_path(document, word.removeprefix("./")) and not word.startswith("~"):
+            is_pattern = word.startswith("~") or re.search(r"\b[A-Z]{4,}\b", word.removesuffix(".md"))
+            if not is_pattern and not is_path(document, word.removeprefix("./")):
                 yield word
             continue
         yield from (it for it in WORD.findall(word) if not is_known(it))
@@ -266,6 +268,19 @@ def theorem_rows():
         if len(functions) == 1:
             is_law = bool(re.search(r"\(laws?\)$", parts[0])) if parts[0] else is_law
             yield os.path.normpath(f"docs/{links[0][1]}"), functions[0], SPAN.findall(parts[2]), is_law
+
+
+def definitions_of(path):
+    """The files of definitions that a file's contracts name, without those of std and of types of code."""
+    for crate, module in re.findall(r"^ghost use Rattle\.(\w+)\.specs\.((?:\w+\.)*\w+)\.\{", read(path), re.M):
+        if crate != "std" and not module.startswith("declared."):
+            yield f"crates/{crate}/specs/{module.replace('.', '/')}.antt"
+
+
+def unlisted_definitions():
+    """The definitions that the contract of `serve` names, and that docs/THEOREM.md has no link to."""
+    links = {os.path.normpath(f"docs/{target}") for _, target in LINK.findall(whole_prose("docs/THEOREM.md"))}
+    return sorted(set(definitions_of(SERVING)) - links)
 
 
 def law_fault(path, function, is_law):
@@ -346,6 +361,7 @@ def main(words):
     for path, function, clauses, is_law in theorem_rows():
         fault = clause_fault(path, function, clauses) or law_fault(path, function, is_law)
         tally.note(f"docs/THEOREM.md: {function}", fault)
+    note_all(tally, "the theorem's definitions are listed", unlisted_definitions())
     told = set(requests_told())
     tally.note("the requests are those that are read", " ".join(sorted(told ^ set(requests_read()))))
     tally.note("each request has an example", " ".join(sorted(told ^ set(requests_shown()))))

@@ -15,7 +15,7 @@ from tally import Tally
 DOCUMENT = "docs/graph.svg"
 PROGRAM = ("1  i = 0;", "2  n = 10;", "3  while (i < n) {", "4    i = i + 1; }")
 EDITED = "after 2"
-STEP, WIDTH, HEIGHT = 132, 100, 46
+STEP, WIDTH, HEIGHT = 140, 114, 46
 LEFT, SPINE, BODY, DONE = 66, 268, 180, 92
 
 
@@ -40,7 +40,7 @@ def cells():
     before = "after 2"
     rounds = (("0", "1", "[0,1]"), ("[0,1]", "[1,2]", "[0,10]"), ("[0,9]", "[1,10]", "[0,10]"))
     for number, (entered, done, iterate) in enumerate(rounds):
-        body, last, head = f"round {number}", f"after 4 in {number}", f"iterate {number + 1}"
+        body, last, head = f"in round {number}", f"after 4, round {number}", f"iterate {number + 1}"
         x = spine(2 + number) + STEP / 2
         found += [
             Cell(body, f"i in {entered}" if "[" in entered else f"i = {entered}", x, BODY, (before,)),
