@@ -309,6 +309,17 @@ def block_faults(document):
             yield f"{begun}: this block is no session and no file"
 
 
+def diagram_faults():
+    """What the diagram of layers says stands on what, and does not."""
+    known_crates = crate_list.crates()
+    diagram = re.search(r"^```text\n(.*?)^```", read("docs/ARCHITECTURE.md"), re.M | re.S)[1]
+    for chain in re.split(r"[;\n]", diagram):
+        groups = [re.findall(r"\b[a-z]\w+", part) for part in chain.split(" > ")]
+        for above, below in zip(groups, groups[1:]):
+            on = known_crates.get(above[-1], ())
+            yield from (f"{above[-1]} does not stand on {it}" for it in below if it not in on)
+
+
 def requests_shown():
     """The requests that the protocol's sessions ask."""
     for begun, _, block in run_sessions.blocks(read("docs/PROTOCOL.md")):
@@ -362,6 +373,7 @@ def main(words):
         fault = clause_fault(path, function, clauses) or law_fault(path, function, is_law)
         tally.note(f"docs/THEOREM.md: {function}", fault)
     note_all(tally, "the theorem's definitions are listed", unlisted_definitions())
+    note_all(tally, "the diagram of layers", diagram_faults())
     told = set(requests_told())
     tally.note("the requests are those that are read", " ".join(sorted(told ^ set(requests_read()))))
     tally.note("each request has an example", " ".join(sorted(told ^ set(requests_shown()))))

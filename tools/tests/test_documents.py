@@ -63,6 +63,17 @@ def test_each_crate_has_a_layer():
     assert "plain_values" in faults[0] and "imp_edit on" in faults[1], faults
 
 
+def test_the_diagram_says_what_stands_on_what():
+    assert list(check_documents.diagram_faults()) == []
+    kept = check_documents.read
+    check_documents.read = lambda path: "```text\nCells    daig_query > daig_graph, daig_session\n```\n"
+    try:
+        faults = list(check_documents.diagram_faults())
+    finally:
+        check_documents.read = kept
+    assert len(faults) == 1 and "daig_session" in faults[0], faults
+
+
 def test_the_picture_empties_what_the_session_says():
     cells = draw_graph.cells()
     gone = draw_graph.emptied(cells)
