@@ -225,27 +225,32 @@ def name_faults(document):
 
 # ---- clauses
 
-def contract(path, function):
-    """The contracts of the functions of a name in a file: what stands between the name and the body."""
-    text = read(path)
+def contracts(text, function):
+    """The contracts of the functions of a name in a text: what stands between the name and the body."""
     for found in re.finditer(rf"\bfn {function}\b", text):
         rest = text[found.end() :]
         body = re.search(r"\n\s*\{(\}|\n)|^    [^\n]*;$", rest, re.M)
         yield rest[: body.start()] if body else rest
 
 
-def clause_fault(path, function, clauses):
-    """What a file lacks of a function with clauses."""
-    if not os.path.exists(f"{ROOT}/{path}"):
-        return f"{path} is no file"
-    contracts = list(contract(path, function))
-    if not contracts:
-        return f"{path} has no function {function}"
+def clause_fault(text, function, clauses):
+    """What a text of code lacks of a function with clauses."""
+    found = list(contracts(text, function))
+    if not found:
+        return f"there is no function {function}"
     for clause in clauses:
         form = re.compile(rf"\b(?:ensures\*?|requires)\s+{clause}\b|\b{clause}\s*[=:]")
-        if not any(form.search(it) for it in contracts):
-            return f"{function} in {path} has no clause {clause}"
+        if not any(form.search(it) for it in found):
+            return f"{function} has no clause {clause}"
     return ""
+
+
+def fault_in_file(path, function, clauses):
+    """The same of a file."""
+    if not os.path.exists(f"{ROOT}/{path}"):
+        return f"{path} is no file"
+    fault = clause_fault(read(path), function, clauses)
+    return f"{path}: {fault}" if fault else ""
 
 
 def clause_links(document):
@@ -283,9 +288,9 @@ def unlisted_definitions():
     return sorted(set(definitions_of(SERVING)) - links)
 
 
-def law_fault(path, function, is_law):
+def law_fault(text, function, is_law):
     """What is wrong with how a function is marked: a law takes no arguments, and nothing else takes none."""
-    takes_none = any(re.match(r"(?:<[^(]*>)?\(\)", it) for it in contract(path, function))
+    takes_none = any(re.match(r"(?:<[^(]*>)?\(\)", it) for it in contracts(text, function))
     return "" if takes_none == is_law else f"{function} is {'no' if is_law else 'a'} law"
 
 
@@ -309,10 +314,10 @@ def block_faults(document):
             yield f"{begun}: this block is no session and no file"
 
 
-def diagram_faults():
-    """What the diagram of layers says stands on what, and does not."""
+def diagram_faults(text):
+    """What the first diagram of a text says stands on what, and does not."""
     known_crates = crate_list.crates()
-    diagram = re.search(r"^```text\n(.*?)^```", read("docs/ARCHITECTURE.md"), re.M | re.S)[1]
+    diagram = re.search(r"^```text\n(.*?)^```", text, re.M | re.S)[1]
     for chain in re.split(r"[;\n]", diagram):
         groups = [re.findall(r"\b[a-z]\w+", part) for part in chain.split(" > ")]
         for above, below in zip(groups, groups[1:]):
@@ -366,14 +371,14 @@ def main(words):
         note_all(tally, f"links of {document}", link_faults(document))
         note_all(tally, f"names of {document}", name_faults(document))
         for path, function, clauses in clause_links(document):
-            tally.note(f"{document}: {function}", clause_fault(path, function, clauses))
+            tally.note(f"{document}: {function}", fault_in_file(path, function, clauses))
     for document in documents():
         note_all(tally, f"blocks of {document}", block_faults(document))
     for path, function, clauses, is_law in theorem_rows():
-        fault = clause_fault(path, function, clauses) or law_fault(path, function, is_law)
+        fault = fault_in_file(path, function, clauses) or law_fault(read(path), function, is_law)
         tally.note(f"docs/THEOREM.md: {function}", fault)
     note_all(tally, "the theorem's definitions are listed", unlisted_definitions())
-    note_all(tally, "the diagram of layers", diagram_faults())
+    note_all(tally, "the diagram of layers", diagram_faults(read("docs/ARCHITECTURE.md")))
     told = set(requests_told())
     tally.note("the requests are those that are read", " ".join(sorted(told ^ set(requests_read()))))
     tally.note("each request has an example", " ".join(sorted(told ^ set(requests_shown()))))

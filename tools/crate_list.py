@@ -70,9 +70,9 @@ def crates():
     return found
 
 
-def placed():
+def placed(layers):
     """The place of each crate's layer."""
-    return {crate: place for place, names in enumerate(LAYERS.values()) for crate in names.split()}
+    return {crate: place for place, names in enumerate(layers.values()) for crate in names.split()}
 
 
 def document():
@@ -84,9 +84,9 @@ def document():
     return "".join(parts)
 
 
-def faults():
+def faults(layers=LAYERS):
     """What is wrong with the layers, by the name of what was checked."""
-    places, known = placed(), crates()
+    places, known = placed(layers), crates()
     odd = sorted(places.keys() ^ known.keys())
     yield "each crate is in one layer", f"these are not, or are no crates: {' '.join(odd)}" if odd else ""
     upward = [f"{it} on {on}" for it in known for on in known[it] if on in places and places[on] > places.get(it, 0)]

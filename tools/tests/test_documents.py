@@ -11,27 +11,24 @@ SERVING = "crates/daig_server/src/serving.rt"
 
 
 def test_a_clause_that_is_gone_is_found():
-    assert check_documents.clause_fault(SERVING, "serve", ["complete", "sound"]) == ""
-    assert "no clause finished" in check_documents.clause_fault(SERVING, "serve", ["complete", "finished"])
-    assert "no function served" in check_documents.clause_fault(SERVING, "served", [])
-    assert "is no file" in check_documents.clause_fault("crates/daig_server/src/gone.rt", "serve", [])
+    fault = check_documents.fault_in_file
+    assert fault(SERVING, "serve", ["complete", "sound"]) == ""
+    assert "no clause finished" in fault(SERVING, "serve", ["complete", "finished"])
+    assert "no function served" in fault(SERVING, "served", [])
+    assert "is no file" in fault("crates/daig_server/src/gone.rt", "serve", [])
 
 
 def test_a_clause_of_a_record_is_found():
     text = "pub fn f(x: u8) -> u8\n    returns c = record { least = A; most = B } where x\n{\n    x\n}\n"
-    kept = check_documents.read
-    check_documents.read = lambda path: text
-    try:
-        clauses = {it: check_documents.clause_fault(SERVING, "f", [it]) for it in ("least", "most", "other")}
-    finally:
-        check_documents.read = kept
-    assert [bool(it) for it in clauses.values()] == [False, False, True], clauses
+    faults = [check_documents.clause_fault(text, "f", [it]) for it in ("least", "most", "other")]
+    assert [bool(it) for it in faults] == [False, False, True], faults
 
 
 def test_the_rows_of_claims_are_read():
     rows = list(check_documents.theorem_rows())
     assert (SERVING, "serve", ["complete"], False) in rows and len(rows) > 20, rows
-    assert sum(is_law for *_, is_law in rows) > 10 and check_documents.law_fault(SERVING, "serve", True)
+    assert sum(is_law for *_, is_law in rows) > 10
+    assert check_documents.law_fault(check_documents.read(SERVING), "serve", True)
     assert (SERVING, "serve", ["verified"]) in check_documents.clause_links("README.md")
 
 
@@ -53,24 +50,17 @@ def test_words_are_counted():
 
 def test_each_crate_has_a_layer():
     assert [fault for _, fault in crate_list.faults()] == ["", ""]
-    kept = dict(crate_list.LAYERS)
-    try:
-        crate_list.LAYERS["Base"] = kept["Base"].replace("plain_values", "imp_edit")
-        crate_list.LAYERS["Language"] = kept["Language"].replace(" imp_edit", "")
-        faults = [fault for _, fault in crate_list.faults()]
-    finally:
-        crate_list.LAYERS.update(kept)
+    wrong = dict(crate_list.LAYERS)
+    wrong["Base"] = wrong["Base"].replace("plain_values", "imp_edit")
+    wrong["Language"] = wrong["Language"].replace(" imp_edit", "")
+    faults = [fault for _, fault in crate_list.faults(wrong)]
     assert "plain_values" in faults[0] and "imp_edit on" in faults[1], faults
 
 
 def test_the_diagram_says_what_stands_on_what():
-    assert list(check_documents.diagram_faults()) == []
-    kept = check_documents.read
-    check_documents.read = lambda path: "```text\nCells    daig_query > daig_graph, daig_session\n```\n"
-    try:
-        faults = list(check_documents.diagram_faults())
-    finally:
-        check_documents.read = kept
+    assert list(check_documents.diagram_faults(check_documents.read("docs/ARCHITECTURE.md"))) == []
+    wrong = "```text\nCells    daig_query > daig_graph, daig_session\n```\n"
+    faults = list(check_documents.diagram_faults(wrong))
     assert len(faults) == 1 and "daig_session" in faults[0], faults
 
 
