@@ -22,12 +22,12 @@ class Child(asyncio.subprocess.Process):
         self._child = transport
 
     async def stop(self) -> None:
-        """Ends it, and all that it started in its session."""
+        """Ends it, and all that it started in its session; this is not left in its middle."""
         if self.returncode is None:
             with contextlib.suppress(ProcessLookupError, PermissionError):
                 os.killpg(self.pid, signal.SIGKILL)
         _close_pipes(self._child)
-        await self.wait()
+        await undisturbed(self.wait())
 
 
 class _Streams(SubprocessStreamProtocol):
