@@ -9,7 +9,8 @@ from tests.random_sources import slow_source
 
 URI = "file:///slow.imp"
 CHANGES = 10
-LONGEST_WAIT = 0.5
+# A change waits for at most this part of the time that the whole query takes, on a machine of any speed.
+LONGEST_WAIT = 1 / 4
 
 
 def test_typing_while_busy() -> None:
@@ -36,6 +37,6 @@ def test_typing_while_busy() -> None:
     client.close()
     counts = result["counts"]
     assert counts["starts"] == 1 and counts["requests"] == CHANGES, counts
-    assert max(waits) < LONGEST_WAIT < took - typed, f"waits {waits}, all {took}"
+    assert max(waits) < LONGEST_WAIT * (took - typed), f"waits {waits}, all {took}"
     most = max(waits) * 1000
     print(f"test_busy: {CHANGES} changes followed in {most:.0f} ms at most, beside {took - typed:.1f} s of work")

@@ -139,13 +139,14 @@ def test_interrupt() -> None:
     """A run that is ended leaves no report and no server, and its end can be seen."""
     with folder(a_imp=SAFE) as here:
         stub = script(here, "import os, time\nopen('started', 'w').write(str(os.getpid()))\ntime.sleep(300)")
-        for number in (signal.SIGTERM, signal.SIGINT):
+        for number, more in ((signal.SIGTERM, 0), (signal.SIGINT, 0), (signal.SIGINT, 3)):
             words = [sys.executable, str(TOOL), "--program", str(stub), "--output", "report", "a.imp"]
             with subprocess.Popen(words, cwd=here, stderr=subprocess.PIPE) as process:
                 started = here / "started"
                 while not (started.exists() and started.read_text()):
                     time.sleep(0.02)
-                process.send_signal(number)
+                for _ in range(1 + more):
+                    process.send_signal(number)
                 assert process.wait(60) == -number, (number, process.returncode)
             pid = int(started.read_text())
             started.unlink()

@@ -36,6 +36,14 @@ class Wrong(Exception):
     """Why nothing can be checked, in words."""
 
 
+class _Stopped(Exception):
+    """A signal asked for the end; all servers have ended."""
+
+    def __init__(self, number: signal.Signals) -> None:
+        super().__init__(number.name)
+        self.number = number
+
+
 def main(words: list[str] | None = None) -> int:
     """The status of the process."""
     _keep_standard_streams()
@@ -47,7 +55,7 @@ def main(words: list[str] | None = None) -> int:
             StreamOutput(sys.stdout.buffer).write(args.says)
             return 0
         _watch_without_threads()
-        return asyncio.run(_run(args))
+        return asyncio.run(_until_stopped(args))
     except (Wrong, BadBaseline, NoProgramFound) as why:
         return _fail(str(why))
     except BrokenPipeError:
@@ -56,8 +64,8 @@ def main(words: list[str] | None = None) -> int:
         return _fail(f"the report could not be written: {error.strerror or error}")
     except KeyboardInterrupt:
         _end_by(signal.SIGINT)
-    except asyncio.CancelledError:
-        _end_by(signal.SIGTERM)
+    except _Stopped as stopped:
+        _end_by(stopped.number)
     except Exception as error:  # the status 1 of an uncaught one would say that a check may fail
         return _fail(f"a fault of {NAME} itself: {type(error).__name__}: {error}")
 
@@ -100,11 +108,29 @@ def _end_by(number: signal.Signals) -> NoReturn:
 # Checking
 
 
+async def _until_stopped(args: argparse.Namespace) -> int:
+    """Does all, and answers the status; raises `_Stopped` where a signal comes, once all that was begun has ended."""
+    loop, work = asyncio.get_running_loop(), asyncio.ensure_future(_run(args))
+    signals: list[signal.Signals] = []
+
+    def stop(number: signal.Signals) -> None:
+        """The first signal ends the work; its end is not cut by others."""
+        if not signals:
+            work.cancel()
+        signals.append(number)
+
+    for number in (signal.SIGINT, signal.SIGTERM):
+        loop.add_signal_handler(number, stop, number)
+    try:
+        return await work
+    except asyncio.CancelledError:
+        if signals:
+            raise _Stopped(signals[0]) from None
+        raise
+
+
 async def _run(args: argparse.Namespace) -> int:
     """Checks all files and writes the report; answers the highest status."""
-    task = asyncio.current_task()
-    assert task is not None
-    asyncio.get_running_loop().add_signal_handler(signal.SIGTERM, task.cancel)
     known, sources = _baseline(args), sources_of(args.files)
     _test_output(args.output, sources)
     if args.against and len(sources) > 1 and not os.path.isdir(args.against):
