@@ -8,9 +8,11 @@ from typing import Callable
 from daig_editor.server.process import Gone, Reply
 from daig_editor.server.session import Session
 
-# A step of a long query should take between these times, in seconds.
-SHORT_STEP, LONG_STEP = 0.02, 0.06
-FIRST_PACE, MOST_CELLS = 500, 1_000_000
+# The first steps of a query should take so many seconds. The longer nobody asked for anything else, the longer a step
+# may take, as each costs something of its own: this part of the time since the query began, and at most the last.
+FIRST_STEP, PART_OF_TIME, LONGEST_STEP = 0.04, 0.5, 0.2
+# Cells in a second, before any were measured; and by how much a step may be taken for faster than the one before.
+FIRST_PACE, MOST_FASTER, MOST_CELLS = 12_500.0, 4.0, 1_000_000
 MOST_TICKETS = 8
 
 
@@ -59,28 +61,28 @@ class Asker:
             except Gone:
                 raise
             except BaseException:  # a cancellation too, which must not wait for a reply
-                process.begin(do="cancel", ticket=asked["ticket"])
+                process.tell(do="cancel", ticket=asked["ticket"])
                 raise
 
     async def _steps(
         self, ticket: object, test: Callable[[], None], stepped: Callable[[int], None] | None, until: float | None
     ) -> Reply:
-        """Steps a ticket to its end, as many cells at a time as take a short while."""
+        """Steps a ticket to its end, as many cells at a time as take a while that is no longer than it may be."""
         process = self._session.process
         if process is None:
             raise Gone("it was let go")
+        began = now = time.monotonic()
         while True:
             test()
-            began = time.monotonic()
-            reply = await process.ask(do="step", ticket=ticket, n=self._pace)
-            ended = time.monotonic()
+            seconds = min(max(FIRST_STEP, PART_OF_TIME * (now - began)), LONGEST_STEP)
+            cells = max(1, min(int(self._pace * seconds), MOST_CELLS))
+            stepped_at = now
+            reply = await process.ask(do="step", ticket=ticket, n=cells)
+            now = time.monotonic()
             if "pending" not in reply:
                 return reply
+            self._pace = min(cells / max(now - stepped_at, 1e-6), self._pace * MOST_FASTER)
             if stepped:
                 stepped(int(str(reply["pending"])))
-            if until and ended > until:
+            if until and now > until:
                 raise TookLong
-            if ended - began < SHORT_STEP:
-                self._pace = min(self._pace * 2, MOST_CELLS)
-            elif ended - began > LONG_STEP:
-                self._pace = max(self._pace // 2, 1)

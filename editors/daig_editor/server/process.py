@@ -7,6 +7,7 @@ import os
 import resource
 import signal
 import tempfile
+from collections import deque
 from dataclasses import dataclass
 
 from daig_editor.language.refusals import GREATEST_SOURCE
@@ -68,12 +69,14 @@ class Gone(Exception):
 
 
 class DaigProcess:
-    """A server that runs. Requests are answered in the order in which they are asked."""
+    """A server that runs. Requests are sent as they are asked, and answered in that order."""
 
     def __init__(self, process: Child, settings: Settings) -> None:
         self._process = process
         self._settings = settings
-        self._turn = asyncio.Lock()
+        self._waiting: deque[asyncio.Future[Reply]] = deque()
+        self._gone: Gone | None = None
+        self._reader = asyncio.ensure_future(self._read_replies())
 
     @staticmethod
     async def start(settings: Settings, text: bytes) -> DaigProcess:
@@ -95,7 +98,7 @@ class DaigProcess:
     async def greet(self) -> None:
         """Waits until the text is loaded, then bounds the memory."""
         try:
-            reply = await self._exchange({"do": "cost"})
+            reply = await self.ask(do="cost")
         except Gone as gone:
             raise NotStarted(str(gone)) from None
         if "refused" in reply and "name" in reply:
@@ -117,40 +120,62 @@ class DaigProcess:
             except (OSError, ValueError):
                 pass  # it ended, or has a lower limit
 
-    def begin(self, **request: object) -> asyncio.Future[Reply]:
-        """Sends a request as soon as those before it are answered; its reply, or `Gone`, comes later."""
-        exchange = asyncio.ensure_future(self._exchange(request))
-        exchange.add_done_callback(lambda it: it.cancelled() or it.exception())
-        return exchange
-
     async def ask(self, **request: object) -> Reply:
-        """The reply to a request; raises `Gone`. Once begun, an exchange is ended even where its asker has gone."""
-        return await asyncio.shield(self.begin(**request))
+        """The reply to a request; raises `Gone`. A request is answered even where its asker has gone."""
+        reply: asyncio.Future[Reply] = asyncio.get_running_loop().create_future()
+        self._send(request, reply)
+        return await reply
 
-    async def _exchange(self, request: dict[str, object]) -> Reply:
-        """One line there, one line back."""
-        async with self._turn:
-            assert self._process.stdin and self._process.stdout
-            try:
-                self._process.stdin.write(json.dumps(request).encode() + b"\n")
-                await self._process.stdin.drain()
-            except (ConnectionError, RuntimeError):
-                pass  # it may have said why before it ended
-            try:
-                line = await self._process.stdout.readline()
-            except ValueError:
-                raise await self._given_up(f"a reply of it has more than {LONGEST_REPLY:,} bytes") from None
-            if not line.endswith(b"\n"):
-                raise await self._why_gone()
-            return await self._read(line)
+    def tell(self, **request: object) -> None:
+        """Sends a request whose reply nobody wants."""
+        reply: asyncio.Future[Reply] = asyncio.get_running_loop().create_future()
+        reply.cancel()
+        if self._gone is None:
+            self._send(request, reply)
 
-    async def _read(self, line: bytes) -> Reply:
-        """The reply that a line says."""
+    def _send(self, request: dict[str, object], reply: asyncio.Future[Reply]) -> None:
+        """Sends a request; raises `Gone`. The reply comes later."""
+        if self._gone:
+            raise Gone(str(self._gone), self._gone.of_memory)
+        assert self._process.stdin
+        self._waiting.append(reply)
+        self._process.stdin.write(json.dumps(request).encode() + b"\n")
+
+    async def _read_replies(self) -> None:
+        """Hands each reply to who waits for it, until the server ends."""
+        try:
+            while True:
+                reply = await self._next_reply()
+                waiting = self._waiting.popleft()
+                if not waiting.done():
+                    waiting.set_result(reply)
+        except Gone as gone:
+            self._end(gone)
+        except Exception as error:  # whatever it is, nobody waits for ever
+            self._end(Gone(f"its replies cannot be read: {error!r}"))
+
+    def _end(self, gone: Gone) -> None:
+        """Nothing more is answered."""
+        self._gone = gone
+        for waiting in self._waiting:
+            if not waiting.done():
+                waiting.set_exception(Gone(str(gone), gone.of_memory))
+        self._waiting.clear()
+
+    async def _next_reply(self) -> Reply:
+        """The next line that the server says; raises `Gone`."""
+        assert self._process.stdout
+        try:
+            line = await self._process.stdout.readline()
+        except ValueError:
+            raise await self._given_up(f"a reply of it has more than {LONGEST_REPLY:,} bytes") from None
+        if not line.endswith(b"\n"):
+            raise await self._why_gone()
         try:
             reply = json.loads(line)
         except (ValueError, RecursionError):
             reply = None
-        if not isinstance(reply, dict):
+        if not isinstance(reply, dict) or not self._waiting:
             raise await self._given_up(f"what it says is no reply: {line[:80]!r}")
         return reply
 
