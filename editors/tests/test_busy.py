@@ -20,6 +20,7 @@ def test_typing_while_busy() -> None:
     client = Client({"daig": program(), "domain": "octagon", "compareEvery": 1})
     began = time.perf_counter()
     client.open(URI, text)
+    client.command("daig.serverProgram", URI)  # the text is loaded before the first change
     waits = []
     for k in range(CHANGES):
         time.sleep(0.1)

@@ -308,6 +308,21 @@ def test_progress_and_cancel() -> None:
     client.close()
 
 
+def test_partial_diagnostics() -> None:
+    """What fails in a run is shown while a long analysis runs, and marked; the whole report takes its place."""
+    text = slow_source(150).replace("  x0 = 0;\n", "  x1 = input;\n  assert x1 < 5;\n  x0 = 0;\n", 1)
+    client = Client({"daig": program(), "domain": "octagon"})
+    client.open(URI, text)
+    told = client.published(1, lambda told: len(told) == 2)
+    assert [it["code"] for it in told] == ["running", "assert"] and [it["severity"] for it in told] == [3, 1], told
+    assert "still runs" in told[0]["message"] and "what else may fail" in told[0]["message"], told
+    assert "with input 5" in told[1]["message"] and "before the end of the analysis" in told[1]["message"], told
+    whole_report = client.diagnostics(1)
+    assert [it["code"] for it in whole_report] == ["assert", "assert"], whole_report
+    assert not any("before the end" in it["message"] for it in whole_report), whole_report
+    client.close()
+
+
 def test_hints_of_whole_file() -> None:
     """The hints of all loops."""
     client, _ = opened({}, TEXT)

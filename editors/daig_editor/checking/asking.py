@@ -1,11 +1,11 @@
 """A server with the program that it has: asked in the terms of the program, its replies tested."""
 from __future__ import annotations
 
-import re
 from dataclasses import dataclass
 from typing import Iterator, NamedTuple
 
-from daig_editor.language.tree import Placed, Proc, Program, Stmt, StmtKind
+from daig_editor.language.checks import check_of
+from daig_editor.language.tree import Placed, Proc, Program, Stmt
 from daig_editor.language.words import NEVER, state_lines
 from daig_editor.server.process import DaigProcess, Reply
 
@@ -103,20 +103,6 @@ class Served:
         if not isinstance(kept, int):
             raise BadReply("it answers no cost")
         return kept
-
-
-_CHECKS = (
-    ("assert", re.compile(r"assert ")),
-    ("bounds", re.compile(r"\w+( = \w+)?\[")),
-    ("null", re.compile(r"\w+\.|\w+ = \w+\.")),
-)
-
-
-def check_of(stmt: Stmt) -> str | None:
-    """The check that a statement has."""
-    if stmt.kind is not StmtKind.SIMPLE:
-        return None
-    return next((name for name, begin in _CHECKS if begin.match(stmt.text)), None)
 
 
 def ordinals(program: Program, told: Iterator[tuple[int, str]]) -> dict[int, int]:

@@ -12,6 +12,8 @@ ERROR, WARNING, INFORMATION, HINT = 1, 2, 3, 4
 UNNECESSARY = 1
 SOURCE = "daig"
 RUNNING = "the analysis still runs: what may fail in the present text is not known yet"
+PARTLY = "the analysis still runs: what fails in a run is shown; what else may fail in the present text is not known yet"
+SO_FAR = "; found before the end of the analysis"
 MOST_RELATED = 20
 
 
@@ -27,10 +29,13 @@ def diagnostics(document: Document) -> list[Json]:
         severity = WARNING if document.trouble.by_wish else ERROR
         told.append(_diagnostic(document, document.trouble.span, severity, document.trouble.words, code="trouble"))
     elif document.running:
-        told.append(_diagnostic(document, Span(0, 0), INFORMATION, RUNNING, code="running"))
+        words = PARTLY if document.partial else RUNNING
+        told.append(_diagnostic(document, Span(0, 0), INFORMATION, words, code="running"))
+    found = _reported(document, document.partial) if document.partial else []
     if document.report:
-        told += _reported(document, document.report)
-    return told
+        places = [it["range"] for it in found]
+        found += [it for it in _reported(document, document.report) if it["range"] not in places]
+    return told + found
 
 
 def _reported(document: Document, report: Report) -> list[Json]:
@@ -43,8 +48,8 @@ def _reported(document: Document, report: Report) -> list[Json]:
     for finding in report.findings:
         span = shift.span(finding.place.head)
         if span:
-            told.append(_finding(document, shift, finding, span))
-    if document.shown:
+            told.append(_finding(document, shift, finding, span, report.partial))
+    if document.shown and not report.partial:
         told += _shown(document, shift, document.shown.of, document.shown.causes)
     return told
 
@@ -63,9 +68,9 @@ def _related(document: Document, span: Span, message: str) -> Json:
     return {"location": {"uri": document.uri, "range": document.text.range(span)}, "message": message}
 
 
-def _finding(document: Document, shift: Shift, finding: Finding, span: Span) -> Json:
+def _finding(document: Document, shift: Shift, finding: Finding, span: Span, partial: bool) -> Json:
     """A check that may fail, or fails in a run that was seen, or a statement that is never reached."""
-    words = finding_words(finding.check, finding.verdict, finding.inputs, finding.always)
+    words = finding_words(finding.check, finding.verdict, finding.inputs, finding.always) + (SO_FAR if partial else "")
     if finding.verdict == "dead":
         return _diagnostic(document, span, HINT, words, code=finding.check, tags=[UNNECESSARY])
     places = [shift.span(it.head) for it in finding.causes[:MOST_RELATED]]

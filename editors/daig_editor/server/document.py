@@ -53,12 +53,13 @@ class Document:
         self.refusal: Refusal | None = None
         self.trouble: Trouble | None = None
         self.report: Report | None = None
+        self.partial: Report | None = None
         self.running = False
         self.shown: Causes | None = None
         self.session = Session(options.settings, options.compare_every, watcher.log)
         self.calls = CallChoice(self.session, watcher.show)
         self._asker = Asker(self.session)
-        self._judge = Judge(self.session, self._asker, self._test_worker, self._stage)
+        self._judge = Judge(self.session, self._asker, self._test_worker, self._stage, self._tell_partly)
         self._reader = TextReader()
         self._outline: Outline | None = None
         self._unconfirmed: Fault | None = None
@@ -78,7 +79,7 @@ class Document:
     def change(self, text: SourceText, version: int) -> None:
         """The text is another now."""
         self.text, self.version = text, version
-        self.shown = self._drifted = self.trouble = None
+        self.shown = self._drifted = self.trouble = self.partial = None
         self._losses = 0
         self._begin_anew()
 
@@ -290,9 +291,10 @@ class Document:
             good = self.session.good
             telling = asyncio.create_task(self._tell_running())
             try:
-                self.report = await self._judge.report(good) if good else None
+                self.report = await self._judge.report(good, self.options.runs) if good else None
             finally:
                 telling.cancel()
+                self.partial = None
             self._complained = ""
             if good is None:
                 self.trouble = Trouble("this editor cannot read the text, which the server takes: nothing is shown")
@@ -303,6 +305,12 @@ class Document:
     async def _tell_running(self) -> None:
         """Publishes that the work runs, where it takes long: what is shown until then is of an older text."""
         await asyncio.sleep(TELL_AFTER)
+        self.running = True
+        self.watcher.publish(self)
+
+    def _tell_partly(self, report: Report) -> None:
+        """Publishes what is known before the end of the work."""
+        self.partial = report
         self.running = True
         self.watcher.publish(self)
 

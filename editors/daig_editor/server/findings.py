@@ -41,9 +41,13 @@ class Tally:
 
 @dataclass(frozen=True)
 class Report:
-    """The findings on a text but the safe ones, the loop that used up its budget, and the checks of each procedure."""
+    """The findings on a text but the safe ones, the loop that used up its budget, and the checks of each procedure.
+
+    `partial`: the analysis still runs, and more may be found.
+    """
 
     text: SourceText
     findings: list[Finding]
     over: Over | None
     tallies: dict[str, Tally] = field(default_factory=dict)
+    partial: bool = False

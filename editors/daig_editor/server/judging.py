@@ -4,6 +4,7 @@ from __future__ import annotations
 from dataclasses import replace
 from typing import Callable
 
+from daig_editor.language.checks import check_of
 from daig_editor.language.tree import Placed, Program, Stmt, StmtKind
 from daig_editor.language.words import is_never, over_words
 from daig_editor.server.asking import Asker, TookLong
@@ -16,26 +17,33 @@ from daig_editor.server.trying import Ask, failing_checks
 LONG_WORK = 1.0
 MOST_STAGES = 8
 MOST_EXPLAINED = 60
+# So many runs are tried while a long analysis runs, for what fails in one is known before its end.
+RUNS_MEANWHILE = 8
 
 Stage = Callable[[Placed | None, int, int], None]
+Partly = Callable[[Report], None]
 
 
 class Judge:
     """Judges the program of a session. `test` raises where the text is another one; `stage` hears what is computed:
-    up to which statement, how much of a hundred that is, and how many cells it took so far."""
+    up to which statement, how much of a hundred that is, and how many cells it took so far; `partly` hears what is
+    found before the end of a long analysis."""
 
-    def __init__(self, session: Session, asker: Asker, test: Callable[[], None], stage: Stage) -> None:
+    def __init__(
+        self, session: Session, asker: Asker, test: Callable[[], None], stage: Stage, partly: Partly
+    ) -> None:
         self._session = session
         self._asker = asker
         self._test = test
         self._stage = stage
+        self._partly = partly
         self._cells = 0
         self._place: Placed | None = None
         self._percent = 0
 
-    async def report(self, good: Good) -> Report:
-        """The report on the last good program."""
-        answer = await self._whole(good.program)
+    async def report(self, good: Good, runs: int) -> Report:
+        """The report on the last good program. Where it takes long, some of so many runs are tried before its end."""
+        answer = await self._whole(good, runs)
         found = (await self._ask(do="report")).get("report", [])
         said = [it for it in found if isinstance(it, dict)] if isinstance(found, list) else []
         told = [it for it in said if it["verdict"] != "safe"]
@@ -68,18 +76,28 @@ class Judge:
 
     # The whole program, by stages where it takes long.
 
-    async def _whole(self, program: Program) -> Reply:
+    async def _whole(self, good: Good, runs: int) -> Reply:
         """The state at the end of the program, for which nearly all has to be computed."""
         try:
             return await self._asker.state("end main", [], self._test, None, LONG_WORK)
         except TookLong:
             self._cells = 0
-        stages = _stages(program)
+        await self._try_runs(good, min(runs, RUNS_MEANWHILE))
+        stages = _stages(good.program)
         for number, place in enumerate(stages):
             self._enter(place, number * 100 // len(stages))
             await self._asker.state(f"after {place.stmt.number}", [], self._test, self._stepped)
         self._enter(None, 99)
         return await self._asker.state("end main", [], self._test, self._stepped)
+
+    async def _try_runs(self, good: Good, runs: int) -> None:
+        """Tells of the checks that fail in runs."""
+        checks = {it.number: check for it in good.program.statements() if (check := check_of(it))}
+        inputs = await failing_checks(self._ask, good.text.data, checks, runs)
+        places = sorted(good.program.find_all(set(inputs)).values(), key=lambda it: it.head.start)
+        found = [Finding(it, checks[it.stmt.number], "may", inputs=inputs[it.stmt.number]) for it in places]
+        if found:
+            self._partly(Report(good.text, found, None, partial=True))
 
     def _enter(self, place: Placed | None, percent: int) -> None:
         """A stage begins."""
