@@ -1,0 +1,199 @@
+-- After quiet lines a question fills no more, and neither does a step.
+use Rattle.std.proofs.Common.{◌≡◌, ◌∙◌, ◌≤◌, ◌-◌, ℕ, min, nat_lt, Bool, true, false, List, ◌++◌, length, take, Option, Some, None, Result, Ok, if◌then◌else◌, refl, sym, ap, subst, arith, length-append}
+use Rattle.std.proofs.lemmas.Bool.{ltb-true, ltb-false}
+use Rattle.std.proofs.lemmas.List.{length-take}
+use Rattle.domain_laws.specs.Operations.{Operations}
+use Rattle.batch_meaning.specs.Values.{Value, State, Over}
+use Rattle.batch_meaning.specs.Answers.{Answer, Refuses, Answers}
+use Rattle.imp_syntax.specs.declared.edit.Location.{Location}
+use Rattle.cell_names.specs.Paths.{CellName}
+use Rattle.script_loop.specs.Lines.{kept}
+use Rattle.script_loop.specs.Replies.{after, next_to}
+use Rattle.session_machine.specs.Machine.{Machine, Ticket, ticket_of}
+use Rattle.session_machine.specs.Turns.{answer_at, ended, missing_at, stepped}
+use Rattle.request_json.specs.declared.error.ReadError.{ReadError}
+use Rattle.request_json.specs.declared.request.Query.{Query}
+use Rattle.request_json.specs.declared.request.Request.{Request}
+use Rattle.request_json.specs.declared.request.Request.TheVariants as q
+use Rattle.request_json.specs.declared.reply.Reply.TheVariants as r
+use Rattle.request_json.specs.Requests.{request_of}
+use Rattle.line_answers.specs.Readings.{Readings}
+use Rattle.line_answers.specs.Turns.{Turn, goes, told, state_by, why_by, step_by, step_of}
+use Rattle.line_answers.specs.Lines.{Served, request_turn, read_turn, server}
+use Rattle.line_answers.specs.Fine.{opening}
+use Rattle.line_answers.specs.Histories.{Asks, AnswerAlike, IsKeptAs}
+use Rattle.line_answers.proofs.Histories.{same_alike}
+use Rattle.reuse_laws.specs.Shorter as shorter
+use Rattle.reuse_laws.specs.Shorter.{IsNoLonger, IsQuestion, IsShorter, IsStepNoLonger, KeepsMore, MomentsShorten, NeverLonger}
+use Rattle.reuse_laws.proofs.Cells.{HasCells, after_cells, opening_cells}
+use Rattle.reuse_laws.proofs.Grown.{quiet_more}
+use Rattle.reuse_laws.proofs.Shorter.{more_is_shorter}
+
+-- ---- what a turn fills
+
+abbrev gain : Machine → Turn → ℕ
+gain m turn = length turn.machine.kept - length m.kept
+
+gained : (ks xs : List CellName) → length (ks ++ xs) - length ks ≡ length xs
+gained ks xs = let both = length-append ks xs in omega arith
+
+gains_less : (ks xs ls ys : List CellName) → length xs ≤ length ys → length (ks ++ xs) - length ks ≤ length (ls ++ ys) - length ls
+gains_less ks xs ls ys less = let first = gained ks xs in let second = gained ls ys in omega arith
+
+no_gain : (n a : ℕ) → n - n ≤ a
+no_gain n a = omega arith
+
+least_less : (n a b : ℕ) → a ≤ b → min n a ≤ min n b
+least_less n a b less = omega arith
+
+-- ---- a step of a ticket, where so many names are missing
+
+-- what it fills
+step_gain : (kept missing : List CellName) (n : ℕ) (b : Bool) (turn other : Turn) → nat_lt n (length missing) ≡ b → turn.machine.kept ≡ kept ++ take n missing → other.machine.kept ≡ kept ++ missing →
+    length (if b then turn else other).machine.kept - length kept ≡ min n (length missing)
+step_gain kept missing n true turn other is one both =
+    ap (λ (ks : List CellName). length ks - length kept) one ∙ gained kept (take n missing) ∙ length-take n missing
+step_gain kept missing n false turn other is one both =
+    let few = ltb-false n (length missing) is in
+    let all : min n (length missing) ≡ length missing = omega arith in
+    ap (λ (ks : List CellName). length ks - length kept) both ∙ gained kept missing ∙ sym all
+
+module _ {S : Type 0} (dom : Operations S) (m n : Machine) (less : IsShorter dom m n) (same : AnswerAlike dom m n) where
+  -- ---- questions
+
+  state_less : (query : Query) (a : Answer S) → gain n (state_by dom query a n) ≤ gain m (state_by dom query a m)
+  state_less query (Refuses why) = no_gain (length n.kept) _
+  state_less query (Answers v) = gains_less n.kept (missing_at dom query.at query.string n) m.kept (missing_at dom query.at query.string m) (less.question query.at query.string).most
+
+  why_less : (query : Query) (a : Answer S) → gain n (why_by dom query a n) ≤ gain m (why_by dom query a m)
+  why_less query (Refuses why) = no_gain (length n.kept) _
+  why_less query (Answers v) = gains_less n.kept (missing_at dom query.at query.string n) m.kept (missing_at dom query.at query.string m) (less.question query.at query.string).most
+
+  request_less : (first second : Readings) (request : Request) → IsQuestion request → gain n (request_turn second dom request n) ≤ gain m (request_turn first dom request m)
+  unfolding request_turn
+  request_less first second (q.State query) is =
+      subst (λ (a : Answer S). gain n (state_by dom query a n) ≤ gain m (state_by dom query (answer_at dom query.at query.string m) m)) (same query.at query.string) (state_less query (answer_at dom query.at query.string m))
+  request_less first second q.Report is = gains_less n.kept _ m.kept _ less.report.most
+  request_less first second q.Cost is = absurd is
+  request_less first second q.Program is = absurd is
+  request_less first second q.Listing is = absurd is
+  request_less first second (q.Run inputs fuel at) is = absurd is
+  request_less first second (q.Replace id text) is = absurd is
+  request_less first second (q.Insert place text) is = absurd is
+  request_less first second (q.Delete id) is = absurd is
+  request_less first second (q.Guard id text) is = absurd is
+  request_less first second (q.Declare proc name kind) is = absurd is
+  request_less first second (q.Add before text) is = absurd is
+  request_less first second (q.Drop proc) is = absurd is
+  request_less first second (q.Why query) is =
+      subst (λ (a : Answer S). gain n (why_by dom query a n) ≤ gain m (why_by dom query (answer_at dom query.at query.string m) m)) (same query.at query.string) (why_less query (answer_at dom query.at query.string m))
+  request_less first second q.Undo is = absurd is
+  request_less first second q.Redo is = absurd is
+  request_less first second (q.Ask query) is = absurd is
+  request_less first second (q.Step ticket count) is = absurd is
+  request_less first second (q.Cancel ticket) is = absurd is
+
+  -- ---- steps
+
+  step_by_less : (t : Ticket) (count : ℕ) (a : Answer S) → gain n (step_by dom t count a n) ≤ gain m (step_by dom t count a m)
+  step_by_less t count (Refuses why) = no_gain (length n.kept) _
+  step_by_less t count (Answers v) =
+      let few = missing_at dom t.at t.string n in
+      let all = missing_at dom t.at t.string m in
+      let first = step_gain n.kept few count (nat_lt count (length few)) (goes (r.Pending count) (stepped dom t count n)) (goes (told dom t.at v n) (ended dom t n)) refl refl refl in
+      let second = step_gain m.kept all count (nat_lt count (length all)) (goes (r.Pending count) (stepped dom t count m)) (goes (told dom t.at v m) (ended dom t m)) refl refl refl in
+      subst (λ (x : ℕ). x ≤ gain m (step_by dom t count (Answers v) m)) (sym first) (
+      subst (λ (x : ℕ). min count (length few) ≤ x) (sym second) (least_less count (length few) (length all) (less.question t.at t.string).most))
+
+  step_less : (count : ℕ) (t : Option Ticket) → gain n (step_of dom count t n) ≤ gain m (step_of dom count t m)
+  step_less count None = no_gain (length n.kept) _
+  step_less count (Some t) =
+      subst (λ (a : Answer S). gain n (step_by dom t count a n) ≤ gain m (step_by dom t count (answer_at dom t.at t.string m) m)) (same t.at t.string) (step_by_less t count (answer_at dom t.at t.string m))
+
+  -- an answer is not pending
+  told_now : (l : Location) (v : Value S) (count : ℕ) → told dom l v n ≡ r.Pending count → ⊥
+  told_now l (State s) count is = cc
+  told_now l (Over head chain) count is = cc
+
+  either_pending : (t : Ticket) (count told_count : ℕ) (v : Value S) (few all : ℕ) (b c : Bool) → few ≤ all → nat_lt count few ≡ b → nat_lt count all ≡ c →
+      (if b then goes (r.Pending count) (stepped dom t count n) else goes (told dom t.at v n) (ended dom t n)).reply ≡ r.Pending told_count →
+      (if c then goes (r.Pending count) (stepped dom t count m) else goes (told dom t.at v m) (ended dom t m)).reply ≡ r.Pending told_count
+  either_pending t count told_count v few all true true most is_few is_all pending = pending
+  either_pending t count told_count v few all true false most is_few is_all pending =
+      let more = ltb-true count few is_few in let no_more = ltb-false count all is_all in absurd (omega arith)
+  either_pending t count told_count v few all false c most is_few is_all pending = absurd (told_now t.at v told_count pending)
+
+  step_by_pending : (t : Ticket) (count told_count : ℕ) (a : Answer S) → (step_by dom t count a n).reply ≡ r.Pending told_count → (step_by dom t count a m).reply ≡ r.Pending told_count
+  step_by_pending t count told_count (Refuses why) pending = absurd cc
+  step_by_pending t count told_count (Answers v) pending =
+      let few = length (missing_at dom t.at t.string n) in
+      let all = length (missing_at dom t.at t.string m) in
+      either_pending t count told_count v few all (nat_lt count few) (nat_lt count all) (less.question t.at t.string).most refl refl pending
+
+  step_pending : (count told_count : ℕ) (t : Option Ticket) → (step_of dom count t n).reply ≡ r.Pending told_count → (step_of dom count t m).reply ≡ r.Pending told_count
+  step_pending count told_count None pending = absurd cc
+  step_pending count told_count (Some t) pending =
+      step_by_pending t count told_count (answer_at dom t.at t.string m) (subst (λ (a : Answer S). (step_by dom t count a n).reply ≡ r.Pending told_count) (sym (same t.at t.string)) pending)
+
+-- ---- lines
+
+module _ {S : Type 0} (dom : Operations S) where
+  -- what a line fills, by the request that it is read as
+  fills_as : (s : Served) (line text : List ℕ) (request : Request) → kept line ≡ Some text → request_of text ≡ Ok request →
+      shorter.filled_by dom s line ≡ gain s.machine (request_turn s.readings dom request s.machine)
+  fills_as s line text request short read =
+      ap (λ (o : Option (List ℕ)). length (next_to (server dom) s o).machine.kept - length s.machine.kept) short
+      ∙ ap (λ (o : Result Request ReadError). gain s.machine (read_turn s.readings dom o s.machine)) read
+
+  -- a bound on what a line fills in two machines
+  fills_less : (s t : Served) (line text : List ℕ) (request : Request) → kept line ≡ Some text → request_of text ≡ Ok request →
+      gain t.machine (request_turn t.readings dom request t.machine) ≤ gain s.machine (request_turn s.readings dom request s.machine) →
+      shorter.filled_by dom t line ≤ shorter.filled_by dom s line
+  fills_less s t line text request short read less =
+      subst (λ (x : ℕ). x ≤ shorter.filled_by dom s line) (sym (fills_as t line text request short read)) (
+      subst (λ (x : ℕ). gain t.machine (request_turn t.readings dom request t.machine) ≤ x) (sym (fills_as s line text request short read)) less)
+
+  module _ (s t : Served) (less : IsShorter dom s.machine t.machine) (same : AnswerAlike dom s.machine t.machine) where
+    question_less : (line : List ℕ) → IsKeptAs IsQuestion line → shorter.filled_by dom t line ≤ shorter.filled_by dom s line
+    question_less line asks =
+        fills_less s t line asks.text asks.reads.request asks.short asks.reads.read (request_less dom s.machine t.machine less same s.readings t.readings asks.reads.request asks.reads.kind)
+
+    reads_step : (line : List ℕ) (ticket n : ℕ) (asks : Asks (q.Step ticket n) line) → request_of asks.text ≡ Ok (q.Step ticket n)
+    reads_step line ticket n asks = asks.reads.read ∙ ap (λ (x : Request). Ok x) asks.reads.kind
+
+    step_turn_less : (ticket n : ℕ) → ticket_of ticket t.machine.tickets ≡ ticket_of ticket s.machine.tickets →
+        gain t.machine (request_turn t.readings dom (q.Step ticket n) t.machine) ≤ gain s.machine (request_turn s.readings dom (q.Step ticket n) s.machine)
+    unfolding request_turn
+    step_turn_less ticket n open_both =
+        subst (λ (o : Option Ticket). gain t.machine (step_of dom n o t.machine) ≤ gain s.machine (step_of dom n (ticket_of ticket s.machine.tickets) s.machine)) (sym open_both) (
+        step_less dom s.machine t.machine less same n (ticket_of ticket s.machine.tickets))
+
+    step_turn_pending : (ticket n count : ℕ) → ticket_of ticket t.machine.tickets ≡ ticket_of ticket s.machine.tickets →
+        (request_turn t.readings dom (q.Step ticket n) t.machine).reply ≡ r.Pending count → (request_turn s.readings dom (q.Step ticket n) s.machine).reply ≡ r.Pending count
+    unfolding request_turn
+    step_turn_pending ticket n count open_both pending =
+        step_pending dom s.machine t.machine less same n count (ticket_of ticket s.machine.tickets) (
+        subst (λ (o : Option Ticket). (step_of dom n o t.machine).reply ≡ r.Pending count) open_both pending)
+
+    step_line : (line : List ℕ) (ticket n : ℕ) → Asks (q.Step ticket n) line → ticket_of ticket t.machine.tickets ≡ ticket_of ticket s.machine.tickets → IsStepNoLonger dom s t line ticket n
+    step_line line ticket n asks open_both = record {
+      fills = fills_less s t line asks.text (q.Step ticket n) asks.short (reads_step line ticket n asks) (step_turn_less ticket n open_both);
+      pending = λ other count replied.
+          let read = reads_step line ticket n other in
+          subst (λ (o : Result Request ReadError). (read_turn s.readings dom o s.machine).reply ≡ r.Pending count) (sym read) (
+          step_turn_pending ticket n count open_both (subst (λ (o : Result Request ReadError). (read_turn t.readings dom o t.machine).reply ≡ r.Pending count) read replied));
+    }
+
+  never_longer : (s : Served) → HasCells dom s.machine → NeverLonger dom s
+  never_longer s has between quiet =
+      let t = after (server dom) s between in
+      let there = after_cells dom s between has in
+      let more = quiet_more dom s between quiet in
+      let less = more_is_shorter dom s.machine t.machine has.fine.present.fine.fit has.cells there.cells more in
+      let same = (same_alike dom s t more.holds).answers in
+      record { question = question_less s t less same; step = step_line s t less same }
+
+  pub moments_shorten : MomentsShorten dom
+  moments_shorten readings engine source program is before =
+      let first = opening readings engine program in
+      never_longer (after (server dom) first before) (after_cells dom first before (opening_cells dom readings engine source program is))
