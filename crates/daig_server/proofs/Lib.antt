@@ -4,3 +4,4 @@ pub mod WordsLemmas
 pub mod TallyLemmas
 pub mod ServedLemmas
 pub mod GeneratedLemmas
+pub mod PartLemmas

@@ -6,11 +6,19 @@ ghost use Rattle.command_words.specs.declared.job.Settings.{Settings};
 ghost use Rattle.command_words.specs.declared.job.Job.TheVariants as job;
 ghost use Rattle.command_words.specs.declared.job.SingleDomain.{SingleDomain as Single};
 ghost use Rattle.cert_lines.specs.Verify.{verified_line, Yes};
-ghost use Rattle.script_loop.specs.Replies.{ReadBytes, ReadToEnd};
+ghost use Rattle.script_loop.specs.Replies.{AnsweredRead, ReadBytes, ReadToEnd};
+ghost use Rattle.line_answers.specs.Fine.{opening};
+ghost use Rattle.line_answers.specs.Histories.{HistoriesDoNotMatter, RedoRestores, UndoRestores};
+ghost use Rattle.line_answers.specs.Lines.{server};
 ghost use Rattle.line_answers.specs.Readings.{Readings};
+ghost use Rattle.reply_lines.specs.Refused.{RefusalsKeep};
+ghost use Rattle.reply_lines.specs.Replied.{OneForEach};
+ghost use Rattle.reuse_laws.specs.Shorter.{NeverLonger};
 ghost use Rattle.server_jobs.specs.Domains.{meaning_of};
 ghost use Rattle.server_jobs.specs.Jobs.{AsksToGenerate, AsksToServe, domain_in, engine_in};
 ghost use Rattle.server_jobs.specs.Output.{IsAccepted, IsProgram, LacksFile, output};
+ghost use Rattle.server_jobs.specs.Kept.{WrittenAreAccepted};
+ghost use Rattle.server_jobs.specs.Settles.{IsSettledAfter, served_after};
 ghost use Rattle.server_jobs.specs.Sound.{AreRunsCovered, IsBatchSound, IsSoundAfter};
 ghost use Rattle.server_jobs.specs.Ends.{Fits, IsStatus, Wrote, WroteAll, status_of};
 ghost use Rattle.server_jobs.specs.Told.{asked, given, Tells, TellsFiles, Told};
@@ -19,7 +27,10 @@ use crate::run::run;
 use dom_interval::Interval;
 use io_edge::{Files, Sink, Source};
 use line_answers::machines_stay_fine;
-use server_jobs::{each_yes_is_sound, named_domains_are_sound};
+use server_jobs::{
+    each_yes_is_sound, named_domains_are_sound, named_domains_converge,
+    written_certificates_are_accepted,
+};
 use std::alloc::Global;
 use std::sync::ledger::Ledger;
 use step_counter::Steps;
@@ -60,6 +71,11 @@ pub fn serve<F: Files, I: Source, O: Sink, L: Ledger>(
     ensures exactly { (readings : Readings) (told : Told) → TellsFiles (asked words.now) (F.told files.old) told.folder → Fits (status_of result) (given readings (asked words.now) told).status }
     ensures written { (readings : Readings) (told : Told) → Tells readings (asked words.now) (F.told files.old) (I.told script.old) (O.told out.old) told
         → Wrote (status_of result) (given readings (asked words.now) told) told.script told.taken (I.told script.new) (O.told out.new) }
+    // Where the script stopped before its end, what was read of it was answered by the session with the program that the words
+    // ask for; each line has one reply, and each reply is one line.
+    ensures answered_part { (readings : Readings) (told : Told) (program : List Procedure) → Tells readings (asked words.now) (F.told files.old) (I.told script.old) (O.told out.old) told → IsAccepted readings (asked words.now) told.folder program
+        → (result ≡ 4) ⊎ (result ≡ 8) → AnsweredRead (server (meaning_of (domain_in (asked words.now))).operations) (opening readings (engine_in (asked words.now)) program) told.script told.taken (I.told script.new) (O.told out.new) }
+    ensures one_reply_each { OneForEach (meaning_of (domain_in (asked words.now))).operations }
     ensures words_exactly { (result ≡ 2 → asked words.now ≡ None) × (asked words.now ≡ None → (result ≡ 2) ⊎ (result ≡ 5) ⊎ (result ≡ 6)) }
     ensures read_to_end { result ≡ 0 → AsksToServe (asked words.now) → (text : List ℕ) → I.told script.old ≡ Some text → ReadToEnd text (I.told script.new) }
     ensures gen_ends { AsksToGenerate (asked words.now) → (result ≡ 0) ⊎ (result ≡ 5) ⊎ (result ≡ 6) }
@@ -82,11 +98,31 @@ pub fn serve<F: Files, I: Source, O: Sink, L: Ledger>(
     ensures verified { (readings : Readings) (told : Told) (domain : Single) (file cert text : List ℕ) (program : List Procedure) → asked words.now ≡ Some (job.Verify domain file cert)
         → Tells readings (asked words.now) (F.told files.old) (I.told script.old) (O.told out.old) told → IsProgram readings (told.folder file) program → told.folder cert ≡ Some text
         → result ≡ 0 → O.told out.new ≡ Some (told.taken ++ verified_line Yes) → AreRunsCovered domain program text }
+    // Whatever was asked and edited before, where the same program stands the same replies are written to what asks for the
+    // program alone; an undo restores all of these as they were before the last accepted edit, whatever questions, steps and
+    // runs stand in between, and a redo as they were after it. These are the machines whose lines `output` has.
+    ensures history_unseen { HistoriesDoNotMatter (meaning_of (domain_in (asked words.now))).operations }
+    ensures undo_restores { UndoRestores (meaning_of (domain_in (asked words.now))).operations }
+    ensures redo_restores { RedoRestores (meaning_of (domain_in (asked words.now))).operations }
+    // A line that is refused changes nothing, but that a ticket whose question is gone is closed.
+    ensures refusals_keep { RefusalsKeep (meaning_of (domain_in (asked words.now))).operations }
+    // What others asked never makes a question or a step longer: after any questions, reports, steps and runs it fills no more
+    // cells than it would have filled before them.
+    ensures never_longer { (readings : Readings) (folder : List ℕ → Option (List ℕ)) (program : List Procedure) (before : List (List ℕ)) → IsAccepted readings (asked words.now) folder program
+        → NeverLonger (meaning_of (domain_in (asked words.now))).operations (served_after (domain_in (asked words.now)) readings (engine_in (asked words.now)) program before) }
+    // What `cert` wrote of a program, without an over in place of the lines, `verify` finds to hold: by intervals and by list
+    // segments.
+    ensures certified { WrittenAreAccepted }
+    // From a budget on that is stated for each domain by the program present, no line is replied by an over.
+    ensures settles { (readings : Readings) (folder : List ℕ → Option (List ℕ)) (program : List Procedure) (before : List (List ℕ)) (line : List ℕ) → IsAccepted readings (asked words.now) folder program
+        → IsSettledAfter (domain_in (asked words.now)) readings (engine_in (asked words.now)) program before line }
     // No byte depends on how many results are remembered.
     ensures memo_unseen { (readings : Readings) (settings : Settings) (memo other : ℕ) (file : List ℕ) (folder : List ℕ → Option (List ℕ)) (text : List ℕ)
         → output readings (Some (job.Serve settings memo file)) folder text ≡ output readings (Some (job.Serve settings other file)) folder text }
 {
     named_domains_are_sound();
+    named_domains_converge();
+    written_certificates_are_accepted();
     each_yes_is_sound();
     machines_stay_fine::<Interval>();
     run(alloc, words, files, script, out, steps).code()

@@ -3,7 +3,14 @@ use Rattle.server_jobs.specs.Jobs.{domain_in, engine_in}
 use Rattle.server_jobs.specs.Told.{asked}
 use Rattle.server_jobs.specs.declared.status.Status.TheVariants.{Done, Words, Script, Sink, Files, LongScript, LongFile}
 use Rattle.server_jobs.proofs.CertificateLemmas.{yes_covers}
+use Rattle.server_jobs.proofs.SettlesLemmas.{settled}
 use Rattle.server_jobs.proofs.OutputLemmas.{accepted_read, ends_generated, ends_refused, file_read, named_by, same_status, told_by, wrote_complete, zero_accepted}
+use Rattle.server_jobs.specs.Domains.{meaning_of}
+use Rattle.line_answers.proofs.Histories.{same_alike, undo_restores, redo_restores}
+use Rattle.reply_lines.proofs.Refused.{refusals_keep}
+use Rattle.reply_lines.proofs.Replied.{one_for_each}
+use Rattle.reuse_laws.proofs.Lines.{moments_shorten}
+use Rattle.daig_server.proofs.PartLemmas.{answered_by_words}
 use Rattle.daig_server.proofs.serving.serve.Goals as goal
 
 pub returns-clause-named : goal.returns-clause-named
@@ -71,3 +78,44 @@ returns-clause-verified g c = λ readings told domain file cert text program nam
     let done = same_status c.run.result Done _ c.code.ensures.code zero in
     let wrote = rw (done, named) at (c.run.ensures.wrote readings told.folder told.script told.taken tells.files_are tells.script_is tells.sink_is) in
     yes_covers readings domain told.folder file cert text told.taken program _ (c.each_yes_is_sound.ensures.sound domain) fine.fit accepted there wrote is
+
+pub returns-clause-history_unseen : goal.returns-clause-history_unseen
+returns-clause-history_unseen g c = same_alike (meaning_of (domain_in (asked c.args.words.now))).operations
+
+pub returns-clause-undo_restores : goal.returns-clause-undo_restores
+returns-clause-undo_restores g c = undo_restores (meaning_of (domain_in (asked c.args.words.now))).operations
+
+pub returns-clause-redo_restores : goal.returns-clause-redo_restores
+returns-clause-redo_restores g c = redo_restores (meaning_of (domain_in (asked c.args.words.now))).operations
+
+pub returns-clause-settles : goal.returns-clause-settles
+returns-clause-settles g c = λ readings folder program before line accepted.
+    let read = accepted_read readings (asked c.args.words.now) folder program accepted in
+    settled c.named_domains_converge.ensures.end (domain_in (asked c.args.words.now)) readings (engine_in (asked c.args.words.now)) read.0 program before line read.1
+
+pub returns-clause-certified : goal.returns-clause-certified
+returns-clause-certified g c = c.written_certificates_are_accepted.ensures.accepted
+
+pub returns-clause-answered_part : goal.returns-clause-answered_part
+returns-clause-answered_part g c = λ readings told program tells accepted ends.
+    let wrote = c.run.ensures.wrote readings told.folder told.script told.taken tells.files_are tells.script_is tells.sink_is in
+    let words = asked c.args.words.now in
+    elim ends [
+      | inl is ↦
+          let stopped = same_status c.run.result Script _ c.code.ensures.code is in
+          answered_by_words readings words told.folder program told.script told.taken _ _ accepted (c.run.ensures.script_failed stopped).0 (rw stopped at wrote)
+      | inr is ↦
+          let stopped = same_status c.run.result LongScript _ c.code.ensures.code is in
+          answered_by_words readings words told.folder program told.script told.taken _ _ accepted (c.run.ensures.long stopped).0 (rw stopped at wrote)
+    ]
+
+pub returns-clause-one_reply_each : goal.returns-clause-one_reply_each
+returns-clause-one_reply_each g c = one_for_each (meaning_of (domain_in (asked c.args.words.now))).operations
+
+pub returns-clause-never_longer : goal.returns-clause-never_longer
+returns-clause-never_longer g c = λ readings folder program before accepted.
+    let read = accepted_read readings (asked c.args.words.now) folder program accepted in
+    moments_shorten (meaning_of (domain_in (asked c.args.words.now))).operations readings (engine_in (asked c.args.words.now)) read.0 program read.1 before
+
+pub returns-clause-refusals_keep : goal.returns-clause-refusals_keep
+returns-clause-refusals_keep g c = refusals_keep (meaning_of (domain_in (asked c.args.words.now))).operations
