@@ -28,12 +28,13 @@ LAYERS = {
     "Domains": "num_bounds numeric_slots cert_words portable_states interval_meaning interval_words dom_interval dbm_core"
     " dbm_close dbm_incremental dbm_narrow octagon_meaning octagon_states octagon_words dom_octagon shape_graph"
     " shape_steps listseg_meaning graph_sets listseg_words dom_listseg product_meaning dom_product batch_converges"
-    " product_answers",
+    " product_answers fold_laws",
     "Batch interpretation and certificates": "call_contexts selected_chains alarm_report batch_interp cert_sound"
     " cert_complete cert_lines cert_write cert_reading cert_accepted cert_check",
     "Cells": "cell_names cell_rows cells_sound demand_laws why_slice flow_rows imp_flow daig_graph named_cells loop_unroll"
     " memo_table daig_query why_cells kept_set kept_after cell_removal edit_invalidate edit_places_stay edits_keep_cells",
-    "Sessions": "session_machine open_tickets daig_session line_replies line_answers session_lines",
+    "Sessions": "session_machine open_tickets daig_session line_replies line_answers session_lines"
+    " reply_lines reuse_laws",
     "Program": "daig_gen generated_sources server_jobs daig_server daig",
     "Tests": "domain_tests session_tests server_tests examples",
 }
