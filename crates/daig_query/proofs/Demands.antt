@@ -13,9 +13,11 @@ use Rattle.daig_query.specs.declared.advance.Turn.{Turn}
 use Rattle.daig_query.specs.declared.advance.Turn.TheVariants.{Pushed, Filled, Spent, Done}
 use Rattle.daig_query.specs.declared.store.Store.{Store}
 use Rattle.daig_query.specs.declared.walk.Walk.{Walk}
+use Rattle.daig_query.specs.Kept.{AddsFew, Names}
 use Rattle.daig_query.specs.Filled.{added, missing, Fills}
 use Rattle.daig_query.specs.Turned.{stacked_names, fills_of, Obeys, Pushes, FillsTop, Waits, Ends}
 use Rattle.daig_query.specs.Walked.{IsDone, IsGood}
+use Rattle.daig_query.proofs.Growing.{few_more, few_trans, names_few}
 use Rattle.daig_query.proofs.Turning.{IsTurn}
 use Rattle.daig_query.proofs.Turns.{IsRunning, running_left, stops, pushes, pushes_smaller, fills_one, fills_smaller, fills_more, waits_more, ends_all, within_still, within_more, turned, ticks_same, ticks_more}
 
@@ -55,6 +57,17 @@ module _ {S : Type 0} (dom : Operations S) (plan : Plan) (ts : List Target) (fir
     pub within : IfSome limit (λ n. added first store ≤ n)
     pub least : start ≤ ticks
     pub most : ticks ≤ start + each * added first store
+    pub few : AddsFew (added first store) first store
+
+  -- a few more, and those of a cell more
+  few_past : (old new : Store S) (a b : ℕ) → b ≡ a → AddsFew a first old → AddsFew 1 old new → AddsFew (suc b) first new
+  few_past old new a b same h k = few_more first new (a + 1) (suc b) (omega (arith, same)) (few_trans first old new a 1 h k)
+
+  few_still : (old new : Store S) (a b : ℕ) → b ≡ a → AddsFew a first old → Names old new → AddsFew b first new
+  few_still old new a b same h k = few_more first new (a + 0) b (omega (arith, same)) (few_trans first old new a 0 h (names_few old new k))
+
+  few_ends : (old new : Store S) (a b : ℕ) → b ≡ a → AddsFew a first old → Names old new → AddsFew (suc b) first new
+  few_ends old new a b same h k = few_more first new b (suc b) (omega arith) (few_still old new a b same h k)
 
   module _ (old new : Store S) (before after : Walk) (spent : Bool) (ticks later : ℕ) (come : HasCome old before ticks) where
     abbrev names : List CellName
@@ -65,9 +78,9 @@ module _ {S : Type 0} (dom : Operations S) (plan : Plan) (ts : List Target) (fir
 
     pub demand_failed : {E : Type 0} {e : E} → IsTurn dom plan ts old new names after spent each ticks later (Err e) → {F : Type 0} (f : F) (r : Result Progress F) → r ≡ Err f → IsDemand dom plan ts first new after limit each start later r
     demand_failed t {F} f r is =
-        let same : added first new ≡ added first old = still t.err in
+        let same : added first new ≡ added first old = still t.err.cells in
         subst (IsDemand {E = F} dom plan ts first new after limit each start later) (sym is) (record {
-          fills = stops dom plan ts first old new before after come.running t.right t.grows t.walk t.err;
+          fills = stops dom plan ts first old new before after come.running t.right t.grows t.walk t.err.cells (few_past old new (added first old) (added first new) same come.few t.err.few);
           walk = t.walk;
           within = within_still dom plan ts limit (added first old) (added first new) same come.within;
           counted = tt;
@@ -99,6 +112,7 @@ module _ {S : Type 0} (dom : Operations S) (plan : Plan) (ts : List Target) (fir
               within = within_still dom plan ts limit (added first old) (added first new) same come.within;
               least = least_by;
               most = ticks_same start ticks later each (added first old) (added first new) same come.most (ticked_by Pushed e);
+              few = few_still old new (added first old) (added first new) same come.few pushed.only;
             }
 
         pub pushed_smaller : running_left dom plan ts first new after < running_left dom plan ts first old before
@@ -116,6 +130,7 @@ module _ {S : Type 0} (dom : Operations S) (plan : Plan) (ts : List Target) (fir
               within = within_more dom plan ts limit (added first old) (added first new) more (free (subst (Obeys spent) e t.obeys)) come.within;
               least = least_by;
               most = ticks_more start ticks later each (added first old) (added first new) more come.most (ticked_by Filled e);
+              few = few_more first new (added first old + 1) (added first new) (omega (arith, more)) (few_trans first old new (added first old) 1 come.few filled.puts.few);
             }
 
         pub filled_smaller : running_left dom plan ts first new after < running_left dom plan ts first old before
@@ -130,7 +145,7 @@ module _ {S : Type 0} (dom : Operations S) (plan : Plan) (ts : List Target) (fir
             let same : added first new ≡ added first old = still cells in
             let more : added first new < length (missing dom plan ts first) = waits_more dom plan ts first old new before after come.running t.right t.grows t.walk waits in
             record {
-              fills = stops dom plan ts first old new before after come.running t.right t.grows t.walk cells;
+              fills = stops dom plan ts first old new before after come.running t.right t.grows t.walk cells (few_ends old new (added first old) (added first new) same come.few waits.only);
               walk = t.walk;
               within = within_still dom plan ts limit (added first old) (added first new) same come.within;
               counted = counted ∙ sym same;
@@ -150,7 +165,7 @@ module _ {S : Type 0} (dom : Operations S) (plan : Plan) (ts : List Target) (fir
             let same : added first new ≡ added first old = still cells in
             let all : added first new ≡ length (missing dom plan ts first) = ends_all dom plan ts first old new before after come.running t.right t.grows t.walk ends in
             record {
-              fills = stops dom plan ts first old new before after come.running t.right t.grows t.walk cells;
+              fills = stops dom plan ts first old new before after come.running t.right t.grows t.walk cells (few_ends old new (added first old) (added first new) same come.few ends.only);
               walk = t.walk;
               within = within_still dom plan ts limit (added first old) (added first new) same come.within;
               counted = counted ∙ sym same;

@@ -27,7 +27,7 @@ use Rattle.named_cells.specs.Asked.{inputs}
 use Rattle.daig_query.specs.Right.{found, IsCellOf, IsRight}
 use Rattle.daig_query.specs.Opened.{name_of, IsReady, Puts, Computes}
 use Rattle.named_cells.proofs.Same.{same_is}
-use Rattle.daig_query.proofs.Growing.{keeps_same, grows_trans, kept_alike}
+use Rattle.daig_query.proofs.Growing.{few_same, few_trans, keeps_same, grows_trans, kept_alike}
 use Rattle.named_cells.proofs.Numbers.{number_there, filled_number, numbers_of, member_at}
 use Rattle.std.proofs.lemmas.Bool.{or_cases, or_right, or_left, cases_eq as same_number}
 use Rattle.std.proofs.lemmas.Option.{same_Some}
@@ -209,4 +209,5 @@ module _ {S : Type 0} (dom : Operations S) (plan : Plan) where
       grows = grows_trans old mid new (computes_grow old mid c) grows;
       adds = λ y. adds y ∙ ap (λ b. b || same_name y x) (computes_kept old mid c y);
       count = one_more ∙ ap (λ m. suc (len m)) c.cells;
+      few = few_trans old mid new 1 0 c.few (few_same mid new states operations);
     }

@@ -1,5 +1,5 @@
 -- Stores with more names, and with more cells.
-use Rattle.std.proofs.Common.{◌≡◌, ℕ, ◌<◌, ◌≤◌, List, [], take, length, Option, Some, None, IsSome, slice_get, refl, sym, ap, subst, ◌∙◌}
+use Rattle.std.proofs.Common.{◌≡◌, ℕ, ◌+◌, arith, ◌<◌, ◌≤◌, List, [], take, length, Option, Some, None, IsSome, slice_get, refl, sym, ap, subst, ◌∙◌}
 use Rattle.std.specs.Prelude.{is_some}
 use Rattle.std.specs.FinMap.{get}
 use Rattle.std.proofs.lemmas.Option.{slice_get_within}
@@ -17,7 +17,7 @@ use Rattle.daig_query.specs.declared.held.Held.{Held}
 use Rattle.daig_query.specs.declared.opening.Open.{Open}
 use Rattle.daig_query.specs.declared.store.Store.{Store}
 use Rattle.named_cells.specs.Named.{filled_at, AreNumbers}
-use Rattle.daig_query.specs.Kept.{Cells, kept, IsValue, Grows, Names}
+use Rattle.daig_query.specs.Kept.{Cells, kept, IsValue, AddsFew, AddsNoCell, Grows, Lasts, Names}
 use Rattle.named_cells.specs.Asked.{inputs}
 use Rattle.daig_query.specs.Right.{found, IsCellOf, IsRight}
 use Rattle.daig_query.specs.Opened.{name_of, IsOpen, next_of}
@@ -65,6 +65,22 @@ module _ {S : Type 0} where
     states = keeps_same old.states new.states h.states;
     cells = λ n f e. subst (λ g. get g.cells n ≡ Some f) (sym h.graph) e;
   }
+
+  -- so many more, and so many behind them
+  pub few_trans : (a b c : Store S) (m n : ℕ) → AddsFew m a b → AddsFew n b c → AddsFew (m + n) a c
+  few_trans a b c m n h k = record { states = omega (arith, h.states, k.states); operations = omega (arith, h.operations, k.operations) }
+
+  pub few_more : (a b : Store S) (m n : ℕ) → m ≤ n → AddsFew m a b → AddsFew n a b
+  few_more a b m n le h = record { states = omega (arith, h.states, le); operations = omega (arith, h.operations, le) }
+
+  pub few_same : (a b : Store S) → b.states ≡ a.states → b.operations ≡ a.operations → AddsFew 0 a b
+  few_same a b states operations = let s = ap length states in let o = ap length operations in record { states = omega (arith, s); operations = omega (arith, o) }
+
+  pub names_few : (old new : Store S) → Names old new → AddsFew 0 old new
+  names_few old new h = few_same old new h.states h.operations
+
+  pub names_no_cell : (old new : Store S) → Names old new → AddsNoCell old new
+  names_no_cell old new h = record { cells = ap (λ g. g.cells) h.graph; few = few_more old new 0 1 (omega arith) (names_few old new h) }
 
   pub names_refl : (store : Store S) → Names store store
   names_refl store = record { paths = keeps_refl store.names.paths; names = keeps_refl store.names.names; states = refl; operations = refl; memo = refl; graph = refl }
@@ -141,27 +157,41 @@ module _ {S : Type 0} (dom : Operations S) (plan : Plan) where
             },
           )
 
-  some_there : (old new : Store S) → Grows old new → (n : ℕ) (o : Option (Filled Held)) → get old.graph.cells n ≡ o → IsSome o → IsSome (get new.graph.cells n)
-  some_there old new grows n None e h = absurd cc
-  some_there old new grows n (Some f) e h = subst IsSome (sym (grows.cells n f e)) refl
+  -- what has a cell keeps it where cells are only added
+  pub grows_last : (old new : Store S) → Grows old new → Lasts old new
+  grows_last old new grows = record {
+    paths = grows.paths;
+    names = grows.names;
+    there = λ n h. by n (get old.graph.cells n) refl h;
+  }
+    where
+      by : (n : ℕ) (o : Option (Filled Held)) → get old.graph.cells n ≡ o → IsSome o → IsSome (get new.graph.cells n)
+      by n None e h = absurd cc
+      by n (Some f) e h = subst IsSome (sym (grows.cells n f e)) refl
 
-  pub cells_grow : (old new : Store S) → Grows old new → (ns : List ℕ) → graph.AreCells old.graph.cells ns → graph.AreCells new.graph.cells ns
-  cells_grow old new grows ns h i n e = some_there old new grows n (get old.graph.cells n) refl (h i n e)
+  pub cells_last : (old new : Store S) → Lasts old new → (ns : List ℕ) → graph.AreCells old.graph.cells ns → graph.AreCells new.graph.cells ns
+  cells_last old new lasts ns h i n e = lasts.there n (h i n e)
 
   -- what is open stays open
-  pub open_grows : (old new : Store S) → Grows old new → (o : Open) → IsOpen dom plan old o → IsOpen dom plan new o
-  open_grows old new grows o opened =
-      let same : name_of new o ≡ name_of old o = name_stays old new grows.paths o opened.path in
+  pub open_lasts : (old new : Store S) → Lasts old new → (o : Open) → IsOpen dom plan old o → IsOpen dom plan new o
+  open_lasts old new lasts o opened =
+      let same : name_of new o ≡ name_of old o = name_stays old new lasts.paths o opened.path in
       record {
-        path = keeps_within old.names.paths new.names.paths grows.paths o.name.path opened.path;
-        number = grows.names o.cell (name_of old o) opened.number ∙ ap Some (sym same);
+        path = keeps_within old.names.paths new.names.paths lasts.paths o.name.path opened.path;
+        number = lasts.names o.cell (name_of old o) opened.number ∙ ap Some (sym same);
         named = subst (λ x. HasName plan.engine plan.program x) (sym same) opened.named;
         within = subst (λ x. length o.inputs ≤ length (inputs dom plan x)) (sym same) opened.within;
         numbers = subst (λ x. AreNumbers new.names.names o.inputs (take (length o.inputs) (inputs dom plan x))) (sym same) (
-            numbers_grow old.names.names new.names.names grows.names o.inputs (take (length o.inputs) (inputs dom plan (name_of old o))) opened.numbers
+            numbers_grow old.names.names new.names.names lasts.names o.inputs (take (length o.inputs) (inputs dom plan (name_of old o))) opened.numbers
             );
-        cells = cells_grow old new grows o.inputs opened.cells;
+        cells = cells_last old new lasts o.inputs opened.cells;
       }
 
+  pub open_grows : (old new : Store S) → Grows old new → (o : Open) → IsOpen dom plan old o → IsOpen dom plan new o
+  open_grows old new grows = open_lasts old new (grows_last old new grows)
+
+  pub next_lasts : (old new : Store S) → Lasts old new → (o : Open) → IsOpen dom plan old o → next_of dom plan new o ≡ next_of dom plan old o
+  next_lasts old new lasts o opened = ap (λ x. slice_get (inputs dom plan x) (length o.inputs)) (name_stays old new lasts.paths o opened.path)
+
   pub next_grows : (old new : Store S) → Grows old new → (o : Open) → IsOpen dom plan old o → next_of dom plan new o ≡ next_of dom plan old o
-  next_grows old new grows o opened = ap (λ x. slice_get (inputs dom plan x) (length o.inputs)) (name_stays old new grows.paths o opened.path)
+  next_grows old new grows = next_lasts old new (grows_last old new grows)

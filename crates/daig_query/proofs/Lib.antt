@@ -27,3 +27,5 @@ pub mod Holding
 pub mod Reading
 pub mod Beginning
 pub mod Rest
+pub mod Sweeping
+pub mod Sweeps

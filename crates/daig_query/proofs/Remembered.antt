@@ -18,7 +18,7 @@ use Rattle.daig_graph.specs.declared.value.Value.TheVariants.{State, Over}
 use Rattle.daig_query.specs.declared.held.Held.{Held}
 use Rattle.daig_query.specs.declared.store.Store.{Store}
 use Rattle.named_cells.specs.Named.{AreNumbers}
-use Rattle.daig_query.specs.Kept.{kept, IsValue}
+use Rattle.daig_query.specs.Kept.{kept, AddsFew, IsValue}
 use Rattle.daig_query.specs.Made.{IsOperationOf, row_result, state_at}
 use Rattle.named_cells.specs.Asked.{inputs}
 use Rattle.daig_query.specs.Right.{found, IsCellOf, IsRight}
@@ -66,8 +66,8 @@ module _ {S : Type 0} (dom : Operations S) where
   state_grows old new keeps (Some n) h = let p = get_some old n h in keeps n p.0 p.1 ∙ sym p.1
 
   module _ (plan : Plan) where
-    pub right_more : (old new : Store S) → IsRight dom plan old → new.graph.cells ≡ old.graph.cells → new.names ≡ old.names → KeepsNumbers old.states new.states → IsOnce new.states → AreResults dom new.operations new.states new.memo.entries → Computes dom plan old new
-    right_more old new right graph names keeps single results = record {
+    pub right_more : (old new : Store S) → IsRight dom plan old → new.graph.cells ≡ old.graph.cells → new.names ≡ old.names → KeepsNumbers old.states new.states → IsOnce new.states → AreResults dom new.operations new.states new.memo.entries → AddsFew 1 old new → Computes dom plan old new
+    right_more old new right graph names keeps single results few = record {
       cells = graph;
       names = names;
       states = keeps;
@@ -80,6 +80,7 @@ module _ {S : Type 0} (dom : Operations S) where
         cells = λ n f e. cell_at n f (subst (λ m. get m n ≡ Some f) graph e);
         results = results;
       };
+      few = few;
     }
       where
         same : (x : CellName) → kept new x ≡ kept old x

@@ -1,5 +1,5 @@
 -- How walks go on, one step at a time.
-use Rattle.std.proofs.Common.{◌≡◌, ℕ, zero, suc, ◌+◌, ◌-◌, ◌<◌, ◌≤◌, List, [], ◌∷◌, ◌++◌, drop, length, Some, true, IsSome, slice_get, refl, sym, ap, ap₂, subst, ◌∙◌, arith}
+use Rattle.std.proofs.Common.{◌≡◌, ℕ, suc, ◌+◌, ◌-◌, ◌<◌, ◌≤◌, List, [], ◌∷◌, ◌++◌, drop, length, Some, true, IsSome, slice_get, refl, sym, ap, ap₂, subst, ◌∙◌, arith}
 use Rattle.std.specs.Prelude.{is_some, reverse}
 use Rattle.std.specs.FinMap.{get}
 use Rattle.std.proofs.lemmas.Option.{slice_get_within}
@@ -24,10 +24,10 @@ use Rattle.daig_query.specs.declared.walk.Walk.{Walk}
 use Rattle.daig_query.specs.Kept.{kept, IsValue, Names}
 use Rattle.daig_query.specs.Right.{found, IsRight}
 use Rattle.daig_query.specs.Walked.{behind_steps, place_of, Stands, IsPlaced, Leaves, Enters, Stays, steps_from, steps_left}
-use Rattle.daig_query.proofs.Growing.{names_grow}
+use Rattle.daig_query.proofs.Growing.{grows_last, names_grow}
 use Rattle.named_cells.proofs.Numbers.{filled_number}
 use Rattle.daig_query.proofs.Found.{stored}
-use Rattle.daig_query.proofs.Walks.{stands_go, stands_on, stands_next, stands_grow}
+use Rattle.daig_query.proofs.Walks.{stands_go, stands_on, stands_next, stands_last}
 use Rattle.plain_values.proofs.Lists.{drop_next}
 
 pub behind_none : (ts : List Target) → behind_steps 0 ts ≡ ts
@@ -124,7 +124,7 @@ module _ {S : Type 0} (dom : Operations S) (plan : Plan) (ts : List Target) wher
     path = h.within;
     stands = subst (λ cells. Stands dom plan ts later (place_of ts later new) cells) (sym h.found) (
         subst (λ k. Stands dom plan ts later k old.found.items) (sym (place_entered store later old new frame t here h)) (
-        stands_grow dom plan ts store later _ old.found.items right (names_grow store later names) s
+        stands_last dom plan ts store later _ old.found.items right (grows_last dom plan store later (names_grow store later names)) s
         )
         );
   }

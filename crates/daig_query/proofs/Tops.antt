@@ -24,7 +24,7 @@ use Rattle.daig_query.specs.Right.{IsRight}
 use Rattle.daig_query.specs.Opened.{name_of, next_of, row_at, IsOpen, Looks, Puts}
 use Rattle.daig_query.specs.Turned.{stacked_names, AreKept, HandsDown, Pushes, FillsTop, Waits}
 use Rattle.daig_query.specs.Walked.{AreStacked, IsPlaced, IsGood, place_of}
-use Rattle.daig_query.proofs.Growing.{names_grow, grows_trans, kept_same, name_stays, open_grows, next_grows}
+use Rattle.daig_query.proofs.Growing.{few_trans, names_few, names_grow, grows_trans, kept_same, name_stays, open_grows, next_grows}
 use Rattle.daig_query.proofs.Walks.{placed_grows, place_stays}
 use Rattle.daig_query.proofs.Looking.{open_longer}
 use Rattle.daig_query.proofs.Stepping.{place_same, placed_same}
@@ -246,6 +246,7 @@ module _ {S : Type 0} (dom : Operations S) (plan : Plan) where
             grows = grows_trans old mid new grows puts.grows;
             adds = λ y. puts.adds y ∙ (ap (λ b. b || same_name y (name_of mid entry)) (same y) ∙ ap (λ x. kept old y || same_name y x) same_name_mid);
             count = puts.count ∙ ap (λ g. suc (len g.cells)) names.graph;
+            few = few_trans old mid new 0 1 (names_few old mid names) puts.few;
           };
         }
           where

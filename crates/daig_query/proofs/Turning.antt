@@ -8,13 +8,13 @@ use Rattle.daig_query.specs.declared.advance.Turn.{Turn}
 use Rattle.daig_query.specs.declared.advance.Turn.TheVariants.{Pushed, Filled, Spent}
 use Rattle.daig_query.specs.declared.store.Store.{Store}
 use Rattle.daig_query.specs.declared.walk.Walk.{Walk}
-use Rattle.daig_query.specs.Kept.{Grows, Names}
+use Rattle.daig_query.specs.Kept.{AddsNoCell, Grows, Names}
 use Rattle.daig_query.specs.Right.{IsRight}
 use Rattle.daig_query.specs.Opened.{Computes, Puts}
 use Rattle.daig_query.specs.Turned.{fills_of, Obeys, Pushes, FillsTop, Waits, Turns}
 use Rattle.daig_query.specs.Walked.{IsGood}
 use Rattle.daig_query.proofs.Filling.{computes_grow}
-use Rattle.daig_query.proofs.Growing.{names_grow, grows_trans}
+use Rattle.daig_query.proofs.Growing.{few_trans, grows_trans, names_few, names_grow, names_no_cell}
 use Rattle.daig_query.proofs.Walks.{good_grows}
 
 -- What the clauses of a turn say, of a result.
@@ -24,7 +24,7 @@ pub record IsTurn {S E : Type 0} (dom : Operations S) (plan : Plan) (ts : List T
   pub walk : IsGood dom plan ts new after
   pub turns : IfOk result (Turns dom plan ts old new before after)
   pub obeys : IfOk result (Obeys spent)
-  pub err : OnErr result (new.graph.cells ≡ old.graph.cells)
+  pub err : OnErr result (AddsNoCell old new)
   pub least : ticks ≤ later
   pub ticked : IfOk result (λ turn. later ≤ ticks + each * fills_of turn)
   pub most : later ≤ ticks + each
@@ -40,7 +40,7 @@ module _ {S : Type 0} (dom : Operations S) (plan : Plan) (ts : List Target) wher
           walk = good;
           turns = tt;
           obeys = tt;
-          err = ap (λ g. g.cells) names.graph;
+          err = names_no_cell old mid names;
           least = omega arith;
           ticked = tt;
           most = omega arith;
@@ -82,7 +82,7 @@ module _ {S : Type 0} (dom : Operations S) (plan : Plan) (ts : List Target) wher
           walk = good_grows dom plan ts mid new w computes.right (computes_grow dom plan mid new computes) good;
           turns = tt;
           obeys = tt;
-          err = computes.cells ∙ ap (λ g. g.cells) names.graph;
+          err = record { cells = computes.cells ∙ ap (λ g. g.cells) names.graph; few = few_trans old mid new 0 1 (names_few old mid names) computes.few };
           least = least;
           ticked = tt;
           most = most;

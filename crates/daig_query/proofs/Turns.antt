@@ -18,7 +18,7 @@ use Rattle.named_cells.specs.Named.{filled_at}
 use Rattle.daig_query.specs.declared.advance.Turn.{Turn}
 use Rattle.daig_query.specs.declared.store.Store.{Store}
 use Rattle.daig_query.specs.declared.walk.Walk.{Walk}
-use Rattle.daig_query.specs.Kept.{kept, Grows}
+use Rattle.daig_query.specs.Kept.{kept, AddsFew, Grows}
 use Rattle.daig_query.specs.Right.{found, IsRight}
 use Rattle.daig_query.specs.Opened.{name_of}
 use Rattle.daig_query.specs.Turned.{stacked_names, Pushes, FillsTop, Waits, Ends, Turns}
@@ -83,8 +83,8 @@ module _ {S : Type 0} (dom : Operations S) (plan : Plan) (ts : List Target) wher
         omega arith
 
     -- what a run leaves where it stops with no fill
-    pub stops : new.graph.cells ≡ old.graph.cells → Fills dom plan ts first new (added first new)
-    stops cells =
+    pub stops : new.graph.cells ≡ old.graph.cells → AddsFew (suc (added first new)) first new → Fills dom plan ts first new (added first new)
+    stops cells few =
         let s = runs_leave dom plan ts run.right.checked (kept first) (kept new) (stacked_names old before.stack.items) (added first new) (still cells) in
         record {
           right = right;
@@ -96,6 +96,7 @@ module _ {S : Type 0} (dom : Operations S) (plan : Plan) (ts : List Target) wher
               ∙ ap (λ xs. kept first x || member same_name (take (added first new) xs) x) (missing_is dom plan ts first)));
           needed = subst (λ xs. added first new ≤ length xs) (missing_is dom plan ts first) s.needed;
           counted = still_counted cells;
+          few = few;
         }
 
     -- a push

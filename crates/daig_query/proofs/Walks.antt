@@ -28,23 +28,28 @@ use Rattle.daig_query.specs.declared.store.Store.{Store}
 use Rattle.daig_query.specs.declared.walk.Walk.{Walk}
 use Rattle.named_cells.specs.Same.{same_name}
 use Rattle.named_cells.specs.Named.{filled_at}
-use Rattle.daig_query.specs.Kept.{kept, Grows}
+use Rattle.daig_query.specs.Kept.{kept, Grows, Lasts}
 use Rattle.daig_query.specs.Right.{found, IsRight}
 use Rattle.daig_query.specs.Walked.{AreTargets, behind_steps, place_of, Stands, IsPlaced, AreStacked, IsGood, IsDone, fixes, with_fixes, AreAmong}
 use Rattle.named_cells.proofs.Same.{same_is}
-use Rattle.daig_query.proofs.Growing.{path_stays, keeps_within, cells_grow, open_grows, next_grows, name_stays}
+use Rattle.daig_query.proofs.Growing.{path_stays, keeps_within, grows_last, cells_last, open_lasts, next_lasts, name_stays}
 use Rattle.named_cells.proofs.Numbers.{filled_number, filled_named, numbers_grow, numbers_push}
 use Rattle.std.proofs.lemmas.Option.{same_Some}
 
 -- a name that has a cell keeps one
-pub kept_grows : {S : Type 0} (dom : Operations S) (plan : Plan) (old new : Store S) → IsRight dom plan new → Grows old new → (x : CellName) → kept old x ≡ true → kept new x ≡ true
-kept_grows dom plan old new right grows x h = go (filled_at old.graph.cells old.names.names x) refl h
+pub kept_lasts : {S : Type 0} (dom : Operations S) (plan : Plan) (old new : Store S) → IsRight dom plan new → Lasts old new → (x : CellName) → kept old x ≡ true → kept new x ≡ true
+kept_lasts dom plan old new right lasts x h = go (filled_at old.graph.cells old.names.names x) refl h
   where
+    there : (o : Option (Filled Held)) → IsSome o → is_some o ≡ true
+    there None h = absurd cc
+    there (Some f) h = refl
+
     go : (o : Option (Filled Held)) → filled_at old.graph.cells old.names.names x ≡ o → is_some o ≡ true → kept new x ≡ true
     go None e h = absurd cc
     go (Some f) e h =
         let p = filled_named old.graph.cells old.names.names x f e in
-        ap is_some (filled_number new.graph.cells new.names.names right.once x p.0 (grows.names p.0 x p.1) ∙ grows.cells p.0 f p.2)
+        ap is_some (filled_number new.graph.cells new.names.names right.once x p.0 (lasts.names p.0 x p.1))
+        ∙ there (get new.graph.cells p.0) (lasts.there p.0 (subst IsSome (sym p.2) refl))
 
 one_member : (x y : CellName) → member same_name (y ∷ []) x ≡ true → x ≡ y
 one_member x y h = elim (or_cases (same_name x y) false h) [ inl a ↦ same_is.same_true x y a | inr b ↦ absurd cc ]
@@ -233,40 +238,50 @@ module _ {S : Type 0} (dom : Operations S) (plan : Plan) (ts : List Target) wher
     ended = λ i. (ends_here y (found dom plan y) k.left k.path e one).0;
   }
 
-  -- with more cells
-  pub stands_grow : (old new : Store S) (k : law.Walk) (cells : List ℕ) → IsRight dom plan new → Grows old new → Stands dom plan ts old k cells → Stands dom plan ts new k cells
-  stands_grow old new k cells right grows h = record {
+  -- where what has a cell has one still
+  pub stands_last : (old new : Store S) (k : law.Walk) (cells : List ℕ) → IsRight dom plan new → Lasts old new → Stands dom plan ts old k cells → Stands dom plan ts new k cells
+  stands_last old new k cells right lasts h = record {
     asked = h.asked;
     names = h.names;
-    asked_kept = λ x m. kept_grows dom plan old new right grows x (h.asked_kept x m);
+    asked_kept = λ x m. kept_lasts dom plan old new right lasts x (h.asked_kept x m);
     lasts = h.lasts;
     values = h.values;
-    numbers = numbers_grow old.names.names new.names.names grows.names cells h.lasts h.numbers;
-    there = cells_grow dom plan old new grows cells h.there;
+    numbers = numbers_grow old.names.names new.names.names lasts.names cells h.lasts h.numbers;
+    there = cells_last dom plan old new lasts cells h.there;
     covered = h.covered;
     comes = h.comes;
     ended = h.ended;
   }
 
+  pub place_lasts : (old new : Store S) → Lasts old new → (w : Walk) → w.path < length old.names.paths → place_of ts new w ≡ place_of ts old w
+  place_lasts old new lasts w h = ap (λ p. law.walk p (behind_steps w.step (drop w.target ts))) (path_stays old new lasts.paths w.path h)
+
   pub place_stays : (old new : Store S) → Grows old new → (w : Walk) → w.path < length old.names.paths → place_of ts new w ≡ place_of ts old w
-  place_stays old new grows w h = ap (λ p. law.walk p (behind_steps w.step (drop w.target ts))) (path_stays old new grows.paths w.path h)
+  place_stays old new grows = place_lasts old new (grows_last dom plan old new grows)
+
+  pub placed_lasts : (old new : Store S) (w : Walk) → IsRight dom plan new → Lasts old new → IsPlaced dom plan ts old w → IsPlaced dom plan ts new w
+  placed_lasts old new w right lasts h = record {
+    path = keeps_within old.names.paths new.names.paths lasts.paths w.path h.path;
+    stands = subst (λ k. Stands dom plan ts new k w.found.items) (sym (place_lasts old new lasts w h.path)) (stands_last old new (place_of ts old w) w.found.items right lasts h.stands);
+  }
 
   pub placed_grows : (old new : Store S) (w : Walk) → IsRight dom plan new → Grows old new → IsPlaced dom plan ts old w → IsPlaced dom plan ts new w
-  placed_grows old new w right grows h = record {
-    path = keeps_within old.names.paths new.names.paths grows.paths w.path h.path;
-    stands = subst (λ k. Stands dom plan ts new k w.found.items) (sym (place_stays old new grows w h.path)) (stands_grow old new (place_of ts old w) w.found.items right grows h.stands);
+  placed_grows old new w right grows = placed_lasts old new w right (grows_last dom plan old new grows)
+
+  stacked_last : (old new : Store S) (w : Walk) → Lasts old new → IsPlaced dom plan ts old w → AreStacked dom plan old (place_of ts old w) w.stack.items → AreStacked dom plan new (place_of ts new w) w.stack.items
+  stacked_last old new w lasts placed h = record {
+    opens = λ i o e. open_lasts dom plan old new lasts o (h.opens i o e);
+    bottom = λ o e. ap asks (place_lasts old new lasts w placed.path) ∙ h.bottom o e ∙ ap Some (sym (name_stays old new lasts.paths o (h.opens 0 o e).path));
+    chained = λ i o u e f. next_lasts dom plan old new lasts o (h.opens i o e) ∙ h.chained i o u e f ∙ ap Some (sym (name_stays old new lasts.paths u (h.opens (suc i) u f).path));
   }
 
-  pub stacked_grows : (old new : Store S) (w : Walk) → Grows old new → IsPlaced dom plan ts old w → AreStacked dom plan old (place_of ts old w) w.stack.items → AreStacked dom plan new (place_of ts new w) w.stack.items
-  stacked_grows old new w grows placed h = record {
-    opens = λ i o e. open_grows dom plan old new grows o (h.opens i o e);
-    bottom = λ o e. ap asks (place_stays old new grows w placed.path) ∙ h.bottom o e ∙ ap Some (sym (name_stays old new grows.paths o (h.opens 0 o e).path));
-    chained = λ i o u e f. next_grows dom plan old new grows o (h.opens i o e) ∙ h.chained i o u e f ∙ ap Some (sym (name_stays old new grows.paths u (h.opens (suc i) u f).path));
-  }
+  -- a walk that is good stays good where what has a cell has one still
+  pub good_lasts : (old new : Store S) (w : Walk) → IsRight dom plan new → Lasts old new → IsGood dom plan ts old w → IsGood dom plan ts new w
+  good_lasts old new w right lasts h = record { placed = placed_lasts old new w right lasts h.placed; stacked = stacked_last old new w lasts h.placed h.stacked }
 
-  -- a walk that is good stays good while cells are only added
+  -- so while cells are only added
   pub good_grows : (old new : Store S) (w : Walk) → IsRight dom plan new → Grows old new → IsGood dom plan ts old w → IsGood dom plan ts new w
-  good_grows old new w right grows h = record { placed = placed_grows old new w right grows h.placed; stacked = stacked_grows old new w grows h.placed h.stacked }
+  good_grows old new w right grows = good_lasts old new w right (grows_last dom plan old new grows)
 
   -- and one that is done stays so
   pub done_grows : (old new : Store S) (w : Walk) → IsRight dom plan new → Grows old new → IsDone dom plan ts old w → IsDone dom plan ts new w

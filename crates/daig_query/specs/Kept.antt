@@ -1,5 +1,5 @@
 -- What an engine keeps: cells by the numbers of their names.
-use Rattle.std.specs.Prelude.{◌≡◌, ℕ, List, reverse, Some, Bool, slice_get}
+use Rattle.std.specs.Prelude.{◌≡◌, ℕ, ◌+◌, ◌≤◌, length, List, reverse, Some, IsSome, Bool, slice_get}
 use Rattle.std.specs.Ordering.{nat_cmp}
 use Rattle.std.specs.FinMap.{FinMap, get}
 use Rattle.daig_graph.specs.Cells.{Filled}
@@ -32,6 +32,22 @@ pub record Grows {S : Type 0} (old new : Store S) : Type 0 where
   pub names : KeepsNumbers old.names.names new.names.names
   pub states : KeepsNumbers old.states new.states
   pub cells : (n : ℕ) (f : Filled Held) → get old.graph.cells n ≡ Some f → get new.graph.cells n ≡ Some f
+
+-- At most so many states are added, and so many operations.
+pub record AddsFew {S : Type 0} (count : ℕ) (old new : Store S) : Type 0 where
+  pub states : length new.states ≤ length old.states + count
+  pub operations : length new.operations ≤ length old.operations + count
+
+-- No cell is added, and one state and one operation at most.
+pub record AddsNoCell {S : Type 0} (old new : Store S) : Type 0 where
+  pub cells : new.graph.cells ≡ old.graph.cells
+  pub few : AddsFew 1 old new
+
+-- Names are only added, and what has a cell has one still.
+pub record Lasts {S : Type 0} (old new : Store S) : Type 0 where
+  pub paths : KeepsNumbers old.names.paths new.names.paths
+  pub names : KeepsNumbers old.names.names new.names.names
+  pub there : (n : ℕ) → IsSome (get old.graph.cells n) → IsSome (get new.graph.cells n)
 
 -- No cell is added, and no state.
 pub record Names {S : Type 0} (old new : Store S) : Type 0 where

@@ -9,4 +9,5 @@ pub mod Walked
 pub mod Filled
 pub mod Turned
 pub mod Answered
+pub mod Swept
 pub mod Claims

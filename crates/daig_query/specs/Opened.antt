@@ -15,7 +15,7 @@ use Rattle.daig_query.specs.declared.opening.Open.{Open}
 use Rattle.daig_query.specs.declared.store.Store.{Store}
 use Rattle.named_cells.specs.Same.{same_name}
 use Rattle.named_cells.specs.Named.{AreNumbers}
-use Rattle.daig_query.specs.Kept.{kept, Grows}
+use Rattle.daig_query.specs.Kept.{kept, AddsFew, Grows}
 use Rattle.named_cells.specs.Asked.{inputs}
 use Rattle.daig_query.specs.Right.{IsRight}
 
@@ -55,12 +55,13 @@ module _ {S : Type 0} (dom : Operations S) (plan : Plan) where
     pub at : IsAt store row o
     pub complete : next_of store o ≡ None
 
-  -- a store once more, right again, with more states, operations and results
+  -- a store once more, right again, with a state, an operation and a result more at most
   pub record Computes (old new : Store S) : Type 0 where
     pub cells : new.graph.cells ≡ old.graph.cells
     pub names : new.names ≡ old.names
     pub states : KeepsNumbers old.states new.states
     pub right : IsRight dom plan new
+    pub few : AddsFew 1 old new
 
   -- what is found of a name that is being filled: that all its inputs are, or the first that has no cell
   abbrev pub IsNext : Store S → Open → Option Open → Type 0
@@ -80,3 +81,4 @@ module _ {S : Type 0} (dom : Operations S) (plan : Plan) where
     pub grows : Grows old new
     pub adds : (y : CellName) → kept new y ≡ (kept old y || same_name y x)
     pub count : len new.graph.cells ≡ suc (len old.graph.cells)
+    pub few : AddsFew 1 old new

@@ -2,7 +2,7 @@
 ghost use Rattle.std.specs.Prelude.{◌≡◌, ◌+◌, ◌*◌, ◌<◌, ◌≤◌, ◌↔◌, ◌⊎◌, [], ◌∷◌, ◌++◌, Some, true, false, suc, length, map, min, IfOk, IfErr, IfSome, IsTrue, OnErr, OnOk};
 ghost use Rattle.cell_rows.specs.Targets.{Target as PlainTarget};
 ghost use Rattle.imp_flow.specs.Reached.{target_of};
-ghost use Rattle.daig_query.specs.Kept.{kept, Grows};
+ghost use Rattle.daig_query.specs.Kept.{kept, AddsNoCell, Grows, Names as OnlyNames};
 ghost use Rattle.daig_query.specs.Right.{IsRight};
 ghost use Rattle.daig_query.specs.Opened.{name_of};
 ghost use Rattle.daig_query.specs.Walked.{AreStacked, AreTargets, IsDone, IsGood, IsPlaced, place_of};
@@ -56,7 +56,7 @@ fn turn_walk<D: Domain>(
     ensures grows { Grows store.old store.new }
     ensures walk { IsGood (D.operations dom.now) flow.now (map target_of targets.now) store.new walk.new }
     ensures turns { IfOk result (Turns (D.operations dom.now) flow.now (map target_of targets.now) store.old store.new [] walk.new) }
-    ensures cells { store.new.graph.cells ≡ store.old.graph.cells }
+    ensures only { OnlyNames store.old store.new }
 {
     match next_demanded(alloc, dom, flow, store, targets, walk)? {
         None => Ok(Turn::Done),
@@ -112,7 +112,7 @@ fn turn_open<D: Domain, L: Ledger>(
     ensures walk { IsGood (D.operations dom.now) flow.now (map target_of targets.now) store.new walk.new }
     ensures turns { IfOk result (Turns (D.operations dom.now) flow.now (map target_of targets.now) store.old store.new (stacked_names store.old (walk.old.stack.items ++ top ∷ [])) walk.new) }
     ensures obeys { IfOk result (Obeys spent) }
-    ensures err { OnErr result (store.new.graph.cells ≡ store.old.graph.cells) }
+    ensures err { OnErr result (AddsNoCell store.old store.new) }
     ensures least { steps.old ≤ steps.new }
     ensures ticked { IfOk result (λ turn. steps.new ≤ steps.old + D.counted dom.now * fills_of turn) }
     ensures most { steps.new ≤ steps.old + D.counted dom.now }
@@ -156,7 +156,7 @@ fn take_turn<D: Domain, L: Ledger>(
     ensures walk { IsGood (D.operations dom.now) flow.now (map target_of targets.now) store.new walk.new }
     ensures turns { IfOk result (Turns (D.operations dom.now) flow.now (map target_of targets.now) store.old store.new (stacked_names store.old walk.old.stack.items) walk.new) }
     ensures obeys { IfOk result (Obeys spent) }
-    ensures err { OnErr result (store.new.graph.cells ≡ store.old.graph.cells) }
+    ensures err { OnErr result (AddsNoCell store.old store.new) }
     ensures least { steps.old ≤ steps.new }
     ensures ticked { IfOk result (λ turn. steps.new ≤ steps.old + D.counted dom.now * fills_of turn) }
     ensures most { steps.new ≤ steps.old + D.counted dom.now }
@@ -237,6 +237,7 @@ impl<D: Domain> Engine<D> {
         requires targets { AreTargets flow.now (map target_of targets.now) }
         requires walk { IsGood (D.operations self.old.domain) flow.now (map target_of targets.now) self.old.store walk.old }
         ensures domain { self.new.domain ≡ self.old.domain }
+        ensures spare { self.new.spare ≡ self.old.spare }
         ensures fills { Fills (D.operations self.old.domain) flow.now (map target_of targets.now) self.old.store self.new.store (added self.old.store self.new.store) }
         ensures walk { IsGood (D.operations self.old.domain) flow.now (map target_of targets.now) self.new.store walk.new }
         ensures within { added self.old.store self.new.store ≤ most }
@@ -279,6 +280,7 @@ impl<D: Domain> Engine<D> {
         requires targets { AreTargets flow.now (map target_of targets.now) }
         requires walk { IsGood (D.operations self.old.domain) flow.now (map target_of targets.now) self.old.store walk.old }
         ensures domain { self.new.domain ≡ self.old.domain }
+        ensures spare { self.new.spare ≡ self.old.spare }
         ensures fills { Fills (D.operations self.old.domain) flow.now (map target_of targets.now) self.old.store self.new.store (added self.old.store self.new.store) }
         ensures walk { IsGood (D.operations self.old.domain) flow.now (map target_of targets.now) self.new.store walk.new }
         ensures counted { IfOk result (λ n. n ≡ added self.old.store self.new.store) }

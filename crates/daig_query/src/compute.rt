@@ -164,6 +164,7 @@ fn operation_number(
     row: &Row<'_>,
 ) -> Result<usize, Memory>
     ensures is { IfOk result (λ n. (o : Operation) × IsOperationOf row.now o × (slice_get operations.new n ≡ Some o)) }
+    ensures few { length operations.new ≤ length operations.old + 1 }
     ensures once { OnOk result (AreOnce ⟦<Operation as PartialEq>⟧.eq operations.new) }
     ensures kept { KeepsNumbers operations.old operations.new }
 {
@@ -187,6 +188,7 @@ fn make_state<D: Domain, L: Ledger>(
     requires known { IfSome right (λ n. n < length states.old) }
     ensures is { IfOk result (λ n. slice_get states.new n ≡ row_result (D.operations dom.now) row.now (state_at states.old left) (state_at states.old right)) }
     ensures kept { KeepsNumbers states.old states.new }
+    ensures few { length states.new ≤ length states.old + 1 }
     ensures once { IsOnce states.old → IsOnce states.new }
     ensures ticked { steps.new ≡ steps.old + D.counted dom.now }
 {

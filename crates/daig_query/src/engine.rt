@@ -1,5 +1,5 @@
 //! The engine.
-ghost use Rattle.std.specs.Prelude.{◌≡◌, ◌<◌, IfOk, false};
+ghost use Rattle.std.specs.Prelude.{◌≡◌, ◌+◌, ◌*◌, ◌≤◌, ◌<◌, IfOk, false};
 ghost use Rattle.std.specs.FinMap as map;
 ghost use Rattle.imp_slots.specs.Fits.{IsChecked};
 ghost use Rattle.cell_names.specs.Paths.{CellName};
@@ -8,6 +8,7 @@ ghost use Rattle.imp_flow.specs.Plans.{Plan};
 ghost use Rattle.daig_query.specs.Claims.{Lessens};
 ghost use Rattle.daig_query.specs.Kept.{kept};
 ghost use Rattle.daig_query.specs.Right.{IsRight};
+ghost use Rattle.daig_query.specs.Swept.{IsBounded};
 
 use crate::held::Held;
 use crate::store::Store;
@@ -20,11 +21,16 @@ use plain_values::Memory;
 use state_table::Table;
 use std::alloc::Global;
 
+// how many states are kept beside four for each cell and each remembered result, before a sweep
+const SLACK: usize = 4096;
+
 /// A domain, and the cells that are filled.
 #[derive(Drop)]
 pub struct Engine<D: Domain> {
     pub(crate) domain: D,
     pub(crate) store: Store<D::State>,
+    // how many states are kept beside four for each cell, before a sweep
+    pub(crate) spare: usize,
 }
 
 impl<D: Domain + Drop> Engine<D> {
@@ -32,10 +38,13 @@ impl<D: Domain + Drop> Engine<D> {
     /// program.
     pub fn new(alloc: Global, domain: D, memo: usize) -> Result<Engine<D>, Memory>
         requires some { 0 < memo }
+        ensures spare { IfOk result (λ e. e.spare ≤ 4 * memo + 4096) }
+        ensures bounded { IfOk result (λ e. IsBounded e.spare e.store) }
         ensures domain { IfOk result (λ e. e.domain ≡ domain) }
         ensures empty { IfOk result (λ e. (x : CellName) → kept e.store x ≡ false) }
         ensures right { IfOk result (λ e. (plan : Plan) → IsChecked plan.program → IsRight (D.operations e.domain) plan e.store) }
     {
+        let spare = memo.saturating_mul(4).saturating_add(SLACK);
         let memo = Memo::new(alloc, memo)?;
         let store = Store {
             graph: Graph::new(alloc),
@@ -44,7 +53,11 @@ impl<D: Domain + Drop> Engine<D> {
             operations: Table::new(alloc),
             memo,
         };
-        Ok(Engine { domain, store })
+        Ok(Engine {
+            domain,
+            store,
+            spare,
+        })
     }
 }
 
@@ -77,6 +90,7 @@ impl<D: Domain> Engine<D> {
         ensures removes { self.new.store.graph.cells ≡ without self.old.store.graph.cells plan }
         ensures lessens { Lessens self.old.store self.new.store }
         ensures domain { self.new.domain ≡ self.old.domain }
+        ensures spare { self.new.spare ≡ self.old.spare }
     {
         commit(&mut self.store.graph, plan);
     }

@@ -16,6 +16,7 @@ mod laws;
 mod opening;
 mod operations;
 mod store;
+mod sweep;
 mod walk;
 
 pub use advance::Progress;

@@ -92,7 +92,7 @@ impl Walk {
 }
 
 /// What a cell holds, where that is a state.
-fn held_in(graph: &Graph<Held>, cell: usize) -> Option<Held>
+pub(crate) fn held_in(graph: &Graph<Held>, cell: usize) -> Option<Held>
     ensures is { result ≡ state_in (value_at graph.now.cells cell) }
 {
     match graph.value(cell) {

@@ -16,3 +16,4 @@ pub mod CheckLemmas
 pub mod Reported
 pub mod Standing
 pub mod Reporting
+pub mod Swept

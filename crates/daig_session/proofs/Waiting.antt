@@ -6,9 +6,10 @@ use Rattle.domain_laws.specs.Operations.{Operations}
 use Rattle.imp_flow.specs.Plans.{Plan}
 use Rattle.imp_flow.specs.Reached.{target_of}
 use Rattle.daig_query.specs.declared.store.Store.{Store}
-use Rattle.daig_query.specs.Kept.{Grows}
+use Rattle.daig_query.specs.Kept.{Grows, Lasts}
 use Rattle.daig_query.specs.Right.{IsRight}
-use Rattle.daig_query.proofs.Walks.{good_grows}
+use Rattle.daig_query.proofs.Growing.{grows_last}
+use Rattle.daig_query.proofs.Walks.{good_lasts}
 use Rattle.open_tickets.specs.declared.tickets.Open.{Open}
 use Rattle.open_tickets.specs.Tickets.{anew}
 use Rattle.daig_session.specs.declared.book.Going.{Going}
@@ -16,21 +17,29 @@ use Rattle.daig_session.specs.Going.{IsGoing, IsWaiting, AreWaiting}
 use Rattle.std.proofs.lemmas.Option.{same_Some}
 
 module _ {S : Type 0} (dom : Operations S) where
+  -- what has a cell has one still
+  module _ (plan : Plan) (old new : Store S) (right : IsRight dom plan new) (lasts : Lasts old new) where
+    going_lasts : (l : Location) (string : List ℕ) (g : Going) → IsGoing dom plan old l string g → IsGoing dom plan new l string g
+    going_lasts l string g is = record {
+      asked = is.asked;
+      good = good_lasts dom plan (map target_of g.targets) old new g.walk right lasts is.good;
+    }
+
+    some_lasts : (l : Location) (string : List ℕ) (o : Option Going) → IfSome o (IsGoing dom plan old l string) → IfSome o (IsGoing dom plan new l string)
+    some_lasts l string None h = tt
+    some_lasts l string (Some g) h = going_lasts l string g h
+
+    pub waiting_lasts : (os : List (Open Going)) → AreWaiting dom plan old os → AreWaiting dom plan new os
+    waiting_lasts [] w = tt
+    waiting_lasts (o ∷ os) w = (record { short = w.0.short; going = some_lasts o.at o.string o.going w.0.going }, waiting_lasts os w.1)
+
   -- cells are only added
   module _ (plan : Plan) (old new : Store S) (right : IsRight dom plan new) (grows : Grows old new) where
     pub going_grows : (l : Location) (string : List ℕ) (g : Going) → IsGoing dom plan old l string g → IsGoing dom plan new l string g
-    going_grows l string g is = record {
-      asked = is.asked;
-      good = good_grows dom plan (map target_of g.targets) old new g.walk right grows is.good;
-    }
-
-    some_grows : (l : Location) (string : List ℕ) (o : Option Going) → IfSome o (IsGoing dom plan old l string) → IfSome o (IsGoing dom plan new l string)
-    some_grows l string None h = tt
-    some_grows l string (Some g) h = going_grows l string g h
+    going_grows = going_lasts plan old new right (grows_last dom plan old new grows)
 
     pub waiting_grows : (os : List (Open Going)) → AreWaiting dom plan old os → AreWaiting dom plan new os
-    waiting_grows [] w = tt
-    waiting_grows (o ∷ os) w = (record { short = w.0.short; going = some_grows o.at o.string o.going w.0.going }, waiting_grows os w.1)
+    waiting_grows = waiting_lasts plan old new right (grows_last dom plan old new grows)
 
   -- all begin anew
   pub waiting_anew : (plan other : Plan) (old new : Store S) (os : List (Open Going)) → AreWaiting dom plan old os → AreWaiting dom other new (map anew os)

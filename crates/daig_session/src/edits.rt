@@ -4,6 +4,7 @@ ghost use Rattle.std.specs.Borrow.{sem, RestsIfErr};
 ghost use Rattle.imp_syntax.specs.declared.edit.Edit.{Edit as AnyEdit};
 ghost use Rattle.imp_edit.specs.Edited.{next_after, Continues};
 ghost use Rattle.imp_edit.specs.Refusals.{edit_refusal, IsRefusal};
+ghost use Rattle.daig_query.specs.Swept.{IsBounded};
 ghost use Rattle.session_machine.specs.Machine.{Machine};
 ghost use Rattle.session_machine.specs.Turns.{committed};
 ghost use Rattle.daig_session.specs.contracts.session.Session.{the_row};
@@ -54,6 +55,8 @@ impl<D: Domain> Session<D> {
         requires planned { (e : AnyEdit) × IsPlanned self.old.engine.store self.old.book e planned }
         ensures ready { IsReady (D.operations self.new.engine.domain) self.new.engine.store self.new.book }
         ensures domain { self.new.engine.domain ≡ self.old.engine.domain }
+        ensures spare { self.new.engine.spare ≡ self.old.engine.spare }
+        ensures bounded { IsBounded self.new.engine.spare self.new.engine.store }
         ensures next_ticket { self.new.book.tickets.next ≡ self.old.book.tickets.next }
         ensures committed { (e : AnyEdit) (m : Machine) → IsPlanned self.old.engine.store self.old.book e planned → Holds (D.operations self.old.engine.domain) self.old.engine.store self.old.book m →
             Holds (D.operations self.new.engine.domain) self.new.engine.store self.new.book (committed (D.operations self.old.engine.domain) e m) }
@@ -97,6 +100,8 @@ impl<D: Domain> Session<D> {
         ensures holds { (m : Machine) → Holds (D.operations self.old.engine.domain) self.old.engine.store self.old.book m →
             IfOk result (λ p. Holds (D.operations p.session.now.engine.domain) p.session.now.engine.store p.session.now.book m) }
         ensures domain { IfOk result (λ p. p.session.now.engine.domain ≡ self.old.engine.domain) }
+        ensures spare { IfOk result (λ p. p.session.now.engine.spare ≡ self.old.engine.spare) }
+        ensures unmoved { IfOk result (λ p. p.session.now.engine.store ≡ self.old.engine.store) }
         ensures next_ticket { IfOk result (λ p. p.session.now.book.tickets.next ≡ self.old.book.tickets.next) }
         ensures accepted { IfOk result (λ _. edit_refusal edit.now self.old.book.history.now self.old.book.next ≡ None) }
         ensures refused { IfErr result (IsRefusal (edit_refusal edit.now self.old.book.history.now self.old.book.next)) }
@@ -124,6 +129,8 @@ impl<D: Domain> Prepared<'_, D, Planned> {
         requires planned { (e : AnyEdit) × IsPlanned self.session.now.engine.store self.session.now.book e self.planned }
         ensures ready { IsReady (D.operations self.exit.0.now.engine.domain) self.exit.0.now.engine.store self.exit.0.now.book }
         ensures domain { self.exit.0.now.engine.domain ≡ self.entry.session.now.engine.domain }
+        ensures spare { self.exit.0.now.engine.spare ≡ self.entry.session.now.engine.spare }
+        ensures bounded { IsBounded self.exit.0.now.engine.spare self.exit.0.now.engine.store }
         ensures next_ticket { self.exit.0.now.book.tickets.next ≡ self.entry.session.now.book.tickets.next }
         ensures committed { (e : AnyEdit) (m : Machine) → IsPlanned self.entry.session.now.engine.store self.entry.session.now.book e self.entry.planned → Holds (D.operations self.entry.session.now.engine.domain) self.entry.session.now.engine.store self.entry.session.now.book m →
             Holds (D.operations self.exit.0.now.engine.domain) self.exit.0.now.engine.store self.exit.0.now.book (committed (D.operations self.entry.session.now.engine.domain) e m) }

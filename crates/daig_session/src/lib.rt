@@ -16,6 +16,11 @@
 //!
 //! For want of memory a query, a report or a step leaves some of the missing cells filled, the first of them, and all else
 //! as it was; any other call leaves the session as it was.
+//!
+//! States and operations that no cell holds any more are given back: at the start of each question and step, and at the end
+//! of each move, where they are many. So behind each call the tables hold at most five states and five operations for each
+//! kept cell, four for each result that may be remembered, and 4,097 (`IsBounded` of `daig_query`, with `spare` of
+//! [`Session::start`]).
 #![tactic(auto)]
 
 mod asking;

@@ -8,6 +8,7 @@ ghost use Rattle.cell_removal.specs.Removal.{IsOrder};
 ghost use Rattle.edits_keep_cells.specs.Claims.{flow_of, AreOneApart};
 ghost use Rattle.edit_history.specs.After.{after, Leads};
 ghost use Rattle.daig_query.specs.Right.{IsRight};
+ghost use Rattle.daig_query.specs.Swept.{IsBounded, IsInTables};
 ghost use Rattle.daig_session.specs.Moves.{Empties, IsMoving, Leaves};
 
 use call_contexts::Setting;
@@ -81,12 +82,17 @@ pub(crate) fn planned_move<D: Domain>(
     })
 }
 
-/// Takes the planned cells away: what is left is right for the program that is moved to.
+/// Takes the planned cells away, and gives back the states that no cell holds any more, where they are many: what is left
+/// is right for the program that is moved to.
 pub(crate) fn leave<D: Domain>(engine: &mut Engine<D>, plan: RemovalOrder)
     requires order { IsOrder engine.old.store.graph.cells plan }
+    requires held { IsInTables engine.old.store }
     ensures leaves { (e : BatchEngine) (old new : List Procedure) → AreOneApart old new → IsRight (D.operations engine.old.domain) (flow_of e old) engine.old.store → Empties (flow_of e old) (flow_of e new) engine.old.store plan →
         Leaves (D.operations engine.old.domain) (flow_of e old) (flow_of e new) engine.old.store engine.new.store }
     ensures domain { engine.new.domain ≡ engine.old.domain }
+    ensures spare { engine.new.spare ≡ engine.old.spare }
+    ensures bounded { IsBounded engine.new.spare engine.new.store }
 {
     engine.empty(plan);
+    engine.sweep();
 }

@@ -5,6 +5,7 @@ ghost use Rattle.imp_check.specs.Slots.{routines_of};
 ghost use Rattle.imp_flow.specs.Reached.{target_of};
 ghost use Rattle.daig_query.specs.Answered.{AreFilled, Covers};
 ghost use Rattle.daig_query.specs.Filled.{added, missing, Fills};
+ghost use Rattle.daig_query.specs.Swept.{FillsFew, IsBounded};
 ghost use Rattle.why_slice.specs.Claims.{Suffices};
 ghost use Rattle.session_machine.specs.Machine.{Machine};
 ghost use Rattle.session_machine.specs.Turns.{asked, missing_at, targets_of, IsBetween};
@@ -40,8 +41,10 @@ fn fill_all<D: Domain, L: Ledger>(
     requires ready { IsReady (D.operations engine.old.domain) engine.old.store book.now }
     requires going { (l : Location) × (string : List ℕ) × IsGoing (D.operations engine.old.domain) (flow_in book.now) engine.old.store l string going.old }
     ensures domain { engine.new.domain ≡ engine.old.domain }
+    ensures spare { engine.new.spare ≡ engine.old.spare }
     ensures targets { going.new.targets ≡ going.old.targets }
     ensures fills { Fills (D.operations engine.old.domain) (flow_in book.now) (map target_of going.old.targets) engine.old.store engine.new.store (added engine.old.store engine.new.store) }
+    ensures few { FillsFew engine.old.store engine.new.store }
     ensures counted { IfOk result (λ n. n ≡ added engine.old.store engine.new.store) }
     ensures all { IfOk result (λ n. n ≡ length (missing (D.operations engine.old.domain) (flow_in book.now) (map target_of going.old.targets) engine.old.store)) }
     ensures filled { OnOk result (AreFilled (D.operations engine.old.domain) engine.new.store going.new.walk (flow_in book.now) (map target_of going.old.targets)) }
@@ -63,7 +66,7 @@ struct Filled {
 
 impl<D: Domain> Session<D> {
     /// Fills what is missing for a question, or tells why it has no answer. The book stays as it is.
-    fn fill_for<L: Ledger>(
+    fn fill_now<L: Ledger>(
         &mut self,
         alloc: Global,
         at: &Location,
@@ -73,7 +76,9 @@ impl<D: Domain> Session<D> {
         requires ready { IsReady (D.operations self.old.engine.domain) self.old.engine.store self.old.book }
         ensures ready { IsReady (D.operations self.new.engine.domain) self.new.engine.store self.new.book }
         ensures domain { self.new.engine.domain ≡ self.old.engine.domain }
+        ensures spare { self.new.engine.spare ≡ self.old.engine.spare }
         ensures book { self.new.book ≡ self.old.book }
+        ensures few { FillsFew self.old.engine.store self.new.engine.store }
         ensures targets { IfOk result (λ f. IsAsked (flow_in self.old.book).program at.now string.now (map target_of f.going.targets)) }
         ensures filled { IfOk result (λ f. AreFilled (D.operations self.old.engine.domain) self.new.engine.store f.going.walk (flow_in self.old.book) (map target_of f.going.targets)) }
         ensures counted { IfOk result (λ f. f.count ≡ added self.old.engine.store self.new.engine.store) }
@@ -95,6 +100,40 @@ impl<D: Domain> Session<D> {
         let mut going = begun(alloc, &self.engine, &flow, at, string)?;
         let count = fill_all(alloc, &mut self.engine, &self.book, &mut going, steps)?;
         Ok(Filled { going, count })
+    }
+
+    /// The same, behind a sweep.
+    fn fill_for<L: Ledger>(
+        &mut self,
+        alloc: Global,
+        at: &Location,
+        string: &[u32],
+        steps: &mut Steps<L>,
+    ) -> Result<Filled, QueryError>
+        requires ready { IsReady (D.operations self.old.engine.domain) self.old.engine.store self.old.book }
+        ensures ready { IsReady (D.operations self.new.engine.domain) self.new.engine.store self.new.book }
+        ensures domain { self.new.engine.domain ≡ self.old.engine.domain }
+        ensures spare { self.new.engine.spare ≡ self.old.engine.spare }
+        ensures book { self.new.book ≡ self.old.book }
+        ensures bounded { IsBounded self.new.engine.spare self.new.engine.store }
+        ensures targets { IfOk result (λ f. IsAsked (flow_in self.old.book).program at.now string.now (map target_of f.going.targets)) }
+        ensures filled { IfOk result (λ f. AreFilled (D.operations self.old.engine.domain) self.new.engine.store f.going.walk (flow_in self.old.book) (map target_of f.going.targets)) }
+        ensures counted { IfOk result (λ f. f.count ≡ added self.old.engine.store self.new.engine.store) }
+        ensures all { (m : Machine) → Holds (D.operations self.old.engine.domain) self.old.engine.store self.old.book m →
+            IfOk result (λ f. f.count ≡ length (missing_at (D.operations self.old.engine.domain) at.now string.now m)) }
+        ensures answered { (m : Machine) → Holds (D.operations self.old.engine.domain) self.old.engine.store self.old.book m →
+            IfOk result (λ f. Holds (D.operations self.old.engine.domain) self.new.engine.store (record self.old.book { cost = f.count }) (asked (D.operations self.old.engine.domain) at.now string.now m)) }
+        ensures unanswered { (m : Machine) → Holds (D.operations self.old.engine.domain) self.old.engine.store self.old.book m →
+            IfOk result (λ _. IsBetween (missing_at (D.operations self.old.engine.domain) at.now string.now m) m (Holds (D.operations self.new.engine.domain) self.new.engine.store self.new.book)) }
+        ensures fails { (m : Machine) → Holds (D.operations self.old.engine.domain) self.old.engine.store self.old.book m →
+            IfErr result (Fails (D.operations self.old.engine.domain) m (Holds (D.operations self.new.engine.domain) self.new.engine.store self.new.book) at.now string.now) }
+        ensures least { steps.old ≤ steps.new }
+        ensures unticked { IfErr result (IsUnticked steps.old steps.new) }
+        ensures ticked { IfOk result (λ f. steps.new ≤ steps.old + D.counted self.old.engine.domain * f.count) }
+        ensures most { steps.new ≤ steps.old + D.counted self.old.engine.domain * suc (added self.old.engine.store self.new.engine.store) }
+    {
+        self.engine.sweep();
+        self.fill_now(alloc, at, string, steps)
     }
 
     /// What the domain knows at a location under a call string, which has the outermost call first: the answer of the
@@ -120,6 +159,8 @@ impl<D: Domain> Session<D> {
         requires ready { IsReady (D.operations self.old.engine.domain) self.old.engine.store self.old.book }
         ensures ready { IsReady (D.operations self.new.engine.domain) self.new.engine.store self.new.book }
         ensures domain { self.new.engine.domain ≡ self.old.engine.domain }
+        ensures spare { self.new.engine.spare ≡ self.old.engine.spare }
+        ensures bounded { IsBounded self.new.engine.spare self.new.engine.store }
         ensures next_ticket { self.new.book.tickets.next ≡ self.old.book.tickets.next }
         ensures answers { (m : Machine) → Holds (D.operations self.old.engine.domain) self.old.engine.store self.old.book m →
             Questions (D.operations self.old.engine.domain) m (Holds (D.operations self.new.engine.domain) self.new.engine.store self.new.book) at.now string.now result }
@@ -160,6 +201,8 @@ impl<D: Domain> Session<D> {
         requires ready { IsReady (D.operations self.old.engine.domain) self.old.engine.store self.old.book }
         ensures ready { IsReady (D.operations self.new.engine.domain) self.new.engine.store self.new.book }
         ensures domain { self.new.engine.domain ≡ self.old.engine.domain }
+        ensures spare { self.new.engine.spare ≡ self.old.engine.spare }
+        ensures bounded { IsBounded self.new.engine.spare self.new.engine.store }
         ensures next_ticket { self.new.book.tickets.next ≡ self.old.book.tickets.next }
         ensures explains { (m : Machine) → Holds (D.operations self.old.engine.domain) self.old.engine.store self.old.book m →
             Explains (D.operations self.old.engine.domain) m (Holds (D.operations self.new.engine.domain) self.new.engine.store self.new.book) at.now string.now result }

@@ -14,6 +14,7 @@ ghost use Rattle.batch_sound.specs.Theorem.{IsFindingSound};
 ghost use Rattle.alarm_report.specs.Reporting.{verdict_for};
 ghost use Rattle.daig_query.specs.Answered.{Says};
 ghost use Rattle.daig_query.specs.Filled.{added};
+ghost use Rattle.daig_query.specs.Swept.{IsBounded};
 ghost use Rattle.session_machine.specs.Machine.{Machine};
 ghost use Rattle.session_machine.specs.Turns.{answer_at, missing_for_report};
 ghost use Rattle.daig_session.specs.Holds.{Holds, IsReady};
@@ -109,8 +110,10 @@ impl<D: Domain> Session<D> {
         steps: &mut Steps<L>,
     ) -> Result<Result<Value<D::State>, Refusal>, Memory>
         requires ready { IsReady (D.operations self.old.engine.domain) self.old.engine.store self.old.book }
+        ensures bounded { IsBounded self.new.engine.spare self.new.engine.store }
         ensures ready { IsReady (D.operations self.new.engine.domain) self.new.engine.store self.new.book }
         ensures domain { self.new.engine.domain ≡ self.old.engine.domain }
+        ensures spare { self.new.engine.spare ≡ self.old.engine.spare }
         ensures program { self.new.book.history.now ≡ self.old.book.history.now }
         ensures part { (m : Machine) (e : Effect) (k : Check) → Holds (D.operations self.old.engine.domain) self.old.engine.store self.old.book m →
             HoldsPart (D.operations self.old.engine.domain) m self.new.engine.store self.new.book (checked_one id e (Some k)) }
@@ -140,8 +143,10 @@ impl<D: Domain> Session<D> {
         steps: &mut Steps<L>,
     ) -> Result<(), Memory>
         requires ready { IsReady (D.operations self.old.engine.domain) self.old.engine.store self.old.book }
+        ensures stays_bounded { IsBounded self.old.engine.spare self.old.engine.store → IsBounded self.new.engine.spare self.new.engine.store }
         ensures ready { IsReady (D.operations self.new.engine.domain) self.new.engine.store self.new.book }
         ensures domain { self.new.engine.domain ≡ self.old.engine.domain }
+        ensures spare { self.new.engine.spare ≡ self.old.engine.spare }
         ensures part { (m : Machine) → Holds (D.operations self.old.engine.domain) self.old.engine.store self.old.book m →
             HoldsPart (D.operations self.old.engine.domain) m self.new.engine.store self.new.book (checked_at m.program id) }
         ensures all { OnOk result ((m : Machine) → Holds (D.operations self.old.engine.domain) self.old.engine.store self.old.book m →
@@ -171,8 +176,10 @@ impl<D: Domain> Session<D> {
         steps: &mut Steps<L>,
     ) -> Result<(), Memory>
         requires ready { IsReady (D.operations self.old.engine.domain) self.old.engine.store self.old.book }
+        ensures stays_bounded { IsBounded self.old.engine.spare self.old.engine.store → IsBounded self.new.engine.spare self.new.engine.store }
         ensures ready { IsReady (D.operations self.new.engine.domain) self.new.engine.store self.new.book }
         ensures domain { self.new.engine.domain ≡ self.old.engine.domain }
+        ensures spare { self.new.engine.spare ≡ self.old.engine.spare }
         ensures part { (m : Machine) → Holds (D.operations self.old.engine.domain) self.old.engine.store self.old.book m →
             HoldsPart (D.operations self.old.engine.domain) m self.new.engine.store self.new.book (checked_among m.program stmts.now) }
         ensures all { OnOk result ((m : Machine) → Holds (D.operations self.old.engine.domain) self.old.engine.store self.old.book m →
@@ -198,8 +205,10 @@ impl<D: Domain> Session<D> {
         steps: &mut Steps<L>,
     ) -> Result<Findings, Memory>
         requires ready { IsReady (D.operations self.old.engine.domain) self.old.engine.store self.old.book }
+        ensures stays_bounded { IsBounded self.old.engine.spare self.old.engine.store → IsBounded self.new.engine.spare self.new.engine.store }
         ensures ready { IsReady (D.operations self.new.engine.domain) self.new.engine.store self.new.book }
         ensures domain { self.new.engine.domain ≡ self.old.engine.domain }
+        ensures spare { self.new.engine.spare ≡ self.old.engine.spare }
         ensures part { (m : Machine) → Holds (D.operations self.old.engine.domain) self.old.engine.store self.old.book m →
             HoldsPart (D.operations self.old.engine.domain) m self.new.engine.store self.new.book (checked_statements (routines_of m.program)) }
         ensures all { OnOk result ((m : Machine) → Holds (D.operations self.old.engine.domain) self.old.engine.store self.old.book m →
@@ -218,18 +227,8 @@ impl<D: Domain> Session<D> {
         Ok(found)
     }
 
-    /// The report of the present program, interpreted from scratch: a finding for each statement that has a check, in the
-    /// order of the text. No run fails a check that is called safe, and none comes to a statement that is called dead.
-    ///
-    /// Only what is missing is computed, for one statement after another; it is kept, and `cost` tells how many cells that
-    /// were. It ticks at most once an operation of the domain for each of these, and twice for each chain to each checked
-    /// statement. Where it fails it ticks at most so for what it filled then, and for one operation more. Beside these it
-    /// takes time linear in the program.
-    ///
-    /// # Errors
-    ///
-    /// [`Memory`] alone. Some of what was missing may be kept then, the first of it, and all else is as it was.
-    pub fn report<L: Ledger>(
+    /// A report, with no sweep before it.
+    fn report_now<L: Ledger>(
         &mut self,
         alloc: Global,
         steps: &mut Steps<L>,
@@ -237,6 +236,8 @@ impl<D: Domain> Session<D> {
         requires ready { IsReady (D.operations self.old.engine.domain) self.old.engine.store self.old.book }
         ensures ready { IsReady (D.operations self.new.engine.domain) self.new.engine.store self.new.book }
         ensures domain { self.new.engine.domain ≡ self.old.engine.domain }
+        ensures spare { self.new.engine.spare ≡ self.old.engine.spare }
+        ensures stays_bounded { IsBounded self.old.engine.spare self.old.engine.store → IsBounded self.new.engine.spare self.new.engine.store }
         ensures next_ticket { self.new.book.tickets.next ≡ self.old.book.tickets.next }
         ensures reports { (m : Machine) → Holds (D.operations self.old.engine.domain) self.old.engine.store self.old.book m →
             Reports (D.operations self.old.engine.domain) m (Holds (D.operations self.new.engine.domain) self.new.engine.store self.new.book) result }
@@ -260,5 +261,40 @@ impl<D: Domain> Session<D> {
                 Err(why)
             }
         }
+    }
+
+    /// The report of the present program, interpreted from scratch: a finding for each statement that has a check, in the
+    /// order of the text. No run fails a check that is called safe, and none comes to a statement that is called dead.
+    ///
+    /// Only what is missing is computed, for one statement after another; it is kept, and `cost` tells how many cells that
+    /// were. It ticks at most once an operation of the domain for each of these, and twice for each chain to each checked
+    /// statement. Where it fails it ticks at most so for what it filled then, and for one operation more. Beside these it
+    /// takes time linear in the program.
+    ///
+    /// # Errors
+    ///
+    /// [`Memory`] alone. Some of what was missing may be kept then, the first of it, and all else is as it was.
+    pub fn report<L: Ledger>(
+        &mut self,
+        alloc: Global,
+        steps: &mut Steps<L>,
+    ) -> Result<Findings, Memory>
+        requires ready { IsReady (D.operations self.old.engine.domain) self.old.engine.store self.old.book }
+        ensures ready { IsReady (D.operations self.new.engine.domain) self.new.engine.store self.new.book }
+        ensures domain { self.new.engine.domain ≡ self.old.engine.domain }
+        ensures spare { self.new.engine.spare ≡ self.old.engine.spare }
+        ensures bounded { IsBounded self.new.engine.spare self.new.engine.store }
+        ensures next_ticket { self.new.book.tickets.next ≡ self.old.book.tickets.next }
+        ensures reports { (m : Machine) → Holds (D.operations self.old.engine.domain) self.old.engine.store self.old.book m →
+            Reports (D.operations self.old.engine.domain) m (Holds (D.operations self.new.engine.domain) self.new.engine.store self.new.book) result }
+        ensures sound { IfOk result (λ found. (f : AnyFinding) → Contains found f → IsFindingSound (routines_of self.old.book.history.now) f) }
+        ensures least { steps.old ≤ steps.new }
+        ensures ticked { (m : Machine) → Holds (D.operations self.old.engine.domain) self.old.engine.store self.old.book m →
+            OnOk result (steps.new ≤ steps.old + D.counted self.old.engine.domain * (length (missing_for_report (D.operations self.old.engine.domain) m) + 2 * checked_chains m)) }
+        ensures most { (m : Machine) → Holds (D.operations self.old.engine.domain) self.old.engine.store self.old.book m →
+            steps.new ≤ steps.old + D.counted self.old.engine.domain * suc (added self.old.engine.store self.new.engine.store + 2 * checked_chains m) }
+    {
+        self.engine.sweep();
+        self.report_now(alloc, steps)
     }
 }

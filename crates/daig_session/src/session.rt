@@ -1,6 +1,7 @@
 //! A session: what it is begun with, for `begins` of `start`, and what is read of it.
-ghost use Rattle.std.specs.Prelude.{◌≡◌, ◌<◌, ◌≤◌, length, IfOk, option_copied, option_map};
+ghost use Rattle.std.specs.Prelude.{◌≡◌, ◌+◌, ◌*◌, ◌<◌, ◌≤◌, length, IfOk, option_copied, option_map};
 ghost use Rattle.call_contexts.specs.Settings.{engine_of};
+ghost use Rattle.daig_query.specs.Swept.{IsBounded};
 ghost use Rattle.session_machine.specs.Machine.{beginning, ticket_of, Machine, Ticket};
 ghost use Rattle.daig_session.specs.Books.{AreBelow};
 ghost use Rattle.daig_session.specs.Holds.{Holds, IsReady};
@@ -45,6 +46,8 @@ impl<D: Domain + Drop> Session<D> {
         requires memo { 0 < memo }
         ensures ready { IfOk result (λ s. IsReady (D.operations s.engine.domain) s.engine.store s.book) }
         ensures domain { IfOk result (λ s. s.engine.domain ≡ domain) }
+        ensures spare { IfOk result (λ s. s.engine.spare ≤ 4 * memo + 4096) }
+        ensures bounded { IfOk result (λ s. IsBounded s.engine.spare s.engine.store) }
         ensures begins { IfOk result (λ s. Holds (D.operations s.engine.domain) s.engine.store s.book (beginning table.program (engine_of budget widening) next)) }
     {
         let book = Book::begun(alloc, table, next, budget, widening)?;

@@ -6,6 +6,7 @@ ghost use Rattle.imp_check.specs.Slots.{routines_of};
 ghost use Rattle.imp_flow.specs.Reached.{target_of};
 ghost use Rattle.daig_query.specs.Answered.{AreFilled};
 ghost use Rattle.daig_query.specs.Filled.{added, missing, Fills};
+ghost use Rattle.daig_query.specs.Swept.{FillsFew, IsBounded};
 ghost use Rattle.session_machine.specs.Machine.{Machine, ticket_of};
 ghost use Rattle.session_machine.specs.Turns.{targets_of};
 ghost use Rattle.open_tickets.specs.declared.tickets.Open.{Open as AnyOpen};
@@ -75,7 +76,9 @@ fn fill_some<D: Domain, L: Ledger>(
     requires ready { IsReady (D.operations engine.old.domain) engine.old.store book.now }
     requires going { (l : Location) × (string : List ℕ) × IsGoing (D.operations engine.old.domain) (flow_in book.now) engine.old.store l string going.old }
     ensures domain { engine.new.domain ≡ engine.old.domain }
+    ensures spare { engine.new.spare ≡ engine.old.spare }
     ensures fills { Fills (D.operations engine.old.domain) (flow_in book.now) (map target_of going.old.targets) engine.old.store engine.new.store (added engine.old.store engine.new.store) }
+    ensures few { FillsFew engine.old.store engine.new.store }
     ensures going { (l : Location) (string : List ℕ) → IsGoing (D.operations engine.old.domain) (flow_in book.now) engine.old.store l string going.old → IsGoing (D.operations engine.old.domain) (flow_in book.now) engine.new.store l string going.new }
     ensures counted { IfOk result (λ p. p.filled ≡ added engine.old.store engine.new.store) }
     ensures first { IfOk result (λ p. p.filled ≡ min most (length (missing (D.operations engine.old.domain) (flow_in book.now) (map target_of going.old.targets) engine.old.store))) }
@@ -104,6 +107,8 @@ impl<D: Domain> Session<D> {
         requires there { IsAtPlace (D.operations self.old.engine.domain) self.old.engine.store self.old.book place going }
         ensures ready { IsReady (D.operations self.new.engine.domain) self.new.engine.store self.new.book }
         ensures domain { self.new.engine.domain ≡ self.old.engine.domain }
+        ensures spare { self.new.engine.spare ≡ self.old.engine.spare }
+        ensures few { FillsFew self.old.engine.store self.new.engine.store }
         ensures next_ticket { self.new.book.tickets.next ≡ self.old.book.tickets.next }
         ensures steps { (m : Machine) (o : AnyOpen AnyGoing) → Holds (D.operations self.old.engine.domain) self.old.engine.store self.old.book m → slice_get self.old.book.tickets.open_ones.items place ≡ Some o →
             IsStep (D.operations self.old.engine.domain) m (Holds (D.operations self.new.engine.domain) self.new.engine.store self.new.book) (ticket o) most result }
@@ -129,16 +134,8 @@ impl<D: Domain> Session<D> {
         Ok(Turn::Done(value))
     }
 
-    /// Fills the first `most` cells that are missing for a ticket's question, in the order in which a query fills them.
-    /// Where more were missing the answer is [`Turn::Pending`]; else it is that of the present program, and the ticket is
-    /// closed. It ticks as [`Session::query`] does for what it fills; it takes no time for what is left.
-    ///
-    /// # Errors
-    ///
-    /// [`StepError::NoTicket`] exactly where no ticket of this number is open. [`StepError::Gone`] exactly where the
-    /// present program refuses the question; the ticket is closed then. [`StepError::Memory`] for want of memory: some of
-    /// what was missing may be kept then, the first of it, and all else is as it was.
-    pub fn step<L: Ledger>(
+    /// A step of a ticket, if it is open.
+    fn step_now<L: Ledger>(
         &mut self,
         alloc: Global,
         ticket: u64,
@@ -148,6 +145,8 @@ impl<D: Domain> Session<D> {
         requires ready { IsReady (D.operations self.old.engine.domain) self.old.engine.store self.old.book }
         ensures ready { IsReady (D.operations self.new.engine.domain) self.new.engine.store self.new.book }
         ensures domain { self.new.engine.domain ≡ self.old.engine.domain }
+        ensures spare { self.new.engine.spare ≡ self.old.engine.spare }
+        ensures few { FillsFew self.old.engine.store self.new.engine.store }
         ensures next_ticket { self.new.book.tickets.next ≡ self.old.book.tickets.next }
         ensures steps { (m : Machine) → Holds (D.operations self.old.engine.domain) self.old.engine.store self.old.book m →
             IsStepOf (D.operations self.old.engine.domain) m (Holds (D.operations self.new.engine.domain) self.new.engine.store self.new.book) most (ticket_of ticket m.tickets) result }
@@ -170,5 +169,41 @@ impl<D: Domain> Session<D> {
             }
             Err(QueryError::Memory) => Err(StepError::Memory),
         }
+    }
+
+    /// Fills the first `most` cells that are missing for a ticket's question, in the order in which a query fills them.
+    /// Where more were missing the answer is [`Turn::Pending`]; else it is that of the present program, and the ticket is
+    /// closed. It ticks as [`Session::query`] does for what it fills; it takes no time for what is left.
+    ///
+    /// # Errors
+    ///
+    /// [`StepError::NoTicket`] exactly where no ticket of this number is open. [`StepError::Gone`] exactly where the
+    /// present program refuses the question; the ticket is closed then. [`StepError::Memory`] for want of memory: some of
+    /// what was missing may be kept then, the first of it, and all else is as it was.
+    pub fn step<L: Ledger>(
+        &mut self,
+        alloc: Global,
+        ticket: u64,
+        most: u32,
+        steps: &mut Steps<L>,
+    ) -> Result<Turn<D::State>, StepError>
+        requires ready { IsReady (D.operations self.old.engine.domain) self.old.engine.store self.old.book }
+        ensures ready { IsReady (D.operations self.new.engine.domain) self.new.engine.store self.new.book }
+        ensures domain { self.new.engine.domain ≡ self.old.engine.domain }
+        ensures spare { self.new.engine.spare ≡ self.old.engine.spare }
+        ensures bounded { IsBounded self.new.engine.spare self.new.engine.store }
+        ensures next_ticket { self.new.book.tickets.next ≡ self.old.book.tickets.next }
+        ensures steps { (m : Machine) → Holds (D.operations self.old.engine.domain) self.old.engine.store self.old.book m →
+            IsStepOf (D.operations self.old.engine.domain) m (Holds (D.operations self.new.engine.domain) self.new.engine.store self.new.book) most (ticket_of ticket m.tickets) result }
+        ensures sound { (m : Machine) → Holds (D.operations self.old.engine.domain) self.old.engine.store self.old.book m →
+            IfOk result (λ turn. IfSome (ticket_of ticket m.tickets) (λ t. CoversDone (D.covers self.old.engine.domain) (routines_of self.old.book.history.now) t turn)) }
+        ensures least { steps.old ≤ steps.new }
+        ensures ticked { (m : Machine) → Holds (D.operations self.old.engine.domain) self.old.engine.store self.old.book m →
+            IfOk result (λ turn. IfSome (ticket_of ticket m.tickets) (λ t. steps.new ≤ steps.old + D.counted self.old.engine.domain * work_of (D.operations self.old.engine.domain) m t turn)) }
+        ensures most { (m : Machine) → Holds (D.operations self.old.engine.domain) self.old.engine.store self.old.book m →
+            MatchOption (ticket_of ticket m.tickets) (steps.new ≡ steps.old) (λ t. steps.new ≤ steps.old + D.counted self.old.engine.domain * suc (added self.old.engine.store self.new.engine.store + 2 * length (targets_of m t.at t.string))) }
+    {
+        self.engine.sweep();
+        self.step_now(alloc, ticket, most, steps)
     }
 }

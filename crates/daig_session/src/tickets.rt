@@ -85,6 +85,8 @@ impl<D: Domain> Session<D> {
         requires room { self.old.book.tickets.next < 2 ^ 63 }
         ensures ready { IsReady (D.operations self.new.engine.domain) self.new.engine.store self.new.book }
         ensures domain { self.new.engine.domain ≡ self.old.engine.domain }
+        ensures spare { self.new.engine.spare ≡ self.old.engine.spare }
+        ensures unmoved { self.new.engine.store ≡ self.old.engine.store }
         ensures rises { self.new.book.tickets.next ≤ self.old.book.tickets.next + 1 }
         ensures opens { (m : Machine) → Holds (D.operations self.old.engine.domain) self.old.engine.store self.old.book m →
             Opens (D.operations self.old.engine.domain) m (Holds (D.operations self.new.engine.domain) self.new.engine.store self.new.book) at string result }
@@ -103,6 +105,8 @@ impl<D: Domain> Session<D> {
         requires ready { IsReady (D.operations self.old.engine.domain) self.old.engine.store self.old.book }
         ensures ready { IsReady (D.operations self.new.engine.domain) self.new.engine.store self.new.book }
         ensures domain { self.new.engine.domain ≡ self.old.engine.domain }
+        ensures spare { self.new.engine.spare ≡ self.old.engine.spare }
+        ensures unmoved { self.new.engine.store ≡ self.old.engine.store }
         ensures next_ticket { self.new.book.tickets.next ≡ self.old.book.tickets.next }
         ensures cancels { (m : Machine) → Holds (D.operations self.old.engine.domain) self.old.engine.store self.old.book m →
             Cancels m (Holds (D.operations self.new.engine.domain) self.new.engine.store self.new.book) ticket (ticket_of ticket m.tickets) result }

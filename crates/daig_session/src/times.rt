@@ -1,6 +1,7 @@
 //! Undo and redo.
-ghost use Rattle.std.specs.Prelude.{◌≡◌, IfOk, IfErr, List};
+ghost use Rattle.std.specs.Prelude.{◌≡◌, IfOk, IfErr, OnErr, OnOk, List};
 ghost use Rattle.imp_syntax.specs.Plain.{Procedure};
+ghost use Rattle.daig_query.specs.Swept.{IsBounded};
 ghost use Rattle.session_machine.specs.Machine.{Machine};
 ghost use Rattle.session_machine.specs.Turns.{redone, undone};
 ghost use Rattle.daig_session.specs.Holds.{Holds, IsReady};
@@ -42,6 +43,9 @@ impl<D: Domain> Session<D> {
         requires ready { IsReady (D.operations self.old.engine.domain) self.old.engine.store self.old.book }
         ensures ready { IsReady (D.operations self.new.engine.domain) self.new.engine.store self.new.book }
         ensures domain { self.new.engine.domain ≡ self.old.engine.domain }
+        ensures spare { self.new.engine.spare ≡ self.old.engine.spare }
+        ensures bounded { OnOk result (IsBounded self.new.engine.spare self.new.engine.store) }
+        ensures unmoved { OnErr result (self.new.engine.store ≡ self.old.engine.store) }
         ensures next_ticket { self.new.book.tickets.next ≡ self.old.book.tickets.next }
         ensures goes { (m : Machine) → Holds (D.operations self.old.engine.domain) self.old.engine.store self.old.book m →
             Goes m (Holds (D.operations self.new.engine.domain) self.new.engine.store self.new.book) m.past (undone (D.operations self.old.engine.domain) m) result }
@@ -62,6 +66,9 @@ impl<D: Domain> Session<D> {
         requires ready { IsReady (D.operations self.old.engine.domain) self.old.engine.store self.old.book }
         ensures ready { IsReady (D.operations self.new.engine.domain) self.new.engine.store self.new.book }
         ensures domain { self.new.engine.domain ≡ self.old.engine.domain }
+        ensures spare { self.new.engine.spare ≡ self.old.engine.spare }
+        ensures bounded { OnOk result (IsBounded self.new.engine.spare self.new.engine.store) }
+        ensures unmoved { OnErr result (self.new.engine.store ≡ self.old.engine.store) }
         ensures next_ticket { self.new.book.tickets.next ≡ self.old.book.tickets.next }
         ensures goes { (m : Machine) → Holds (D.operations self.old.engine.domain) self.old.engine.store self.old.book m →
             Goes m (Holds (D.operations self.new.engine.domain) self.new.engine.store self.new.book) m.future (redone (D.operations self.old.engine.domain) m) result }

@@ -1,10 +1,11 @@
-use Rattle.std.proofs.Common.{◌≡◌, ℕ, ◌-◌, map, Ok, Err, sym, ◌∙◌, arith}
+use Rattle.std.proofs.Common.{◌≡◌, ℕ, ◌-◌, map, Ok, Err, refl, sym, ◌∙◌, arith}
 use Rattle.std.proofs.lemmas.Result.{err_from_is_err_and}
 use Rattle.plain_values.specs.declared.error.Memory.{Memory}
 use Rattle.imp_flow.specs.Reached.{target_of}
 use Rattle.daig_query.specs.Filled.{added}
 use Rattle.daig_query.specs.Turned.{stacked_names}
 use Rattle.daig_query.proofs.Demands.{limit_met, demand_failed, demand_spent, demand_done, come_pushed, pushed_smaller, come_filled, filled_smaller}
+use Rattle.daig_query.proofs.Growing.{few_more, few_same}
 use Rattle.daig_query.proofs.Starting.{starts}
 use Rattle.daig_query.proofs.Turning.{IsTurn}
 use Rattle.daig_query.proofs.Turns.{limit_open, within_start}
@@ -21,6 +22,7 @@ turns-init g c =
       within = within_start dom plan ts c.args.limit store;
       least = omega arith;
       most = omega arith;
+      few = few_more store store 0 (added store store) (omega arith) (few_same store store refl refl);
     }
 
 pub returns-in_err-take_turn : goal.returns-in_err-take_turn

@@ -1,4 +1,4 @@
-use Rattle.std.proofs.Common.{refl}
+use Rattle.std.proofs.Common.{ℕ, ◌+◌, ◌≤◌, length, refl, arith}
 use Rattle.memo_table.specs.declared.memo.Key.{Key}
 use Rattle.memo_table.proofs.Entries.{results-stay}
 use Rattle.daig_query.proofs.Growing.{keeps_refl}
@@ -6,13 +6,16 @@ use Rattle.daig_query.proofs.Remembered.{result_is, makes_result, state_grows, r
 use Rattle.daig_query.proofs.Recalls.{not_remembered}
 use Rattle.daig_query.proofs.compute.result_of.Goals as goal
 
+as_many : (n : ℕ) → n ≤ n + 1
+as_many n = omega arith
+
 pub returns-in_err-operation-clause-computes : goal.returns-in_err-operation-clause-computes
 returns-in_err-operation-clause-computes g c =
     let dom = g.D.Domain.operations c.args.dom.now in
     let old = c.args.store.now in
     let operations = c.operation_number.new.operations in
     let results = results-stay g.row.D-State.Denot dom old.operations operations old.states old.states old.memo.entries c.operation_number.ensures.kept (keeps_refl old.states) c.requires.right.results in
-    right_more dom c.args.flow.now old (record old { operations = operations }) c.requires.right refl refl (keeps_refl old.states) c.requires.right.single results
+    right_more dom c.args.flow.now old (record old { operations = operations }) c.requires.right refl refl (keeps_refl old.states) c.requires.right.single results (record { states = as_many (length old.states); operations = c.operation_number.ensures.few })
 
 pub returns-in-Some-clause-is : goal.returns-in-Some-clause-is
 returns-in-Some-clause-is g c =
@@ -30,7 +33,7 @@ returns-in-Some-clause-computes g c =
     let old = c.args.store.now in
     let operations = c.operation_number.new.operations in
     let results = results-stay g.row.D-State.Denot dom old.operations operations old.states old.states old.memo.entries c.operation_number.ensures.kept (keeps_refl old.states) c.requires.right.results in
-    right_more dom c.args.flow.now old _ c.requires.right refl refl (keeps_refl old.states) c.requires.right.single (c.get.ensures.results dom operations old.states results)
+    right_more dom c.args.flow.now old _ c.requires.right refl refl (keeps_refl old.states) c.requires.right.single (c.get.ensures.results dom operations old.states results) (record { states = as_many (length old.states); operations = c.operation_number.ensures.few })
 
 pub returns-in_err-number-clause-computes : goal.returns-in_err-number-clause-computes
 returns-in_err-number-clause-computes g c =
@@ -40,7 +43,7 @@ returns-in_err-number-clause-computes g c =
     let results = results-stay g.row.D-State.Denot dom old.operations operations old.states old.states old.memo.entries c.operation_number.ensures.kept (keeps_refl old.states) c.requires.right.results in
     let states = c.make_state.new.states in
     let later = results-stay g.row.D-State.Denot dom operations operations old.states states c.get.new.self.entries (keeps_refl operations) c.make_state.ensures.kept (c.get.ensures.results dom operations old.states results) in
-    right_more dom c.args.flow.now old _ c.requires.right refl refl c.make_state.ensures.kept (c.make_state.ensures.once c.requires.right.single) later
+    right_more dom c.args.flow.now old _ c.requires.right refl refl c.make_state.ensures.kept (c.make_state.ensures.once c.requires.right.single) later (record { states = c.make_state.ensures.few; operations = c.operation_number.ensures.few })
 
 pub returns-clause-computes : goal.returns-clause-computes
 returns-clause-computes g c =
@@ -54,7 +57,7 @@ returns-clause-computes g c =
     let key : Key = record { operation = c.in_ok-operation.operation; left = c.args.left; right = c.args.right } in
     let stays = state_grows dom old.states states c.make_state.ensures.kept in
     let is = makes_result dom operations old.states states key c.in_ok-number.number c.args.row.now op.0 op.2 op.1 (stays c.args.left c.requires.left) (stays c.args.right c.requires.known) c.requires.there c.in_ok-number.ensures.is in
-    right_more dom c.args.flow.now old _ c.requires.right refl refl c.make_state.ensures.kept (c.make_state.ensures.once c.requires.right.single) (c.keep.ensures.results dom operations states later is)
+    right_more dom c.args.flow.now old _ c.requires.right refl refl c.make_state.ensures.kept (c.make_state.ensures.once c.requires.right.single) (c.keep.ensures.results dom operations states later is) (record { states = c.make_state.ensures.few; operations = c.operation_number.ensures.few })
 
 pub returns-in_err-number-clause-remembered : goal.returns-in_err-number-clause-remembered
 returns-in_err-number-clause-remembered g c =

@@ -1,4 +1,4 @@
-use Rattle.std.proofs.Common.{slice_get, refl, sym, ap, subst, ◌∙◌}
+use Rattle.std.proofs.Common.{slice_get, arith, refl, sym, ap, subst, ◌∙◌}
 use Rattle.std.specs.FinMap.{get}
 use Rattle.cell_names.specs.Owners.{owner}
 use Rattle.cell_names.specs.Paths.{path_at}
@@ -8,7 +8,7 @@ use Rattle.named_cells.specs.Named.{AreNumbers}
 use Rattle.named_cells.specs.Asked.{inputs}
 use Rattle.daig_query.specs.Right.{IsCellOf}
 use Rattle.daig_query.specs.Opened.{name_of}
-use Rattle.daig_query.proofs.Growing.{keeps_refl}
+use Rattle.daig_query.proofs.Growing.{few_more, few_same, few_trans, keeps_refl}
 use Rattle.daig_query.proofs.Remembered.{right_more}
 use Rattle.daig_query.proofs.Filling.{absent_get, ready_numbers, puts, on_ok, on_err}
 use Rattle.daig_query.proofs.opening.fill.Goals as goal
@@ -55,5 +55,6 @@ returns-clause-err g c =
       cells = e ∙ computes.cells;
       names = computes.names;
       states = computes.states;
-      right = (right_more dom plan mid _ computes.right e refl (keeps_refl mid.states) computes.right.single computes.right.results).right;
+      right = (right_more dom plan mid _ computes.right e refl (keeps_refl mid.states) computes.right.single computes.right.results (few_more mid _ 0 1 (omega arith) (few_same mid _ refl refl))).right;
+      few = few_trans old mid _ 1 0 computes.few (few_same mid _ refl refl);
     })

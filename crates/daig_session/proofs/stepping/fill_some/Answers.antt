@@ -4,6 +4,7 @@ use Rattle.imp_flow.specs.Reached.{target_of}
 use Rattle.imp_flow.specs.declared.steps.Target.{Target}
 use Rattle.daig_query.specs.Right.{IsRight}
 use Rattle.daig_query.specs.Walked.{AreTargets, IsGood}
+use Rattle.daig_query.proofs.Sweeps.{fills-few}
 use Rattle.daig_session.proofs.Filled.{asks_targets}
 use Rattle.daig_session.proofs.stepping.fill_some.Goals as goal
 
@@ -25,3 +26,6 @@ advance-requires-clause-walk g c =
     let store = c.args.engine.now.store in
     subst (λ (xs : List Target). IsGood dom c.flow-flow.result (map target_of xs) store c.args.going.now.walk) (sym c.as_slice.ensures.same) (
     subst (λ (p : Plan). IsGood dom p (map target_of c.args.going.now.targets) store c.args.going.now.walk) (sym c.flow-flow.ensures.is) c.requires.going.2.good)
+
+pub returns-clause-few : goal.returns-clause-few
+returns-clause-few g c = fills-few _ _ _ _ _ c.advance.ensures.fills

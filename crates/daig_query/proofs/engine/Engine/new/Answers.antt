@@ -1,7 +1,13 @@
 use Rattle.std.proofs.Common.{ap}
 use Rattle.daig_query.specs.declared.store.Store.{Store}
 use Rattle.daig_query.proofs.Beginning.{none_kept, new_right}
+use Rattle.daig_query.proofs.Sweeps.{empty-bounded}
 use Rattle.daig_query.proofs.engine.Engine.new.Goals as goal
+
+pub returns-clause-bounded : goal.returns-clause-bounded
+returns-clause-bounded g c =
+    let store : Store g.row.D-State.Denot = record { graph = c.new-2.result; names = c.new-3.result; states = c.new-4.result; operations = c.new-5.result; memo = c.in_ok-memo.memo } in
+    empty-bounded c.saturating_add-spare.result store c.new-4.ensures.empty c.new-5.ensures.empty
 
 pub returns-clause-empty : goal.returns-clause-empty
 returns-clause-empty g c = λ x.

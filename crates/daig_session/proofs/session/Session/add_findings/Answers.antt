@@ -27,11 +27,16 @@ loop-stmt-preserved g c =
     record {
       ready = c.add_finding.ensures.ready;
       domain = c.add_finding.ensures.domain ∙ inv.domain;
+      spare = c.add_finding.ensures.spare ∙ inv.spare;
+      stays_bounded = λ b. c.add_finding.ensures.stays_bounded (inv.stays_bounded b);
       all = λ m h. next_all dom m ns i n there mid.book.cost new.engine.store new.book (subst (λ d. HoldsAll (ops d) (then m) new.engine.store new.book (checked_at m.program n)) inv.domain (c.in_ok-add_finding.ensures.all (then m) (stands m h)));
       found = λ m h. next_found dom m ns i n there c.args.found.now c.loop-stmt.found c.add_finding.new.found (inv.found m h) (subst (λ d. c.add_finding.new.found ≡ c.loop-stmt.found ++ findings (ops d) (then m) (checked_at m.program n)) inv.domain (c.in_ok-add_finding.ensures.found (then m) (stands m h)));
       least = let a = c.add_finding.ensures.least in let b = inv.least in omega arith;
       ticked = λ m h. next_ticked dom m ns i n there mid.book.cost c.args.steps.now c.loop-stmt.steps c.add_finding.new.steps (g.D.Domain.counted old.engine.domain) (inv.ticked m h) (subst (λ d. c.add_finding.new.steps ≤ c.loop-stmt.steps + g.D.Domain.counted d * work_on (ops d) (then m) (checked_at m.program n)) inv.domain (c.in_ok-add_finding.ensures.ticked (then m) (stands m h)));
     }
+
+pub returns-in_err-add_finding-clause-stays_bounded : goal.returns-in_err-add_finding-clause-stays_bounded
+returns-in_err-add_finding-clause-stays_bounded g c = λ b. c.add_finding.ensures.stays_bounded (c.loop-stmt.invariant.stays_bounded b)
 
 pub returns-in_err-add_finding-clause-part : goal.returns-in_err-add_finding-clause-part
 returns-in_err-add_finding-clause-part g c = λ m h.

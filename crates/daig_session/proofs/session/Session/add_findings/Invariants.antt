@@ -1,4 +1,5 @@
 use Rattle.std.proofs.Common.{◌≡◌, ◌+◌, ◌*◌, ◌≤◌, ◌++◌, take}
+use Rattle.daig_query.specs.Swept.{IsBounded}
 use Rattle.session_machine.specs.Machine.{Machine}
 use Rattle.daig_session.specs.Holds.{Holds, IsReady}
 use Rattle.daig_session.specs.Reports.{checked_among, findings, work_on, HoldsAll}
@@ -12,6 +13,8 @@ invariant-loop-stmt g l =
     record {
       ready : IsReady (g.D.Domain.operations l.self.engine.domain) l.self.engine.store l.self.book;
       domain : l.self.engine.domain ≡ old.engine.domain;
+      spare : l.self.engine.spare ≡ old.engine.spare;
+      stays_bounded : IsBounded old.engine.spare old.engine.store → IsBounded l.self.engine.spare l.self.engine.store;
       all : (m : Machine) → Holds dom old.engine.store old.book m → HoldsAll dom m l.self.engine.store l.self.book (checked_among m.program (take l.stmt-index l.stmts));
       found : (m : Machine) → Holds dom old.engine.store old.book m → l.found ≡ l.initial.found ++ findings dom m (checked_among m.program (take l.stmt-index l.stmts));
       least : l.initial.steps ≤ l.steps;

@@ -5,11 +5,15 @@ use Rattle.imp_edit.specs.Edited.{edited}
 use Rattle.call_contexts.specs.Settings.{setting_of}
 use Rattle.session_machine.specs.Turns.{committed}
 use Rattle.daig_session.specs.Holds.{Holds, IsReady}
+use Rattle.daig_query.proofs.Sweeps.{right-in-tables}
+use Rattle.daig_session.specs.Books.{flow_in}
 use Rattle.daig_session.proofs.Moved.{edit_apart, edit_holds, edit_ready}
 use Rattle.daig_session.proofs.session.Session.make.Goals as goal
 
 pub leave-requires : goal.leave-requires
-leave-requires g c = record { order = c.requires.planned.1.moving.empties.removes.order }
+leave-requires g c =
+    let s = c.args.self.now in
+    record { order = c.requires.planned.1.moving.empties.removes.order; held = right-in-tables (g.D.Domain.operations s.engine.domain) (flow_in s.book) s.engine.store c.requires.ready.right }
 
 pub remember-requires-clause-leads : goal.remember-requires-clause-leads
 remember-requires-clause-leads g c = c.requires.planned.1.leads

@@ -14,6 +14,7 @@ returns g c =
     let same = c.planned.ensures.same in
     let domain : new.engine.domain ≡ old.engine.domain = λ i. (c.planned.ensures.engine i).domain in
     let store : new.engine.store ≡ old.engine.store = λ i. (c.planned.ensures.engine i).store in
+    let spare : new.engine.spare ≡ old.engine.spare = λ i. (c.planned.ensures.engine i).spare in
     let ready = same_ready (ops old.engine.domain) old.engine.store old.book new.book same c.requires.ready in (
       (refl, λ w. refl, tt),
       record {
@@ -23,6 +24,8 @@ returns g c =
         planned = c.in_ok-planned.ensures.planned;
         holds = λ m h. subst (λ d. Holds (ops d) new.engine.store new.book m) (sym domain) (subst (λ (s : Store _). Holds (ops old.engine.domain) s new.book m) (sym store) (same_holds (ops old.engine.domain) old.engine.store old.book new.book same m h));
         domain = domain;
+        spare = spare;
+        unmoved = store;
         next_ticket = ap (λ (t : Tickets Going). t.next) same.tickets_are;
         accepted = c.in_ok-planned.ensures.accepted;
         refused = tt;

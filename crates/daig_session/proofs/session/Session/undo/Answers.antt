@@ -3,6 +3,8 @@ use Rattle.session_machine.specs.Machine.{Machine}
 use Rattle.session_machine.specs.Turns.{undone}
 use Rattle.daig_session.specs.Holds.{Holds, IsReady}
 use Rattle.daig_session.specs.Turns.{Goes, IsStopped}
+use Rattle.daig_query.proofs.Sweeps.{right-in-tables}
+use Rattle.daig_session.specs.Books.{flow_in}
 use Rattle.daig_session.proofs.Moved.{first_move, moving_order, moving_some, stopped_goes, undo_apart, undo_holds, undo_ready}
 use Rattle.daig_session.proofs.session.Session.undo.Goals as goal
 
@@ -12,7 +14,7 @@ nearest_move-requires-clause-leads g c = (c.args.self.now.book.history.past, c.b
 pub leave-requires : goal.leave-requires
 leave-requires g c =
     let s = c.args.self.now in
-    record { order = moving_order s.engine.store s.book.setting.engine s.book.history.now s.book.history.past c.in_ok-setting.field-0 (c.in_ok-setting.ensures.moving s.book.history.past c.behind.ensures.is) }
+    record { order = moving_order s.engine.store s.book.setting.engine s.book.history.now s.book.history.past c.in_ok-setting.field-0 (c.in_ok-setting.ensures.moving s.book.history.past c.behind.ensures.is); held = right-in-tables (g.D.Domain.operations s.engine.domain) (flow_in s.book) s.engine.store c.requires.ready.right }
 
 pub back-requires : goal.back-requires
 back-requires g c =

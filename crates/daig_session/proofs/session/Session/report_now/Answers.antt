@@ -1,0 +1,89 @@
+use Rattle.std.proofs.Common.{◌-◌, ◌++◌, List, sym, subst}
+use Rattle.std.specs.Prelude.{Contains}
+use Rattle.imp_syntax.specs.Plain.{Procedure}
+use Rattle.imp_check.specs.Slots.{routines_of}
+use Rattle.analysis_words.specs.declared.findings.Finding.{Finding}
+use Rattle.batch_meaning.specs.Report.{checked_statements}
+use Rattle.session_machine.specs.Machine.{keeping}
+use Rattle.session_machine.specs.Turns.{IsBetween, missing_for_report, reported}
+use Rattle.daig_session.specs.Books.{machine_of}
+use Rattle.daig_session.specs.Holds.{Holds}
+use Rattle.daig_session.proofs.Filled.{ready_costing}
+use Rattle.daig_session.proofs.Standing.{names, stands}
+use Rattle.daig_session.proofs.Reporting.{as_filled, cost_here, ended_holds, failed_holds, same_ticket}
+use Rattle.daig_session.proofs.session.Session.report_now.Goals as goal
+
+pub overflow_sub-self : goal.overflow_sub-self
+overflow_sub-self g c =
+    let s = c.args.self.now in
+    let ops = g.D.Domain.operations in
+    let dom = ops s.engine.domain in
+    let new = c.all_findings.new.self in
+    let here = machine_of s.book (names dom s.engine.store s.book c.requires.ready) in
+    let stood = stands dom s.engine.store s.book c.requires.ready in
+    let xs = missing_for_report dom here in
+    let then = keeping (here.kept ++ xs) new.book.cost here in
+    let count = as_filled dom here new.engine.store new.book c.kept_count-kept.result c.kept_count.result (c.kept_count-kept.ensures.is here stood) (c.kept_count.ensures.is then (subst (λ d. Holds (ops d) new.engine.store new.book then) (sym c.all_findings.ensures.domain) (c.in-Ok.ensures.all here stood))) in
+    count.0
+
+pub returns-in-Ok-clause-ready : goal.returns-in-Ok-clause-ready
+returns-in-Ok-clause-ready g c =
+    let new = c.all_findings.new.self in
+    ready_costing (g.D.Domain.operations new.engine.domain) new.engine.store new.book _ c.all_findings.ensures.ready
+
+pub returns-in-Ok-clause-next_ticket : goal.returns-in-Ok-clause-next_ticket
+returns-in-Ok-clause-next_ticket g c =
+    let s = c.args.self.now in
+    let ops = g.D.Domain.operations in
+    let dom = ops s.engine.domain in
+    let new = c.all_findings.new.self in
+    same_ticket dom s.engine.store new.engine.store s.book new.book (λ (ps : List Procedure). checked_statements (routines_of ps)) c.requires.ready c.all_findings.ensures.part
+
+pub returns-in-Err-clause-ready : goal.returns-in-Err-clause-ready
+returns-in-Err-clause-ready g c =
+    let new = c.all_findings.new.self in
+    ready_costing (g.D.Domain.operations new.engine.domain) new.engine.store new.book _ c.all_findings.ensures.ready
+
+pub returns-in-Err-clause-next_ticket : goal.returns-in-Err-clause-next_ticket
+returns-in-Err-clause-next_ticket g c =
+    let s = c.args.self.now in
+    let ops = g.D.Domain.operations in
+    let dom = ops s.engine.domain in
+    let new = c.all_findings.new.self in
+    same_ticket dom s.engine.store new.engine.store s.book new.book (λ (ps : List Procedure). checked_statements (routines_of ps)) c.requires.ready c.all_findings.ensures.part
+
+pub returns-in-Ok-clause-reports : goal.returns-in-Ok-clause-reports
+returns-in-Ok-clause-reports g c = λ m h.
+    let s = c.args.self.now in
+    let ops = g.D.Domain.operations in
+    let dom = ops s.engine.domain in
+    let new = c.all_findings.new.self in
+    let xs = missing_for_report dom m in
+    let then = keeping (m.kept ++ xs) new.book.cost m in
+    let count = as_filled dom m new.engine.store new.book c.kept_count-kept.result c.kept_count.result (c.kept_count-kept.ensures.is m h) (c.kept_count.ensures.is then (subst (λ d. Holds (ops d) new.engine.store new.book then) (sym c.all_findings.ensures.domain) (c.in-Ok.ensures.all m h))) in
+    let cost = c.kept_count.result - c.kept_count-kept.result in (
+      c.in-Ok.ensures.found m h,
+      subst (λ d. Holds (ops d) new.engine.store (record new.book { cost = cost }) (reported dom m)) (sym c.all_findings.ensures.domain) (ended_holds dom m new.engine.store new.book cost (c.in-Ok.ensures.all m h) count.1),
+    )
+
+pub returns-in-Ok-clause-sound : goal.returns-in-Ok-clause-sound
+returns-in-Ok-clause-sound g c = λ f there.
+    let s = c.args.self.now in
+    let ops = g.D.Domain.operations in
+    let dom = ops s.engine.domain in
+    let new = c.all_findings.new.self in
+    let here = machine_of s.book (names dom s.engine.store s.book c.requires.ready) in
+    let stood = stands dom s.engine.store s.book c.requires.ready in
+    c.reports_are_sound.ensures.sound s.engine.domain s.book.setting.engine (routines_of s.book.history.now) f c.requires.ready.order.fine.fit (subst (λ (fs : List Finding). Contains fs f) (c.in-Ok.ensures.found here stood) there)
+
+pub returns-in-Ok-clause-ticked : goal.returns-in-Ok-clause-ticked
+returns-in-Ok-clause-ticked g c = λ m h. c.in-Ok.ensures.ticked m h
+
+pub returns-in-Err-clause-reports : goal.returns-in-Err-clause-reports
+returns-in-Err-clause-reports g c = λ m h.
+    let s = c.args.self.now in
+    let ops = g.D.Domain.operations in
+    let dom = ops s.engine.domain in
+    let new = c.all_findings.new.self in
+    subst (λ d. IsBetween (missing_for_report dom m) m (Holds (ops d) new.engine.store (record new.book { cost = s.book.cost }))) (sym c.all_findings.ensures.domain) (
+    failed_holds dom m new.engine.store new.book s.book.cost (c.all_findings.ensures.part m h) (cost_here dom s.engine.store s.book m h))
