@@ -1,6 +1,7 @@
 //! Closing, over entries.
 ghost use Rattle.dbm_narrow.specs.Closings.{IsOutcome};
 ghost use Rattle.dbm_narrow.specs.Held.{HasLowDiagonal};
+ghost use Rattle.dbm_narrow.specs.Lowerings.{HasOwnWeights};
 ghost use Rattle.dbm_narrow.specs.Rounds.{IsNarrow};
 
 use crate::steps::finish;
@@ -31,5 +32,18 @@ pub fn close_entries(kinds: &[bool], entries: &mut [i32]) -> Outcome
         },
         Walks::Negative => Outcome::Empty,
         Walks::TooWide => Outcome::TooWide,
+    }
+}
+
+/// Closes entries that are the least weights of their own walks, in place.
+pub fn close_own(kinds: &[bool], entries: &mut [i32]) -> Outcome
+    requires narrow { IsNarrow kinds.now entries.old }
+    requires weights { HasOwnWeights kinds.now entries.old }
+    ensures outcome { IsOutcome kinds.now entries.old entries.new result }
+{
+    if finish(kinds, entries) {
+        Outcome::Closed
+    } else {
+        Outcome::Empty
     }
 }

@@ -2,6 +2,7 @@ pub mod Bounds
 pub mod Copies
 pub mod Entering
 pub mod FirstKinds
+pub mod Stood
 pub mod Tables
 pub mod Triangles
 pub mod Words

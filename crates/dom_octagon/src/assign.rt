@@ -12,18 +12,21 @@ ghost use Rattle.octagon_meaning.specs.Matrices as matrices;
 ghost use Rattle.dom_octagon.specs.GoodForms.{IsGoodForm};
 ghost use Rattle.octagon_states.specs.Limits.{IsReady, IsTight};
 
+use crate::added::close_with;
 use crate::evaluate::slot_form;
-use crate::matrices::{equation, meet_range};
+use crate::matrices::{difference, equation, high_bound, low_bound, meet_range};
 use dbm_core::{Matrix, other_sign};
-use dbm_incremental::{close_equation, is_whole};
 use num_bounds::Range;
 use octagon_meaning::Form;
-use octagon_states::{OctagonState, answered, close_changed, closed_matrix};
+use octagon_states::{
+    Bounds, OctagonState, bounds_of, close_equation, close_kept, forget, is_whole,
+    matrix_of_bounds, stood,
+};
 use plain_values::Memory;
 use std::alloc::Global;
 
 /// The bounds on a slot dropped.
-pub fn without(alloc: Global, m: &Matrix, k: usize) -> Result<Matrix, Memory>
+pub fn without(alloc: Global, m: &Bounds, k: usize) -> Result<Bounds, Memory>
     requires limited { IsLimited (2 ^ 64) m.now }
     ensures value { IfOk result (λ r. r ≡ matrices.without m.now k) }
     ensures ready { IfOk result IsReady }
@@ -31,7 +34,7 @@ pub fn without(alloc: Global, m: &Matrix, k: usize) -> Result<Matrix, Memory>
     ensures same { IsClosed m.now → close_of (matrices.without m.now k) ≡ Bounded (matrices.without m.now k) }
 {
     let _kinds = m.kinds();
-    m.forget(alloc, k)
+    forget(alloc, m, k)
 }
 
 /// Which node of the old matrix a node is, where slot x gets the value of its node i and a constant.
@@ -83,7 +86,7 @@ fn plus(bound: Option<i128>, by: i128) -> Option<i128>
 }
 
 /// The bound from a to b once slot x has got the value of its node i and a constant.
-fn shifted(m: &Matrix, x: usize, i: usize, c: i128, a: usize, b: usize) -> Option<i128>
+fn shifted(m: &Bounds, x: usize, i: usize, c: i128, a: usize, b: usize) -> Option<i128>
     requires row { a < nodes m.now }
     requires column { b < nodes m.now }
     requires small { IsWithin (2 ^ 64) (Some c) }
@@ -96,20 +99,20 @@ fn shifted(m: &Matrix, x: usize, i: usize, c: i128, a: usize, b: usize) -> Optio
 }
 
 /// Every bound on slot x carried over: the slot gets the value of its node i and a constant.
-pub fn carried(alloc: Global, m: &Matrix, x: usize, i: usize, c: i128) -> Result<Matrix, Memory>
+fn carried(alloc: Global, m: &Bounds, x: usize, i: usize, c: i128) -> Result<Matrix, Memory>
     requires small { IsWithin (2 ^ 64) (Some c) }
     requires limited { IsLimited (2 ^ 64) m.now }
     ensures value { IfOk result (λ r. r ≡ matrices.carried m.now x i c) }
     ensures ready { IfOk result IsReady }
 {
     let _kinds = m.kinds();
-    let mut set = m.copy(alloc)?;
+    let mut set = matrix_of_bounds(alloc, m)?;
     carry(&mut set, m, x, i, c);
     Ok(set)
 }
 
 /// Carries every bound on slot x over, in a copy of the matrix.
-fn carry(set: &mut Matrix, m: &Matrix, x: usize, i: usize, c: i128)
+fn carry(set: &mut Matrix, m: &Bounds, x: usize, i: usize, c: i128)
     requires copy { set.old ≡ m.now }
     requires small { IsWithin (2 ^ 64) (Some c) }
     requires limited { IsLimited (2 ^ 64) m.now }
@@ -131,27 +134,37 @@ fn carry(set: &mut Matrix, m: &Matrix, x: usize, i: usize, c: i128)
     );
 }
 
+/// The bounds on a slot dropped, to be written to.
+fn free_matrix(alloc: Global, m: &Bounds, k: usize) -> Result<Matrix, Memory>
+    requires limited { IsLimited (2 ^ 64) m.now }
+    ensures value { IfOk result (λ r. r ≡ matrices.without m.now k) }
+    ensures ready { IfOk result IsReady }
+{
+    let free = without(alloc, m, k)?;
+    matrix_of_bounds(alloc, &free)
+}
+
 /// The slot is equal to a form.
-fn equated(alloc: Global, m: &Matrix, x: usize, form: Form) -> Result<Matrix, Memory>
+fn equated(alloc: Global, m: &Bounds, x: usize, form: Form) -> Result<Matrix, Memory>
     requires slot { x < 2 ^ 32 }
     requires limited { IsLimited (2 ^ 64) m.now }
     requires good { IsGoodForm (Some form) }
     ensures value { IfOk result (λ r. r ≡ matrices.with_equation (matrices.without m.now x) (slot_form_of x) form) }
     ensures ready { IfOk result IsReady }
 {
-    let mut free = without(alloc, m, x)?;
+    let mut free = free_matrix(alloc, m, x)?;
     equation(&mut free, slot_form(x), form);
     Ok(free)
 }
 
 /// The slot lies in a range.
-fn ranged(alloc: Global, m: &Matrix, x: usize, range: Range) -> Result<Matrix, Memory>
+fn ranged(alloc: Global, m: &Bounds, x: usize, range: Range) -> Result<Matrix, Memory>
     requires slot { x < 2 ^ 32 }
     requires limited { IsLimited (2 ^ 64) m.now }
     ensures value { IfOk result (λ r. r ≡ matrices.meets_range (matrices.without m.now x) x range) }
     ensures ready { IfOk result IsReady }
 {
-    let mut free = without(alloc, m, x)?;
+    let mut free = free_matrix(alloc, m, x)?;
     meet_range(&mut free, x, range);
     Ok(free)
 }
@@ -159,7 +172,7 @@ fn ranged(alloc: Global, m: &Matrix, x: usize, range: Range) -> Result<Matrix, M
 /// A closed matrix whose slot x gets a value of a range, closed.
 pub fn close_ranged(
     alloc: Global,
-    m: &Matrix,
+    m: &Bounds,
     x: usize,
     range: Range,
 ) -> Result<OctagonState, Memory>
@@ -167,26 +180,56 @@ pub fn close_ranged(
     requires tight { IsTight m.now }
     ensures exact { IfOk result (λ s. s ≡ close_of (matrices.meets_range (matrices.without m.now x) x range)) }
 {
-    let _low = range.lo();
-    let set = ranged(alloc, m, x, range)?;
-    close_changed(alloc, m, set, x)
+    let free = without(alloc, m, x)?;
+    let high = high_bound(&free, x, range);
+    let low = low_bound(&free, x, range);
+    close_with(alloc, &free, high, low)
+}
+
+/// A closed matrix whose slot x is equal to a form without it, closed.
+fn close_form(alloc: Global, m: &Bounds, x: usize, form: Form) -> Result<OctagonState, Memory>
+    requires slot { x < 2 ^ 32 }
+    requires tight { IsTight m.now }
+    requires good { IsGoodForm (Some form) }
+    ensures exact { IfOk result (λ s. s ≡ close_of (matrices.with_equation (matrices.without m.now x) (slot_form_of x) form)) }
+{
+    let free = without(alloc, m, x)?;
+    let there = difference(slot_form(x), form, 0);
+    let back = difference(form, slot_form(x), 0);
+    close_with(alloc, &free, there, back)
 }
 
 /// A closed matrix whose slot x gets a constant, closed.
-fn close_constant(alloc: Global, m: &Matrix, x: usize, c: i128) -> Result<OctagonState, Memory>
+fn close_constant(alloc: Global, m: &Bounds, x: usize, c: i128) -> Result<OctagonState, Memory>
     requires slot { x < 2 ^ 32 }
     requires tight { IsTight m.now }
     requires good { IsGoodForm (Some (Constant c)) }
     ensures exact { IfOk result (λ s. s ≡ close_of (matrices.with_equation (matrices.without m.now x) (slot_form_of x) (Constant c))) }
 {
-    let set = equated(alloc, m, x, Form::Constant(c))?;
-    close_changed(alloc, m, set, x)
+    close_form(alloc, m, x, Form::Constant(c))
+}
+
+/// The same in either form: slot x stands for its own node, where the narrow form fits.
+fn carried_bounds(alloc: Global, m: &Bounds, x: usize, i: usize, c: i128) -> Result<Bounds, Memory>
+    requires tight { IsTight m.now }
+    requires small { IsWithin (2 ^ 64) (Some c) }
+    ensures value { IfOk result (λ r. r ≡ matrices.carried m.now x i c) }
+    ensures ready { IfOk result IsReady }
+{
+    let slots = m.kinds().len();
+    if x < slots && i / 2 == x {
+        match stood(alloc, m, x, i, c)? {
+            Some(set) => return Ok(set),
+            None => {}
+        }
+    }
+    bounds_of(alloc, carried(alloc, m, x, i, c)?)
 }
 
 /// A closed matrix whose slot x gets its own node i and a constant, closed.
 fn close_carried(
     alloc: Global,
-    m: &Matrix,
+    m: &Bounds,
     x: usize,
     i: usize,
     c: i128,
@@ -195,15 +238,14 @@ fn close_carried(
     requires small { IsWithin (2 ^ 64) (Some c) }
     ensures exact { IfOk result (λ s. s ≡ close_of (matrices.carried m.now x i c)) }
 {
-    let _kinds = m.kinds();
-    let set = carried(alloc, m, x, i, c)?;
-    close_changed(alloc, m, set, x)
+    let set = carried_bounds(alloc, m, x, i, c)?;
+    close_kept(alloc, m, &set)
 }
 
 /// A closed matrix whose slot x gets another slot's node i and a constant, closed.
 fn close_equated(
     alloc: Global,
-    m: &Matrix,
+    m: &Bounds,
     x: usize,
     i: usize,
     c: i128,
@@ -216,17 +258,16 @@ fn close_equated(
 {
     let slots = m.kinds().len();
     if is_whole(m) && x < slots && i < 2 * slots {
-        return Ok(answered(close_equation(alloc, m, x, i, c)?));
+        return close_equation(alloc, m, x, i, c);
     }
-    let set = equated(alloc, m, x, Form::Node(i, c))?;
-    closed_matrix(alloc, &set)
+    close_form(alloc, m, x, Form::Node(i, c))
 }
 
 /// What an assignment leaves of a closed matrix: slot x gets the value of an expression of this form, if
 /// it has one, and of this range.
 pub fn close_assigned(
     alloc: Global,
-    m: &Matrix,
+    m: &Bounds,
     x: u32,
     form: Option<Form>,
     range: Range,
@@ -253,7 +294,7 @@ pub fn close_assigned(
 /// it has one, and of this range.
 pub fn assigned(
     alloc: Global,
-    m: &Matrix,
+    m: &Bounds,
     x: u32,
     form: Option<Form>,
     range: Range,

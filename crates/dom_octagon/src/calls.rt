@@ -15,7 +15,7 @@ use crate::matrices::meet_range;
 use dbm_core::Matrix;
 use imp_slots::{Argument, Entering, Layout, NumericSlot, SlotExpr, SlotExprNode};
 use octagon_meaning::Source;
-use octagon_states::{OctagonState, close_kept, closed_matrix, closure, empty};
+use octagon_states::{Bounds, OctagonState, bounds_of, close_kept, closed_matrix, closure, empty};
 use plain_values::Memory;
 use std::alloc::{AllocError, Global};
 
@@ -60,11 +60,12 @@ pub fn initial(alloc: Global, main: &Layout) -> Result<OctagonState, Memory>
 {
     let kinds = kinds(alloc, main.numbers())?;
     let zeros = zeros(alloc, &kinds)?;
+    let zeros = bounds_of(alloc, zeros)?;
     closed_matrix(alloc, &zeros)
 }
 
 /// Where an int argument has its value from: a variable's or an array's slot, else its range.
-fn source(m: &Matrix, e: &SlotExpr) -> Option<Source>
+fn source(m: &Bounds, e: &SlotExpr) -> Option<Source>
     requires tight { IsTight m.now }
     ensures exact { result ≡ operations.source_of m.now e.now }
 {
@@ -78,7 +79,7 @@ fn source(m: &Matrix, e: &SlotExpr) -> Option<Source>
 }
 
 /// Any number of the range of an expression.
-fn ranged_source(m: &Matrix, e: &SlotExpr) -> Option<Source>
+fn ranged_source(m: &Bounds, e: &SlotExpr) -> Option<Source>
     requires tight { IsTight m.now }
     ensures exact { result ≡ operations.ranged_source m.now e.now }
 {
@@ -91,7 +92,7 @@ fn ranged_source(m: &Matrix, e: &SlotExpr) -> Option<Source>
 /// The sources of the arguments that take numeric slots, behind these.
 #[tactic(auto, using(crate::specs::Lists::behind_front))]
 fn sources(
-    m: &Matrix,
+    m: &Bounds,
     arguments: &[Argument],
     sources: Vec<Source>,
 ) -> Result<Option<Vec<Source>>, Memory>
@@ -129,7 +130,7 @@ fn source_at(sources: &[Source], k: usize) -> Option<Source>
 }
 
 /// The bound on two nodes of the caller's matrix, none where they are no nodes.
-pub fn bound_at(m: &Matrix, i: usize, j: usize) -> Option<i128>
+pub fn bound_at(m: &Bounds, i: usize, j: usize) -> Option<i128>
     ensures exact { result ≡ entry m.now i j }
 {
     let nodes = 2 * m.kinds().len();
@@ -142,7 +143,7 @@ pub fn bound_at(m: &Matrix, i: usize, j: usize) -> Option<i128>
 
 /// The bound between two nodes of the callee, by the sources of their slots.
 fn copied(
-    m: &Matrix,
+    m: &Bounds,
     i: usize,
     j: usize,
     first: Option<Source>,
@@ -163,7 +164,7 @@ fn copied(
 }
 
 /// The bound between two nodes of the callee before those that ranges give.
-fn entered_bound(m: &Matrix, sources: &[Source], i: usize, j: usize) -> Option<i128>
+fn entered_bound(m: &Bounds, sources: &[Source], i: usize, j: usize) -> Option<i128>
     ensures exact { result ≡ operations.entered m.now sources.now i j }
 {
     if i == j {
@@ -181,7 +182,7 @@ fn entered_bound(m: &Matrix, sources: &[Source], i: usize, j: usize) -> Option<i
 /// The callee's matrix before the slots that have a range meet it.
 fn entered_matrix(
     alloc: Global,
-    m: &Matrix,
+    m: &Bounds,
     kinds: &[bool],
     sources: &[Source],
 ) -> Result<Matrix, Memory>
@@ -220,7 +221,7 @@ fn meet_sources(m: &mut Matrix, k: usize, sources: &[Source])
 }
 
 /// The state in front of a callee's body, from a closed matrix of the caller.
-fn entered_by(alloc: Global, entering: &Entering, m: &Matrix) -> Result<OctagonState, Memory>
+fn entered_by(alloc: Global, entering: &Entering, m: &Bounds) -> Result<OctagonState, Memory>
     requires tight { IsTight m.now }
     ensures exact { IfOk result (λ t. t ≡ operations.entered_by m.now entering.now.layout.numbers (operations.sources m.now entering.now.arguments)) }
 {
@@ -250,7 +251,7 @@ fn ordered(sources: &[Source])
 /// The callee's matrix, closed.
 fn close_entered(
     alloc: Global,
-    m: &Matrix,
+    m: &Bounds,
     kinds: &[bool],
     sources: &[Source],
 ) -> Result<OctagonState, Memory>
@@ -261,7 +262,8 @@ fn close_entered(
     ordered(sources);
     let mut callee = entered_matrix(alloc, m, kinds, sources)?;
     meet_sources(&mut callee, 0, sources);
-    close_kept(alloc, m, callee)
+    let callee = bounds_of(alloc, callee)?;
+    close_kept(alloc, m, &callee)
 }
 
 /// The state in front of a callee's body.

@@ -15,11 +15,12 @@ use crate::evaluate::{evaluate, slot};
 use crate::guards::assumed;
 use crate::indices::{and_length, zero_and};
 use crate::matrices::meet_range;
-use dbm_core::Matrix;
 use imp_slots::{SlotAction, SlotExpr, SlotStmt};
 use imp_syntax::Relation;
 use numeric_slots::LONGEST;
-use octagon_states::{OctagonState, bounded, closed_copy, closed_matrix, closure, empty};
+use octagon_states::{
+    Bounds, OctagonState, bounded, bounds_of, closed_copy, closed_matrix, closure, empty,
+};
 use plain_values::Memory;
 use std::alloc::Global;
 
@@ -70,7 +71,7 @@ fn checked(
 }
 
 /// `x = e`
-fn set_int(alloc: Global, x: u32, e: &SlotExpr, m: &Matrix) -> Result<OctagonState, Memory>
+fn set_int(alloc: Global, x: u32, e: &SlotExpr, m: &Bounds) -> Result<OctagonState, Memory>
     requires tight { IsTight m.now }
     ensures exact { IfOk result (λ t. t ≡ operations.does_set x e.now m.now) }
 {
@@ -81,7 +82,7 @@ fn set_int(alloc: Global, x: u32, e: &SlotExpr, m: &Matrix) -> Result<OctagonSta
 }
 
 /// `a = array e`
-fn make_array(alloc: Global, a: u32, e: &SlotExpr, m: &Matrix) -> Result<OctagonState, Memory>
+fn make_array(alloc: Global, a: u32, e: &SlotExpr, m: &Bounds) -> Result<OctagonState, Memory>
     requires tight { IsTight m.now }
     ensures exact { IfOk result (λ t. t ≡ operations.does_make a e.now m.now) }
 {
@@ -93,13 +94,14 @@ fn make_array(alloc: Global, a: u32, e: &SlotExpr, m: &Matrix) -> Result<Octagon
         Some(length) => {
             let mut set = assigned(alloc, m, a, value.form, value.range)?;
             meet_range(&mut set, a as usize, length);
+            let set = bounds_of(alloc, set)?;
             closed_matrix(alloc, &set)
         }
     }
 }
 
 /// `a = b`, of arrays
-fn copy_array(alloc: Global, a: u32, b: u32, m: &Matrix) -> Result<OctagonState, Memory>
+fn copy_array(alloc: Global, a: u32, b: u32, m: &Bounds) -> Result<OctagonState, Memory>
     requires tight { IsTight m.now }
     ensures exact { IfOk result (λ t. t ≡ operations.does_copy a b m.now) }
 {
@@ -108,7 +110,7 @@ fn copy_array(alloc: Global, a: u32, b: u32, m: &Matrix) -> Result<OctagonState,
 }
 
 /// A slot gets any value.
-fn free(alloc: Global, x: u32, m: &Matrix) -> Result<OctagonState, Memory>
+fn free(alloc: Global, x: u32, m: &Bounds) -> Result<OctagonState, Memory>
     requires tight { IsTight m.now }
     ensures exact { IfOk result (λ t. t ≡ close_of (matrices.without m.now x)) }
 {
@@ -116,19 +118,19 @@ fn free(alloc: Global, x: u32, m: &Matrix) -> Result<OctagonState, Memory>
 }
 
 /// A statement that asks no more than that an expression has a value.
-fn needs_value(alloc: Global, e: &SlotExpr, m: &Matrix) -> Result<OctagonState, Memory>
+fn needs_value(alloc: Global, e: &SlotExpr, m: &Bounds) -> Result<OctagonState, Memory>
     requires tight { IsTight m.now }
     ensures exact { IfOk result (λ t. t ≡ operations.does_need e.now m.now) }
 {
     match evaluate(m, e) {
         None => Ok(empty()),
-        Some(_) => closed_copy(alloc, m),
+        Some(_) => closed_copy(m),
     }
 }
 
 /// What a statement does behind its check, of a closed matrix.
 #[tactic(auto, unfolding(octagon_meaning::specs::Operations::does))]
-fn done(alloc: Global, action: &SlotAction, m: &Matrix) -> Result<OctagonState, Memory>
+fn done(alloc: Global, action: &SlotAction, m: &Bounds) -> Result<OctagonState, Memory>
     requires tight { IsTight m.now }
     ensures exact { IfOk result (λ t. t ≡ operations.does (effect_of action.now) m.now) }
 {
@@ -141,13 +143,13 @@ fn done(alloc: Global, action: &SlotAction, m: &Matrix) -> Result<OctagonState, 
         SlotAction::CopyArray(a, b) => copy_array(alloc, *a, *b, m),
         SlotAction::WriteElement(_, _, f) => needs_value(alloc, f, m),
         SlotAction::WriteItem(_, e) => needs_value(alloc, e, m),
-        SlotAction::Skip => closed_copy(alloc, m),
-        SlotAction::Assert(_) => closed_copy(alloc, m),
-        SlotAction::SetNull(_) => closed_copy(alloc, m),
-        SlotAction::MakeCell(_) => closed_copy(alloc, m),
-        SlotAction::CopyLink(_, _) => closed_copy(alloc, m),
-        SlotAction::ReadNext(_, _) => closed_copy(alloc, m),
-        SlotAction::WriteNext(_, _) => closed_copy(alloc, m),
+        SlotAction::Skip => closed_copy(m),
+        SlotAction::Assert(_) => closed_copy(m),
+        SlotAction::SetNull(_) => closed_copy(m),
+        SlotAction::MakeCell(_) => closed_copy(m),
+        SlotAction::CopyLink(_, _) => closed_copy(m),
+        SlotAction::ReadNext(_, _) => closed_copy(m),
+        SlotAction::WriteNext(_, _) => closed_copy(m),
     }
 }
 

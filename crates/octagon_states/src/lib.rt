@@ -7,14 +7,17 @@
 //! with bounds of 2^63 or more. Widening keeps its left matrix as it is: else loops need not come to an end.
 #![tactic(auto)]
 
+mod bounds;
 mod close;
+mod closing;
 mod joins;
 mod kept;
+mod operations;
 mod state;
 
-pub use close::{
-    answered, bounded, close_changed, close_kept, closed, closed_copy, closed_matrix, closure,
-    copy_of, empty, is_empty, widened_to,
-};
+pub use bounds::{Bounds, bounds_of, matrix_of_bounds};
+pub use close::{bounded, closed, closed_copy, closure, copy_of, empty, is_empty, widened_to};
+pub use closing::{close_after_bounds, close_equation, close_kept, closed_matrix};
 pub use joins::{joined, widened};
+pub use operations::{forget, is_whole, slot_range, stood};
 pub use state::{OctagonState, matrix_of_state};
