@@ -1,0 +1,9 @@
+use Rattle.slab.specs.Slab.{get}
+use Rattle.daig_graph.specs.Numbers.{ChangesBelow}
+use Rattle.daig_graph.specs.Renumbered.{RenumbersCell}
+use Rattle.daig_graph.proofs.renumbering.renumber_cells.Given as goal
+
+abbrev pub invariant-loop-key : goal.invariant-loop-key
+invariant-loop-key g l = record {
+  changes : ChangesBelow (RenumbersCell l.new_of) (get l.initial.cells) (get l.cells) l.key;
+}
