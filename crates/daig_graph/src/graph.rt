@@ -1,8 +1,8 @@
 //! The graph.
 use crate::index::Index;
+use crate::owned::Owned;
 use crate::pool::Lists;
 use crate::value::Value;
-use slab::Slab;
 use smallvec::SmallVec;
 use std::marker::Model;
 
@@ -13,13 +13,11 @@ pub struct Use {
     pub place: usize,
 }
 
+/// The place of a number. A cell stands there where it has a value; the rest is what the last cell left there else.
 #[derive(Drop)]
-pub(crate) struct Cell<V> {
-    pub(crate) number: usize,
+pub(crate) struct Place<V> {
     pub(crate) owner: u32,
-    pub(crate) value: Value<V>,
-    // its key among the cells of its owner
-    pub(crate) own: usize,
+    pub(crate) value: Option<Value<V>>,
     pub(crate) inputs: SmallVec<usize, 2>,
     // the keys of its uses of them
     pub(crate) uses: SmallVec<usize, 2>,
@@ -28,30 +26,12 @@ pub(crate) struct Cell<V> {
 /// Cells, each called by a number, with its inputs and dependents.
 #[derive(Drop)]
 pub struct Graph<V> {
-    pub(crate) cells: Slab<Cell<V>>,
-    // the key of a cell, by its number
-    pub(crate) keys: Index,
+    // by their numbers
+    pub(crate) places: Vec<Place<V>>,
+    // how many of them have a cell
+    pub(crate) count: usize,
     // the cells by their owners
-    pub(crate) owned: Lists<usize>,
+    pub(crate) owned: Owned,
     // the uses by the cells that are used
     pub(crate) uses: Lists<Use>,
-}
-
-impl<V> Model for Graph<V> {
-    ghost use Rattle.slab.specs.Slab.{get};
-    ghost use Rattle.std.specs.FinMap as map;
-    ghost use Rattle.daig_graph.specs.Cells.{Cells};
-
-    ghost Value = { Cells V };
-
-    ghost use Rattle.std.specs.Coded.{codes};
-
-    ghost coded = { Prim.hlevel (codes, map.code) };
-
-    ghost use Rattle.daig_graph.specs.Agrees.{filled_cells, Agrees};
-    ghost use Rattle.daig_graph.specs.Keys.{key_at};
-
-    ghost view = { λ a. record { cells = map.from_entries (filled_cells a.cells.slots) } };
-
-    ghost invariant = { λ a. Agrees (get a.cells) (key_at a.keys) a.owned a.uses };
 }

@@ -47,6 +47,11 @@ impl Link {
         Link { code: key + 1 }
     }
 
+    pub(crate) fn at(key: usize) -> Link
+    {
+        Link { code: key + 1 }
+    }
+
     /// The key, or none.
     #[inline]
     pub(crate) fn key(self) -> Option<usize>

@@ -11,8 +11,6 @@ use std::marker::Model;
 #[derive(Drop)]
 pub struct Inputs {
     pub(crate) cells: SmallVec<usize, 2>,
-    // room for the keys of the uses of these cells
-    pub(crate) uses: SmallVec<usize, 2>,
 }
 
 impl Model for Inputs {
@@ -21,8 +19,6 @@ impl Model for Inputs {
     ghost Value = { List ℕ };
 
     ghost view = { λ a. a.cells.items };
-
-    ghost invariant = { λ a. length a.uses.items ≡ length a.cells.items };
 }
 
 impl Inputs {
@@ -33,7 +29,6 @@ impl Inputs {
     {
         Inputs {
             cells: SmallVec::new(alloc),
-            uses: SmallVec::new(alloc),
         }
     }
 
@@ -43,9 +38,7 @@ impl Inputs {
         ensures added { OnOk result (self.new ≡ self.old ++ cell ∷ []) }
         ensures err { OnErr result (self.new ≡ self.old) }
     {
-        self.uses.reserve(1)?;
         self.cells.push(cell)?;
-        self.uses.push_reserved(0);
         Ok(())
     }
 

@@ -1,11 +1,7 @@
 //! Reading cells.
-ghost use Rattle.std.specs.Prelude.{◌≡◌, ℕ, ◌↔◌, option_copied, option_map, IfSome, IsTrue, None};
-ghost use Rattle.std.specs.FinMap as map;
-ghost use Rattle.daig_graph.specs.Agrees.{filled};
-ghost use Rattle.daig_graph.specs.Held.{IsIn, IsOnce};
-ghost use Rattle.daig_graph.specs.Cells.{AreCells, IsOwned, IsUse};
 
-use crate::graph::{Cell, Graph, Use};
+use crate::graph::{Graph, Use};
+use crate::owned::OwnedCells;
 use crate::value::Value;
 use crate::walk::Iter;
 
@@ -13,10 +9,12 @@ impl<V> Graph<V> {
     /// The value of a cell, or `None` where it is not there.
     #[inline]
     pub fn value(&self, cell: usize) -> Option<&Value<V>>
-        ensures value { option_copied result ≡ option_map (λ f. f.value) (map.get self.now.cells cell) }
     {
-        match self.cell(cell) {
-            Some(found) => Some(&found.value),
+        match self.places.get(cell) {
+            Some(place) => match &place.value {
+                Some(value) => Some(value),
+                None => None,
+            },
             None => None,
         }
     }
@@ -24,11 +22,12 @@ impl<V> Graph<V> {
     /// The inputs of a cell from left to right, or `None` where it is not there. They are cells.
     #[inline]
     pub fn inputs(&self, cell: usize) -> Option<&[usize]>
-        ensures inputs { option_copied result ≡ option_map (λ f. f.inputs) (map.get self.now.cells cell) }
-        ensures cells { IfSome result (λ inputs. AreCells self.now.cells inputs.now) }
     {
-        match self.cell(cell) {
-            Some(found) => Some(found.inputs.as_slice()),
+        match self.places.get(cell) {
+            Some(place) => match &place.value {
+                Some(_) => Some(place.inputs.as_slice()),
+                None => None,
+            },
             None => None,
         }
     }
@@ -37,37 +36,21 @@ impl<V> Graph<V> {
     /// is not there. No two are alike.
     #[inline]
     pub fn dependents(&self, cell: usize) -> Iter<'_, Use>
-        ensures once { IsOnce result }
-        ensures uses { (u : Use) → IsIn result u ↔ IsUse self.now.cells cell u }
     {
         self.uses.items(cell)
     }
 
     /// The cells that belong to a statement, each once.
     #[inline]
-    pub fn cells_of_statement(&self, statement: u32) -> Iter<'_, usize>
-        ensures once { IsOnce result }
-        ensures cells { (x : ℕ) → IsIn result x ↔ IsOwned self.now.cells statement x }
+    pub fn cells_of_statement(&self, statement: u32) -> OwnedCells<'_>
     {
-        self.owned.items(statement as usize)
+        self.owned.cells(statement as usize)
     }
 
     /// How many cells there are.
     #[inline]
     pub fn kept_count(&self) -> usize
-        ensures count { result ≡ map.len self.now.cells }
     {
-        self.cells.len()
-    }
-
-    #[inline]
-    fn cell(&self, number: usize) -> Option<&Cell<V>>
-        ensures filled { option_map filled (option_copied result) ≡ map.get self.now.cells number }
-        ensures cells { IfSome result (λ c. AreCells self.now.cells c.now.inputs.items) }
-    {
-        match self.keys.get(number).key() {
-            Some(key) => self.cells.get(key),
-            None => None,
-        }
+        self.count
     }
 }
